@@ -1,0 +1,3 @@
+pub mod Shapes
+pub mod Names
+pub mod Text

@@ -1,0 +1,52 @@
+-- Well-formed names (NIST IR 7695, 5): eleven values, of which the part and the language have shapes of their own.
+use Rattle.std.specs.Prelude.{◌≡◌, true, false, List, [], ◌∷◌, IsTrue}
+use Rattle.std.specs.List.{AllByRecursion}
+use Rattle.cpe_values.specs.declared.value.Value.{Value}
+use Rattle.cpe_values.specs.Values.{IsValue}
+use Rattle.cpe_name.specs.declared.name.Values.{Values}
+use Rattle.cpe_name.specs.declared.attribute.Attribute.{Attribute}
+use Rattle.cpe_name.specs.declared.attribute.Attribute.TheVariants.{Part, Vendor, Product, Version, Update, Edition, Language, SwEdition, TargetSw, TargetHw, Other}
+use Rattle.cpe_name.specs.declared.name.NameFault.{NameFault}
+use Rattle.cpe_name.specs.declared.name.NameFault.TheVariants.{BadPart, BadLanguage}
+use Rattle.cpe_name.specs.Shapes.{is_part, is_language}
+
+-- the attributes in their order
+abbrev pub attributes : List Attribute
+attributes = Part ∷ Vendor ∷ Product ∷ Version ∷ Update ∷ Edition ∷ Language ∷ SwEdition ∷ TargetSw ∷ TargetHw ∷ Other ∷ []
+
+-- the value of an attribute
+abbrev pub value_of : Values → Attribute → Value
+value_of v Part = v.part
+value_of v Vendor = v.vendor
+value_of v Product = v.product
+value_of v Version = v.version
+value_of v Update = v.update
+value_of v Edition = v.edition
+value_of v Language = v.language
+value_of v SwEdition = v.sw_edition
+value_of v TargetSw = v.target_sw
+value_of v TargetHw = v.target_hw
+value_of v Other = v.other
+
+-- what this attribute may have
+abbrev pub Suits : Attribute → Value → Type 0
+Suits Part v = IsValue v × IsTrue (is_part v)
+Suits Language v = IsValue v × IsTrue (is_language v)
+Suits Vendor v = IsValue v
+Suits Product v = IsValue v
+Suits Version v = IsValue v
+Suits Update v = IsValue v
+Suits Edition v = IsValue v
+Suits SwEdition v = IsValue v
+Suits TargetSw v = IsValue v
+Suits TargetHw v = IsValue v
+Suits Other v = IsValue v
+
+-- each value suits its attribute
+abbrev pub IsName : Values → Type 0
+IsName v = AllByRecursion (λ a. Suits a (value_of v a)) attributes
+
+-- why eleven values are no name: the first cause
+abbrev pub IsFault : NameFault → Values → Type 0
+IsFault BadPart v = is_part v.part ≡ false
+IsFault BadLanguage v = (is_part v.part ≡ true) × (is_language v.language ≡ false)

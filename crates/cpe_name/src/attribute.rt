@@ -1,0 +1,53 @@
+// The attributes of a name.
+ghost use Rattle.std.specs.Prelude.{◌≡◌};
+ghost use Rattle.cpe_name.specs.Text.{attribute_name};
+
+/// An attribute of a name (NIST IR 7695, 5.2), in the order of the formatted string.
+#[derive(Clone, Copy, Debug, PartialEq, Eq, Hash)]
+pub enum Attribute {
+    Part,
+    Vendor,
+    Product,
+    Version,
+    Update,
+    Edition,
+    Language,
+    SwEdition,
+    TargetSw,
+    TargetHw,
+    Other,
+}
+
+/// The attributes in their order.
+pub const ATTRIBUTES: [Attribute; 11] = [
+    Attribute::Part,
+    Attribute::Vendor,
+    Attribute::Product,
+    Attribute::Version,
+    Attribute::Update,
+    Attribute::Edition,
+    Attribute::Language,
+    Attribute::SwEdition,
+    Attribute::TargetSw,
+    Attribute::TargetHw,
+    Attribute::Other,
+];
+
+// The attribute's name, as it stands in the text of a well-formed name.
+pub(crate) fn text_of(which: Attribute) -> &'static [u8]
+    ensures { result.now ≡ attribute_name which }
+{
+    match which {
+        Attribute::Part => b"part",
+        Attribute::Vendor => b"vendor",
+        Attribute::Product => b"product",
+        Attribute::Version => b"version",
+        Attribute::Update => b"update",
+        Attribute::Edition => b"edition",
+        Attribute::Language => b"language",
+        Attribute::SwEdition => b"sw_edition",
+        Attribute::TargetSw => b"target_sw",
+        Attribute::TargetHw => b"target_hw",
+        Attribute::Other => b"other",
+    }
+}

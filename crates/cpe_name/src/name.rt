@@ -1,0 +1,112 @@
+// Well-formed names.
+ghost use Rattle.std.specs.Prelude.{◌≡◌, IfOk, OnOk, IfErr};
+ghost use Rattle.cpe_name.specs.Names.{value_of, IsName, IsFault};
+
+use crate::Attribute;
+use crate::shape::{is_lawful_language, is_lawful_part};
+use cpe_values::Value;
+use std::marker::Model;
+use thiserror::Error;
+
+/// Eleven values, one for each attribute, whatever they are: [`Wfn::new`] tells whether they are a name.
+#[derive(Debug, Drop)]
+pub struct Values {
+    pub part: Value,
+    pub vendor: Value,
+    pub product: Value,
+    pub version: Value,
+    pub update: Value,
+    pub edition: Value,
+    pub language: Value,
+    pub sw_edition: Value,
+    pub target_sw: Value,
+    pub target_hw: Value,
+    pub other: Value,
+}
+
+/// A well-formed name (NIST IR 7695, 5): eleven values of which the part and the language have their shapes.
+///
+/// Contracts see it as its values. Letter case is kept.
+#[derive(Debug, Drop)]
+pub struct Wfn {
+    values: Values,
+}
+
+impl Model for Wfn {
+    ghost use Rattle.cpe_name.specs.declared.name.Values.{Values};
+    ghost use Rattle.cpe_name.specs.Names.{IsName};
+
+    ghost Value = { Values };
+
+    ghost view = { λ w. w.values };
+
+    ghost invariant = { λ w. IsName w.values };
+}
+
+/// Why eleven values are no name: the first cause, in this order.
+#[derive(Clone, Copy, Debug, PartialEq, Eq, Error)]
+pub enum NameFault {
+    /// The part is a text, and not `a`, `h` or `o` alone (NIST IR 7695, 5.3.3.1).
+    #[error("the part is not `a`, `h` or `o`")]
+    BadPart,
+    /// The language is a text, and not two or three letters, perhaps with a region behind (NIST IR 7695, 5.3.3.7).
+    #[error("the language is not two or three letters, perhaps with a region")]
+    BadLanguage,
+}
+
+impl Wfn {
+    /// The name of these values. It takes no memory.
+    ///
+    /// # Errors
+    /// `BadPart` exactly where the part has not its shape, else `BadLanguage` exactly where the language has not.
+    pub fn new(values: Values) -> Result<Wfn, NameFault>
+        ensures name { IfOk result (λ w. w ≡ values) }
+        ensures lawful { OnOk result (IsName values) }
+        ensures fault { IfErr result (λ f. IsFault f values) }
+    {
+        if !is_lawful_part(&values.part) {
+            return Err(NameFault::BadPart);
+        }
+        if !is_lawful_language(&values.language) {
+            return Err(NameFault::BadLanguage);
+        }
+        values.part.lawful();
+        values.vendor.lawful();
+        values.product.lawful();
+        values.version.lawful();
+        values.update.lawful();
+        values.edition.lawful();
+        values.language.lawful();
+        values.sw_edition.lawful();
+        values.target_sw.lawful();
+        values.target_hw.lawful();
+        values.other.lawful();
+        Ok(Wfn { values })
+    }
+
+    /// Every name is lawful: each value suits its attribute. It does nothing.
+    pub fn lawful(&self)
+        ensures { IsName self.now }
+    {
+        let _ = &self.values;
+    }
+
+    /// The value of an attribute.
+    pub fn get(&self, which: Attribute) -> &Value
+        ensures { result.now ≡ value_of self.now which }
+    {
+        match which {
+            Attribute::Part => &self.values.part,
+            Attribute::Vendor => &self.values.vendor,
+            Attribute::Product => &self.values.product,
+            Attribute::Version => &self.values.version,
+            Attribute::Update => &self.values.update,
+            Attribute::Edition => &self.values.edition,
+            Attribute::Language => &self.values.language,
+            Attribute::SwEdition => &self.values.sw_edition,
+            Attribute::TargetSw => &self.values.target_sw,
+            Attribute::TargetHw => &self.values.target_hw,
+            Attribute::Other => &self.values.other,
+        }
+    }
+}

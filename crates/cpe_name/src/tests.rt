@@ -1,0 +1,91 @@
+use super::*;
+use cpe_values::{Edge, Pattern, Value, ValueFault};
+use std::alloc::Global;
+use std::test::Fail;
+
+fn plain(alloc: Global, body: &[u8]) -> Result<Value, ValueFault> {
+    Ok(Value::Text(Pattern::new(alloc, Edge::None, body, Edge::None)?))
+}
+
+fn values(part: Value, language: Value) -> Values {
+    Values {
+        part,
+        vendor: Value::Na,
+        product: Value::Any,
+        version: Value::Any,
+        update: Value::Any,
+        edition: Value::Any,
+        language,
+        sw_edition: Value::Any,
+        target_sw: Value::Any,
+        target_hw: Value::Any,
+        other: Value::Any,
+    }
+}
+
+#[test]
+fn a_name_is_written_whole(rt: HostRuntime) -> Result<(), Fail> {
+    let alloc = rt.alloc();
+    let mut given = values(plain(alloc, b"a")?, plain(alloc, b"en-US")?);
+    given.version = Value::Text(Pattern::new(alloc, Edge::Star, b"8.0", Edge::Marks(2))?);
+    let name = Wfn::new(given)?;
+    assert!(rt; matches!(name.get(Attribute::Vendor), Value::Na));
+    let text = write_wfn(alloc, &name)?;
+    let want =
+        b"wfn:[part=\"a\",vendor=NA,product=ANY,version=\"*8\\.0??\",update=ANY,edition=ANY,language=\"en\\-US\",sw_edition=ANY,target_sw=ANY,target_hw=ANY,other=ANY]";
+    assert_eq!(rt; text.as_slice(), want.as_slice());
+    Ok(())
+}
+
+#[test]
+fn a_part_is_one_of_three_letters(rt: HostRuntime) -> Result<(), Fail> {
+    let rows: [(&[u8], Option<NameFault>); 6] = [
+        (b"a", None),
+        (b"h", None),
+        (b"o", None),
+        (b"A", Some(NameFault::BadPart)),
+        (b"x", Some(NameFault::BadPart)),
+        (b"ao", Some(NameFault::BadPart)),
+    ];
+    for (part, fault) in rows {
+        let answer = Wfn::new(values(plain(rt.alloc(), part)?, Value::Na));
+        assert_eq!(rt; answer.err(), fault);
+    }
+    Ok(())
+}
+
+#[test]
+fn a_language_is_letters_and_perhaps_a_region(rt: HostRuntime) -> Result<(), Fail> {
+    let rows: [(&[u8], bool); 14] = [
+        (b"en", true),
+        (b"ENG", true),
+        (b"en-us", true),
+        (b"eng-GB", true),
+        (b"es-419", true),
+        (b"spa-419", true),
+        (b"e", false),
+        (b"e1", false),
+        (b"engl", false),
+        (b"en-", false),
+        (b"en-u", false),
+        (b"en-41", false),
+        (b"en-4199", false),
+        (b"en_us", false),
+    ];
+    for (language, is_lawful) in rows {
+        let answer = Wfn::new(values(Value::Any, plain(rt.alloc(), language)?));
+        assert_eq!(rt; answer.is_ok(), is_lawful);
+    }
+    Ok(())
+}
+
+#[test]
+fn specials_suit_neither_part_nor_language(rt: HostRuntime) -> Result<(), Fail> {
+    let part = Value::Text(Pattern::new(rt.alloc(), Edge::None, b"a", Edge::Star)?);
+    let answer = Wfn::new(values(part, plain(rt.alloc(), b"english")?));
+    assert_eq!(rt; answer.err(), Some(NameFault::BadPart));
+    let language = Value::Text(Pattern::new(rt.alloc(), Edge::Marks(1), b"en", Edge::None)?);
+    let answer = Wfn::new(values(Value::Any, language));
+    assert_eq!(rt; answer.err(), Some(NameFault::BadLanguage));
+    Ok(())
+}

@@ -1,0 +1,37 @@
+-- A text as contracts see it: what stands before the body, the body, and what stands after it (NIST IR 7695, 5.3.2).
+use Rattle.std.specs.Prelude.{◌≢◌, ℕ, ◌<◌, ◌^◌, Bool, true, false, ◌&&◌, nat_le, IsTrue, List, [], ◌∷◌}
+use Rattle.std.specs.List.{list_all}
+use Rattle.cpe_values.specs.declared.value.Edge.{Edge}
+use Rattle.cpe_values.specs.declared.value.Edge.TheVariants as edge
+
+pub record Parts : Type 0 where
+  pub lead : Edge
+  pub body : List ℕ
+  pub trail : Edge
+
+abbrev pub parts : Edge → List ℕ → Edge → Parts
+parts lead body trail = record { lead = lead; body = body; trail = trail }
+
+-- a printable ASCII character, `!` to `~`
+abbrev pub is_character : ℕ → Bool
+is_character c = nat_le 33 c && nat_le c 126
+
+-- nothing, an asterisk, or question marks, of which there is one at least and no more than a `u32` counts
+abbrev pub IsEdge : Edge → Type 0
+IsEdge edge.None = Unit {0}
+IsEdge edge.Star = Unit {0}
+IsEdge (edge.Marks n) = (0 < n) × (n < 2 ^ 32)
+
+-- nothing stands there
+abbrev pub is_nothing : Edge → Bool
+is_nothing edge.None = true
+is_nothing edge.Star = false
+is_nothing (edge.Marks n) = false
+
+-- some characters between two edges, but no hyphen that stands alone
+pub record IsText (t : Parts) : Type 0 where
+  pub lead : IsEdge t.lead
+  pub characters : IsTrue (list_all is_character t.body)
+  pub some : t.body ≢ []
+  pub no_hyphen : t ≢ parts edge.None (45 ∷ []) edge.None
+  pub trail : IsEdge t.trail

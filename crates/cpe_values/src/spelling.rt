@@ -1,0 +1,101 @@
+// How texts are spelled, character by character.
+ghost use Rattle.std.specs.Prelude.{◌≡◌, OnOk, replicate, ◌++◌};
+ghost use Rattle.std.specs.List.{flat_map};
+ghost use Rattle.cpe_values.specs.Parts.{is_character};
+ghost use Rattle.cpe_values.specs.Spelling.{is_bare, character, edge_text, spelling, is_letter, is_digit};
+
+use crate::{Edge, Memory, Pattern};
+
+/// Where a text is spelled.
+#[derive(Clone, Copy, Debug, PartialEq, Eq)]
+pub enum Style {
+    /// In a well-formed name (NIST IR 7695, 5.3.2): a backslash stands before each character of a body but letters, digits and `_`.
+    Wfn,
+    /// In a formatted string (NIST IR 7695, 6.2): the same, and `.` and `-` stand bare too.
+    Formatted,
+}
+
+/// Whether a byte is one of the 94 printable ASCII characters, `!` to `~`.
+pub fn is_printable_byte(byte: u8) -> bool
+    ensures { result ≡ is_character byte }
+{
+    matches!(byte, b'!'..=b'~')
+}
+
+/// Whether a byte is an ASCII letter.
+pub fn is_letter_byte(byte: u8) -> bool
+    ensures { result ≡ is_letter byte }
+{
+    matches!(byte, b'A'..=b'Z' | b'a'..=b'z')
+}
+
+/// Whether a byte is an ASCII digit.
+pub fn is_digit_byte(byte: u8) -> bool
+    ensures { result ≡ is_digit byte }
+{
+    matches!(byte, b'0'..=b'9')
+}
+
+/// Whether a character of a body stands without a backslash.
+pub fn is_bare_byte(style: Style, byte: u8) -> bool
+    ensures { result ≡ is_bare style byte }
+{
+    let word = is_letter_byte(byte) || is_digit_byte(byte) || byte == b'_';
+    match style {
+        Style::Wfn => word,
+        Style::Formatted => word || byte == b'.' || byte == b'-',
+    }
+}
+
+fn push_marks(out: &mut Vec<u8>, marks: u32) -> Result<(), Memory>
+    ensures { OnOk result (out.new.items ≡ out.old.items ++ replicate marks 63) }
+{
+    for _ in 0..marks {
+        out.push(b'?')?;
+    }
+    Ok(())
+}
+
+fn push_edge(out: &mut Vec<u8>, edge: Edge) -> Result<(), Memory>
+    ensures { OnOk result (out.new.items ≡ out.old.items ++ edge_text edge) }
+{
+    match edge {
+        Edge::None => Ok(()),
+        Edge::Star => {
+            out.push(b'*')?;
+            Ok(())
+        }
+        Edge::Marks(marks) => push_marks(out, marks),
+    }
+}
+
+fn push_character(out: &mut Vec<u8>, style: Style, byte: u8) -> Result<(), Memory>
+    ensures { OnOk result (out.new.items ≡ out.old.items ++ character style byte) }
+{
+    if is_bare_byte(style, byte) {
+        out.push(byte)?;
+        return Ok(());
+    }
+    out.push(b'\\')?;
+    out.push(byte)?;
+    Ok(())
+}
+
+fn push_body(out: &mut Vec<u8>, style: Style, body: &[u8]) -> Result<(), Memory>
+    ensures { OnOk result (out.new.items ≡ out.old.items ++ flat_map (character style) body.now) }
+{
+    for byte in body {
+        push_character(out, style, *byte)?;
+    }
+    Ok(())
+}
+
+/// Puts the spelling of a text behind what `out` holds: its lead, its body character by character, and its trail.
+/// On want of memory a front of it may stand there.
+pub fn push_spelling(out: &mut Vec<u8>, style: Style, text: &Pattern) -> Result<(), Memory>
+    ensures { OnOk result (out.new.items ≡ out.old.items ++ spelling style text.now) }
+{
+    push_edge(out, text.lead())?;
+    push_body(out, style, text.stem())?;
+    push_edge(out, text.trail())
+}

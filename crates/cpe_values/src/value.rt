@@ -1,0 +1,160 @@
+// What an attribute may have.
+ghost use Rattle.std.specs.Prelude.{◌≡◌, ◌≢◌, IfOk, IfErr, IfSome, OnOk, Err, position, not, false};
+ghost use Rattle.cpe_values.specs.Parts.{parts, is_character, IsEdge, IsText};
+ghost use Rattle.cpe_values.specs.Faults.{first_fault, is_lone_hyphen, has_no_marks};
+ghost use Rattle.cpe_values.specs.Values.{IsValue};
+
+use crate::spelling::is_printable_byte;
+use std::alloc::Global;
+use std::marker::Model;
+use thiserror::Error;
+
+/// What stands before or after the body of a text: nothing, or unquoted special characters (NIST IR 7695, 5.3.2).
+#[derive(Clone, Copy, Debug, PartialEq, Eq, Hash)]
+pub enum Edge {
+    /// Nothing.
+    None,
+    /// One asterisk: any characters may stand here.
+    Star,
+    /// So many question marks: at most so many characters may stand here. A text has at least one.
+    Marks(u32),
+}
+
+/// A text: a lead, a body of printable ASCII characters without quoting, and a trail (NIST IR 7695, 5.3.2).
+///
+/// Contracts see it as these three parts. Its body is not empty, and a text without specials is not one hyphen.
+#[derive(Debug, Drop)]
+pub struct Pattern {
+    lead: Edge,
+    body: Vec<u8>,
+    trail: Edge,
+}
+
+impl Model for Pattern {
+    ghost use Rattle.cpe_values.specs.Parts.{Parts, IsText, parts};
+
+    ghost Value = { Parts };
+
+    ghost view = { λ p. parts p.lead p.body.items p.trail };
+
+    ghost invariant = { λ p. IsText (parts p.lead p.body.items p.trail) };
+}
+
+/// What an attribute has.
+#[derive(Debug, Drop)]
+pub enum Value {
+    /// The logical value ANY (NIST IR 7695, 5.3.1).
+    Any,
+    /// The logical value NA: not applicable (NIST IR 7695, 5.3.1).
+    Na,
+    /// A text.
+    Text(Pattern),
+}
+
+/// Why a lead, a body and a trail make no text: the first cause, in this order.
+#[derive(Clone, Copy, Debug, PartialEq, Eq, Error)]
+pub enum ValueFault {
+    /// The body has no character.
+    #[error("the body is empty")]
+    EmptyBody,
+    /// The first byte of the body outside `!` to `~`, by its place from 0.
+    #[error("byte {0} of the body is not printable")]
+    NotPrintable(usize),
+    /// The body is one hyphen between two empty edges, which is how NA is written.
+    #[error("a text without specials is not one hyphen")]
+    LoneHyphen,
+    /// An edge has no question mark where it should have some.
+    #[error("an edge has no marks")]
+    ZeroMarks,
+    /// Memory ran out.
+    #[error("out of memory")]
+    Memory,
+}
+
+// The place of the first byte that no body has.
+fn first_unprintable(body: &[u8]) -> Option<usize>
+    ensures { result ≡ position (λ c. not (is_character c)) body.now }
+{
+    body.iter().position(|byte| !is_printable_byte(*byte))
+}
+
+fn is_lone(lead: Edge, body: &[u8], trail: Edge) -> bool
+    ensures { result ≡ is_lone_hyphen (parts lead body.now trail) }
+{
+    matches!((lead, body, trail), (Edge::None, [b'-'], Edge::None))
+}
+
+fn is_unmarked(edge: Edge) -> bool
+    ensures value { result ≡ has_no_marks edge }
+    ensures marked { result ≡ false → IsEdge edge }
+{
+    match edge {
+        Edge::Marks(marks) => marks == 0,
+        _ => false,
+    }
+}
+
+impl Pattern {
+    /// The text of these parts.
+    ///
+    /// # Errors
+    /// The first cause why they make none, whatever the memory; else `Memory` alone.
+    pub fn new(alloc: Global, lead: Edge, body: &[u8], trail: Edge) -> Result<Pattern, ValueFault>
+        ensures text { IfOk result (λ p. p ≡ parts lead body.now trail) }
+        ensures lawful { OnOk result (IsText (parts lead body.now trail)) }
+
+        // What is a text is refused for want of memory alone, and what has a fault is refused for the first one.
+        ensures made { IsText (parts lead body.now trail) → IfErr result (λ f. f ≡ ValueFault.Memory) }
+        ensures refused { IfSome (first_fault (parts lead body.now trail)) (λ f. result ≡ Err f) }
+        ensures fault { IfErr result (λ f. f ≢ ValueFault.Memory → first_fault (parts lead body.now trail) ≡ Some f) }
+    {
+        if body.is_empty() {
+            return Err(ValueFault::EmptyBody);
+        }
+        if let Some(place) = first_unprintable(body) {
+            return Err(ValueFault::NotPrintable(place));
+        }
+        if is_lone(lead, body, trail) {
+            return Err(ValueFault::LoneHyphen);
+        }
+        if is_unmarked(lead) || is_unmarked(trail) {
+            return Err(ValueFault::ZeroMarks);
+        }
+        match Vec::from_slice(alloc, body) {
+            Ok(body) => Ok(Pattern { lead, body, trail }),
+            Err(_) => Err(ValueFault::Memory),
+        }
+    }
+
+    /// What stands before the body.
+    pub fn lead(&self) -> Edge
+        ensures { result ≡ self.now.lead }
+    {
+        self.lead
+    }
+
+    /// The body, without quoting.
+    pub fn stem(&self) -> &[u8]
+        ensures { result.now ≡ self.now.body }
+    {
+        self.body.as_slice()
+    }
+
+    /// What stands after the body.
+    pub fn trail(&self) -> Edge
+        ensures { result ≡ self.now.trail }
+    {
+        self.trail
+    }
+}
+
+impl Value {
+    /// Every value is lawful: a text has the parts of one. It does nothing.
+    pub fn lawful(&self)
+        ensures { IsValue self.now }
+    {
+        if let Value::Text(text) = self {
+            let _ = &text.lead;
+        }
+    }
+}
