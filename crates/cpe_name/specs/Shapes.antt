@@ -1,4 +1,4 @@
--- What a part (NIST IR 7695, 5.3.3.1) and a language (5.3.3.7) may be.
+-- What a part and a language may be (NIST IR 7695, 5.3).
 use Rattle.std.specs.Prelude.{ℕ, Bool, true, false, ◌&&◌, ◌||◌, ◌==◌, List, [], ◌∷◌}
 use Rattle.cpe_values.specs.declared.value.Value.{Value}
 use Rattle.cpe_values.specs.declared.value.Value.TheVariants as value

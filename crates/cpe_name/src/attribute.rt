@@ -2,7 +2,7 @@
 ghost use Rattle.std.specs.Prelude.{◌≡◌};
 ghost use Rattle.cpe_name.specs.Text.{attribute_name};
 
-/// An attribute of a name (NIST IR 7695, 5.2), in the order of the formatted string.
+/// An attribute of a name (NIST IR 7695, 5), in the order of the formatted string.
 #[derive(Clone, Copy, Debug, PartialEq, Eq, Hash)]
 pub enum Attribute {
     Part,

@@ -46,10 +46,10 @@ impl Model for Wfn {
 /// Why eleven values are no name: the first cause, in this order.
 #[derive(Clone, Copy, Debug, PartialEq, Eq, Error)]
 pub enum NameFault {
-    /// The part is a text, and not `a`, `h` or `o` alone (NIST IR 7695, 5.3.3.1).
+    /// The part is a text, and not `a`, `h` or `o` alone (NIST IR 7695, 5.3).
     #[error("the part is not `a`, `h` or `o`")]
     BadPart,
-    /// The language is a text, and not two or three letters, perhaps with a region behind (NIST IR 7695, 5.3.3.7).
+    /// The language is a text, and not two or three letters, perhaps with a region behind (NIST IR 7695, 5.3).
     #[error("the language is not two or three letters, perhaps with a region")]
     BadLanguage,
 }

@@ -1,4 +1,4 @@
--- Why three parts make no text (NIST IR 7695, 5.3.2): the causes in the order in which they are told.
+-- Why three parts make no text (NIST IR 7695, 5.3): the causes in the order in which they are told.
 use Rattle.std.specs.Prelude.{ℕ, Bool, true, false, not, ◌&&◌, ◌||◌, ◌==◌, List, [], ◌∷◌, length, position, Option, Some, None}
 use Rattle.std.specs.Option.{option_map}
 use Rattle.cpe_values.specs.declared.value.Edge.{Edge}

@@ -1,4 +1,4 @@
--- A text as contracts see it: what stands before the body, the body, and what stands after it (NIST IR 7695, 5.3.2).
+-- A text as contracts see it: what stands before the body, the body, and what stands after it (NIST IR 7695, 5.3).
 use Rattle.std.specs.Prelude.{◌≢◌, ℕ, ◌<◌, ◌^◌, Bool, true, false, ◌&&◌, nat_le, IsTrue, List, [], ◌∷◌}
 use Rattle.std.specs.List.{list_all}
 use Rattle.cpe_values.specs.declared.value.Edge.{Edge}

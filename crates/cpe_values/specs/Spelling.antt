@@ -1,4 +1,4 @@
--- How a text is spelled in a well-formed name (NIST IR 7695, 5.3.2) and in a formatted string (6.2).
+-- How a text is spelled in a well-formed name (NIST IR 7695, 5.3) and in a formatted string (6.2).
 use Rattle.std.specs.Prelude.{ℕ, Bool, ◌&&◌, ◌||◌, nat_le, ◌==◌, if◌then◌else◌, List, [], ◌∷◌, ◌++◌, replicate}
 use Rattle.std.specs.List.{flat_map}
 use Rattle.cpe_values.specs.declared.value.Edge.{Edge}

@@ -9,7 +9,7 @@ use crate::{Edge, Memory, Pattern};
 /// Where a text is spelled.
 #[derive(Clone, Copy, Debug, PartialEq, Eq)]
 pub enum Style {
-    /// In a well-formed name (NIST IR 7695, 5.3.2): a backslash stands before each character of a body but letters, digits and `_`.
+    /// In a well-formed name (NIST IR 7695, 5.3): a backslash stands before each character of a body but letters, digits and `_`.
     Wfn,
     /// In a formatted string (NIST IR 7695, 6.2): the same, and `.` and `-` stand bare too.
     Formatted,

@@ -9,7 +9,7 @@ use std::alloc::Global;
 use std::marker::Model;
 use thiserror::Error;
 
-/// What stands before or after the body of a text: nothing, or unquoted special characters (NIST IR 7695, 5.3.2).
+/// What stands before or after the body of a text: nothing, or unquoted special characters (NIST IR 7695, 5.3).
 #[derive(Clone, Copy, Debug, PartialEq, Eq, Hash)]
 pub enum Edge {
     /// Nothing.
@@ -20,7 +20,7 @@ pub enum Edge {
     Marks(u32),
 }
 
-/// A text: a lead, a body of printable ASCII characters without quoting, and a trail (NIST IR 7695, 5.3.2).
+/// A text: a lead, a body of printable ASCII characters without quoting, and a trail (NIST IR 7695, 5.3).
 ///
 /// Contracts see it as these three parts. Its body is not empty, and a text without specials is not one hyphen.
 #[derive(Debug, Drop)]
@@ -43,9 +43,9 @@ impl Model for Pattern {
 /// What an attribute has.
 #[derive(Debug, Drop)]
 pub enum Value {
-    /// The logical value ANY (NIST IR 7695, 5.3.1).
+    /// The logical value ANY (NIST IR 7695, 5.3).
     Any,
-    /// The logical value NA: not applicable (NIST IR 7695, 5.3.1).
+    /// The logical value NA: not applicable (NIST IR 7695, 5.3).
     Na,
     /// A text.
     Text(Pattern),

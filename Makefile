@@ -1,0 +1,47 @@
+# What can be done here; `make` alone lists it. All of it may be done again at any time.
+PREFIX = /usr/local
+DESTDIR =
+
+# Puts the program that rt left in its crate into build/, where it differs from the one there.
+take_program = mkdir -p build && { cmp -s crates/cpe/out/cpe build/cpe || \
+	{ cp crates/cpe/out/cpe build/cpe.new && mv -f build/cpe.new build/cpe; }; }
+
+.PHONY: help build demo test install bench clean need_rt need_python3
+
+help:
+	@echo 'make build    proves the program, and builds it into build/cpe'
+	@echo 'make demo     builds it, and reads examples/names.txt with it'
+	@echo 'make test     the gate: rt ci, then checks of the program as rt ci built it'
+	@echo 'make install  builds it, and puts it into PREFIX/bin (PREFIX=$(PREFIX))'
+	@echo 'make bench    builds it, and measures it against unproved Rust'
+	@echo 'make clean    removes all that was built'
+
+# rt has no command that builds a program without running it. Over an empty input this one writes
+# nothing and ends with status 0, so the status is that of the proof and the build.
+build: need_rt
+	cd crates/cpe && rt run -- unbind < /dev/null
+	@$(take_program)
+
+demo: build
+	build/cpe unbind < examples/names.txt
+
+test: need_rt
+	rt ci
+	@$(take_program)
+	sh tests/own-checks.sh build/cpe
+
+install: build
+	mkdir -p '$(DESTDIR)$(PREFIX)/bin'
+	install -m 755 build/cpe '$(DESTDIR)$(PREFIX)/bin/cpe'
+
+bench: need_python3 build
+	python3 bench/run.py build/cpe
+
+clean:
+	rm -rf build crates/*/out
+
+need_rt:
+	@command -v rt > /dev/null || { echo "rt, the command of Rattle's kit, is not on PATH" >&2; exit 1; }
+
+need_python3:
+	@command -v python3 > /dev/null || { echo 'python3 is not on PATH' >&2; exit 1; }

@@ -1,0 +1,189 @@
+#!/usr/bin/env python3
+"""Measures `cpe unbind` against unproved Rust programs that write the same, on the same input.
+
+Prints a table for each input: seconds, the ratio to `cpe unbind`, and peak memory. README.md
+beside this file says how to read it.
+"""
+import argparse
+import fcntl
+import os
+import pathlib
+import re
+import shutil
+import struct
+import subprocess
+import sys
+import termios
+import time
+
+sys.dont_write_bytecode = True
+import make_lines
+
+HERE = pathlib.Path(__file__).resolve().parent
+TOP = HERE.parent
+BUILD = TOP / "build" / "bench"
+OURS = "cpe unbind"
+# What copies only, and what answers as `cpe unbind` does.
+COPIES = ["lines"]
+TWINS = ["unbind_tuned", "unbind_plain"]
+PIECE = 1 << 16
+
+
+def is_older(path, *sources):
+    return not path.exists() or any(path.stat().st_mtime < it.stat().st_mtime for it in sources)
+
+
+def built_twins():
+    """The twins by name, compiled where their source is newer; none where there is no rustc."""
+    if not shutil.which("rustc"):
+        print("rustc is not on PATH: the twins are left out")
+        return {}
+    BUILD.mkdir(parents=True, exist_ok=True)
+    found = {}
+    for name in TWINS + COPIES:
+        source, program = HERE / "twins" / f"{name}.rs", BUILD / name
+        if is_older(program, source):
+            # (the processor that Rattle builds for, too)
+            flags = ["--edition", "2021", "-O", "-C", "target-cpu=x86-64-v2"]
+            subprocess.run(["rustc", *flags, "-o", program, source], check=True)
+        found[name] = [program]
+    return found
+
+
+def made(mode, count):
+    """The input of this mode and number of lines, made where it is not there yet."""
+    path = BUILD / (f"{mode}-{count}.txt" if count else f"{mode}.txt")
+    if is_older(path, HERE / "make_lines.py", make_lines.SAMPLE):
+        make_lines.write(mode, count, path)
+    return path
+
+
+def difference(ours, theirs, path):
+    """What differs between the outputs and statuses of two programs on this input, or None."""
+    with open(path, "rb") as one, open(path, "rb") as other:
+        left = subprocess.Popen(ours, stdin=one, stdout=subprocess.PIPE)
+        right = subprocess.Popen(theirs, stdin=other, stdout=subprocess.PIPE)
+        found, number = None, 1
+        while not found:
+            a, b = left.stdout.read(PIECE), right.stdout.read(PIECE)
+            if a != b:
+                same = len(os.path.commonprefix([a, b]))
+                found = f"output line {number + a[:same].count(10)}"
+            elif not a:
+                break
+            number += a.count(10)
+        left.stdout.close()
+        right.stdout.close()
+        statuses = left.wait(), right.wait()
+    return found or (f"exit status {statuses[0]} and {statuses[1]}" if statuses[0] != statuses[1] else None)
+
+
+def check_twins(ours, programs, paths):
+    """Ends this run where a twin doesn't answer as our program does: its times would tell nothing."""
+    differ = False
+    for name in (it for it in TWINS if it in programs):
+        for path in paths:
+            found = difference(ours, programs[name], path)
+            if found:
+                differ = True
+                print(f"{name} and {OURS} differ on {path.name}: {found}")
+    if differ:
+        sys.exit(1)
+
+
+def seconds(words, path):
+    """How long the program takes over this input, its output dropped."""
+    with open(path, "rb") as source:
+        start = time.perf_counter()
+        status = subprocess.run(words, stdin=source, stdout=subprocess.DEVNULL).returncode
+        took = time.perf_counter() - start
+    if status not in (0, 1):
+        sys.exit(f"{words[0]} ended with status {status} on {path.name}")
+    return took
+
+
+def best_times(programs, path, rounds):
+    """The best time of each program by name; they take turns, so that what else runs here hits all alike."""
+    times = {name: [] for name in programs}
+    for _ in range(rounds):
+        for name, words in programs.items():
+            times[name].append(seconds(words, path))
+    return {name: min(found) for name, found in times.items()}
+
+
+def waiting(pipe):
+    """How many bytes in the pipe are not read yet."""
+    return struct.unpack("i", fcntl.ioctl(pipe, termios.FIONREAD, b"\0" * 4))[0]
+
+
+def peak(words, path):
+    """The most memory that the program held at once, in KiB, or None where the system doesn't tell.
+
+    The kernel's mark of the process itself is read, when it has taken all input and before it
+    sees the end. (What wait4 tells of a child begins with what this script holds.)
+    """
+    child = subprocess.Popen(words, stdin=subprocess.PIPE, stdout=subprocess.DEVNULL)
+    try:
+        with open(path, "rb") as source:
+            shutil.copyfileobj(source, child.stdin, PIECE)
+        child.stdin.flush()
+        while waiting(child.stdin) and child.poll() is None:
+            time.sleep(0.001)
+        time.sleep(0.05)
+        found = re.search(r"VmHWM:\s+(\d+) kB", pathlib.Path(f"/proc/{child.pid}/status").read_text())
+    except OSError:
+        found = None
+    finally:
+        child.communicate()
+    return int(found.group(1)) if found else None
+
+
+def in_kib(number):
+    return "-" if number is None else f"{number:,}"
+
+
+def measure(programs, path, rounds):
+    times = best_times(programs, path, rounds)
+    print(f"\n{path.name}: {path.stat().st_size / 1e6:.1f} MB, best of {rounds}, output to /dev/null")
+    print(f"{'program':<14}{'seconds':>9}{'ratio':>8}{'peak KiB':>10}")
+    for name, words in programs.items():
+        ratio, most = times[name] / times[OURS], in_kib(peak(words, path))
+        print(f"{name:<14}{times[name]:>9.3f}{ratio:>8.2f}{most:>10}", flush=True)
+
+
+def measure_memory(ours, counts):
+    print(f"\n{OURS}, peak memory by the number of lines")
+    for count in counts:
+        print(f"{count:>10,} lines{in_kib(peak(ours, made('valid', count))):>10} KiB")
+
+
+def said():
+    parser = argparse.ArgumentParser(description=__doc__)
+    parser.add_argument("program", nargs="?", default=TOP / "build" / "cpe", type=pathlib.Path, help="the program cpe (build/cpe)")
+    parser.add_argument("--lines", type=int, default=1_000_000, help="lines of the inputs (1000000)")
+    parser.add_argument("--rounds", type=int, default=5, help="runs of each program on each input (5)")
+    given = parser.parse_args()
+    if not os.access(given.program, os.X_OK) or not given.program.is_file():
+        parser.error(f"{given.program} is no program: run make build first")
+    if given.lines < 100 or given.rounds < 1:
+        parser.error("it takes at least 100 lines and one round")
+    return given
+
+
+def main():
+    given = said()
+    ours = [given.program.resolve(), "unbind"]
+    programs = {OURS: ours, **built_twins()}
+    # (as many lines as make about 60 MB, where the other inputs have 1,000,000)
+    long = max(1, given.lines * 915 // 1_000_000)
+    paths = [made("valid", given.lines), made("refused", given.lines), made("long", long)]
+    check_twins(ours, programs, [*paths, made("edges", 0)])
+    print(f"load before: {os.getloadavg()[0]:.1f} on {os.cpu_count()} processors")
+    for path in paths:
+        measure(programs, path, given.rounds)
+    measure_memory(ours, [given.lines // 100, given.lines // 10, given.lines])
+    print(f"\nload behind: {os.getloadavg()[0]:.1f}")
+
+
+if __name__ == "__main__":
+    main()

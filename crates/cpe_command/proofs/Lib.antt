@@ -1,0 +1,3 @@
+mod TranscriptLemmas
+mod Usage
+mod Going

@@ -1,0 +1,6 @@
+pub mod Command
+pub mod Statuses
+pub mod Transcript
+pub mod Ran
+pub mod PageText
+pub mod Pages

@@ -1,0 +1,90 @@
+-- What the program writes, line by line, and its status.
+use Rattle.std.specs.Prelude.{ℕ, ◌+◌, Bool, true, false, ◌||◌, List, [], ◌∷◌, ◌++◌, take, Some, None, Ok, Err, is_err, codes, if◌then◌else◌}
+use Rattle.std.specs.declared.option.Option.{Option}
+use Rattle.std.specs.declared.result.Result.{Result}
+use Rattle.std.specs.Fmt.{decimal}
+use Rattle.std.specs.Str.{str_eq_ignore_ascii_case}
+use Rattle.cpe_fs.specs.Unbound.{unbound}
+use Rattle.cpe_io.specs.Lines.{lines}
+use Rattle.cpe_command.specs.declared.command.Command.{Command}
+use Rattle.cpe_command.specs.declared.command.Command.TheVariants.{Unbind}
+use Rattle.cpe_command.specs.declared.answer.Reason.{Reason}
+use Rattle.cpe_command.specs.declared.answer.Reason.TheVariants.{Long, NotBuilt, Name}
+use Rattle.cpe_command.specs.declared.status.Status.{Status}
+use Rattle.cpe_command.specs.declared.status.Status.TheVariants.{Done, SomeRefused, Usage}
+
+-- the first five bytes are `cpe:/` in any letter case
+abbrev pub begins_as_uri : List ℕ → Bool
+begins_as_uri text = str_eq_ignore_ascii_case (take 5 text) (codes "cpe:/")
+
+-- a line of this text, or the reason that no name has it
+abbrev pub named : Option (List ℕ) → Result (List ℕ) Reason
+named (Some text) = Ok (text ++ codes "\n")
+named None = Err Name
+
+-- what a formatted string says: the text of its name
+abbrev pub unbinds : List ℕ → Result (List ℕ) Reason
+unbinds text = if begins_as_uri text then Err NotBuilt else named (unbound text)
+
+-- what a line says: what is to be written for it, or why it is refused. A line that is too long is `None`
+abbrev pub says : Command → Option (List ℕ) → Result (List ℕ) Reason
+says command None = Err Long
+says command (Some []) = Ok []
+says Unbind (Some (x ∷ xs)) = unbinds (x ∷ xs)
+
+abbrev pub reason_text : Reason → List ℕ
+reason_text Long = codes "long"
+reason_text NotBuilt = codes "not-built"
+reason_text Name = codes "name"
+
+-- what the refused line of this number writes
+abbrev pub refusal : ℕ → Reason → List ℕ
+refusal number reason = codes "refused " ++ decimal number ++ codes " " ++ reason_text reason ++ codes "\n"
+
+-- what the line of this number writes, by what it says
+abbrev pub writes : ℕ → Result (List ℕ) Reason → List ℕ
+writes number (Ok text) = text
+writes number (Err reason) = refusal number reason
+
+-- between two lines: how many came, and whether one was refused
+pub record Standing : Type 0 where
+  pub number : ℕ
+  pub refused : Bool
+
+-- before the first line
+abbrev pub start : Standing
+start = record { number = 0; refused = false }
+
+-- what the next line writes
+abbrev pub answer : Command → Standing → Option (List ℕ) → List ℕ
+answer command s line = writes (s.number + 1) (says command line)
+
+-- where the next line leads
+abbrev pub step : Command → Standing → Option (List ℕ) → Standing
+step command s line = record { number = s.number + 1; refused = s.refused || is_err (says command line) }
+
+-- where these lines lead
+abbrev pub after : Command → Standing → List (Option (List ℕ)) → Standing
+after command s [] = s
+after command s (line ∷ more) = after command (step command s line) more
+
+-- what these lines write
+abbrev pub out_from : Command → Standing → List (Option (List ℕ)) → List ℕ
+out_from command s [] = []
+out_from command s (line ∷ more) = answer command s line ++ out_from command (step command s line) more
+
+abbrev pub out : Command → List (Option (List ℕ)) → List ℕ
+out command ls = out_from command start ls
+
+abbrev pub status_after : Standing → Status
+status_after s = if s.refused then SomeRefused else Done
+
+-- all that is written, and the status
+pub record Transcript : Type 0 where
+  pub text : List ℕ
+  pub status : Status
+
+-- what a command makes of these bytes; with no command it is the usage line, whatever the bytes are
+abbrev pub transcript_of : Option Command → List ℕ → Transcript
+transcript_of None bytes = record { text = codes "usage: cpe bind fs|bind uri|unbind|compare|resolve|evaluate|watch|make N|drill N\n"; status = Usage }
+transcript_of (Some command) bytes = record { text = out command (lines bytes); status = status_after (after command start (lines bytes)) }

@@ -1,0 +1,119 @@
+// What a line writes.
+ghost use Rattle.std.specs.Prelude.{◌≡◌, ◌+◌, ◌^◌, ◌<◌, ◌++◌, List, ℕ, Some, OnOk, IfOk, IfSome, is_none};
+ghost use Rattle.cpe_io.specs.Shown.{lent};
+ghost use Rattle.cpe_command.specs.Transcript.{answer, step, refusal, reason_text, says, unbinds, begins_as_uri};
+ghost use Rattle.cpe_command.specs.Pages.{standing, Said};
+
+use crate::command::Command;
+use crate::page::Page;
+use crate::progress::Progress;
+use cpe_io::Found;
+use itoa::Buffer;
+use std::alloc::AllocError;
+
+/// Why a line is refused.
+#[derive(Clone, Copy, Debug, PartialEq, Eq)]
+pub enum Reason {
+    /// The line has more than 65,536 bytes.
+    Long,
+    /// The line begins as a URI, which the program can't read yet.
+    NotBuilt,
+    /// No name has this formatted string.
+    Name,
+}
+
+/// Whether there is no line any more.
+pub fn is_end(found: Found) -> bool
+    ensures { (text : List ℕ) → result ≡ is_none (lent found text) }
+{
+    matches!(found, Found::End)
+}
+
+/// Puts what a line writes behind what is gathered, and counts the line.
+pub fn answer_line(
+    page: &mut Page,
+    progress: &mut Progress,
+    command: Command,
+    found: Found,
+    text: &[u8],
+) -> Result<(), AllocError>
+    requires { progress.old.number < 2 ^ 63 }
+    ensures text { OnOk result (IfSome (lent found text.now) (λ line. page.new ≡ page.old ++ answer command (standing progress.old) line)) }
+    ensures standing { OnOk result (IfSome (lent found text.now) (λ line. standing progress.new ≡ step command (standing progress.old) line)) }
+{
+    progress.number += 1;
+    if let Some(reason) = say_line(page, command, found, text)? {
+        progress.refused = true;
+        push_refusal(page, progress.number, reason)?;
+    }
+    Ok(())
+}
+
+// Puts what a line says, or tells why it is refused.
+fn say_line(
+    page: &mut Page,
+    command: Command,
+    found: Found,
+    text: &[u8],
+) -> Result<Option<Reason>, AllocError>
+    ensures { IfOk result (λ refused. IfSome (lent found text.now) (λ line. Said (says command line) page.old page.new refused)) }
+{
+    match found {
+        Found::Text => say_text(page, command, text),
+        Found::TooLong => Ok(Some(Reason::Long)),
+        Found::End => Ok(None),
+    }
+}
+
+fn say_text(page: &mut Page, command: Command, text: &[u8]) -> Result<Option<Reason>, AllocError>
+    ensures { IfOk result (Said (says command (Some text.now)) page.old page.new) }
+{
+    match (command, text) {
+        (_, []) => Ok(None),
+        (Command::Unbind, _) => say_name(page, text),
+    }
+}
+
+fn say_name(page: &mut Page, text: &[u8]) -> Result<Option<Reason>, AllocError>
+    ensures { IfOk result (Said (unbinds text.now) page.old page.new) }
+{
+    if is_begun_as_uri(text) {
+        return Ok(Some(Reason::NotBuilt));
+    }
+    if !page.push_unbound(text)? {
+        return Ok(Some(Reason::Name));
+    }
+    page.push(b"\n")?;
+    Ok(None)
+}
+
+fn is_begun_as_uri(text: &[u8]) -> bool
+    ensures { result ≡ begins_as_uri text.now }
+{
+    matches!(
+        text,
+        [b'c' | b'C', b'p' | b'P', b'e' | b'E', b':', b'/', ..]
+    )
+}
+
+// Puts what a refused line writes.
+fn push_refusal(page: &mut Page, number: u64, reason: Reason) -> Result<(), AllocError>
+    ensures { OnOk result (page.new ≡ page.old ++ refusal number reason) }
+{
+    let mut digits = Buffer::new();
+    page.push(b"refused ")?;
+    page.push(digits.format(number).as_bytes())?;
+    page.push(b" ")?;
+    page.push(text_of(reason))?;
+    page.push(b"\n")
+}
+
+fn text_of(reason: Reason) -> &'static [u8]
+    ensures { result.now ≡ reason_text reason }
+{
+    match reason {
+        Reason::Long => b"long",
+        Reason::NotBuilt => b"not-built",
+        Reason::Name => b"name",
+    }
+}

@@ -1,0 +1,173 @@
+// Runs over memory, whose bytes come and go in pieces.
+ghost use Rattle.std.specs.Prelude.{◌≡◌, ◌<◌};
+
+use crate::{Status, run};
+use cpe_io::{SureSink, SureSource};
+use cpe_steps::Steps;
+use std::alloc::Global;
+use std::marker::Brand;
+use std::sync::ledger::{Blank, Ledger};
+use std::test::Fail;
+
+// The status of a run, and what was written, where a piece of input or output has at most so many bytes.
+fn run_in_pieces(
+    alloc: Global,
+    words: &[String],
+    input: &[u8],
+    piece: usize,
+) -> Result<(Status, Vec<u8>), Fail> {
+    run_counting::<Brand>(alloc, words, input, piece, Blank::new(1))
+}
+
+fn run_counting<L: Ledger>(
+    alloc: Global,
+    words: &[String],
+    input: &[u8],
+    piece: usize,
+    blank: Blank,
+) -> Result<(Status, Vec<u8>), Fail>
+    requires name { blank.name ≡ L.name }
+    requires parts { blank.parts ≡ L.parts }
+    requires some { 0 < blank.parts }
+{
+    let mut steps = Steps::<L>::new(blank);
+    let mut source = SureSource::new(alloc, input, &[piece])?;
+    let mut sink = SureSink::new(alloc, piece);
+    let status = run(alloc, words, &mut source, &mut sink, &mut steps);
+    Ok((status, Vec::from_slice(alloc, sink.bytes())?))
+}
+
+fn words_of(alloc: Global, texts: &[&str]) -> Result<Vec<String>, Fail> {
+    let mut words = Vec::new(alloc);
+    for text in texts {
+        words.push(String::from_str(alloc, text)?)?;
+    }
+    Ok(words)
+}
+
+const EXPLORER: &[u8] = b"cpe:2.3:a:microsoft:internet_explorer:8.0.6001:beta:*:*:*:*:*:*";
+
+const EXPLORER_TEXT: &[u8] =
+    b"wfn:[part=\"a\",vendor=\"microsoft\",product=\"internet_explorer\",version=\"8\\.0\\.6001\",update=\"beta\",edition=ANY,language=ANY,sw_edition=ANY,target_sw=ANY,target_hw=ANY,other=ANY]\n";
+
+// What comes behind the vendor where all else is ANY.
+const ANY_FROM_PRODUCT: &[u8] =
+    b",product=ANY,version=ANY,update=ANY,edition=ANY,language=ANY,sw_edition=ANY,target_sw=ANY,target_hw=ANY,other=ANY]\n";
+
+#[test]
+fn unbind_answers_each_line_in_any_pieces(rt: HostRuntime) -> Result<(), Fail> {
+    let words = words_of(rt.alloc(), &["unbind"])?;
+    let rows: [(&[u8], Status, &[u8]); 10] = [
+        (b"", Status::Done, b""),
+        (b"\n\r\n\n", Status::Done, b""),
+        (EXPLORER, Status::Done, EXPLORER_TEXT),
+        (b"cpe:2.3:a", Status::SomeRefused, b"refused 1 name\n"),
+        (b"CPE:/a:v:p", Status::SomeRefused, b"refused 1 not-built\n"),
+        (
+            b"cPe:/\n\r\r\n \n",
+            Status::SomeRefused,
+            b"refused 1 not-built\nrefused 2 name\nrefused 3 name\n",
+        ),
+        (
+            b"cpe:\ncpe:2",
+            Status::SomeRefused,
+            b"refused 1 name\nrefused 2 name\n",
+        ),
+        (
+            b"\ncpe:2.3:a:\0\n\xff\xfe\r\n",
+            Status::SomeRefused,
+            b"refused 2 name\nrefused 3 name\n",
+        ),
+        (
+            b"cpe:2.3:a:foo\\.:*:*:*:*:*:*:*:*:*\r\n",
+            Status::SomeRefused,
+            b"refused 1 name\n",
+        ),
+        (
+            b"\xef\xbb\xbfcpe:2.3:*:*:*:*:*:*:*:*:*:*:*",
+            Status::SomeRefused,
+            b"refused 1 name\n",
+        ),
+    ];
+    for (input, status, output) in rows {
+        for piece in [1, 2, 65536] {
+            let (answer, written) = run_in_pieces(rt.alloc(), &words, input, piece)?;
+            assert_eq!(rt; answer, status);
+            assert_eq!(rt; written.as_slice(), output);
+        }
+    }
+    Ok(())
+}
+
+#[test]
+fn names_and_refusals_stand_in_the_order_of_their_lines(rt: HostRuntime) -> Result<(), Fail> {
+    let alloc = rt.alloc();
+    let words = words_of(alloc, &["unbind"])?;
+    let mut input = Vec::from_slice(alloc, EXPLORER)?;
+    input.extend_from_slice(b"\r\n\ncpe:/a\n")?;
+    input.extend_from_slice(EXPLORER)?;
+    let mut output = Vec::from_slice(alloc, EXPLORER_TEXT)?;
+    output.extend_from_slice(b"refused 3 not-built\n")?;
+    output.extend_from_slice(EXPLORER_TEXT)?;
+    for piece in [1, 7, 65536] {
+        let (answer, written) = run_in_pieces(alloc, &words, &input, piece)?;
+        assert_eq!(rt; answer, Status::SomeRefused);
+        assert_eq!(rt; written.as_slice(), output.as_slice());
+    }
+    Ok(())
+}
+
+// A formatted string of so many bytes, whose vendor is long. Below 28 it is longer than that.
+fn name_of_length(alloc: Global, len: usize) -> Result<Vec<u8>, Fail> {
+    let mut line = Vec::from_slice(alloc, b"cpe:2.3:a:")?;
+    line.resize(len.max(28) - 18, b'v')?;
+    line.extend_from_slice(b":*:*:*:*:*:*:*:*:*")?;
+    Ok(line)
+}
+
+#[test]
+fn a_line_has_at_most_65536_bytes(rt: HostRuntime) -> Result<(), Fail> {
+    let alloc = rt.alloc();
+    let words = words_of(alloc, &["unbind"])?;
+    let mut input = name_of_length(alloc, 65536)?;
+    input.push(b'\n')?;
+    input.extend_from_slice(&name_of_length(alloc, 65537)?)?;
+    input.push(b'\n')?;
+    input.extend_from_slice(&name_of_length(alloc, 200_000)?)?;
+    input.extend_from_slice(b"\ncpe:/\n")?;
+    let mut output = Vec::from_slice(alloc, b"wfn:[part=\"a\",vendor=\"")?;
+    let mark = output.len();
+    output.resize(mark + 65508, b'v')?;
+    output.push(b'"')?;
+    output.extend_from_slice(ANY_FROM_PRODUCT)?;
+    output.extend_from_slice(b"refused 2 long\nrefused 3 long\nrefused 4 not-built\n")?;
+    for piece in [1000, 65536, 65537] {
+        let (answer, written) = run_in_pieces(alloc, &words, &input, piece)?;
+        assert_eq!(rt; answer, Status::SomeRefused);
+        assert!(rt; written == output);
+    }
+    Ok(())
+}
+
+#[test]
+fn other_words_get_the_usage_line(rt: HostRuntime) -> Result<(), Fail> {
+    let usage =
+        b"usage: cpe bind fs|bind uri|unbind|compare|resolve|evaluate|watch|make N|drill N\n";
+    let rows: [&[&str]; 8] = [
+        &[],
+        &["bind"],
+        &["make", "0"],
+        &["make", "007"],
+        &["unbind", "x"],
+        &["Unbind"],
+        &["--help"],
+        &[""],
+    ];
+    for row in rows {
+        let words = words_of(rt.alloc(), row)?;
+        let (answer, written) = run_in_pieces(rt.alloc(), &words, EXPLORER, 3)?;
+        assert_eq!(rt; answer, Status::Usage);
+        assert_eq!(rt; written.as_slice(), usage.as_slice());
+    }
+    Ok(())
+}
