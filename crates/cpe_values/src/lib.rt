@@ -4,6 +4,8 @@
 //! well-formed name and in a formatted string stands in `spelling`.
 #![tactic(auto)]
 
+mod case;
+mod equal;
 mod memory;
 mod spelling;
 #[cfg(test)]

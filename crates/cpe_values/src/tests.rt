@@ -60,3 +60,27 @@ fn a_hyphen_beside_a_special_is_a_text(rt: HostRuntime) {
     assert!(rt; Pattern::new(rt.alloc(), Edge::None, b"--", Edge::None).is_ok());
     assert!(rt; Pattern::new(rt.alloc(), Edge::None, b"!", Edge::Marks(u32::MAX)).is_ok());
 }
+
+#[test]
+fn case_is_kept_and_can_be_passed_over(rt: HostRuntime) -> Result<(), Fail> {
+    let alloc = rt.alloc();
+    let upper = Value::Text(Pattern::new(alloc, Edge::Star, b"Foo-BAR[", Edge::None)?);
+    let lower = Value::Text(Pattern::new(alloc, Edge::Star, b"foo-bar[", Edge::None)?);
+    let other = Value::Text(Pattern::new(alloc, Edge::Star, b"foo-bar{", Edge::None)?);
+    assert!(rt; upper != lower);
+    assert!(rt; upper.same(&lower) && lower.same(&upper));
+    assert!(rt; !upper.same(&other) && !upper.same(&Value::Any));
+    assert!(rt; Value::Na.same(&Value::Na) && Value::Na != Value::Any);
+    assert!(rt; upper.lower(alloc)? == lower);
+    assert!(rt; upper.copy(alloc)? == upper);
+    Ok(())
+}
+
+#[test]
+fn wildcards_are_specials_alone(rt: HostRuntime) -> Result<(), Fail> {
+    let quoted = Value::Text(Pattern::new(rt.alloc(), Edge::None, b"*?", Edge::None)?);
+    let marked = Value::Text(Pattern::new(rt.alloc(), Edge::None, b"a", Edge::Marks(1))?);
+    assert!(rt; !quoted.has_wildcards() && marked.has_wildcards());
+    assert!(rt; !Value::Any.has_wildcards() && !Value::Na.has_wildcards());
+    Ok(())
+}

@@ -1,9 +1,11 @@
 // What an attribute may have.
 ghost use Rattle.std.specs.Prelude.{◌≡◌, ◌≢◌, IfOk, IfErr, IfSome, OnOk, Err, position, not, false};
-ghost use Rattle.cpe_values.specs.Parts.{parts, is_character, IsEdge, IsText};
+ghost use Rattle.cpe_values.specs.Parts.{parts, is_character, is_nothing, IsEdge, IsText};
 ghost use Rattle.cpe_values.specs.Faults.{first_fault, is_lone_hyphen, has_no_marks};
 ghost use Rattle.cpe_values.specs.Values.{IsValue};
+ghost use Rattle.cpe_values.specs.Lower.{has_specials};
 
+use crate::Memory;
 use crate::spelling::is_printable_byte;
 use std::alloc::Global;
 use std::marker::Model;
@@ -25,9 +27,9 @@ pub enum Edge {
 /// Contracts see it as these three parts. Its body is not empty, and a text without specials is not one hyphen.
 #[derive(Debug, Drop)]
 pub struct Pattern {
-    lead: Edge,
-    body: Vec<u8>,
-    trail: Edge,
+    pub(crate) lead: Edge,
+    pub(crate) body: Vec<u8>,
+    pub(crate) trail: Edge,
 }
 
 impl Model for Pattern {
@@ -148,7 +150,54 @@ impl Pattern {
     }
 }
 
+impl Pattern {
+    /// The same text again.
+    ///
+    /// # Errors
+    /// Want of memory alone.
+    pub fn copy(&self, alloc: Global) -> Result<Pattern, Memory>
+        ensures { IfOk result (λ p. p ≡ self.now) }
+    {
+        let body = Vec::from_slice(alloc, &self.body)?;
+        Ok(Pattern {
+            lead: self.lead,
+            body,
+            trail: self.trail,
+        })
+    }
+}
+
+fn is_special(edge: Edge) -> bool
+    ensures { result ≡ not (is_nothing edge) }
+{
+    !matches!(edge, Edge::None)
+}
+
 impl Value {
+    /// Whether the value is a text with a special, `*` or `?`, before or after its body.
+    pub fn has_wildcards(&self) -> bool
+        ensures { result ≡ has_specials self.now }
+    {
+        match self {
+            Value::Text(text) => is_special(text.lead) || is_special(text.trail),
+            _ => false,
+        }
+    }
+
+    /// The same value again.
+    ///
+    /// # Errors
+    /// Want of memory alone.
+    pub fn copy(&self, alloc: Global) -> Result<Value, Memory>
+        ensures { IfOk result (λ v. v ≡ self.now) }
+    {
+        match self {
+            Value::Any => Ok(Value::Any),
+            Value::Na => Ok(Value::Na),
+            Value::Text(text) => Ok(Value::Text(text.copy(alloc)?)),
+        }
+    }
+
     /// Every value is lawful: a text has the parts of one. It does nothing.
     pub fn lawful(&self)
         ensures { IsValue self.now }

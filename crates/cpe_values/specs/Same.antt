@@ -1,0 +1,47 @@
+-- When two values are the same, and what they feed a hasher.
+use Rattle.std.specs.Prelude.{ℕ, Bool, true, false, ◌&&◌, ◌==◌, nat_eq, List, ◌++◌}
+use Rattle.std.specs.Hash as fed
+use lib.Pointwise.{pointwise}
+use Rattle.cpe_values.specs.declared.value.Edge.{Edge}
+use Rattle.cpe_values.specs.declared.value.Edge.TheVariants as edge
+use Rattle.cpe_values.specs.declared.value.Value.{Value}
+use Rattle.cpe_values.specs.declared.value.Value.TheVariants as value
+use Rattle.cpe_values.specs.Parts.{Parts}
+
+abbrev pub same_edge : Edge → Edge → Bool
+same_edge edge.None edge.None = true
+same_edge edge.None edge.Star = false
+same_edge edge.None (edge.Marks n) = false
+same_edge edge.Star edge.None = false
+same_edge edge.Star edge.Star = true
+same_edge edge.Star (edge.Marks n) = false
+same_edge (edge.Marks m) edge.None = false
+same_edge (edge.Marks m) edge.Star = false
+same_edge (edge.Marks m) (edge.Marks n) = m == n
+
+abbrev pub same_parts : Parts → Parts → Bool
+same_parts a b = same_edge a.lead b.lead && pointwise nat_eq a.body b.body && same_edge a.trail b.trail
+
+abbrev pub same_value : Value → Value → Bool
+same_value value.Any value.Any = true
+same_value value.Any value.Na = false
+same_value value.Any (value.Text t) = false
+same_value value.Na value.Any = false
+same_value value.Na value.Na = true
+same_value value.Na (value.Text t) = false
+same_value (value.Text t) value.Any = false
+same_value (value.Text t) value.Na = false
+same_value (value.Text s) (value.Text t) = same_parts s t
+
+abbrev pub edge_number : Edge → ℕ
+edge_number edge.None = 0
+edge_number edge.Star = 1
+edge_number (edge.Marks n) = n
+
+abbrev pub parts_input : Parts → List (List ℕ)
+parts_input t = fed.u32 (edge_number t.lead) ++ fed.slice fed.u8 t.body ++ fed.u32 (edge_number t.trail)
+
+abbrev pub value_input : Value → List (List ℕ)
+value_input value.Any = fed.u8 0
+value_input value.Na = fed.u8 1
+value_input (value.Text t) = fed.u8 2 ++ parts_input t

@@ -1,0 +1,69 @@
+// Texts and values in lower case.
+ghost use Rattle.std.specs.Prelude.{◌≡◌, ◌↔◌, IsTrue, IfOk};
+ghost use Rattle.std.specs.Str.{str_to_ascii_lowercase};
+ghost use Rattle.cpe_values.specs.Lower.{lower_parts, lower_value};
+
+use crate::{Memory, Pattern, Value};
+use std::alloc::{AllocError, Global};
+
+fn lower_body(alloc: Global, body: &[u8]) -> Result<Vec<u8>, AllocError>
+    ensures { IfOk result (λ v. v.items ≡ str_to_ascii_lowercase body.now) }
+{
+    body.iter()
+        .map(|byte| byte.to_ascii_lowercase())
+        .collect(alloc)
+}
+
+impl Pattern {
+    /// The text with every letter in lower case.
+    ///
+    /// # Errors
+    /// Want of memory alone.
+    pub fn lower(&self, alloc: Global) -> Result<Pattern, Memory>
+        ensures { IfOk result (λ p. p ≡ lower_parts self.now) }
+    {
+        let body = lower_body(alloc, &self.body)?;
+        Ok(Pattern {
+            lead: self.lead,
+            body,
+            trail: self.trail,
+        })
+    }
+
+    /// Whether two texts are the same but for the case of letters. It takes no memory.
+    pub fn same(&self, other: &Pattern) -> bool
+        ensures { IsTrue result ↔ (lower_parts self.now ≡ lower_parts other.now) }
+    {
+        self.lead() == other.lead()
+            && self.trail() == other.trail()
+            && self.stem().eq_ignore_ascii_case(other.stem())
+    }
+}
+
+impl Value {
+    /// The value with every letter in lower case.
+    ///
+    /// # Errors
+    /// Want of memory alone.
+    pub fn lower(&self, alloc: Global) -> Result<Value, Memory>
+        ensures { IfOk result (λ v. v ≡ lower_value self.now) }
+    {
+        match self {
+            Value::Any => Ok(Value::Any),
+            Value::Na => Ok(Value::Na),
+            Value::Text(text) => Ok(Value::Text(text.lower(alloc)?)),
+        }
+    }
+
+    /// Whether two values are the same but for the case of letters. It takes no memory.
+    pub fn same(&self, other: &Value) -> bool
+        ensures { IsTrue result ↔ (lower_value self.now ≡ lower_value other.now) }
+    {
+        match (self, other) {
+            (Value::Any, Value::Any) => true,
+            (Value::Na, Value::Na) => true,
+            (Value::Text(text), Value::Text(other)) => text.same(other),
+            _ => false,
+        }
+    }
+}

@@ -1,0 +1,110 @@
+// When two texts or two values are equal, and what they feed a hasher. Equal is equal as contracts see it, letter case too.
+ghost use Rattle.std.specs.Prelude.{◌≡◌};
+ghost use Rattle.cpe_values.specs.Same.{edge_number};
+
+use crate::{Edge, Pattern, Value};
+use std::hash::{Hash, Hasher};
+
+impl PartialEq for Pattern {
+    ghost use Rattle.std.specs.Prelude.{◌≡◌, ◌↔◌, IsTrue};
+    ghost use Rattle.std.specs.Cmp.{partial_equiv_from_equiv, decided};
+    ghost use Rattle.cpe_values.specs.Same.{same_parts};
+    ghost use Rattle.cpe_values.specs.Equal.{same_parts-Decides};
+
+    ghost eq = { same_parts };
+
+    ghost laws = { partial_equiv_from_equiv (decided same_parts same_parts-Decides) };
+
+    fn eq(&self, other: &Pattern) -> bool
+        ensures value { result ≡ same_parts self.now other.now }
+        ensures same { IsTrue result ↔ (self.now ≡ other.now) }
+    {
+        self.lead() == other.lead() && self.stem() == other.stem() && self.trail() == other.trail()
+    }
+}
+
+impl Eq for Pattern {
+    ghost use Rattle.std.specs.Cmp.{decided};
+    ghost use Rattle.cpe_values.specs.Same.{same_parts};
+    ghost use Rattle.cpe_values.specs.Equal.{same_parts-Decides};
+
+    ghost laws = { decided same_parts same_parts-Decides };
+}
+
+impl Hash for Pattern {
+    ghost use Rattle.std.specs.Hash.{same_Alike};
+    ghost use Rattle.cpe_values.specs.Same.{parts_input};
+    ghost use Rattle.cpe_values.specs.Equal.{same_parts-Decides};
+
+    ghost hash_input = { parts_input };
+
+    ghost respects_eq = { (same_Alike parts_input same_parts-Decides).fed };
+
+    fn hash<H: Hasher>(&self, state: &mut H) {
+        state.write_u32(edge_code(self.lead()));
+        self.stem().hash(state);
+        state.write_u32(edge_code(self.trail()));
+    }
+}
+
+fn edge_code(edge: Edge) -> u32
+    ensures { result ≡ edge_number edge }
+{
+    match edge {
+        Edge::None => 0,
+        Edge::Star => 1,
+        Edge::Marks(marks) => marks,
+    }
+}
+
+impl PartialEq for Value {
+    ghost use Rattle.std.specs.Prelude.{◌≡◌, ◌↔◌, IsTrue};
+    ghost use Rattle.std.specs.Cmp.{partial_equiv_from_equiv, decided};
+    ghost use Rattle.cpe_values.specs.Same.{same_value};
+    ghost use Rattle.cpe_values.specs.Equal.{same_value-Decides};
+
+    ghost eq = { same_value };
+
+    ghost laws = { partial_equiv_from_equiv (decided same_value same_value-Decides) };
+
+    fn eq(&self, other: &Value) -> bool
+        ensures value { result ≡ same_value self.now other.now }
+        ensures same { IsTrue result ↔ (self.now ≡ other.now) }
+    {
+        match (self, other) {
+            (Value::Any, Value::Any) => true,
+            (Value::Na, Value::Na) => true,
+            (Value::Text(a), Value::Text(b)) => a == b,
+            _ => false,
+        }
+    }
+}
+
+impl Eq for Value {
+    ghost use Rattle.std.specs.Cmp.{decided};
+    ghost use Rattle.cpe_values.specs.Same.{same_value};
+    ghost use Rattle.cpe_values.specs.Equal.{same_value-Decides};
+
+    ghost laws = { decided same_value same_value-Decides };
+}
+
+impl Hash for Value {
+    ghost use Rattle.std.specs.Hash.{same_Alike};
+    ghost use Rattle.cpe_values.specs.Same.{value_input};
+    ghost use Rattle.cpe_values.specs.Equal.{same_value-Decides};
+
+    ghost hash_input = { value_input };
+
+    ghost respects_eq = { (same_Alike value_input same_value-Decides).fed };
+
+    fn hash<H: Hasher>(&self, state: &mut H) {
+        match self {
+            Value::Any => state.write_u8(0),
+            Value::Na => state.write_u8(1),
+            Value::Text(text) => {
+                state.write_u8(2);
+                text.hash(state);
+            }
+        }
+    }
+}
