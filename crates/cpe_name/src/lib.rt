@@ -3,6 +3,8 @@
 #![tactic(auto)]
 
 mod attribute;
+mod copy;
+mod equal;
 mod name;
 mod shape;
 #[cfg(test)]

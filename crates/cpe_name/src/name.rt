@@ -1,6 +1,7 @@
 // Well-formed names.
-ghost use Rattle.std.specs.Prelude.{◌≡◌, IfOk, OnOk, IfErr};
+ghost use Rattle.std.specs.Prelude.{◌≡◌, IfOk, OnOk, OnErr, IfErr};
 ghost use Rattle.cpe_name.specs.Names.{value_of, IsName, IsFault};
+ghost use Rattle.cpe_name.specs.Put.{any_values, put};
 
 use crate::Attribute;
 use crate::shape::{is_lawful_language, is_lawful_part};
@@ -29,7 +30,7 @@ pub struct Values {
 /// Contracts see it as its values. Letter case is kept.
 #[derive(Debug, Drop)]
 pub struct Wfn {
-    values: Values,
+    pub(crate) values: Values,
 }
 
 impl Model for Wfn {
@@ -107,6 +108,101 @@ impl Wfn {
             Attribute::TargetSw => &self.values.target_sw,
             Attribute::TargetHw => &self.values.target_hw,
             Attribute::Other => &self.values.other,
+        }
+    }
+}
+
+// ANY for each attribute.
+pub(crate) fn any_of_each() -> Values
+    ensures { result ≡ any_values }
+{
+    Values {
+        part: Value::Any,
+        vendor: Value::Any,
+        product: Value::Any,
+        version: Value::Any,
+        update: Value::Any,
+        edition: Value::Any,
+        language: Value::Any,
+        sw_edition: Value::Any,
+        target_sw: Value::Any,
+        target_hw: Value::Any,
+        other: Value::Any,
+    }
+}
+
+impl Wfn {
+    /// The name whose eleven values are ANY.
+    pub fn any() -> Wfn
+        ensures { result ≡ any_values }
+    {
+        Wfn {
+            values: any_of_each(),
+        }
+    }
+
+    /// Gives an attribute another value. It takes no memory.
+    ///
+    /// # Errors
+    /// As [`Wfn::new`] with the new value; the name is then as it was.
+    pub fn set(&mut self, which: Attribute, value: Value) -> Result<(), NameFault>
+        ensures ok { OnOk result (self.new ≡ put self.old which value) }
+        ensures err { OnErr result (self.new ≡ self.old) }
+        ensures fault { IfErr result (λ f. IsFault f (put self.old which value)) }
+    {
+        self.lawful();
+        value.lawful();
+        match which {
+            Attribute::Part => {
+                if !is_lawful_part(&value) {
+                    return Err(NameFault::BadPart);
+                }
+                self.values.part = value;
+                return Ok(());
+            }
+            Attribute::Language => {
+                if !is_lawful_language(&value) {
+                    return Err(NameFault::BadLanguage);
+                }
+                self.values.language = value;
+                return Ok(());
+            }
+            Attribute::Vendor => {
+                self.values.vendor = value;
+                return Ok(());
+            }
+            Attribute::Product => {
+                self.values.product = value;
+                return Ok(());
+            }
+            Attribute::Version => {
+                self.values.version = value;
+                return Ok(());
+            }
+            Attribute::Update => {
+                self.values.update = value;
+                return Ok(());
+            }
+            Attribute::Edition => {
+                self.values.edition = value;
+                return Ok(());
+            }
+            Attribute::SwEdition => {
+                self.values.sw_edition = value;
+                return Ok(());
+            }
+            Attribute::TargetSw => {
+                self.values.target_sw = value;
+                return Ok(());
+            }
+            Attribute::TargetHw => {
+                self.values.target_hw = value;
+                return Ok(());
+            }
+            Attribute::Other => {
+                self.values.other = value;
+                return Ok(());
+            }
         }
     }
 }

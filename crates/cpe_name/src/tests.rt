@@ -89,3 +89,31 @@ fn specials_suit_neither_part_nor_language(rt: HostRuntime) -> Result<(), Fail> 
     assert_eq!(rt; answer.err(), Some(NameFault::BadLanguage));
     Ok(())
 }
+
+#[test]
+fn a_name_is_changed_or_left_as_it_was(rt: HostRuntime) -> Result<(), Fail> {
+    let alloc = rt.alloc();
+    let mut name = Wfn::any();
+    name.set(Attribute::Part, plain(alloc, b"o")?)?;
+    name.set(Attribute::Other, plain(alloc, b"x")?)?;
+    let before = name.copy(alloc)?;
+    assert!(rt; name == before && name != Wfn::any());
+    assert!(rt; name.set(Attribute::Part, plain(alloc, b"x")?) == Err(NameFault::BadPart));
+    assert!(rt; name.set(Attribute::Language, plain(alloc, b"e")?) == Err(NameFault::BadLanguage));
+    assert!(rt; name == before);
+    let text = write_wfn(alloc, &name)?;
+    let want =
+        b"wfn:[part=\"o\",vendor=ANY,product=ANY,version=ANY,update=ANY,edition=ANY,language=ANY,sw_edition=ANY,target_sw=ANY,target_hw=ANY,other=\"x\"]";
+    assert_eq!(rt; text.as_slice(), want.as_slice());
+    Ok(())
+}
+
+#[test]
+fn a_wildcard_in_any_attribute_is_found(rt: HostRuntime) -> Result<(), Fail> {
+    let mut name = Wfn::any();
+    assert!(rt; !name.has_wildcards());
+    let other = Value::Text(Pattern::new(rt.alloc(), Edge::None, b"a", Edge::Marks(2))?);
+    name.set(Attribute::Other, other)?;
+    assert!(rt; name.has_wildcards());
+    Ok(())
+}
