@@ -1,2 +1,4 @@
 pub mod Texts
 pub mod Lawful
+pub mod SkippingLemmas
+pub mod LaneLemmas

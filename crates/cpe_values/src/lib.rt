@@ -4,12 +4,14 @@
 //! well-formed name and in a formatted string stands in `spelling`.
 #![tactic(auto)]
 
+mod bare;
 mod memory;
 mod spelling;
 #[cfg(test)]
 mod tests;
 mod value;
 
+pub use bare::skip_bare;
 pub use memory::Memory;
 pub use spelling::{
     Style, is_bare_byte, is_digit_byte, is_letter_byte, is_printable_byte, push_spelling,
