@@ -1,5 +1,5 @@
 -- Which way a result went.
-use Rattle.std.proofs.Common.{◌≡◌, ◌⊎◌, ℕ, Bool, true, false, cond, List, ◌++◌, Result, Ok, Err, refl, inl, inr}
+use Rattle.std.proofs.Common.{◌≡◌, ◌⊎◌, ℕ, Bool, true, false, cond, List, Result, Ok, Err, refl, inl, inr}
 use Rattle.cpe_grammar.specs.Scanners.{Scanner, ◌>>=◌}
 
 -- typed, so that equations between them have one type

@@ -1,9 +1,9 @@
 -- Scanners that take the texts of a language, and stop where none goes on.
-use Rattle.std.proofs.Common.{◌≡◌, ◌⊎◌, ℕ, zero, suc, Bool, true, false, cond, eqb, List, [], ◌∷◌, ◌++◌, length, replicate, ◌≤◌, IsTrue, Result, Ok, Err, refl, sym, ap, subst, ◌∙◌, inl, inr, append_assoc, arith}
-use Rattle.std.proofs.lemmas.List.{append-nil, append_cancel_right}
+use Rattle.std.proofs.Common.{◌≡◌, ◌⊎◌, ℕ, zero, suc, Bool, true, false, eqb, List, [], ◌∷◌, ◌++◌, length, replicate, ◌≤◌, IsTrue, Ok, Err, refl, sym, ap, subst, ◌∙◌, inl, inr, append_assoc, arith}
+use Rattle.std.proofs.lemmas.List.{append_cancel_right}
 use Rattle.std.specs.List.{list_all}
 use Rattle.std.proofs.lemmas.Bool.{cases_Bool, eqb-true, eq-eqb, and_from}
-use Rattle.cpe_grammar.specs.Scanners.{Scanner, ◌>>=◌, both, choose, nothing, ending, one, up_to, run, literal}
+use Rattle.cpe_grammar.specs.Scanners.{Scanner, both, choose, nothing, ending, one, up_to, run, literal}
 use Rattle.cpe_grammar.proofs.Results.{left_over, stopped, went_on, stopped_at, chosen, ok_is, err_is, ok≢err}
 
 -- what was taken is a text of the language

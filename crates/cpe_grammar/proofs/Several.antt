@@ -1,9 +1,9 @@
 -- A scanner of pieces, one behind the other, for as long as the first byte lets a piece begin.
-use Rattle.std.proofs.Common.{◌≡◌, ◌≢◌, ℕ, zero, suc, ◌<◌, ◌≤◌, Bool, true, false, List, [], ◌∷◌, ◌++◌, length, Ok, Err, refl, sym, ap, ◌∙◌, inl, inr, append_assoc, arith, length-append}
-use Rattle.std.proofs.lemmas.List.{append_cancel_right, nil_from_length}
+use Rattle.std.proofs.Common.{◌≡◌, ◌≢◌, ℕ, zero, suc, ◌≤◌, Bool, true, false, List, [], ◌∷◌, ◌++◌, length, Ok, Err, refl, sym, ap, ◌∙◌, inl, inr, append_assoc, arith, length-append}
+use Rattle.std.proofs.lemmas.List.{append_cancel_right}
 use Rattle.std.proofs.lemmas.Bool.{cases_Bool}
-use Rattle.cpe_grammar.specs.Scanners.{Scanner, ◌>>=◌, both, choose, nothing}
-use Rattle.cpe_grammar.proofs.Results.{left_over, stopped, went_on, stopped_at, ok_is, err_is, ok≢err}
+use Rattle.cpe_grammar.specs.Scanners.{Scanner, both, choose, nothing}
+use Rattle.cpe_grammar.proofs.Results.{went_on, stopped_at, ok_is, ok≢err}
 use Rattle.cpe_grammar.proofs.Scans.{Takes, Stops, Scans, looks_no_further, chosen_yes, chosen_no, before_rest, head_is}
 
 -- what is left behind some bytes is shorter
