@@ -81,17 +81,18 @@ sink_fault_stands : (fault : SinkFault) (command : Command) (left_now : Option (
 sink_fault_stands sink.Failed command left_now taken written = tt
 sink_fault_stands sink.Memory command left_now taken written = tt
 
-module _ (left0 left held0 held : Option (List ℕ)) (command : Command) (reader : Reading) (text : List ℕ) (s : Standing) (going : Going left0 left held0 held command reader text s) where
+module _ {left0 left held0 held : Option (List ℕ)} {command : Command} {reader : Reading} {text : List ℕ} {s : Standing}
+    (going : Going left0 left held0 held command reader text s) where
   -- a flush writes a front of what is gathered
-  pub Going-flushed : (held_now : Option (List ℕ)) (kept : List ℕ) (s_now : Standing) → Flushes held held_now text kept → s_now ≡ s → Going left0 left held0 held_now command reader kept s_now
-  Going-flushed held_now kept s_now flushes same = record {
+  pub Going-flushed : {held_now : Option (List ℕ)} {kept : List ℕ} → Flushes held held_now text kept → Going left0 left held0 held_now command reader kept s
+  Going-flushed {held_now = held_now} {kept = kept} flushes = record {
     bytes = going.bytes;
     seen = going.seen;
     written = going.written ++ flushes.front;
     took = going.took;
     wrote = Appends-trans held0 held held_now going.written flushes.front going.wrote flushes.appends;
     so_far = append_assoc going.written flushes.front kept ∙ ap (λ (l : List ℕ). going.written ++ l) (sym flushes.splits) ∙ going.so_far;
-    stands = same ∙ going.stands;
+    stands = going.stands;
     lines_go = going.lines_go;
     whole_go = going.whole_go;
     few = going.few;
@@ -141,9 +142,9 @@ module _ (left0 left held0 held : Option (List ℕ)) (command : Command) (reader
       (begins_front [] (record { rest = text; splits = refl }))
 
   -- the sink refused the rest of a page
-  pub Ran-sink_fault : (held_now : Option (List ℕ)) (fault : SinkFault) (status : Status) → status ≡ of_sink_fault fault
+  pub Ran-sink_fault : {held_now : Option (List ℕ)} {status : Status} (fault : SinkFault) → status ≡ of_sink_fault fault
       → AppendsFront held held_now text → Ran left0 left held0 held_now (Some command) status
-  Ran-sink_fault held_now fault status is front = record {
+  Ran-sink_fault {held_now = held_now} fault is front = record {
     taken = going.bytes;
     written = going.written ++ front.front;
     took = going.took;
@@ -159,10 +160,10 @@ not_true false never = refl
 clean_left : (xs ys : List ℕ) → has_newline (xs ++ ys) ≡ false → has_newline xs ≡ false
 clean_left xs ys none = not_true (has_newline xs) (λ has. clean_front xs ys has none)
 
--- a call of `next_line`
-module _ (left0 left left_now held0 held : Option (List ℕ)) (command : Command) (reader now : Reading) (text : List ℕ) (s : Standing) (going : Going left0 left held0 held command reader text s)
-    (Said : List ℕ → Type 0) (takes : Takes left left_now reader now Said) (ends : (reader.ended ≡ true → IsAtEnd left) → now.ended ≡ true → IsAtEnd left_now)
-    (lower : (reader.ended ≡ true → reader.taken < reader.budget) → now.ended ≡ true → now.taken < now.budget) where
+-- a call of `find_line`
+module _ {left0 left left_now held0 held : Option (List ℕ)} {command : Command} {reader now : Reading} {text : List ℕ} {s : Standing} {Said : List ℕ → Type 0}
+    (going : Going left0 left held0 held command reader text s) (takes : Takes left left_now reader now Said)
+    (ends : (reader.ended ≡ true → IsAtEnd left) → now.ended ≡ true → IsAtEnd left_now) (lower : now.ended ≡ true → now.taken < now.budget) where
   took_all : Consumes left0 left_now (going.bytes ++ takes.bytes)
   took_all = Consumes-trans left0 left left_now going.bytes takes.bytes going.took takes.took
 
@@ -206,9 +207,9 @@ module _ (left0 left left_now held0 held : Option (List ℕ)) (command : Command
       omega (arith, going.few, last.0.some_bytes, ap length last.1.kept, length-append going.seen (line ∷ []), length-append going.bytes takes.bytes, length-append reader.kept takes.bytes)
 
   -- one more line was seen
-  pub Going-line : (line : Option (List ℕ)) (text_now : List ℕ) (s_now : Standing) → Gives reader now takes.bytes (Some line) → now.fault ≡ None
+  pub Going-line : {text_now : List ℕ} {s_now : Standing} (line : Option (List ℕ)) → Gives reader now takes.bytes (Some line) → now.fault ≡ None
       → text_now ≡ text ++ answer command s line → s_now ≡ step command s line → Going left0 left_now held0 held command now text_now s_now
-  Going-line line text_now s_now gives fault text_is s_is = record {
+  Going-line line gives fault text_is s_is = record {
     bytes = going.bytes ++ takes.bytes;
     seen = going.seen ++ line ∷ [];
     written = going.written;
@@ -236,7 +237,7 @@ module _ (left0 left left_now held0 held : Option (List ℕ)) (command : Command
     budget = takes.counts.budget ∙ going.budget;
     fault = fault;
     end = ends going.end;
-    below = lower going.below;
+    below = lower;
   }
 
   -- each line takes a byte of the budget, or of what was kept
@@ -246,10 +247,10 @@ module _ (left0 left left_now held0 held : Option (List ℕ)) (command : Command
   closer line (inr last) =
       omega (arith, takes.counts.taken, takes.counts.within, takes.counts.budget, last.0.some_bytes, ap length last.1.kept, length-append reader.kept takes.bytes)
 
-  pub Going-said : (said : Option (Option (List ℕ))) (text_now : List ℕ) (s_now : Standing) → Gives reader now takes.bytes said → now.fault ≡ None → is_none said ≡ false
+  pub Going-said : {text_now : List ℕ} {s_now : Standing} (said : Option (Option (List ℕ))) → Gives reader now takes.bytes said → now.fault ≡ None → is_none said ≡ false
       → IfSome said (λ line. text_now ≡ text ++ answer command s line) → IfSome said (λ line. s_now ≡ step command s line) → Going left0 left_now held0 held command now text_now s_now
-  Going-said None text_now s_now gives fault some text_is s_is = absurd (true≢false some)
-  Going-said (Some line) text_now s_now gives fault some text_is s_is = Going-line line text_now s_now gives fault text_is s_is
+  Going-said None gives fault some text_is s_is = absurd (true≢false some)
+  Going-said (Some line) gives fault some text_is s_is = Going-line line gives fault text_is s_is
 
   pub closer_said : (said : Option (Option (List ℕ))) → Gives reader now takes.bytes said → is_none said ≡ false → (now.budget - now.taken) + length now.kept < (reader.budget - reader.taken) + length reader.kept
   closer_said None gives some = absurd (true≢false some)
@@ -263,7 +264,7 @@ module _ (left0 left left_now held0 held : Option (List ℕ)) (command : Command
     took = took_all;
     wrote = going.wrote;
     stands = tt;
-    begins = begins_written left0 left held0 held command reader text s going;
+    begins = begins_written going;
   }
 
   cut_short : text ≡ [] → IsCutShort reader now takes.bytes → going.written ≡ out command (whole (going.bytes ++ takes.bytes))
@@ -284,14 +285,15 @@ module _ (left0 left left_now held0 held : Option (List ℕ)) (command : Command
   stands_at fault.Memory none first = tt
 
   -- the source or the reader told a fault
-  pub Ran-fault : (fault : LineFault) → (has_newline reader.kept ≡ false → text ≡ []) → FirstFault reader now takes.bytes fault → Ran left0 left_now held0 held (Some command) (of_line_fault fault)
-  Ran-fault fault none first = record {
+  pub Ran-fault : {status : Status} (fault : LineFault) → status ≡ of_line_fault fault → (has_newline reader.kept ≡ false → text ≡ []) → FirstFault reader now takes.bytes fault
+      → Ran left0 left_now held0 held (Some command) status
+  Ran-fault fault is none first = record {
     taken = going.bytes ++ takes.bytes;
     written = going.written;
     took = took_all;
     wrote = going.wrote;
-    stands = stands_at fault none first;
-    begins = begins_written left0 left held0 held command reader text s going;
+    stands = subst (λ (st : Status). Stands (Some command) left_now (going.bytes ++ takes.bytes) going.written st) (sym is) (stands_at fault none first);
+    begins = begins_written going;
   }
 
   all_seen : Gives reader now takes.bytes None → lines (going.bytes ++ takes.bytes) ≡ going.seen
@@ -317,7 +319,7 @@ module _ (left0 left left_now held0 held : Option (List ℕ)) (command : Command
   }
 
   few_at_end : Gives reader now takes.bytes None → length (going.bytes ++ takes.bytes) < 2 ^ 40
-  few_at_end gives = omega (arith, counted, lower going.below gives.1.ended, takes.counts.budget, going.budget)
+  few_at_end gives = omega (arith, counted, lower gives.1.ended, takes.counts.budget, going.budget)
 
   finish_front : (status : Status) (held_now : Option (List ℕ)) (gives : Gives reader now takes.bytes None) → IsAtEnd left_now → ((taken written : List ℕ) → Stands (Some command) left_now taken written status)
       → AppendsFront held held_now text → Ran left0 left_now held0 held_now (Some command) status
@@ -343,15 +345,15 @@ module _ (left0 left left_now held0 held : Option (List ℕ)) (command : Command
   }
 
   -- the run ends at the end of the input
-  pub Ran-finish : (status : Status) (held_now : Option (List ℕ)) → Gives reader now takes.bytes None → IsAtEnd left_now → Finishes held held_now text s status
+  pub Ran-finish : {held_now : Option (List ℕ)} (status : Status) → Gives reader now takes.bytes None → IsAtEnd left_now → Finishes held held_now text s status
       → Ran left0 left_now held0 held_now (Some command) status
-  Ran-finish status.Done held_now gives end finishes = finish_all status.Done held_now gives end (λ it. it) finishes.0 finishes.1
-  Ran-finish status.SomeRefused held_now gives end finishes = finish_all status.SomeRefused held_now gives end (λ it. it) finishes.0 finishes.1
-  Ran-finish status.WriteFault held_now gives end finishes = finish_front status.WriteFault held_now gives end (λ _ _. tt) finishes
-  Ran-finish status.Memory held_now gives end finishes = finish_front status.Memory held_now gives end (λ _ _. tt) finishes
-  Ran-finish status.Usage held_now gives end finishes = absurd finishes
-  Ran-finish status.ReadFault held_now gives end finishes = absurd finishes
-  Ran-finish status.Endless held_now gives end finishes = absurd finishes
+  Ran-finish status.Done gives end finishes = finish_all status.Done _ gives end (λ it. it) finishes.0 finishes.1
+  Ran-finish status.SomeRefused gives end finishes = finish_all status.SomeRefused _ gives end (λ it. it) finishes.0 finishes.1
+  Ran-finish status.WriteFault gives end finishes = finish_front status.WriteFault _ gives end (λ _ _. tt) finishes
+  Ran-finish status.Memory gives end finishes = finish_front status.Memory _ gives end (λ _ _. tt) finishes
+  Ran-finish status.Usage gives end finishes = absurd finishes
+  Ran-finish status.ReadFault gives end finishes = absurd finishes
+  Ran-finish status.Endless gives end finishes = absurd finishes
 
 pub on_ok : {E : Type 0} (P : Type 0) (r : Result Unit E) → is_err r ≡ false → OnOk r P → P
 on_ok P (Ok x) ok p = p

@@ -48,11 +48,13 @@ Gathers-start left old fault within no_text = record {
   end = λ premise. premise;
 }
 
+-- a list without a newline has none in its front
 pub clean_front : (xs ys : List ℕ) → has_newline xs ≡ true → has_newline (xs ++ ys) ≡ false → ⊥
 clean_front xs ys has none =
     let e : has_newline (xs ++ ys) ≡ true = rw (has_newline-append xs ys, has) refl in
     true≢false (sym e ∙ none)
 
+-- a piece of too many bytes is no line that can be told
 line_of-long : (piece : List ℕ) → 65536 < length piece → line_of piece ≡ None
 line_of-long piece over =
     let no : nat_le (length piece) 65536 ≡ false = search (rules, tests) in
@@ -63,6 +65,7 @@ some_parts : (is_long : Bool) (dropped piece : List ℕ) → (is_long ≡ true �
 some_parts true dropped piece long some = omega (arith, long refl, length-append dropped piece)
 some_parts false dropped piece long some = omega (arith, length-append dropped piece)
 
+-- the dropped front and what is kept are together too long
 over : (is_long : Bool) (dropped piece : List ℕ) → (is_long ≡ true → 65536 < length dropped) → (is_long ≡ false → 65536 < length piece) → 65536 < length (dropped ++ piece)
 over true dropped piece long longer = omega (arith, long refl, length-append dropped piece)
 over false dropped piece long longer = omega (arith, longer refl, length-append dropped piece)
@@ -91,12 +94,23 @@ module _ (left0 left : Option (List ℕ)) (old now : Reading) (is_long : Bool) (
   pub taken_now : old.taken ≡ old.budget → now.taken ≡ now.budget
   taken_now spent = omega (arith, known.counts.taken, known.counts.within, known.counts.budget)
 
+  -- a reader that may take no more finds no newline
   pub never_found : (at : ℕ) → IsNewline now.kept at → IsSpent old → ⊥
   never_found at found spent =
       let none : known.bytes ≡ [] = nil_from_length known.bytes (omega (arith, spent.taken, known.counts.taken, known.counts.within, known.counts.budget)) in
       let clean : has_newline (old.kept ++ known.bytes) ≡ false =
       subst (λ (l : List ℕ). has_newline l ≡ false) (sym (append-nil old.kept) ∙ ap (λ (l : List ℕ). old.kept ++ l) (sym none)) spent.no_line in
       true≢false (sym (has_newline-right known.dropped now.kept (has_newline-found now.kept at found)) ∙ ap has_newline (sym known.parts) ∙ clean)
+
+  -- where the reader looks for more, no whole line was kept and the end wasn't seen
+  pub all_clean : has_newline now.kept ≡ false → has_newline (old.kept ++ known.bytes) ≡ false
+  all_clean none = subst (λ (l : List ℕ). has_newline l ≡ false) (sym known.parts) (has_newline-join known.dropped now.kept known.clean none)
+
+  pub never_whole : has_newline now.kept ≡ false → has_newline old.kept ≡ true → ⊥
+  never_whole none has = clean_front old.kept known.bytes has (all_clean none)
+
+  pub never_ended : now.ended ≡ false → old.ended ≡ true → ⊥
+  never_ended open_end ended = true≢false (sym (known.at_end ended).1 ∙ open_end)
 
   -- the line before a newline that was found
   pub Gives-found : (at : ℕ) (new : Reading) → IsNewline now.kept at → new ≡ record now { kept = drop (at + 1) now.kept; text = new.text }
@@ -193,9 +207,7 @@ module _ (left0 left : Option (List ℕ)) (old now : Reading) (is_long : Bool) (
 
 module _ (left0 left later : Option (List ℕ)) (old now new : Reading) (is_long : Bool) (known : Gathers left0 left old now is_long) (none : has_newline now.kept ≡ false)
     (more : List ℕ) (took : Consumes left later more) (counts : Counts now new more) where
-  all_clean : has_newline (old.kept ++ known.bytes) ≡ false
-  all_clean = subst (λ (l : List ℕ). has_newline l ≡ false) (sym known.parts) (has_newline-join known.dropped now.kept known.clean none)
-
+  -- what was taken before and the new piece count
   pub counted : Counts old new (known.bytes ++ more)
   counted = record {
     budget = counts.budget ∙ known.counts.budget;
@@ -203,11 +215,13 @@ module _ (left0 left later : Option (List ℕ)) (old now new : Reading) (is_long
     within = counts.within;
   }
 
+  -- a piece is taken only where no whole line was kept
   pub as_needed-more : has_newline old.kept ≡ true → known.bytes ++ more ≡ []
-  as_needed-more has = absurd (clean_front old.kept known.bytes has all_clean)
+  as_needed-more has = absurd (never_whole left0 left old now is_long known none has)
 
-  never_ended : now.ended ≡ false → old.ended ≡ true → (known.bytes ++ more ≡ []) × (new.ended ≡ true)
-  never_ended open_end ended = absurd (true≢false (sym (known.at_end ended).1 ∙ open_end))
+  -- and only where the end was not seen
+  at_end-more : now.ended ≡ false → old.ended ≡ true → (known.bytes ++ more ≡ []) × (new.ended ≡ true)
+  at_end-more open_end ended = absurd (never_ended left0 left old now is_long known open_end ended)
 
   -- a piece was put behind what is kept
   pub Gathers-more : TakesPiece now new more (Ok tt) → now.ended ≡ false → new.fault ≡ now.fault → new.text ≡ [] → (new.ended ≡ true → IsAtEnd later)
@@ -223,18 +237,20 @@ module _ (left0 left later : Option (List ℕ)) (old now new : Reading) (is_long
     long = known.long;
     short = known.short;
     as_needed = as_needed-more;
-    at_end = λ ended. never_ended open_end ended;
+    at_end = λ ended. at_end-more open_end ended;
     fault = fault ∙ known.fault;
     no_text = no_text;
     end = λ _. end;
   }
 
+  -- a read that gave nothing leaves neither a whole line nor the end
   cut_short : more ≡ [] → new.ended ≡ now.ended → now.ended ≡ false → IsCutShort old new (known.bytes ++ more)
   cut_short nothing same open_end = record {
-    no_line = subst (λ (l : List ℕ). has_newline (old.kept ++ l) ≡ false) (sym (append-nil known.bytes) ∙ ap (λ (l : List ℕ). known.bytes ++ l) (sym nothing)) all_clean;
+    no_line = subst (λ (l : List ℕ). has_newline (old.kept ++ l) ≡ false) (sym (append-nil known.bytes) ∙ ap (λ (l : List ℕ). known.bytes ++ l) (sym nothing)) (all_clean left0 left old now is_long known none);
     open_end = same ∙ open_end;
   }
 
+  -- so a fault has its meaning
   FirstFault-more : (fault : LineFault) → TakesPiece now new more (Err fault) → now.ended ≡ false → FirstFault old new (known.bytes ++ more) fault
   FirstFault-more Read takes open_end = cut_short takes.0 takes.1 open_end
   FirstFault-more Endless takes open_end = (cut_short takes.0 takes.1 open_end, takes.2)
@@ -248,6 +264,6 @@ module _ (left0 left later : Option (List ℕ)) (old now new : Reading) (is_long
     took = Consumes-trans left0 left later known.bytes more known.took took;
     counts = counted;
     as_needed = as_needed-more;
-    at_end = λ ended. never_ended open_end ended;
+    at_end = λ ended. at_end-more open_end ended;
     said = subst (λ (a : Answer). Outcome old new a (known.bytes ++ more)) (sym is) (FirstFault-more fault takes open_end);
   }

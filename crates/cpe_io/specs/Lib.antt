@@ -1,6 +1,7 @@
 pub mod Buffered
 pub mod Causes
 pub mod Feeding
+pub mod FirstLine
 pub mod Lines
 pub mod Reading
 pub mod Searching

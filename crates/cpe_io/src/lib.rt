@@ -1,7 +1,8 @@
 //! Lines of a source that gives its bytes in any pieces, and sinks that take bytes.
 //!
-//! A [`Source`] gives bytes and a [`Sink`] takes them; each has a count of its faults that never falls, so a caller can
-//! prove that a fault was one. [`LineReader`] finds the lines of a source and lends each of them without a copy.
+//! A [`Source`] gives bytes and a [`Sink`] takes them; each has a count of its faults that never
+//! falls, so a caller can prove that a fault was one. [`LineReader`] finds the lines of a source
+//! and lends each of them without a copy.
 #![tactic(auto)]
 
 mod line;

@@ -4,7 +4,7 @@ ghost use Rattle.std.specs.Io.KnownBytes.{Consumes, IsAtEnd};
 ghost use Rattle.cpe_io.specs.Causes.{Rose};
 ghost use Rattle.cpe_io.specs.Lines.{has_newline, IsNewline, line_of};
 ghost use Rattle.cpe_io.specs.Shown.{shown, lent, shown_answer, lent_answer, text_of};
-ghost use Rattle.cpe_io.specs.Reading.{new_reading, Counts, Takes, Answers, IsSpent, IsFirstOf, rest_of};
+ghost use Rattle.cpe_io.specs.Reading.{new_reading, Counts, Takes, Answers, IsSettled, IsSpent, IsFirstOf, rest_of};
 ghost use Rattle.cpe_io.specs.Searching.{TakesPiece, Outcome, IsTrimmed};
 
 use crate::line::{Found, LONGEST, Line, LineFault};
@@ -16,14 +16,14 @@ use std::marker::Model;
 
 /// Finds the lines of a source, and takes no more than a budget of bytes from it.
 ///
-/// A line ends at a newline, and is told without it and without one final carriage return. A last piece without a
-/// newline is a line where it isn't empty. A line of more than 65,536 bytes before its newline is told as too long.
-/// No byte is searched twice, and a line that is too long takes no memory.
+/// A newline ends a line, and what follows the last newline is a line too if there are bytes. A
+/// line is given without its newline and without one carriage return at its end. One of more than
+/// 65,536 bytes, with that carriage return, is too long: its bytes are passed over.
 #[derive(Drop)]
 pub struct LineReader {
     alloc: Global,
     buffer: ReadBuffer,
-    // Where the first newline of what is kept stands.
+    // Where the first newline of what is kept stands, so that no byte is searched twice.
     ahead: Option<usize>,
     budget: u64,
     taken: u64,
@@ -38,16 +38,24 @@ impl Model for LineReader {
 
     ghost Value = { Reading };
 
-    ghost view = { λ r. record { budget = r.budget; kept = r.buffer.kept; taken = r.taken; ended = r.ended; fault = r.fault; text = r.buffer.text } };
+    ghost view = { λ r. record {
+      budget = r.budget;
+      kept = r.buffer.kept;
+      taken = r.taken;
+      ended = r.ended;
+      fault = r.fault;
+      text = r.buffer.text;
+    } };
 
     // The end is seen by a read, which the budget has room for.
     ghost invariant = { λ r. (r.taken ≤ r.budget) × (r.ended ≡ true → r.taken < r.budget)
-        × MatchOption r.ahead (has_newline r.buffer.kept ≡ false) (IsNewline r.buffer.kept) × (length r.buffer.text ≤ 65536) };
+        × MatchOption r.ahead (has_newline r.buffer.kept ≡ false) (IsNewline r.buffer.kept)
+        × (length r.buffer.text ≤ 65536) };
 }
 
 impl LineReader {
-    /// A reader that takes at most `budget` bytes of its source. It allocates 131,072 bytes, and later only what
-    /// [`next_line`](LineReader::next_line) gives.
+    /// A reader that takes at most `budget` bytes of its source. It allocates one buffer of 131,072
+    /// bytes.
     pub fn new(alloc: Global, budget: u64) -> Result<LineReader, Memory>
         ensures { IfOk result (λ r. r ≡ new_reading budget) }
     {
@@ -82,21 +90,29 @@ impl LineReader {
 
     /// Finds the next line, and lends its text until the next call. It takes no memory.
     ///
-    /// It reads only where no whole line is kept. It answers [`LineFault::Read`] where a read failed, and
-    /// [`LineFault::Endless`] where the budget was taken with no whole line kept and no end seen. After a fault it
-    /// answers that fault again.
+    /// It reads as long as it has neither a whole line nor the end. [`LineFault::Read`] means that
+    /// a read failed, and [`LineFault::Endless`] that the budget was taken before a line or the end
+    /// came. After a fault it answers that fault again, and does nothing else.
     pub fn find_line<S: Source>(&mut self, source: &mut S) -> Result<Found, LineFault>
-        ensures takes { Takes (S.left source.old) (S.left source.new) self.old self.new (Answers self.old self.new (lent_answer result self.new.text)) }
+        ensures takes { Takes (S.left source.old) (S.left source.new) self.old self.new
+            (Answers self.old self.new (lent_answer result self.new.text)) }
         ensures first { (self.old.ended ≡ true → IsAtEnd (S.left source.old))
-            → IsFirstOf (lent_answer result self.new.text) (rest_of self.old (S.left source.old)) (rest_of self.new (S.left source.new)) }
+            → IsFirstOf (lent_answer result self.new.text) (rest_of self.old (S.left source.old))
+            (rest_of self.new (S.left source.new)) }
         ensures text { self.new.text ≡ text_of (lent_answer result self.new.text) }
-        ensures end { (self.old.ended ≡ true → IsAtEnd (S.left source.old)) → self.new.ended ≡ true → IsAtEnd (S.left source.new) }
+        ensures end { (self.old.ended ≡ true → IsAtEnd (S.left source.old))
+            → self.new.ended ≡ true → IsAtEnd (S.left source.new) }
         ensures below { self.new.ended ≡ true → self.new.taken < self.new.budget }
         ensures later { S.faults source.old ≤ S.faults source.new }
-        ensures again { IfSome self.old.fault (IsErrOf result) }
-        ensures endless { self.old.fault ≡ None → IsSpent self.old → IsErrOf result LineFault.Endless }
-        ensures cause { IsErrOf result LineFault.Read → self.old.fault ≡ None → Rose (S.faults source.old) (S.faults source.new) }
-        ensures memory { IsErrOf result LineFault.Memory → self.old.fault ≡ Some LineFault.Memory }
+        ensures again { IfSome self.old.fault (λ fault. IsErrOf result fault
+            × (self.new ≡ record self.old { text = [] })) }
+        ensures untouched { IsSettled self.old → source.new ≡ source.old }
+        ensures endless { self.old.fault ≡ None → IsSpent self.old
+            → IsErrOf result LineFault.Endless }
+        ensures cause { IsErrOf result LineFault.Read → self.old.fault ≡ None
+            → Rose (S.faults source.old) (S.faults source.new) }
+        ensures memory { IsErrOf result LineFault.Memory
+            → self.old.fault ≡ Some LineFault.Memory }
     {
         self.forget_text();
         if let Some(fault) = self.fault {
@@ -109,21 +125,29 @@ impl LineReader {
         answer
     }
 
-    /// Finds the next line as [`find_line`](LineReader::find_line) does, and gives a copy of its text.
+    /// Finds the next line as [`find_line`](LineReader::find_line) does, and gives a copy of its
+    /// text.
     ///
-    /// It answers [`LineFault::Memory`] where there is no memory for the copy. After a fault it answers that fault
-    /// again.
+    /// [`LineFault::Memory`] means that no memory was left for the copy; the line is lost then.
+    /// After a fault it answers that fault again, and does nothing else.
     pub fn next_line<S: Source>(&mut self, source: &mut S) -> Result<Line, LineFault>
-        ensures takes { Takes (S.left source.old) (S.left source.new) self.old self.new (Answers self.old self.new (shown_answer result)) }
+        ensures takes { Takes (S.left source.old) (S.left source.new) self.old self.new
+            (Answers self.old self.new (shown_answer result)) }
         ensures first { (self.old.ended ≡ true → IsAtEnd (S.left source.old))
-            → IsFirstOf (shown_answer result) (rest_of self.old (S.left source.old)) (rest_of self.new (S.left source.new)) }
+            → IsFirstOf (shown_answer result) (rest_of self.old (S.left source.old))
+            (rest_of self.new (S.left source.new)) }
         ensures text { self.new.text ≡ text_of (shown_answer result) }
-        ensures end { (self.old.ended ≡ true → IsAtEnd (S.left source.old)) → self.new.ended ≡ true → IsAtEnd (S.left source.new) }
+        ensures end { (self.old.ended ≡ true → IsAtEnd (S.left source.old))
+            → self.new.ended ≡ true → IsAtEnd (S.left source.new) }
         ensures below { self.new.ended ≡ true → self.new.taken < self.new.budget }
         ensures later { S.faults source.old ≤ S.faults source.new }
-        ensures again { IfSome self.old.fault (IsErrOf result) }
-        ensures endless { self.old.fault ≡ None → IsSpent self.old → IsErrOf result LineFault.Endless }
-        ensures cause { IsErrOf result LineFault.Read → self.old.fault ≡ None → Rose (S.faults source.old) (S.faults source.new) }
+        ensures again { IfSome self.old.fault (λ fault. IsErrOf result fault
+            × (self.new ≡ record self.old { text = [] })) }
+        ensures untouched { IsSettled self.old → source.new ≡ source.old }
+        ensures endless { self.old.fault ≡ None → IsSpent self.old
+            → IsErrOf result LineFault.Endless }
+        ensures cause { IsErrOf result LineFault.Read → self.old.fault ≡ None
+            → Rose (S.faults source.old) (S.faults source.new) }
     {
         let found = self.find_line(source)?;
         self.copy_line(found)
@@ -134,7 +158,8 @@ impl LineReader {
         ensures line { IfOk result (λ line. shown line ≡ lent found self.old.text) }
         ensures same { OnOk result (self.new ≡ self.old) }
         ensures memory { IfErr result (λ fault. fault ≡ LineFault.Memory) }
-        ensures kept { OnErr result (self.new ≡ record self.old { fault = Some LineFault.Memory; text = [] }) }
+        ensures kept { OnErr result (self.new
+            ≡ record self.old { fault = Some LineFault.Memory; text = [] }) }
     {
         match found {
             Found::TooLong => return Ok(Line::TooLong),
@@ -161,16 +186,22 @@ impl LineReader {
         requires within { self.old.taken ≤ self.old.budget }
         requires below { self.old.ended ≡ true → self.old.taken < self.old.budget }
         requires no_text { self.old.text ≡ [] }
-        ensures takes { Takes (S.left source.old) (S.left source.new) self.old self.new (Outcome self.old self.new (lent_answer result self.new.text)) }
+        ensures takes { Takes (S.left source.old) (S.left source.new) self.old self.new
+            (Outcome self.old self.new (lent_answer result self.new.text)) }
         ensures first { (self.old.ended ≡ true → IsAtEnd (S.left source.old))
-            → IsFirstOf (lent_answer result self.new.text) (rest_of self.old (S.left source.old)) (rest_of self.new (S.left source.new)) }
+            → IsFirstOf (lent_answer result self.new.text) (rest_of self.old (S.left source.old))
+            (rest_of self.new (S.left source.new)) }
         ensures text { self.new.text ≡ text_of (lent_answer result self.new.text) }
         ensures fault { self.new.fault ≡ None }
-        ensures end { (self.old.ended ≡ true → IsAtEnd (S.left source.old)) → self.new.ended ≡ true → IsAtEnd (S.left source.new) }
+        ensures end { (self.old.ended ≡ true → IsAtEnd (S.left source.old))
+            → self.new.ended ≡ true → IsAtEnd (S.left source.new) }
         ensures below { self.new.ended ≡ true → self.new.taken < self.new.budget }
         ensures endless { IsSpent self.old → IsErrOf result LineFault.Endless }
+        ensures as_needed { has_newline self.old.kept ≡ true → source.new ≡ source.old }
+        ensures at_end { self.old.ended ≡ true → source.new ≡ source.old }
         ensures later { S.faults source.old ≤ S.faults source.new }
-        ensures cause { IsErrOf result LineFault.Read → Rose (S.faults source.old) (S.faults source.new) }
+        ensures cause { IsErrOf result LineFault.Read
+            → Rose (S.faults source.old) (S.faults source.new) }
         ensures memory { IfErr result (λ fault. fault ≢ LineFault.Memory) }
     {
         let mut is_long = false;
@@ -196,9 +227,11 @@ impl LineReader {
     // The line up to the newline at `at`, of which a part was dropped if it is long.
     fn take_line(&mut self, at: usize, is_long: bool) -> Found
         requires { at < length self.old.kept }
-        ensures line { lent result self.new.text ≡ Some (if is_long then None else line_of (take at self.old.kept)) }
+        ensures line { lent result self.new.text
+            ≡ Some (if is_long then None else line_of (take at self.old.kept)) }
         ensures text { self.new.text ≡ text_of (Ok (lent result self.new.text)) }
-        ensures kept { self.new ≡ record self.old { kept = drop (at + 1) self.old.kept; text = self.new.text } }
+        ensures kept { self.new
+            ≡ record self.old { kept = drop (at + 1) self.old.kept; text = self.new.text } }
     {
         let found = lend_line(&mut self.buffer, at, is_long);
         // The newline follows the line.
@@ -254,7 +287,8 @@ impl LineReader {
         ensures below { self.new.ended ≡ true → self.new.taken < self.new.budget }
         ensures spent { self.old.taken ≡ self.old.budget → IsErrOf result LineFault.Endless }
         ensures later { S.faults source.old ≤ S.faults source.new }
-        ensures cause { IsErrOf result LineFault.Read → Rose (S.faults source.old) (S.faults source.new) }
+        ensures cause { IsErrOf result LineFault.Read
+            → Rose (S.faults source.old) (S.faults source.new) }
         ensures memory { IfErr result (λ fault. fault ≢ LineFault.Memory) }
     {
         let most = (self.budget - self.taken).min(PIECE as u64) as usize;
@@ -272,11 +306,12 @@ impl LineReader {
     }
 }
 
-// Lends the line of the first `len` bytes that are kept, which then are kept no more. The line is long where a part of it
-// was dropped before.
+// Lends the line of the first `len` bytes that are kept, which then are kept no more. The line is
+// long where a part of it was dropped before.
 fn lend_line(buffer: &mut ReadBuffer, len: usize, is_long: bool) -> Found
     requires { len ≤ length buffer.old.kept }
-    ensures line { lent result buffer.new.text ≡ Some (if is_long then None else line_of (take len buffer.old.kept)) }
+    ensures line { lent result buffer.new.text
+        ≡ Some (if is_long then None else line_of (take len buffer.old.kept)) }
     ensures text { buffer.new.text ≡ text_of (Ok (lent result buffer.new.text)) }
     ensures kept { buffer.new.kept ≡ drop len buffer.old.kept }
     ensures short { length buffer.new.text ≤ 65536 }
@@ -289,3 +324,6 @@ fn lend_line(buffer: &mut ReadBuffer, len: usize, is_long: bool) -> Found
     buffer.lend_front(text_len, len);
     Found::Text
 }
+
+#[cfg(test)]
+mod tests;

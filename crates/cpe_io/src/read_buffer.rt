@@ -14,8 +14,8 @@ pub const PIECE: usize = 65536;
 // Room for a whole piece behind as many bytes that are kept.
 const CAPACITY: usize = 131072;
 
-/// One allocation of fixed length, in which the bytes that are kept stand from `start` to `end`. Bytes before them
-/// stay where they are until the next read, so that one line of them can be lent.
+/// One allocation of fixed length, in which the bytes that are kept stand from `start` to `end`.
+/// Bytes before them stay where they are until the next read, so that one line of them can be lent.
 #[derive(Drop)]
 pub struct ReadBuffer {
     bytes: Vec<u8>,
@@ -31,9 +31,13 @@ impl Model for ReadBuffer {
 
     ghost Value = { Buffered };
 
-    ghost view = { λ b. record { text = take b.text_len (drop b.text_start b.bytes.items); kept = slice_range b.bytes.items b.start b.end } };
+    ghost view = { λ b. record {
+      text = take b.text_len (drop b.text_start b.bytes.items);
+      kept = slice_range b.bytes.items b.start b.end;
+    } };
 
-    ghost invariant = { λ b. (vec_len b.bytes ≡ 131072) × (b.text_start + b.text_len ≤ 131072) × (b.start ≤ b.end) × (b.end ≤ 131072) };
+    ghost invariant = { λ b. (vec_len b.bytes ≡ 131072) × (b.text_start + b.text_len ≤ 131072)
+        × (b.start ≤ b.end) × (b.end ≤ 131072) };
 }
 
 impl ReadBuffer {
@@ -69,7 +73,8 @@ impl ReadBuffer {
     pub fn lend_front(&mut self, len: usize, used: usize)
         requires lent { len ≤ used }
         requires within { used ≤ length self.old.kept }
-        ensures { self.new ≡ record { text = take len self.old.kept; kept = drop used self.old.kept } }
+        ensures { self.new
+            ≡ record { text = take len self.old.kept; kept = drop used self.old.kept } }
     {
         self.text_start = self.start;
         self.text_len = len;
@@ -104,7 +109,8 @@ impl ReadBuffer {
         requires some { 0 < most }
         requires most { most ≤ 65536 }
         ensures within { IfOk result (λ n. n ≤ most) }
-        ensures bytes { IfOk result (ReadsBehind (S.left source.old) (S.left source.new) self.old self.new) }
+        ensures bytes { IfOk result
+            (ReadsBehind (S.left source.old) (S.left source.new) self.old self.new) }
         ensures end { IfOk result (λ n. n ≡ 0 → IsAtEnd (S.left source.new)) }
         ensures none { OnErr result (Keeps (S.left source.old) (S.left source.new)) }
         ensures same { OnErr result (self.new ≡ record self.old { text = [] }) }
@@ -120,8 +126,8 @@ impl ReadBuffer {
     }
 }
 
-// Makes room for a piece behind the bytes from `start` to `end`, and answers where they stand then. They move only where
-// there is less room, so many short reads move few bytes.
+// Makes room for a piece behind the bytes from `start` to `end`, and answers where they stand then.
+// They move only where there is less room, so many short reads move few bytes.
 fn make_room(bytes: &mut [u8], start: usize, end: usize) -> (usize, usize)
     requires order { start ≤ end }
     requires within { end ≤ length bytes.old }
@@ -148,7 +154,8 @@ fn read_behind<S: Source>(
     requires some { 0 < most }
     ensures front { take end bytes.new ≡ take end bytes.old }
     ensures within { IfOk result (λ n. n ≤ most) }
-    ensures bytes { IfOk result (λ n. Consumes (S.left source.old) (S.left source.new) (take n (drop end bytes.new))) }
+    ensures bytes { IfOk result (λ n. Consumes (S.left source.old) (S.left source.new)
+        (take n (drop end bytes.new))) }
     ensures end { IfOk result (λ n. n ≡ 0 → IsAtEnd (S.left source.new)) }
     ensures none { OnErr result (Keeps (S.left source.old) (S.left source.new)) }
     ensures cause { HasCause (S.faults source.old) (S.faults source.new) result }

@@ -1,4 +1,4 @@
-// Readers and writers of std. What they give and take is not told.
+// Readers and writers of std. Of the bytes that they give and take nothing is known.
 ghost use Rattle.std.specs.Prelude.{◌≡◌, None, IfSome, IfOk, IfErr};
 ghost use Rattle.std.specs.Io.KnownBytes.{WriteAppends};
 ghost use Rattle.cpe_io.specs.Causes.{HasSinkCause};
@@ -8,8 +8,8 @@ use crate::{Failed, Sink, SinkFault, Source};
 use std::io::{Read, Write};
 use std::marker::Model;
 
-/// A source over a reader of std, such as standard input. Contracts see it as the number of its failed reads, which
-/// stays at 2^64 - 1 once it is there.
+/// A source over a reader of std, such as standard input. Contracts see it as the number of its
+/// failed reads, which stops at 2^64 - 1.
 #[derive(Drop)]
 pub struct StdSource<R: Read + Drop> {
     reader: R,
@@ -50,8 +50,8 @@ impl<R: Read + Drop> Source for StdSource<R> {
     }
 }
 
-/// A sink over a writer of std, such as standard output. Contracts see it as the number of its failed writes, which
-/// stays at 2^64 - 1 once it is there.
+/// A sink over a writer of std, such as standard output. Contracts see it as the number of its
+/// failed writes, which stops at 2^64 - 1.
 #[derive(Drop)]
 pub struct StdSink<W: Write + Drop> {
     writer: W,
@@ -80,8 +80,8 @@ impl<W: Write + Drop> Sink for StdSink<W> {
 
     ghost faults = { λ s. s };
 
-    /// Writes once and flushes the writer. An error of either is [`SinkFault::Failed`], and so is a write that takes
-    /// none of some bytes.
+    /// Writes once and flushes the writer. An error of either is [`SinkFault::Failed`], and so is a
+    /// write that takes none of some bytes.
     fn write(&mut self, bytes: &[u8]) -> Result<usize, SinkFault>
         ensures bound { IfOk result (TakesSome bytes.now) }
         ensures bytes { WriteAppends None None result bytes.now }
@@ -109,3 +109,6 @@ fn write_through<W: Write>(writer: &mut W, bytes: &[u8]) -> Option<usize>
     writer.flush().ok()?;
     Some(count)
 }
+
+#[cfg(test)]
+mod tests;

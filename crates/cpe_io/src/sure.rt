@@ -26,14 +26,19 @@ impl Model for SureSource {
 
     ghost Value = { Feeding };
 
-    ghost view = { λ s. record { left = drop s.start s.bytes.items; cuts = s.cuts.items; calls = s.calls } };
+    ghost view = { λ s. record {
+      left = drop s.start s.bytes.items;
+      cuts = s.cuts.items;
+      calls = s.calls;
+    } };
 
     ghost invariant = { λ s. s.start ≤ vec_len s.bytes };
 }
 
 impl SureSource {
-    /// A source of a copy of `bytes`. Call k, from 0, gives at most `cuts[k mod cuts.len()]` bytes, where 0 counts as 1.
-    /// No cuts set no bound. The number of a call stays at 2^64 - 1 once it is there.
+    /// A source of a copy of `bytes`. Its first read gives no more bytes than the first of the
+    /// `cuts`, the next no more than the second, and so on, over and over; a cut of 0 is one of 1.
+    /// Without cuts a read gives what it has room for. The count of reads stops at 2^64 - 1.
     pub fn new(alloc: Global, bytes: &[u8], cuts: &[usize]) -> Result<SureSource, Memory>
         ensures { IfOk result (λ s. s ≡ record { left = bytes.now; cuts = cuts.now; calls = 0 }) }
     {
@@ -110,7 +115,7 @@ impl Model for SureSink {
 }
 
 impl SureSink {
-    /// A sink that holds nothing. A call takes at most `most` bytes, where 0 counts as 1.
+    /// A sink that holds nothing. One write takes no more than `most` bytes; 0 is read as 1.
     pub fn new(alloc: Global, most: usize) -> SureSink
         ensures { result ≡ record { held = []; most = most } }
     {
@@ -120,7 +125,7 @@ impl SureSink {
         }
     }
 
-    /// The bytes that were taken so far.
+    /// All the bytes that were taken.
     pub fn bytes(&self) -> &[u8]
         ensures { result.now ≡ self.now.held }
     {

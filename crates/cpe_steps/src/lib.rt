@@ -1,12 +1,13 @@
 //! A count of steps for bounds on the work of a call. It has no bytes at run time.
 #![tactic(auto)]
+
 ghost use Rattle.std.specs.Prelude.{◌≡◌, ◌+◌, ◌<◌};
 
 use std::marker::Model;
 use std::sync::ledger::{Blank, Book, Ledger, Share};
 
-/// How many steps were taken, over a ledger. Only [`tick`](Steps::tick) changes it. A caller that counts nothing makes it
-/// from `Blank::new(1)`.
+/// How many steps were taken, over a ledger. Only [`tick`](Steps::tick) changes it. A caller that
+/// counts nothing makes it from `Blank::new(1)`.
 #[derive(Drop)]
 pub struct Steps<L: Ledger> {
     book: Book<L>,
@@ -42,3 +43,6 @@ impl<L: Ledger> Steps<L> {
         self.book.add(&mut self.share, 1);
     }
 }
+
+#[cfg(test)]
+mod tests;

@@ -1,13 +1,11 @@
 -- A text has no fault.
-use Rattle.std.proofs.Common.{◌≡◌, ◌≢◌, ℕ, zero, suc, ◌<◌, Bool, true, false, not, ◌&&◌, ◌||◌, cond, eqb, ltb, List, [], ◌∷◌, length, position, Option, Some, None, refl, sym, ap, ◌∙◌, arith}
+use Rattle.std.proofs.Common.{◌≡◌, ℕ, Bool, true, false, not, eqb, ltb, List, [], ◌∷◌, length, position, Some, None, refl, ap, arith}
 use Rattle.std.specs.List.{list_all, position_or_len}
-use Rattle.std.proofs.lemmas.List.{nil_from_length}
-use Rattle.std.proofs.lemmas.Bool.{and_parts, ne_eqb, le-ltb, eqb-true, false_from_ne_true, or_from}
+use Rattle.std.proofs.lemmas.Bool.{and_parts, le-ltb, eqb-true}
 use Rattle.cpe_values.specs.declared.value.Edge.{Edge}
 use Rattle.cpe_values.specs.declared.value.Edge.TheVariants as edge
-use Rattle.cpe_values.specs.declared.value.ValueFault.{ValueFault}
-use Rattle.cpe_values.specs.Parts.{Parts, parts, is_character, IsEdge, IsText}
-use Rattle.cpe_values.specs.Faults.{first_fault, is_lone_hyphen, has_no_marks}
+use Rattle.cpe_values.specs.Parts.{Parts, parts, is_character, IsText}
+use Rattle.cpe_values.specs.Faults.{is_lone_hyphen}
 
 lone_parts : (lead : Edge) (body : List ℕ) (trail : Edge) → is_lone_hyphen (parts lead body trail) ≡ true → parts lead body trail ≡ parts edge.None (45 ∷ []) edge.None
 lone_parts edge.Star body trail h = absurd cc

@@ -1,3 +1,8 @@
 pub mod Texts
 pub mod Lawful
+<<<<<<< HEAD
 pub mod LowerTexts
+=======
+pub mod SkippingLemmas
+pub mod LaneLemmas
+>>>>>>> main

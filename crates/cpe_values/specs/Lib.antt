@@ -5,3 +5,5 @@ pub mod Values
 pub mod Same
 pub mod Equal
 pub mod Lower
+pub mod Skipping
+pub mod Lanes

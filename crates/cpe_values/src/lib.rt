@@ -4,6 +4,7 @@
 //! well-formed name and in a formatted string stands in `spelling`.
 #![tactic(auto)]
 
+mod bare;
 mod case;
 mod equal;
 mod memory;
@@ -12,6 +13,7 @@ mod spelling;
 mod tests;
 mod value;
 
+pub use bare::skip_bare;
 pub use memory::Memory;
 pub use spelling::{
     Style, is_bare_byte, is_digit_byte, is_letter_byte, is_printable_byte, push_spelling,

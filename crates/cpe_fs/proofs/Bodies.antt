@@ -1,0 +1,144 @@
+-- Bodies: characters that stand bare are skipped at once, and the others one by one.
+use Rattle.std.proofs.Common.{◌≡◌, ℕ, suc, ◌≤◌, ◌<◌, Bool, true, false, ◌||◌, eqb, List, [], ◌∷◌, length, Result, Ok, Err, refl, sym, ap, subst, ◌∙◌, inl, inr, arith}
+use Rattle.std.proofs.lemmas.Bool.{cases_Bool, eqb-true, or_from, or_parts, both_ways}
+use Rattle.std.proofs.lemmas.Bool.Decides.{nat_tests}
+use Rattle.cpe_grammar.specs.Scanners.{◌>>=◌, both, choose, nothing, one}
+use Rattle.cpe_grammar.proofs.Results.{ok_is, ok≢err, err_is, left_over, stopped}
+use Rattle.cpe_values.specs.Skipping.{skip_while}
+use Rattle.cpe_fs.specs.Scanning.{is_bare_here, is_backslash, is_quoted, starts_body, begins_with_backslash, character_end, body_end}
+
+-- a backslash doesn't stand bare
+pub backslash_not_bare : is_bare_here 92 ≡ false
+backslash_not_bare = refl
+
+pub body_bare : (c : ℕ) (s : List ℕ) → is_bare_here c ≡ true → body_end (c ∷ s) ≡ body_end s
+unfolding body_end
+body_bare c [] h = rw h refl
+body_bare c (d ∷ s) h = rw h refl
+
+pub body_quoted : (c : ℕ) (s : List ℕ) → is_quoted c ≡ true → body_end (92 ∷ c ∷ s) ≡ body_end s
+unfolding body_end
+body_quoted c s h = rw h refl
+
+pub body_halts : (c : ℕ) (s : List ℕ) → is_bare_here c ≡ false → eqb c 92 ≡ false → body_end (c ∷ s) ≡ Ok (c ∷ s)
+unfolding body_end
+body_halts c [] bare other = rw (bare, other) refl
+body_halts c (d ∷ s) bare other = rw (bare, other) refl
+
+pub body_empty : body_end [] ≡ Ok []
+unfolding body_end
+body_empty = refl
+
+-- ---- skipping
+
+pub skip_same : (s : List ℕ) → body_end (skip_while is_bare_here s) ≡ body_end s
+skip_same [] = refl
+skip_same (c ∷ s) = elim (cases_Bool (is_bare_here c)) [ inl h ↦ rw h (skip_same s ∙ sym (body_bare c s h)) | inr h ↦ rw h refl ]
+
+pub skip_again : (p : ℕ → Bool) (s : List ℕ) → skip_while p (skip_while p s) ≡ skip_while p s
+skip_again p [] = refl
+skip_again p (c ∷ s) = elim (cases_Bool (p c)) [ inl h ↦ rw h (skip_again p s) | inr h ↦ rw (h, h) refl ]
+
+pub length-skip_while : (p : ℕ → Bool) (s : List ℕ) → length (skip_while p s) ≤ length s
+length-skip_while p [] = omega arith
+length-skip_while p (c ∷ s) = elim (cases_Bool (p c)) [ inl h ↦ rw h (omega (arith, length-skip_while p s)) | inr h ↦ rw h (omega arith) ]
+
+-- where nothing is skipped, the first byte doesn't stand bare
+skip_stops : (p : ℕ → Bool) (c : ℕ) (s : List ℕ) → skip_while p (c ∷ s) ≡ c ∷ s → p c ≡ false
+skip_stops p c s e =
+    elim (cases_Bool (p c)) [
+      | inl h ↦
+          let is : skip_while p s ≡ c ∷ s = rw h at e in
+          absurd (omega (arith, ap length is, length-skip_while p s))
+      | inr h ↦ h
+    ]
+
+-- ---- behind a backslash
+
+pub quoted_step : (s t : List ℕ) → one is_quoted s ≡ Ok t → body_end (92 ∷ s) ≡ body_end t
+quoted_step [] t e = absurd (ok≢err t 0 (sym e))
+quoted_step (c ∷ s) t e =
+    elim (cases_Bool (is_quoted c)) [
+      | inl h ↦ let is : left_over s ≡ Ok t = rw h at e in body_quoted c s h ∙ ap body_end (ok_is s t is)
+      | inr h ↦ let is : stopped (suc (length s)) ≡ Ok t = rw h at e in absurd (ok≢err t _ (sym is))
+    ]
+
+pub quoted_stop : (s : List ℕ) (n : ℕ) → one is_quoted s ≡ Err n → body_end (92 ∷ s) ≡ Err n
+unfolding body_end
+quoted_stop [] n e = e
+quoted_stop (c ∷ s) n e =
+    elim (cases_Bool (is_quoted c)) [
+      | inl h ↦ let is : left_over s ≡ Err n = rw h at e in absurd (ok≢err s n is)
+      | inr h ↦ let is : stopped (suc (length s)) ≡ Err n = rw h at e in rw h is
+    ]
+
+pub shorter_quoted : (s t : List ℕ) → one is_quoted s ≡ Ok t → length t < length s
+shorter_quoted [] t e = absurd (ok≢err t 0 (sym e))
+shorter_quoted (c ∷ s) t e =
+    elim (cases_Bool (is_quoted c)) [
+      | inl h ↦ let is : left_over s ≡ Ok t = rw h at e in omega (arith, ap length (ok_is s t is))
+      | inr h ↦ let is : stopped (suc (length s)) ≡ Ok t = rw h at e in absurd (ok≢err t _ (sym is))
+    ]
+
+-- what neither stands bare nor is a backslash ends a body
+pub body_over : (s : List ℕ) → skip_while is_bare_here s ≡ s → begins_with_backslash s ≡ false → body_end s ≡ Ok s
+body_over [] e other = body_empty
+body_over (c ∷ s) e other = body_halts c s (skip_stops is_bare_here c s e) other
+
+-- ---- one character, and then a body
+
+pub body_is : (s : List ℕ) → body_end s ≡ choose starts_body (both character_end body_end) nothing s
+unfolding character_end
+body_is [] = body_empty
+body_is (c ∷ s) =
+    elim (cases_Bool (is_bare_here c)) [
+      | inl h ↦
+          let other : eqb c 92 ≡ false = grind (arith, nat_tests) in
+          body_bare c s h ∙ rw (h, other) refl
+      | inr h ↦ elim (cases_Bool (eqb c 92)) [
+        | inl k ↦ let is : c ≡ 92 = eqb-true c 92 k in subst (λ (d : ℕ). body_end (d ∷ s) ≡ choose starts_body (both character_end body_end) nothing (d ∷ s)) (sym is) (behind s)
+        | inr k ↦ body_halts c s h k ∙ rw (h, k) refl
+      ]
+    ] where
+  behind : (s : List ℕ) → body_end (92 ∷ s) ≡ (one is_quoted s >>= body_end)
+  behind s = go (one is_quoted s) refl where
+    go : (r : Result (List ℕ) ℕ) → one is_quoted s ≡ r → body_end (92 ∷ s) ≡ (r >>= body_end)
+    go (Ok t) e = quoted_step s t e
+    go (Err n) e = quoted_stop s n e
+
+-- ---- a step of the loop
+
+pub character_step : (s t : List ℕ) → character_end s ≡ Ok t → body_end s ≡ body_end t
+unfolding character_end
+character_step [] t e = absurd (ok≢err t 0 (sym e))
+character_step (c ∷ s) t e =
+    elim (cases_Bool (eqb c 92)) [
+      | inl h ↦
+          let is : c ≡ 92 = eqb-true c 92 h in
+          let quoted : one is_quoted s ≡ Ok t = rw h at e in
+          ap (λ (d : ℕ). body_end (d ∷ s)) is ∙ quoted_step s t quoted
+      | inr h ↦ elim (cases_Bool (is_bare_here c)) [
+        | inl k ↦ let is : left_over s ≡ Ok t = rw (h, k) at e in body_bare c s k ∙ ap body_end (ok_is s t is)
+        | inr k ↦ let is : stopped (suc (length s)) ≡ Ok t = rw (h, k) at e in absurd (ok≢err t _ (sym is))
+      ]
+    ]
+
+pub character_stop : (s : List ℕ) (n : ℕ) → begins_with_backslash s ≡ true → character_end s ≡ Err n → body_end s ≡ Err n
+unfolding character_end
+character_stop [] n h e = absurd cc
+character_stop (c ∷ s) n h e =
+    let is : c ≡ 92 = eqb-true c 92 h in
+    let quoted : one is_quoted s ≡ Err n = rw h at e in
+    ap (λ (d : ℕ). body_end (d ∷ s)) is ∙ quoted_stop s n quoted
+
+pub shorter_character : (s t : List ℕ) → character_end s ≡ Ok t → length t < length s
+unfolding character_end
+shorter_character [] t e = absurd (ok≢err t 0 (sym e))
+shorter_character (c ∷ s) t e =
+    elim (cases_Bool (eqb c 92)) [
+      | inl h ↦ let quoted : one is_quoted s ≡ Ok t = rw h at e in omega (arith, shorter_quoted s t quoted)
+      | inr h ↦ elim (cases_Bool (is_bare_here c)) [
+        | inl k ↦ let is : left_over s ≡ Ok t = rw (h, k) at e in omega (arith, ap length (ok_is s t is))
+        | inr k ↦ let is : stopped (suc (length s)) ≡ Ok t = rw (h, k) at e in absurd (ok≢err t _ (sym is))
+      ]
+    ]

@@ -1,0 +1,312 @@
+-- The whole text: its scanner takes the formatted strings, and stops at the place of what is none.
+use Rattle.std.proofs.Common.{◌≡◌, ℕ, suc, ◌+◌, ◌-◌, ◌≤◌, eqb, true, false, List, [], ◌∷◌, ◌++◌, length, take, drop, map, Result, Ok, Err, refl, sym, ap, subst, ◌∙◌, append_assoc, arith, length-append}
+use Rattle.std.specs.Prelude.{codes}
+use Rattle.std.specs.List.{flat_map}
+use Rattle.std.proofs.lemmas.List.{append-nil, nil_from_length, take_at}
+use Rattle.std.proofs.lemmas.Bool.{eqb-true}
+use Rattle.cpe_values.specs.declared.value.Value.{Value}
+use Rattle.cpe_values.specs.declared.value.Value.TheVariants as value
+use Rattle.cpe_values.specs.Values.{IsValue}
+use Rattle.cpe_name.specs.declared.name.Values.{Values}
+use Rattle.cpe_name.specs.declared.attribute.Attribute.{Attribute}
+use Rattle.cpe_name.specs.declared.attribute.Attribute.TheVariants.{Part, Vendor, Product, Version, Update, Edition, Language, SwEdition, TargetSw, TargetHw, Other}
+use Rattle.cpe_name.specs.Names.{attributes, value_of, Suits, IsName}
+use Rattle.cpe_grammar.specs.Scanners.{◌>>=◌, both, nothing, ending, one, literal}
+use Rattle.cpe_grammar.proofs.Scans.{Scans, wider, Empty, nothing_scans, ending_scans, OneOf, one_scans, one_taken, Joined, both_scans, Only, literal_scans, literal_taken}
+use Rattle.cpe_grammar.proofs.Results.{went_on, ok_is, ok≢err}
+use Rattle.cpe_grammar.proofs.Places.{not_taken, within_text, place_of}
+use Rattle.cpe_fs.specs.Grammar.{component, fs_text, Fs, IsFs}
+use Rattle.cpe_fs.specs.Scanning.{is_colon, part_end, language_end, text_end, component_end, field_end, fields_end, whole_end}
+use Rattle.cpe_fs.specs.Spans.{IsSpan, spans, lengths, AreComponents, Leaves, behind_field, between, component_at, components_at, named}
+use Rattle.cpe_fs.specs.declared.scan.Components.{Components}
+use Rattle.cpe_fs.proofs.Texts.{Ends, text_scans, text_taken}
+use Rattle.cpe_fs.proofs.Languages.{IsPart, part_scans, part_taken, IsLanguage, language_scans, language_taken}
+
+-- ---- components by attribute
+
+-- the text of a value that suits the attribute
+record IsComponent (a : Attribute) (u : List ℕ) : Type 0 where
+  value : Value
+  suits : Suits a value
+  is : u ≡ component value
+
+component_scans : (a : Attribute) → Scans (IsComponent a) (component_end a)
+component_scans Part = wider IsPart (IsComponent Part) part_end (λ u h. record { value = h.value; suits = h.suits; is = h.is }) part_scans
+component_scans Language = wider IsLanguage (IsComponent Language) language_end (λ u h. record { value = h.value; suits = h.suits; is = h.is }) language_scans
+component_scans Vendor = wider IsSpan (IsComponent Vendor) text_end (λ u h. record { value = h.value; suits = h.good; is = sym h.spells }) text_scans
+component_scans Product = wider IsSpan (IsComponent Product) text_end (λ u h. record { value = h.value; suits = h.good; is = sym h.spells }) text_scans
+component_scans Version = wider IsSpan (IsComponent Version) text_end (λ u h. record { value = h.value; suits = h.good; is = sym h.spells }) text_scans
+component_scans Update = wider IsSpan (IsComponent Update) text_end (λ u h. record { value = h.value; suits = h.good; is = sym h.spells }) text_scans
+component_scans Edition = wider IsSpan (IsComponent Edition) text_end (λ u h. record { value = h.value; suits = h.good; is = sym h.spells }) text_scans
+component_scans SwEdition = wider IsSpan (IsComponent SwEdition) text_end (λ u h. record { value = h.value; suits = h.good; is = sym h.spells }) text_scans
+component_scans TargetSw = wider IsSpan (IsComponent TargetSw) text_end (λ u h. record { value = h.value; suits = h.good; is = sym h.spells }) text_scans
+component_scans TargetHw = wider IsSpan (IsComponent TargetHw) text_end (λ u h. record { value = h.value; suits = h.good; is = sym h.spells }) text_scans
+component_scans Other = wider IsSpan (IsComponent Other) text_end (λ u h. record { value = h.value; suits = h.good; is = sym h.spells }) text_scans
+
+component_taken : (a : Attribute) (v : Value) (r : List ℕ) → Suits a v → Ends r → component_end a (component v ++ r) ≡ Ok r
+component_taken Part v r h e = part_taken v r h.1
+component_taken Language v r h e = language_taken v r h.1 e
+component_taken Vendor v r h e = text_taken v r h e
+component_taken Product v r h e = text_taken v r h e
+component_taken Version v r h e = text_taken v r h e
+component_taken Update v r h e = text_taken v r h e
+component_taken Edition v r h e = text_taken v r h e
+component_taken SwEdition v r h e = text_taken v r h e
+component_taken TargetSw v r h e = text_taken v r h e
+component_taken TargetHw v r h e = text_taken v r h e
+component_taken Other v r h e = text_taken v r h e
+
+any_suits : (a : Attribute) → Suits a value.Any
+any_suits Part = (tt, refl)
+any_suits Language = (tt, refl)
+any_suits Vendor = tt
+any_suits Product = tt
+any_suits Version = tt
+any_suits Update = tt
+any_suits Edition = tt
+any_suits SwEdition = tt
+any_suits TargetSw = tt
+any_suits TargetHw = tt
+any_suits Other = tt
+
+pub good_of : (a : Attribute) (v : Value) → Suits a v → IsValue v
+good_of Part v h = h.0
+good_of Language v h = h.0
+good_of Vendor v h = h
+good_of Product v h = h
+good_of Version v h = h
+good_of Update v h = h
+good_of Edition v h = h
+good_of SwEdition v h = h
+good_of TargetSw v h = h
+good_of TargetHw v h = h
+good_of Other v h = h
+
+-- ---- fields
+
+abbrev field : Value → List ℕ
+field v = 58 ∷ component v
+
+abbrev fields_text : List Value → List ℕ
+fields_text vs = flat_map field vs
+
+-- each value suits its attribute
+abbrev pub AllSuit : List Attribute → List Value → Type 0
+AllSuit [] [] = Unit {0}
+AllSuit [] (v ∷ vs) = ⊥
+AllSuit (a ∷ rest) [] = ⊥
+AllSuit (a ∷ rest) (v ∷ vs) = Suits a v × AllSuit rest vs
+
+record AreFields (which : List Attribute) (u : List ℕ) : Type 0 where
+  values : List Value
+  suit : AllSuit which values
+  is : u ≡ fields_text values
+
+more_fields : (a : Attribute) (rest : List Attribute) (u : List ℕ) → Joined (Joined (OneOf is_colon) (IsComponent a)) (AreFields rest) u → AreFields (a ∷ rest) u
+more_fields a rest u j =
+    let colon : j.first.front ≡ 58 ∷ [] = j.first.first.is ∙ ap (λ (d : ℕ). d ∷ []) (eqb-true j.first.first.byte 58 j.first.first.passed) in
+    let front : j.front ≡ field j.first.second.value = j.first.is ∙ ap (λ (w : List ℕ). w ++ j.first.back) colon ∙ ap (λ (w : List ℕ). 58 ∷ w) j.first.second.is in
+    record {
+      values = j.first.second.value ∷ j.second.values;
+      suit = (j.first.second.suits, j.second.suit);
+      is = j.is ∙ ap (λ (w : List ℕ). w ++ j.back) front ∙ ap (λ (w : List ℕ). field j.first.second.value ++ w) j.second.is;
+    }
+
+any_fields : (which : List Attribute) → AreFields which (fields_text (map (λ a. value.Any) which))
+any_fields [] = record { values = []; suit = tt; is = refl }
+any_fields (a ∷ rest) = let more = any_fields rest in record { values = value.Any ∷ more.values; suit = (any_suits a, more.suit); is = ap (λ (w : List ℕ). 58 ∷ 42 ∷ w) more.is }
+
+field_scans : (a : Attribute) → Scans (Joined (OneOf is_colon) (IsComponent a)) (field_end a)
+unfolding field_end
+field_scans a =
+    both_scans (OneOf is_colon) (IsComponent a) (one is_colon) (component_end a) (one_scans is_colon 58 refl) (component_scans a) (42 ∷ [])
+    (record { value = value.Any; suits = any_suits a; is = refl })
+
+fields_scans : (which : List Attribute) → Scans (AreFields which) (fields_end which)
+fields_scans [] = wider Empty (AreFields []) (fields_end []) (λ u is. record { values = []; suit = tt; is = is }) nothing_scans
+fields_scans (a ∷ rest) =
+    wider (Joined (Joined (OneOf is_colon) (IsComponent a)) (AreFields rest)) (AreFields (a ∷ rest)) (fields_end (a ∷ rest)) (more_fields a rest)
+    (both_scans (Joined (OneOf is_colon) (IsComponent a)) (AreFields rest) (field_end a) (fields_end rest) (field_scans a) (fields_scans rest) (fields_text (map (λ a. value.Any) rest)) (any_fields rest))
+
+field_taken : (a : Attribute) (v : Value) (r : List ℕ) → Suits a v → Ends r → field_end a (field v ++ r) ≡ Ok r
+unfolding field_end
+field_taken a v r suit h = component_taken a v r suit h
+
+fields_end_next : (vs : List Value) (r : List ℕ) → Ends r → Ends (fields_text vs ++ r)
+fields_end_next [] r h = h
+fields_end_next (v ∷ vs) r h = refl
+
+fields_taken : (which : List Attribute) (vs : List Value) (r : List ℕ) → AllSuit which vs → Ends r → fields_end which (fields_text vs ++ r) ≡ Ok r
+fields_taken [] [] r suit h = refl
+fields_taken [] (v ∷ vs) r suit h = absurd suit
+fields_taken (a ∷ rest) [] r suit h = absurd suit
+fields_taken (a ∷ rest) (v ∷ vs) r suit h =
+    ap (fields_end (a ∷ rest)) (append_assoc (field v) (fields_text vs) r)
+    ∙ ap (λ (x : Result (List ℕ) ℕ). x >>= fields_end rest) (field_taken a v (fields_text vs ++ r) suit.0 (fields_end_next vs r h))
+    ∙ fields_taken rest vs r suit.1 h
+
+-- ---- the components that stand there
+
+behind_taken : (a : Attribute) (s r : List ℕ) → field_end a s ≡ Ok r → behind_field a s ≡ r
+unfolding behind_field
+behind_taken a s r e = rw e refl
+
+front_is : (u r : List ℕ) → take (length (u ++ r) - length r) (u ++ r) ≡ u
+front_is u r = take_at u r (length (u ++ r) - length r) (omega (arith, length-append u r))
+
+component_there : (a : Attribute) (v : Value) (r : List ℕ) → Suits a v → Ends r → component_at a (field v ++ r) ≡ component v
+unfolding component_at
+component_there a v r suit h = ap (between (field v ++ r)) (behind_taken a (field v ++ r) r (field_taken a v r suit h)) ∙ front_is (component v) r
+
+pub components_there : (which : List Attribute) (vs : List Value) (r : List ℕ) → AllSuit which vs → Ends r → components_at which (fields_text vs ++ r) ≡ map component vs
+components_there [] [] r suit h = refl
+components_there [] (v ∷ vs) r suit h = absurd suit
+components_there (a ∷ rest) [] r suit h = absurd suit
+components_there (a ∷ rest) (v ∷ vs) r suit h =
+    let next = fields_end_next vs r h in
+    ap (components_at (a ∷ rest)) (append_assoc (field v) (fields_text vs) r)
+    ∙ ap (λ (u : List ℕ). u ∷ components_at rest (behind_field a (field v ++ (fields_text vs ++ r)))) (component_there a v (fields_text vs ++ r) suit.0 next)
+    ∙ ap (λ (s : List ℕ). component v ∷ components_at rest s) (behind_taken a (field v ++ (fields_text vs ++ r)) (fields_text vs ++ r) (field_taken a v (fields_text vs ++ r) suit.0 next))
+    ∙ ap (λ (us : List (List ℕ)). component v ∷ us) (components_there rest vs r suit.1 h)
+
+-- ---- names
+
+abbrev prefix : List ℕ
+prefix = codes "cpe:2.3"
+
+abbrev pub values_of : Values → List Value
+values_of w = map (value_of w) attributes
+
+record IsNamed (vs : List Value) : Type 0 where
+  name : IsName (named vs)
+  values : values_of (named vs) ≡ vs
+
+is_named : (vs : List Value) → AllSuit attributes vs → IsNamed vs
+is_named (a ∷ b ∷ c ∷ d ∷ e ∷ f ∷ g ∷ h ∷ i ∷ j ∷ k ∷ []) s = record { name = s; values = refl }
+is_named [] s = absurd s
+is_named (a ∷ []) s = absurd s.1
+is_named (a ∷ b ∷ []) s = absurd s.1.1
+is_named (a ∷ b ∷ c ∷ []) s = absurd s.1.1.1
+is_named (a ∷ b ∷ c ∷ d ∷ []) s = absurd s.1.1.1.1
+is_named (a ∷ b ∷ c ∷ d ∷ e ∷ []) s = absurd s.1.1.1.1.1
+is_named (a ∷ b ∷ c ∷ d ∷ e ∷ f ∷ []) s = absurd s.1.1.1.1.1.1
+is_named (a ∷ b ∷ c ∷ d ∷ e ∷ f ∷ g ∷ []) s = absurd s.1.1.1.1.1.1.1
+is_named (a ∷ b ∷ c ∷ d ∷ e ∷ f ∷ g ∷ h ∷ []) s = absurd s.1.1.1.1.1.1.1.1
+is_named (a ∷ b ∷ c ∷ d ∷ e ∷ f ∷ g ∷ h ∷ i ∷ []) s = absurd s.1.1.1.1.1.1.1.1.1
+is_named (a ∷ b ∷ c ∷ d ∷ e ∷ f ∷ g ∷ h ∷ i ∷ j ∷ []) s = absurd s.1.1.1.1.1.1.1.1.1.1
+is_named (a ∷ b ∷ c ∷ d ∷ e ∷ f ∷ g ∷ h ∷ i ∷ j ∷ k ∷ l ∷ vs) s = absurd s.1.1.1.1.1.1.1.1.1.1.1
+
+pub named_values : (w : Values) → named (values_of w) ≡ w
+named_values w = refl
+
+pub suit_values : (w : Values) → IsName w → AllSuit attributes (values_of w)
+suit_values w h = h
+
+-- a formatted string is a prefix and fields
+fs_is : (w : Values) → fs_text w ≡ prefix ++ fields_text (values_of w)
+fs_is w = sym (rw (append-nil (component w.other)) refl)
+
+whole_fs : (vs : List Value) (s : List ℕ) → AllSuit attributes vs → s ≡ prefix ++ fields_text vs → Fs (named vs) s
+whole_fs vs s suit is =
+    let so = is_named vs suit in
+    (so.name, is ∙ ap (λ (us : List Value). prefix ++ fields_text us) (sym so.values) ∙ sym (fs_is (named vs)))
+
+-- ---- the whole text
+
+an_fs : (u : List ℕ) → Joined (Only prefix) (Joined (AreFields attributes) Empty) u → IsFs u
+an_fs u j =
+    let back : j.back ≡ fields_text j.second.first.values = j.second.is ∙ ap (λ (w : List ℕ). w ++ j.second.back) j.second.first.is ∙ ap (λ (w : List ℕ). fields_text j.second.first.values ++ w) j.second.second ∙ append-nil (fields_text j.second.first.values) in
+    (named j.second.first.values, whole_fs j.second.first.values u j.second.first.suit (j.is ∙ ap (λ (w : List ℕ). w ++ j.back) j.first ∙ ap (λ (w : List ℕ). prefix ++ w) back))
+
+pub whole_scans : Scans IsFs whole_end
+unfolding whole_end
+whole_scans =
+    let any = any_fields attributes in
+    wider (Joined (Only prefix) (Joined (AreFields attributes) Empty)) IsFs whole_end an_fs
+    (both_scans (Only prefix) (Joined (AreFields attributes) Empty) (literal prefix) (both (fields_end attributes) ending) (literal_scans prefix)
+    (both_scans (AreFields attributes) Empty (fields_end attributes) ending (fields_scans attributes) ending_scans [] refl)
+    (fields_text (map (λ a. value.Any) attributes))
+    (record { front = fields_text (map (λ a. value.Any) attributes); back = []; is = sym (append-nil (fields_text (map (λ a. value.Any) attributes))); first = any; second = refl }))
+
+ending_empty : (s rest : List ℕ) → ending s ≡ Ok rest → rest ≡ []
+ending_empty [] rest e = sym (ok_is [] rest e)
+ending_empty (c ∷ s) rest e = absurd (ok≢err rest _ (sym e))
+
+-- what is scanned whole is a formatted string
+pub whole_name : (s rest : List ℕ) → whole_end s ≡ Ok rest → IsFs s
+unfolding whole_end
+whole_name s rest e =
+    let fields = went_on (literal prefix s) (both (fields_end attributes) ending) rest e in
+    let end = went_on (fields_end attributes fields.0) ending rest fields.2 in
+    let all = whole_scans.takes s rest e in
+    let text : s ≡ all.taken = all.cut ∙ ap (λ (r : List ℕ). all.taken ++ r) (ending_empty end.0 rest end.2) ∙ append-nil all.taken in
+    subst IsFs (sym text) all.lawful
+
+pub whole_taken : (s : List ℕ) → IsFs s → whole_end s ≡ Ok []
+unfolding whole_end
+whole_taken s h =
+    let w = h.0 in
+    let vs = values_of w in
+    let is : s ≡ prefix ++ fields_text vs = h.1.1 ∙ fs_is w in
+    ap (λ (u : List ℕ). literal prefix u >>= both (fields_end attributes) ending) is
+    ∙ ap (λ (x : Result (List ℕ) ℕ). x >>= both (fields_end attributes) ending) (literal_taken prefix (fields_text vs))
+    ∙ ap (both (fields_end attributes) ending) (sym (append-nil (fields_text vs)))
+    ∙ ap (λ (x : Result (List ℕ) ℕ). x >>= ending) (fields_taken attributes vs [] (suit_values w h.1.0) tt)
+
+pub leaves : (s : List ℕ) (left : ℕ) → whole_end s ≡ Err left → Leaves s left
+leaves s left e = record {
+  refused = not_taken IsFs whole_end whole_scans whole_taken s left e;
+  within = within_text IsFs whole_end whole_scans whole_taken s left e;
+  place = place_of IsFs whole_end whole_scans whole_taken s left e;
+}
+
+-- ---- what the code finds
+
+fields_length : (vs : List Value) → lengths (map component vs) ≤ length (fields_text vs)
+fields_length [] = omega arith
+fields_length (v ∷ vs) = omega (arith, fields_length vs, length-append (component v) (fields_text vs))
+
+map_values : (w : Values) → map component (values_of w) ≡ map (λ a. component (value_of w a)) attributes
+map_values w = refl
+
+pub found : (s fields rest : List ℕ) (c : Components) → literal prefix s ≡ Ok fields → fields_end attributes fields ≡ Ok rest → eqb (length rest) 0 ≡ true → spans c ≡ components_at attributes fields → AreComponents s c
+found s fields rest c start taken over are =
+    let empty : rest ≡ [] = nil_from_length rest (eqb-true (length rest) 0 over) in
+    let front = (literal_scans prefix).takes s fields start in
+    let back = (fields_scans attributes).takes fields rest taken in
+    let vs = back.lawful.values in
+    let text : fields ≡ fields_text vs = back.cut ∙ ap (λ (w : List ℕ). w ++ rest) back.lawful.is ∙ ap (λ (w : List ℕ). fields_text vs ++ w) empty ∙ append-nil (fields_text vs) in
+    let whole : s ≡ prefix ++ fields_text vs = front.cut ∙ ap (λ (w : List ℕ). w ++ fields) front.lawful ∙ ap (λ (w : List ℕ). prefix ++ w) text in
+    let there : spans c ≡ map component vs = are ∙ ap (components_at attributes) (text ∙ sym (append-nil (fields_text vs))) ∙ components_there attributes vs [] back.lawful.suit tt in
+    record {
+      name = named vs;
+      fs = whole_fs vs s back.lawful.suit whole;
+      are = there ∙ ap (λ (us : List Value). map component us) (sym (is_named vs back.lawful.suit).values) ∙ map_values (named vs);
+      within = omega (arith, ap lengths there, fields_length vs, ap length whole, length-append prefix (fields_text vs));
+    }
+
+-- the components that stand in a formatted string are those of its name
+pub components_of : (w : Values) (s : List ℕ) → Fs w s → components_at attributes (drop 7 s) ≡ map (λ a. component (value_of w a)) attributes
+components_of w s fs =
+    ap (λ (u : List ℕ). components_at attributes (drop 7 u)) (fs.1 ∙ fs_is w)
+    ∙ ap (components_at attributes) (sym (append-nil (fields_text (values_of w))))
+    ∙ components_there attributes (values_of w) [] (suit_values w fs.0) tt
+    ∙ map_values w
+
+-- ---- where the code stops
+
+pub start_leaves : (s : List ℕ) (left : ℕ) → literal prefix s ≡ Err left → Leaves s left
+unfolding whole_end
+start_leaves s left e = leaves s left (rw e refl)
+
+pub fields_leave : (s fields : List ℕ) (left : ℕ) → literal prefix s ≡ Ok fields → fields_end attributes fields ≡ Err left → Leaves s left
+unfolding whole_end
+fields_leave s fields left start e = leaves s left (rw start (ap (λ (x : Result (List ℕ) ℕ). x >>= ending) e))
+
+no_ending : (r : List ℕ) → eqb (length r) 0 ≡ false → ending r ≡ Err (length r)
+no_ending [] more = absurd cc
+no_ending (c ∷ r) more = refl
+
+pub end_leaves : (s fields rest : List ℕ) → literal prefix s ≡ Ok fields → fields_end attributes fields ≡ Ok rest → eqb (length rest) 0 ≡ false → Leaves s (length rest)
+unfolding whole_end
+end_leaves s fields rest start taken more = leaves s (length rest) (rw start (ap (λ (x : Result (List ℕ) ℕ). x >>= ending) taken ∙ no_ending rest more))

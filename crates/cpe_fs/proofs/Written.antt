@@ -1,0 +1,125 @@
+-- A component with its bare `.` and `-` quoted is the text of its value.
+use Rattle.std.proofs.Common.{◌≡◌, ◌≢◌, ℕ, zero, suc, Bool, true, false, ◌||◌, eqb, List, [], ◌∷◌, ◌++◌, map, replicate, get_or, refl, sym, ap, ◌∙◌, inl, inr, append_assoc, arith}
+use Rattle.std.specs.Prelude.{codes}
+use Rattle.std.specs.List.{flat_map}
+use Rattle.std.proofs.lemmas.List.Concat.{flat_map-append}
+use Rattle.std.proofs.lemmas.Bool.{cases_Bool, eqb-true}
+use Rattle.std.proofs.lemmas.Bool.Decides.{nat_tests}
+use Rattle.cpe_values.specs.declared.value.Edge.{Edge}
+use Rattle.cpe_values.specs.declared.value.Edge.TheVariants as edge
+use Rattle.cpe_values.specs.declared.value.Value.{Value}
+use Rattle.cpe_values.specs.declared.value.Value.TheVariants as value
+use Rattle.cpe_values.specs.declared.spelling.Style.TheVariants as style
+use Rattle.cpe_values.specs.Parts.{Parts, IsText}
+use Rattle.cpe_values.specs.Values.{IsValue}
+use Rattle.cpe_values.specs.Spelling.{edge_text, is_word, character, spelling}
+use Rattle.cpe_name.specs.declared.name.Values.{Values}
+use Rattle.cpe_name.specs.declared.attribute.Attribute.{Attribute}
+use Rattle.cpe_name.specs.declared.attribute.Attribute.TheVariants.{Part, Vendor, Product, Version, Update, Edition, Language, SwEdition, TargetSw, TargetHw, Other}
+use Rattle.cpe_name.specs.Names.{attributes, value_of, IsName}
+use Rattle.cpe_name.specs.Text.{value_text, attribute_text, output_text}
+use Rattle.cpe_fs.specs.Grammar.{component, Fs}
+use Rattle.cpe_fs.specs.Spans.{is_only, AreComponents, spans, value_at}
+use Rattle.cpe_fs.specs.Rewriting.{requoted, in_quotes, span_text, attribute_bytes, components_text}
+use Rattle.cpe_fs.specs.declared.scan.Components.{Components}
+use Rattle.cpe_fs.proofs.ValueLemmas.{value_back, only_is}
+use Rattle.cpe_fs.proofs.Whole.{AllSuit, good_of, values_of, suit_values}
+
+word_is_kept : (c : ℕ) → is_word c ≡ true → (eqb c 46 || eqb c 45) ≡ false
+word_is_kept c h = grind (arith, nat_tests)
+
+quotes : (c : ℕ) → (eqb c 46 || eqb c 45) ≡ true → requoted c ≡ 92 ∷ c ∷ []
+quotes c h = rw h refl
+
+keeps : (c : ℕ) → (eqb c 46 || eqb c 45) ≡ false → requoted c ≡ c ∷ []
+keeps c h = rw h refl
+
+-- the spelling of a character in one style makes that in the other
+character_requoted : (c : ℕ) → flat_map requoted (character style.Formatted c) ≡ character style.Wfn c
+character_requoted c =
+    elim (cases_Bool (is_word c)) [
+      | inl w ↦ rw (w, word_is_kept c w) refl
+      | inr w ↦
+          elim (cases_Bool (eqb c 46)) [
+            | inl d ↦ rw (w, d, quotes c (rw d refl)) refl
+            | inr d ↦ elim (cases_Bool (eqb c 45)) [
+              | inl h ↦ rw (w, d, h, quotes c (rw (d, h) refl)) refl
+              | inr h ↦ rw (w, d, h, keeps c (rw (d, h) refl)) refl
+            ]
+          ]
+    ]
+
+body_requoted : (b : List ℕ) → flat_map requoted (flat_map (character style.Formatted) b) ≡ flat_map (character style.Wfn) b
+body_requoted [] = refl
+body_requoted (c ∷ b) =
+    flat_map-append requoted (character style.Formatted c) (flat_map (character style.Formatted) b)
+    ∙ ap (λ (u : List ℕ). u ++ flat_map requoted (flat_map (character style.Formatted) b)) (character_requoted c)
+    ∙ ap (λ (u : List ℕ). character style.Wfn c ++ u) (body_requoted b)
+
+marks_requoted : (n : ℕ) → flat_map requoted (replicate n 63) ≡ replicate n 63
+marks_requoted zero = refl
+marks_requoted (suc n) = ap (λ (u : List ℕ). 63 ∷ u) (marks_requoted n)
+
+edge_requoted : (e : Edge) → flat_map requoted (edge_text e) ≡ edge_text e
+edge_requoted edge.None = refl
+edge_requoted edge.Star = refl
+edge_requoted (edge.Marks n) = marks_requoted n
+
+spelling_requoted : (t : Parts) → flat_map requoted (spelling style.Formatted t) ≡ spelling style.Wfn t
+spelling_requoted t =
+    flat_map-append requoted (edge_text t.lead ++ flat_map (character style.Formatted) t.body) (edge_text t.trail)
+    ∙ ap (λ (u : List ℕ). u ++ flat_map requoted (edge_text t.trail)) (flat_map-append requoted (edge_text t.lead) (flat_map (character style.Formatted) t.body))
+    ∙ rw (edge_requoted t.lead, body_requoted t.body, edge_requoted t.trail) refl
+
+-- ---- components
+
+-- a text is spelled neither `*` nor `-`
+text_is_not : (t : Parts) (v : Value) (byte : ℕ) → IsText t → value_at (byte ∷ []) ≡ v → value.Text t ≢ v → is_only byte (spelling style.Formatted t) ≡ false
+text_is_not t v byte good is other =
+    elim (cases_Bool (is_only byte (spelling style.Formatted t))) [
+      | inl h ↦ absurd (other (sym (value_back (value.Text t) good) ∙ ap value_at (only_is byte (spelling style.Formatted t) h) ∙ is))
+      | inr h ↦ h
+    ]
+
+spelled : (v : Value) → IsValue v → span_text (component v) ≡ value_text v
+unfolding span_text
+spelled value.Any good = refl
+spelled value.Na good = refl
+spelled (value.Text t) good =
+    rw (text_is_not t value.Any 42 good refl (λ e. cc), text_is_not t value.Na 45 good refl (λ e. cc)) (ap (λ (u : List ℕ). 34 ∷ (u ++ 34 ∷ [])) (spelling_requoted t))
+
+-- ---- names
+
+regroup : (k1 k2 k3 k4 k5 k6 k7 k8 k9 k10 k11 a1 a2 a3 a4 a5 a6 a7 a8 a9 a10 a11 z : List ℕ) → (k1 ++ a1) ++ (k2 ++ a2) ++ (k3 ++ a3) ++ (k4 ++ a4) ++ (k5 ++ a5) ++ (k6 ++ a6) ++ (k7 ++ a7) ++ (k8 ++ a8) ++ (k9 ++ a9) ++ (k10 ++ a10) ++ (k11 ++ a11) ++ z ≡ k1 ++ (a1 ++ (k2 ++ (a2 ++ (k3 ++ (a3 ++ (k4 ++ (a4 ++ (k5 ++ (a5 ++ (k6 ++ (a6 ++ (k7 ++ (a7 ++ (k8 ++ (a8 ++ (k9 ++ (a9 ++ (k10 ++ (a10 ++ (k11 ++ (a11 ++ z)))))))))))))))))))))
+regroup k1 k2 k3 k4 k5 k6 k7 k8 k9 k10 k11 a1 a2 a3 a4 a5 a6 a7 a8 a9 a10 a11 z = simp append_assoc
+
+over : (x r z q : List ℕ) → r ++ z ≡ q → (x ++ (44 ∷ r)) ++ z ≡ x ++ (44 ∷ q)
+over x r z q h = append_assoc x (44 ∷ r) z ∙ ap (λ (u : List ℕ). x ++ (44 ∷ u)) h
+
+output_is : (v : Values) → output_text v ≡ codes "wfn:[" ++ (attribute_text v Part ++ (44 ∷ (attribute_text v Vendor ++ (44 ∷ (attribute_text v Product ++ (44 ∷ (attribute_text v Version ++ (44 ∷ (attribute_text v Update ++ (44 ∷ (attribute_text v Edition ++ (44 ∷ (attribute_text v Language ++ (44 ∷ (attribute_text v SwEdition ++ (44 ∷ (attribute_text v TargetSw ++ (44 ∷ (attribute_text v TargetHw ++ (44 ∷ (attribute_text v Other ++ codes "]")))))))))))))))))))))
+output_is v = ap (λ (u : List ℕ). codes "wfn:[" ++ u) (over (attribute_text v Part) _ _ _ (over (attribute_text v Vendor) _ _ _ (over (attribute_text v Product) _ _ _ (over (attribute_text v Version) _ _ _ (over (attribute_text v Update) _ _ _ (over (attribute_text v Edition) _ _ _ (over (attribute_text v Language) _ _ _ (over (attribute_text v SwEdition) _ _ _ (over (attribute_text v TargetSw) _ _ _ (over (attribute_text v TargetHw) _ _ _ (refl)))))))))))
+
+span_at : (n : ℕ) (us vs : List (List ℕ)) → us ≡ vs → get_or us n [] ≡ get_or vs n []
+span_at n us vs e = ap (λ (l : List (List ℕ)). get_or l n []) e
+
+-- the components of a name make its output text
+pub name_text : (w : Values) (c : Components) → IsName w → spans c ≡ map (λ a. component (value_of w a)) attributes → components_text c ≡ output_text w
+unfolding attribute_bytes
+name_text w c good e =
+    rw (
+      ap span_text (span_at 0 _ _ e) ∙ spelled w.part good.0.0,
+      ap span_text (span_at 1 _ _ e) ∙ spelled w.vendor good.1.0,
+      ap span_text (span_at 2 _ _ e) ∙ spelled w.product good.1.1.0,
+      ap span_text (span_at 3 _ _ e) ∙ spelled w.version good.1.1.1.0,
+      ap span_text (span_at 4 _ _ e) ∙ spelled w.update good.1.1.1.1.0,
+      ap span_text (span_at 5 _ _ e) ∙ spelled w.edition good.1.1.1.1.1.0,
+      ap span_text (span_at 6 _ _ e) ∙ spelled w.language good.1.1.1.1.1.1.0.0,
+      ap span_text (span_at 7 _ _ e) ∙ spelled w.sw_edition good.1.1.1.1.1.1.1.0,
+      ap span_text (span_at 8 _ _ e) ∙ spelled w.target_sw good.1.1.1.1.1.1.1.1.0,
+      ap span_text (span_at 9 _ _ e) ∙ spelled w.target_hw good.1.1.1.1.1.1.1.1.1.0,
+      ap span_text (span_at 10 _ _ e) ∙ spelled w.other good.1.1.1.1.1.1.1.1.1.1.0,
+    ) (regroup (codes "wfn:[part=") (codes ",vendor=") (codes ",product=") (codes ",version=") (codes ",update=") (codes ",edition=") (codes ",language=") (codes ",sw_edition=") (codes ",target_sw=") (codes ",target_hw=") (codes ",other=") (value_text w.part) (value_text w.vendor) (value_text w.product) (value_text w.version) (value_text w.update) (value_text w.edition) (value_text w.language) (value_text w.sw_edition) (value_text w.target_sw) (value_text w.target_hw) (value_text w.other) (codes "]")
+    ∙ sym (output_is w))
+
+pub components_say : (s : List ℕ) (c : Components) (are : AreComponents s c) → components_text c ≡ output_text are.name
+components_say s c are = name_text are.name c are.fs.0 are.are

@@ -1,0 +1,27 @@
+-- Formatted strings and their names (NIST IR 7695, 6.2).
+use Rattle.std.specs.Prelude.{◌≡◌, ℕ, List, [], ◌∷◌, ◌++◌, map, codes}
+use Rattle.std.specs.List.{join_with_byte}
+use Rattle.cpe_values.specs.declared.value.Value.{Value}
+use Rattle.cpe_values.specs.declared.value.Value.TheVariants as value
+use Rattle.cpe_values.specs.declared.spelling.Style.TheVariants as style
+use Rattle.cpe_values.specs.Spelling.{spelling}
+use Rattle.cpe_name.specs.declared.name.Values.{Values}
+use Rattle.cpe_name.specs.Names.{attributes, value_of, IsName}
+
+-- `*` for any value, `-` for one that is not applicable, or the spelling of a text
+abbrev pub component : Value → List ℕ
+component value.Any = 42 ∷ []
+component value.Na = 45 ∷ []
+component (value.Text t) = spelling style.Formatted t
+
+-- eleven components joined by colons
+abbrev pub fs_text : Values → List ℕ
+fs_text name = codes "cpe:2.3:" ++ join_with_byte 58 (map (λ a. component (value_of name a)) attributes)
+
+-- the name has this formatted string
+abbrev pub Fs : Values → List ℕ → Type 0
+Fs name s = IsName name × (s ≡ fs_text name)
+
+-- some name has it
+abbrev pub IsFs : List ℕ → Type 0
+IsFs s = (name : Values) × Fs name s

@@ -1,0 +1,5 @@
+pub mod Grammar
+pub mod Unbound
+pub mod Scanning
+pub mod Spans
+pub mod Rewriting

@@ -1,0 +1,135 @@
+-- The scanners of a formatted string, as the code goes over it. No public clause speaks of them.
+use Rattle.std.specs.Prelude.{◌≡◌, ℕ, suc, List, [], ◌∷◌, length, codes, Bool, true, false, not, ◌&&◌, ◌||◌, ◌==◌, Result, Ok, Err, if◌then◌else◌}
+use Rattle.cpe_values.specs.declared.spelling.Style.TheVariants as style
+use Rattle.cpe_values.specs.Parts.{is_character}
+use Rattle.cpe_values.specs.Spelling.{is_bare, is_letter, is_digit}
+use Rattle.cpe_name.specs.declared.attribute.Attribute.{Attribute}
+use Rattle.cpe_name.specs.declared.attribute.Attribute.TheVariants.{Part, Vendor, Product, Version, Update, Edition, Language, SwEdition, TargetSw, TargetHw, Other}
+use Rattle.cpe_name.specs.Names.{attributes}
+use Rattle.cpe_name.specs.Shapes.{is_part_letter}
+use Rattle.cpe_grammar.specs.Scanners.{Scanner, ◌>>=◌, both, choose, nothing, ending, one, up_to, run, literal}
+
+-- ---- bytes
+
+abbrev pub is_star : ℕ → Bool
+is_star c = c == 42
+
+abbrev pub is_mark : ℕ → Bool
+is_mark c = c == 63
+
+abbrev pub is_backslash : ℕ → Bool
+is_backslash c = c == 92
+
+abbrev pub is_colon : ℕ → Bool
+is_colon c = c == 58
+
+abbrev pub is_hyphen : ℕ → Bool
+is_hyphen c = c == 45
+
+abbrev pub is_bare_here : ℕ → Bool
+is_bare_here c = is_bare style.Formatted c
+
+-- what stands behind a backslash
+abbrev pub is_quoted : ℕ → Bool
+is_quoted c = is_character c && not (is_bare_here c)
+
+abbrev pub starts_body : ℕ → Bool
+starts_body c = is_bare_here c || is_backslash c
+
+abbrev pub begins_with_backslash : List ℕ → Bool
+begins_with_backslash [] = false
+begins_with_backslash (c ∷ s) = is_backslash c
+
+-- the class of a byte in a body: 1 where it stands bare, 2 where it stands behind a backslash
+abbrev pub class_of : ℕ → ℕ
+class_of c = if is_bare_here c then 1 else (if is_quoted c then 2 else 0)
+
+-- ---- texts
+
+unfoldable pub marks_end : Scanner
+marks_end s = up_to 4294967295 is_mark s
+
+unfoldable pub edge_end : Scanner
+edge_end s = choose is_star (one is_star) marks_end s
+
+unfoldable pub character_end : Scanner
+character_end s = choose is_backslash (both (one is_backslash) (one is_quoted)) (one is_bare_here) s
+
+-- characters, as many as stand there
+unfoldable pub body_end : Scanner
+body_end [] = Ok []
+body_end (c ∷ []) = if is_bare_here c then Ok [] else (if is_backslash c then Err 0 else Ok (c ∷ []))
+body_end (c ∷ d ∷ s) =
+    if is_bare_here c then body_end (d ∷ s) else
+    (if is_backslash c then (if is_quoted d then body_end s else Err (suc (length s))) else Ok (c ∷ d ∷ s))
+
+-- a body of one character at least, and a trail
+unfoldable pub stem_end : Scanner
+stem_end s = character_end s >>= body_end >>= edge_end
+
+-- behind an asterisk: nothing, or what it leads
+unfoldable pub led_end : Scanner
+led_end s = choose starts_body stem_end nothing s
+
+unfoldable pub text_end : Scanner
+text_end s = choose is_star (both (one is_star) led_end) (both marks_end stem_end) s
+
+-- ---- parts and languages
+
+-- any, not applicable, or a part
+abbrev pub is_part_byte : ℕ → Bool
+is_part_byte c = c == 42 || c == 45 || is_part_letter c
+
+unfoldable pub part_end : Scanner
+part_end s = one is_part_byte s
+
+unfoldable pub letters_end : Scanner
+letters_end s = run 2 is_letter s
+
+unfoldable pub digits_end : Scanner
+digits_end s = run 3 is_digit s
+
+unfoldable pub code_end : Scanner
+code_end s = choose is_digit digits_end letters_end s
+
+unfoldable pub region_end : Scanner
+region_end s = choose is_hyphen (both (one is_hyphen) code_end) nothing s
+
+unfoldable pub third_end : Scanner
+third_end s = choose is_letter (one is_letter) nothing s
+
+unfoldable pub tag_end : Scanner
+tag_end s = letters_end s >>= third_end >>= region_end
+
+-- any, or not applicable
+abbrev pub is_lone_byte : ℕ → Bool
+is_lone_byte c = c == 42 || c == 45
+
+unfoldable pub language_end : Scanner
+language_end s = choose is_lone_byte (one is_lone_byte) tag_end s
+
+-- ---- the whole
+
+abbrev pub component_end : Attribute → Scanner
+component_end Part = part_end
+component_end Language = language_end
+component_end Vendor = text_end
+component_end Product = text_end
+component_end Version = text_end
+component_end Update = text_end
+component_end Edition = text_end
+component_end SwEdition = text_end
+component_end TargetSw = text_end
+component_end TargetHw = text_end
+component_end Other = text_end
+
+-- a colon and a component
+unfoldable pub field_end : Attribute → Scanner
+field_end a s = one is_colon s >>= component_end a
+
+abbrev pub fields_end : List Attribute → Scanner
+fields_end [] s = Ok s
+fields_end (a ∷ rest) s = field_end a s >>= fields_end rest
+
+unfoldable pub whole_end : Scanner
+whole_end s = literal (codes "cpe:2.3") s >>= both (fields_end attributes) ending

@@ -1,0 +1,387 @@
+// Where the components of a formatted string lie (NIST IR 7695, 6.2). Nothing here takes memory.
+//
+// Each function takes a front of a text. It answers what is left behind it, or how many bytes are
+// left where no formatted string goes on.
+ghost use Rattle.std.specs.Prelude.{◌≡◌, ◌==◌, ◌≤◌, ◌-◌, ◌+◌, [], take, slice_index, length, Ok, Err, IfOk, IfErr};
+ghost use Rattle.cpe_grammar.specs.Scanners.{Tells, one, literal};
+ghost use Rattle.cpe_values.specs.Spelling.{is_bare, is_letter, is_digit};
+ghost use Rattle.cpe_values.specs.declared.spelling.Style.TheVariants as style;
+ghost use Rattle.cpe_name.specs.Names.{attributes};
+ghost use Rattle.cpe_fs.specs.Scanning.{is_quoted, starts_body, begins_with_backslash, class_of, marks_end, edge_end, character_end, body_end, stem_end, led_end, text_end, part_end, letters_end, digits_end, code_end, region_end, third_end, tag_end, language_end, component_end, field_end, fields_end, whole_end};
+ghost use Rattle.cpe_fs.specs.Spans.{AreComponents, Leaves, is_only, spans, behind_field, component_at, components_at};
+
+use cpe_name::Attribute;
+use cpe_values::{is_digit_byte, is_letter_byte, skip_bare};
+
+/// The class of each byte in a body.
+#[rattlefmt::skip]
+const CLASS: [u8; 256] = [
+    0, 0, 0, 0, 0, 0, 0, 0, 0, 0, 0, 0, 0, 0, 0, 0,
+    0, 0, 0, 0, 0, 0, 0, 0, 0, 0, 0, 0, 0, 0, 0, 0,
+    0, 2, 2, 2, 2, 2, 2, 2, 2, 2, 2, 2, 2, 1, 1, 2,
+    1, 1, 1, 1, 1, 1, 1, 1, 1, 1, 2, 2, 2, 2, 2, 2,
+    2, 1, 1, 1, 1, 1, 1, 1, 1, 1, 1, 1, 1, 1, 1, 1,
+    1, 1, 1, 1, 1, 1, 1, 1, 1, 1, 1, 2, 2, 2, 2, 1,
+    2, 1, 1, 1, 1, 1, 1, 1, 1, 1, 1, 1, 1, 1, 1, 1,
+    1, 1, 1, 1, 1, 1, 1, 1, 1, 1, 1, 2, 2, 2, 2, 0,
+    0, 0, 0, 0, 0, 0, 0, 0, 0, 0, 0, 0, 0, 0, 0, 0,
+    0, 0, 0, 0, 0, 0, 0, 0, 0, 0, 0, 0, 0, 0, 0, 0,
+    0, 0, 0, 0, 0, 0, 0, 0, 0, 0, 0, 0, 0, 0, 0, 0,
+    0, 0, 0, 0, 0, 0, 0, 0, 0, 0, 0, 0, 0, 0, 0, 0,
+    0, 0, 0, 0, 0, 0, 0, 0, 0, 0, 0, 0, 0, 0, 0, 0,
+    0, 0, 0, 0, 0, 0, 0, 0, 0, 0, 0, 0, 0, 0, 0, 0,
+    0, 0, 0, 0, 0, 0, 0, 0, 0, 0, 0, 0, 0, 0, 0, 0,
+    0, 0, 0, 0, 0, 0, 0, 0, 0, 0, 0, 0, 0, 0, 0, 0,
+];
+
+/// The class of a character that stands bare.
+const BARE: u8 = 1;
+
+/// The class of a character that stands behind a backslash.
+const QUOTED: u8 = 2;
+
+fn entry(classes: &[u8; 256], byte: u8) -> u8
+    ensures { result ≡ slice_index classes.now byte }
+{
+    classes[byte as usize]
+}
+
+fn class(byte: u8) -> u8
+    ensures { result ≡ class_of byte }
+{
+    entry(&CLASS, byte)
+}
+
+fn is_bare_byte(byte: u8) -> bool
+    ensures { result ≡ is_bare style.Formatted byte }
+{
+    class(byte) == BARE
+}
+
+fn is_quoted_byte(byte: u8) -> bool
+    ensures { result ≡ is_quoted byte }
+{
+    class(byte) == QUOTED
+}
+
+fn starts_a_body(byte: u8) -> bool
+    ensures { result ≡ starts_body byte }
+{
+    is_bare_byte(byte) || byte == b'\\'
+}
+
+fn scan_byte(expected: u8, bytes: &[u8]) -> Result<&[u8], usize>
+    ensures { Tells (λ rest. rest.now) result (one (λ d. d == expected) bytes.now) }
+{
+    match bytes {
+        [byte, rest @ ..] if *byte == expected => Ok(rest),
+        _ => Err(bytes.len()),
+    }
+}
+
+#[tactic(auto, unfolding(crate::specs::Scanning::marks_end, cpe_grammar::specs::Scanners::up_to))]
+fn scan_marks(bytes: &[u8]) -> Result<&[u8], usize>
+    ensures { Tells (λ rest. rest.now) result (marks_end bytes.now) }
+{
+    let mut more = u32::MAX;
+    let mut rest = bytes;
+    while let [b'?', tail @ ..] = rest {
+        if more == 0 {
+            return Err(rest.len());
+        }
+        more -= 1;
+        rest = tail;
+    }
+    Ok(rest)
+}
+
+#[tactic(auto, unfolding(crate::specs::Scanning::edge_end))]
+fn scan_edge(bytes: &[u8]) -> Result<&[u8], usize>
+    ensures { Tells (λ rest. rest.now) result (edge_end bytes.now) }
+{
+    match bytes {
+        [b'*', rest @ ..] => Ok(rest),
+        _ => scan_marks(bytes),
+    }
+}
+
+fn scan_quoted(bytes: &[u8]) -> Result<&[u8], usize>
+    ensures { Tells (λ rest. rest.now) result (one is_quoted bytes.now) }
+{
+    match bytes {
+        [quoted, rest @ ..] if is_quoted_byte(*quoted) => Ok(rest),
+        _ => Err(bytes.len()),
+    }
+}
+
+#[tactic(auto, unfolding(crate::specs::Scanning::character_end))]
+fn scan_character(bytes: &[u8]) -> Result<&[u8], usize>
+    ensures { Tells (λ rest. rest.now) result (character_end bytes.now) }
+{
+    match bytes {
+        [b'\\', rest @ ..] => scan_quoted(rest),
+        [bare, rest @ ..] if is_bare_byte(*bare) => Ok(rest),
+        _ => Err(bytes.len()),
+    }
+}
+
+fn is_at_backslash(bytes: &[u8]) -> bool
+    ensures { result ≡ begins_with_backslash bytes.now }
+{
+    matches!(bytes, [b'\\', ..])
+}
+
+#[tactic(auto, using(crate::proofs::Bodies::character_stop))]
+fn scan_body(bytes: &[u8]) -> Result<&[u8], usize>
+    ensures { Tells (λ rest. rest.now) result (body_end bytes.now) }
+{
+    let mut rest = skip_bare(bytes);
+    while is_at_backslash(rest) {
+        rest = skip_bare(scan_character(rest)?);
+    }
+    Ok(rest)
+}
+
+#[tactic(auto, unfolding(crate::specs::Scanning::stem_end))]
+fn scan_stem(bytes: &[u8]) -> Result<&[u8], usize>
+    ensures { Tells (λ rest. rest.now) result (stem_end bytes.now) }
+{
+    let rest = scan_character(bytes)?;
+    let rest = scan_body(rest)?;
+    scan_edge(rest)
+}
+
+/// Behind an asterisk: the end of the component, or what the asterisk leads.
+#[tactic(auto, unfolding(crate::specs::Scanning::led_end))]
+fn scan_led(bytes: &[u8]) -> Result<&[u8], usize>
+    ensures { Tells (λ rest. rest.now) result (led_end bytes.now) }
+{
+    match bytes {
+        [byte, ..] if starts_a_body(*byte) => scan_stem(bytes),
+        _ => Ok(bytes),
+    }
+}
+
+#[tactic(auto, unfolding(crate::specs::Scanning::text_end))]
+fn scan_text(bytes: &[u8]) -> Result<&[u8], usize>
+    ensures { Tells (λ rest. rest.now) result (text_end bytes.now) }
+{
+    match bytes {
+        [b'*', rest @ ..] => scan_led(rest),
+        _ => {
+            let rest = scan_marks(bytes)?;
+            scan_stem(rest)
+        }
+    }
+}
+
+#[tactic(auto, unfolding(crate::specs::Scanning::part_end))]
+fn scan_part(bytes: &[u8]) -> Result<&[u8], usize>
+    ensures { Tells (λ rest. rest.now) result (part_end bytes.now) }
+{
+    match bytes {
+        [b'*' | b'-' | b'a' | b'h' | b'o', rest @ ..] => Ok(rest),
+        _ => Err(bytes.len()),
+    }
+}
+
+fn scan_letter(bytes: &[u8]) -> Result<&[u8], usize>
+    ensures { Tells (λ rest. rest.now) result (one is_letter bytes.now) }
+{
+    match bytes {
+        [letter, rest @ ..] if is_letter_byte(*letter) => Ok(rest),
+        _ => Err(bytes.len()),
+    }
+}
+
+fn scan_digit(bytes: &[u8]) -> Result<&[u8], usize>
+    ensures { Tells (λ rest. rest.now) result (one is_digit bytes.now) }
+{
+    match bytes {
+        [digit, rest @ ..] if is_digit_byte(*digit) => Ok(rest),
+        _ => Err(bytes.len()),
+    }
+}
+
+/// Two letters.
+#[tactic(auto, unfolding(crate::specs::Scanning::letters_end))]
+fn scan_letters(bytes: &[u8]) -> Result<&[u8], usize>
+    ensures { Tells (λ rest. rest.now) result (letters_end bytes.now) }
+{
+    let rest = scan_letter(bytes)?;
+    scan_letter(rest)
+}
+
+/// Three digits.
+#[tactic(auto, unfolding(crate::specs::Scanning::digits_end))]
+fn scan_digits(bytes: &[u8]) -> Result<&[u8], usize>
+    ensures { Tells (λ rest. rest.now) result (digits_end bytes.now) }
+{
+    let rest = scan_digit(bytes)?;
+    let rest = scan_digit(rest)?;
+    scan_digit(rest)
+}
+
+/// The code of a region: two letters or three digits.
+#[tactic(auto, unfolding(crate::specs::Scanning::code_end))]
+fn scan_code(bytes: &[u8]) -> Result<&[u8], usize>
+    ensures { Tells (λ rest. rest.now) result (code_end bytes.now) }
+{
+    match bytes {
+        [first, ..] if is_digit_byte(*first) => scan_digits(bytes),
+        _ => scan_letters(bytes),
+    }
+}
+
+/// A hyphen and a code, or nothing.
+#[tactic(auto, unfolding(crate::specs::Scanning::region_end))]
+fn scan_region(bytes: &[u8]) -> Result<&[u8], usize>
+    ensures { Tells (λ rest. rest.now) result (region_end bytes.now) }
+{
+    match bytes {
+        [b'-', rest @ ..] => scan_code(rest),
+        _ => Ok(bytes),
+    }
+}
+
+/// A third letter, or nothing.
+#[tactic(auto, unfolding(crate::specs::Scanning::third_end))]
+fn scan_third(bytes: &[u8]) -> Result<&[u8], usize>
+    ensures { Tells (λ rest. rest.now) result (third_end bytes.now) }
+{
+    match bytes {
+        [letter, rest @ ..] if is_letter_byte(*letter) => Ok(rest),
+        _ => Ok(bytes),
+    }
+}
+
+/// A language tag.
+#[tactic(auto, unfolding(crate::specs::Scanning::tag_end))]
+fn scan_tag(bytes: &[u8]) -> Result<&[u8], usize>
+    ensures { Tells (λ rest. rest.now) result (tag_end bytes.now) }
+{
+    let rest = scan_letters(bytes)?;
+    let rest = scan_third(rest)?;
+    scan_region(rest)
+}
+
+#[tactic(auto, unfolding(crate::specs::Scanning::language_end))]
+fn scan_language(bytes: &[u8]) -> Result<&[u8], usize>
+    ensures { Tells (λ rest. rest.now) result (language_end bytes.now) }
+{
+    match bytes {
+        [b'*' | b'-', rest @ ..] => Ok(rest),
+        _ => scan_tag(bytes),
+    }
+}
+
+#[inline(always)]
+fn scan_component(which: Attribute, bytes: &[u8]) -> Result<&[u8], usize>
+    ensures { Tells (λ rest. rest.now) result (component_end which bytes.now) }
+{
+    match which {
+        Attribute::Part => scan_part(bytes),
+        Attribute::Language => scan_language(bytes),
+        _ => scan_text(bytes),
+    }
+}
+
+/// The front of a slice before a rest of it.
+fn front_of<'a>(all: &'a [u8], rest: &[u8]) -> &'a [u8]
+    ensures { result.now ≡ take (length all.now - length rest.now) all.now }
+{
+    &all[..all.len().saturating_sub(rest.len())]
+}
+
+/// A colon and a component: the component, and what is left behind it.
+#[inline(always)]
+#[tactic(auto, unfolding(crate::specs::Scanning::field_end, crate::specs::Spans::behind_field, crate::specs::Spans::component_at))]
+fn scan_field(which: Attribute, bytes: &[u8]) -> Result<(&[u8], &[u8]), usize>
+    ensures told { Tells (λ x. x.1.now) result (field_end which bytes.now) }
+    ensures rest { IfOk result (λ x. x.1.now ≡ behind_field which bytes.now) }
+    ensures component { IfOk result (λ x. x.0.now ≡ component_at which bytes.now) }
+{
+    let start = scan_byte(b':', bytes)?;
+    let rest = scan_component(which, start)?;
+    Ok((front_of(start, rest), rest))
+}
+
+#[tactic(auto, unfolding(cpe_grammar::specs::Scanners::literal))]
+fn scan_literal<'a>(expected: &[u8], bytes: &'a [u8]) -> Result<&'a [u8], usize>
+    ensures { Tells (λ rest. rest.now) result (literal expected.now bytes.now) }
+{
+    let mut rest = bytes;
+    for byte in expected {
+        rest = scan_byte(*byte, rest)?;
+    }
+    Ok(rest)
+}
+
+/// The eleven components of a formatted string, as they stand.
+#[derive(Clone, Copy)]
+pub(crate) struct Components<'a> {
+    pub part: &'a [u8],
+    pub vendor: &'a [u8],
+    pub product: &'a [u8],
+    pub version: &'a [u8],
+    pub update: &'a [u8],
+    pub edition: &'a [u8],
+    pub language: &'a [u8],
+    pub sw_edition: &'a [u8],
+    pub target_sw: &'a [u8],
+    pub target_hw: &'a [u8],
+    pub other: &'a [u8],
+}
+
+fn scan_fields(bytes: &[u8]) -> Result<(Components, &[u8]), usize>
+    ensures told { Tells (λ x. x.1.now) result (fields_end attributes bytes.now) }
+    ensures spans { IfOk result (λ x. spans x.0 ≡ components_at attributes bytes.now) }
+{
+    let (part, rest) = scan_field(Attribute::Part, bytes)?;
+    let (vendor, rest) = scan_field(Attribute::Vendor, rest)?;
+    let (product, rest) = scan_field(Attribute::Product, rest)?;
+    let (version, rest) = scan_field(Attribute::Version, rest)?;
+    let (update, rest) = scan_field(Attribute::Update, rest)?;
+    let (edition, rest) = scan_field(Attribute::Edition, rest)?;
+    let (language, rest) = scan_field(Attribute::Language, rest)?;
+    let (sw_edition, rest) = scan_field(Attribute::SwEdition, rest)?;
+    let (target_sw, rest) = scan_field(Attribute::TargetSw, rest)?;
+    let (target_hw, rest) = scan_field(Attribute::TargetHw, rest)?;
+    let (other, rest) = scan_field(Attribute::Other, rest)?;
+    let components = Components {
+        part,
+        vendor,
+        product,
+        version,
+        update,
+        edition,
+        language,
+        sw_edition,
+        target_sw,
+        target_hw,
+        other,
+    };
+    Ok((components, rest))
+}
+
+/// Whether a component is this byte alone.
+pub(crate) fn is_only(span: &[u8], byte: u8) -> bool
+    ensures { result ≡ is_only byte span.now }
+{
+    matches!(span, [only] if *only == byte)
+}
+
+/// The components of a formatted string, or how many bytes are left where the text leaves the
+/// grammar.
+#[tactic(auto, using(crate::proofs::Whole::start_leaves, crate::proofs::Whole::fields_leave))]
+pub(crate) fn scan_fs(text: &[u8]) -> Result<Components, usize>
+    ensures found { IfOk result (AreComponents text.now) }
+    ensures refused { IfErr result (Leaves text.now) }
+{
+    let rest = scan_literal(b"cpe:2.3", text)?;
+    let (components, rest) = scan_fields(rest)?;
+    if !rest.is_empty() {
+        return Err(rest.len());
+    }
+    Ok(components)
+}

@@ -1,0 +1,4 @@
+pub mod Results
+pub mod Scans
+pub mod Several
+pub mod Places

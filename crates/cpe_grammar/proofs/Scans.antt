@@ -1,0 +1,420 @@
+-- Scanners that take the texts of a language, and stop where none goes on.
+use Rattle.std.proofs.Common.{◌≡◌, ◌⊎◌, ℕ, zero, suc, Bool, true, false, eqb, List, [], ◌∷◌, ◌++◌, length, replicate, ◌≤◌, IsTrue, Ok, Err, refl, sym, ap, subst, ◌∙◌, inl, inr, append_assoc, arith}
+use Rattle.std.proofs.lemmas.List.{append_cancel_right}
+use Rattle.std.specs.List.{list_all}
+use Rattle.std.proofs.lemmas.Bool.{cases_Bool, eqb-true, eq-eqb, and_from}
+use Rattle.cpe_grammar.specs.Scanners.{Scanner, both, choose, nothing, ending, one, up_to, run, literal}
+use Rattle.cpe_grammar.proofs.Results.{left_over, stopped, went_on, stopped_at, chosen, ok_is, err_is, ok≢err}
+
+-- what was taken is a text of the language
+pub record Takes (L : List ℕ → Type 0) (s r : List ℕ) : Type 0 where
+  pub taken : List ℕ
+  pub cut : s ≡ taken ++ r
+  pub lawful : L taken
+
+-- The bytes before the place begin a text of the language, and with the byte there nothing is taken, whatever follows.
+pub record Stops (L : List ℕ → Type 0) (p : Scanner) (s : List ℕ) (left : ℕ) : Type 0 where
+  pub front : List ℕ
+  pub rest : List ℕ
+  pub cut : s ≡ front ++ rest
+  pub left_is : left ≡ length rest
+  pub more : List ℕ
+  pub goes_on : L (front ++ more)
+  pub refused : (d : ℕ) (r t : List ℕ) → rest ≡ d ∷ r → p (front ++ d ∷ t) ≡ Err (suc (length t))
+
+-- A scanner of a language. Behind what it takes it looks at one byte at most.
+pub record Scans (L : List ℕ → Type 0) (p : Scanner) : Type 0 where
+  pub takes : (s r : List ℕ) → p s ≡ Ok r → Takes L s r
+  pub stops : (s : List ℕ) (left : ℕ) → p s ≡ Err left → Stops L p s left
+  pub looks_at_one : (c : List ℕ) (d : ℕ) (r t : List ℕ) → p (c ++ d ∷ r) ≡ Ok (d ∷ r) → p (c ++ d ∷ t) ≡ Ok (d ∷ t)
+
+-- what follows a byte behind what was taken doesn't matter, wherever that byte stands
+pub looks_no_further : (p : Scanner) → ((c : List ℕ) (d : ℕ) (r t : List ℕ) → p (c ++ d ∷ r) ≡ Ok (d ∷ r) → p (c ++ d ∷ t) ≡ Ok (d ∷ t))
+    → (c front : List ℕ) (d : ℕ) (r t : List ℕ) → p (c ++ (front ++ d ∷ r)) ≡ Ok (front ++ d ∷ r) → p (c ++ (front ++ d ∷ t)) ≡ Ok (front ++ d ∷ t)
+looks_no_further p looks c [] d r t e = looks c d r t e
+looks_no_further p looks c (x ∷ front) d r t e = looks c x (front ++ d ∷ r) (front ++ d ∷ t) e
+
+-- ---- a wider language, and the same scanner by another name
+
+pub wider : (L M : List ℕ → Type 0) (p : Scanner) → ((c : List ℕ) → L c → M c) → Scans L p → Scans M p
+wider L M p widen P = record {
+  takes = λ s r e. let a = P.takes s r e in record { taken = a.taken; cut = a.cut; lawful = widen a.taken a.lawful };
+  stops = λ s left e. let a = P.stops s left e in record {
+    front = a.front;
+    rest = a.rest;
+    cut = a.cut;
+    left_is = a.left_is;
+    more = a.more;
+    goes_on = widen (a.front ++ a.more) a.goes_on;
+    refused = a.refused;
+  };
+  looks_at_one = P.looks_at_one;
+}
+
+pub renamed : (L : List ℕ → Type 0) (p q : Scanner) → ((s : List ℕ) → q s ≡ p s) → Scans L p → Scans L q
+renamed L p q same P = record {
+  takes = λ s r e. P.takes s r (sym (same s) ∙ e);
+  stops = λ s left e. let a = P.stops s left (sym (same s) ∙ e) in record {
+    front = a.front;
+    rest = a.rest;
+    cut = a.cut;
+    left_is = a.left_is;
+    more = a.more;
+    goes_on = a.goes_on;
+    refused = λ d r t is. same (a.front ++ d ∷ t) ∙ a.refused d r t is;
+  };
+  looks_at_one = λ c d r t e. same (c ++ d ∷ t) ∙ P.looks_at_one c d r t (sym (same (c ++ d ∷ r)) ∙ e);
+}
+
+-- ---- nothing, the end, and a byte that must not stand there
+
+abbrev pub Empty : List ℕ → Type 0
+Empty c = c ≡ []
+
+pub nothing_scans : Scans Empty nothing
+nothing_scans = record {
+  takes = λ s r e. record { taken = []; cut = ok_is s r e; lawful = refl };
+  stops = λ s left e. absurd (ok≢err s left e);
+  looks_at_one = λ c d r t e. let none : c ≡ [] = append_cancel_right c [] (d ∷ r) (ok_is (c ++ d ∷ r) (d ∷ r) e) in ap (λ (u : List ℕ). left_over (u ++ d ∷ t)) none;
+}
+
+ending_takes : (s r : List ℕ) → ending s ≡ Ok r → Takes Empty s r
+ending_takes [] r e = record { taken = []; cut = ok_is [] r e; lawful = refl }
+ending_takes (c ∷ s) r e = absurd (ok≢err r _ (sym e))
+
+ending_stops : (s : List ℕ) (left : ℕ) → ending s ≡ Err left → Stops Empty ending s left
+ending_stops [] left e = absurd (ok≢err [] left e)
+ending_stops (c ∷ s) left e = record { front = []; rest = c ∷ s; cut = refl; left_is = sym (err_is _ left e); more = []; goes_on = refl; refused = λ d r t is. refl }
+
+ending_looks : (c : List ℕ) (d : ℕ) (r t : List ℕ) → ending (c ++ d ∷ r) ≡ Ok (d ∷ r) → ending (c ++ d ∷ t) ≡ Ok (d ∷ t)
+ending_looks [] d r t e = absurd (ok≢err (d ∷ r) _ (sym e))
+ending_looks (x ∷ c) d r t e = absurd (ok≢err (d ∷ r) _ (sym e))
+
+pub ending_scans : Scans Empty ending
+ending_scans = record { takes = ending_takes; stops = ending_stops; looks_at_one = ending_looks }
+
+-- ---- one byte
+
+pub record OneOf (passes : ℕ → Bool) (c : List ℕ) : Type 0 where
+  pub byte : ℕ
+  pub is : c ≡ byte ∷ []
+  pub passed : passes byte ≡ true
+
+pub one_taken : (passes : ℕ → Bool) (c : ℕ) (s : List ℕ) → passes c ≡ true → one passes (c ∷ s) ≡ Ok s
+one_taken passes c s h = rw h refl
+
+pub one_refused : (passes : ℕ → Bool) (c : ℕ) (s : List ℕ) → passes c ≡ false → one passes (c ∷ s) ≡ Err (suc (length s))
+one_refused passes c s h = rw h refl
+
+one_takes : (passes : ℕ → Bool) (s r : List ℕ) → one passes s ≡ Ok r → Takes (OneOf passes) s r
+one_takes passes [] r e = absurd (ok≢err r 0 (sym e))
+one_takes passes (c ∷ s) r e =
+    elim (chosen (passes c) (left_over s) (stopped (suc (length s))) (left_over r) e) [
+      | inl h ↦ record { taken = c ∷ []; cut = ap (λ (u : List ℕ). c ∷ u) (ok_is s r h.1); lawful = record { byte = c; is = refl; passed = h.0 } }
+      | inr h ↦ absurd (ok≢err r _ (sym h.1))
+    ]
+
+one_stops : (passes : ℕ → Bool) (sample : ℕ) → passes sample ≡ true → (s : List ℕ) (left : ℕ) → one passes s ≡ Err left → Stops (OneOf passes) (one passes) s left
+one_stops passes sample good [] left e = record {
+  front = [];
+  rest = [];
+  cut = refl;
+  left_is = sym (err_is 0 left e);
+  more = sample ∷ [];
+  goes_on = record { byte = sample; is = refl; passed = good };
+  refused = λ d r t no. absurd cc;
+}
+one_stops passes sample good (c ∷ s) left e =
+    elim (chosen (passes c) (left_over s) (stopped (suc (length s))) (stopped left) e) [
+      | inl h ↦ absurd (ok≢err s left h.1)
+      | inr h ↦ record {
+        front = [];
+        rest = c ∷ s;
+        cut = refl;
+        left_is = sym (err_is _ left h.1);
+        more = sample ∷ [];
+        goes_on = record { byte = sample; is = refl; passed = good };
+        refused = λ d r t is. let same : c ≡ d = cc in one_refused passes d t (ap passes (sym same) ∙ h.0);
+      }
+    ]
+
+one_looks : (passes : ℕ → Bool) (c : List ℕ) (d : ℕ) (r t : List ℕ) → one passes (c ++ d ∷ r) ≡ Ok (d ∷ r) → one passes (c ++ d ∷ t) ≡ Ok (d ∷ t)
+one_looks passes [] d r t e =
+    elim (chosen (passes d) (left_over r) (stopped (suc (length r))) (left_over (d ∷ r)) e) [
+      | inl h ↦ let longer : length r ≡ suc (length r) = ap length (ok_is r (d ∷ r) h.1) in absurd (omega arith)
+      | inr h ↦ absurd (ok≢err (d ∷ r) _ (sym h.1))
+    ]
+one_looks passes (x ∷ c) d r t e =
+    elim (chosen (passes x) (left_over (c ++ d ∷ r)) (stopped (suc (length (c ++ d ∷ r)))) (left_over (d ∷ r)) e) [
+      | inl h ↦ let none : c ≡ [] = append_cancel_right c [] (d ∷ r) (ok_is (c ++ d ∷ r) (d ∷ r) h.1) in one_taken passes x (c ++ d ∷ t) h.0 ∙ ap (λ (u : List ℕ). left_over (u ++ d ∷ t)) none
+      | inr h ↦ absurd (ok≢err (d ∷ r) _ (sym h.1))
+    ]
+
+-- a test that some byte passes
+pub one_scans : (passes : ℕ → Bool) (sample : ℕ) → passes sample ≡ true → Scans (OneOf passes) (one passes)
+one_scans passes sample good = record { takes = one_takes passes; stops = one_stops passes sample good; looks_at_one = one_looks passes }
+
+-- ---- one scanner behind another
+
+pub record Joined (L M : List ℕ → Type 0) (c : List ℕ) : Type 0 where
+  pub front : List ℕ
+  pub back : List ℕ
+  pub is : c ≡ front ++ back
+  pub first : L front
+  pub second : M back
+
+-- where the front was taken before this rest, it is taken before it
+pub before_rest : (p : Scanner) (s u m n : List ℕ) → p s ≡ Ok m → s ≡ u ++ m → m ≡ n → p (u ++ n) ≡ Ok n
+before_rest p s u m n e cut is = ap (λ (v : List ℕ). p (u ++ v)) (sym is) ∙ ap p (sym cut) ∙ e ∙ ap left_over is
+
+module _ (L M : List ℕ → Type 0) (p q : Scanner) (P : Scans L p) (Q : Scans M q) (sample : List ℕ) (good : M sample) where
+  both_takes : (s r : List ℕ) → both p q s ≡ Ok r → Takes (Joined L M) s r
+  both_takes s r e =
+      let a = went_on (p s) q r e in
+      let u = P.takes s a.0 a.1 in
+      let v = Q.takes a.0 r a.2 in record {
+        taken = u.taken ++ v.taken;
+        cut = u.cut ∙ ap (λ (w : List ℕ). u.taken ++ w) v.cut ∙ sym (append_assoc u.taken v.taken r);
+        lawful = record { front = u.taken; back = v.taken; is = refl; first = u.lawful; second = v.lawful };
+      }
+
+  both_stops : (s : List ℕ) (left : ℕ) → both p q s ≡ Err left → Stops (Joined L M) (both p q) s left
+  both_stops s left e =
+      elim (stopped_at (p s) q left e) [
+        | inl h ↦ let a = P.stops s left h in record {
+          front = a.front;
+          rest = a.rest;
+          cut = a.cut;
+          left_is = a.left_is;
+          more = a.more ++ sample;
+          goes_on = record { front = a.front ++ a.more; back = sample; is = sym (append_assoc a.front a.more sample); first = a.goes_on; second = good };
+          refused = λ d r t is. rw (a.refused d r t is) refl;
+        }
+        | inr h ↦ let u = P.takes s h.0 h.1 in let a = Q.stops h.0 left h.2 in record {
+          front = u.taken ++ a.front;
+          rest = a.rest;
+          cut = u.cut ∙ ap (λ (w : List ℕ). u.taken ++ w) a.cut ∙ sym (append_assoc u.taken a.front a.rest);
+          left_is = a.left_is;
+          more = a.more;
+          goes_on = record { front = u.taken; back = a.front ++ a.more; is = append_assoc u.taken a.front a.more; first = u.lawful; second = a.goes_on };
+          refused = λ d r t is.
+              let there = before_rest p s u.taken h.0 (a.front ++ d ∷ r) h.1 u.cut (a.cut ∙ ap (λ (w : List ℕ). a.front ++ w) is) in
+              let here = looks_no_further p P.looks_at_one u.taken a.front d r t there in
+              ap (both p q) (append_assoc u.taken a.front (d ∷ t)) ∙ rw here (a.refused d r t is);
+        }
+      ]
+
+  both_looks : (c : List ℕ) (d : ℕ) (r t : List ℕ) → both p q (c ++ d ∷ r) ≡ Ok (d ∷ r) → both p q (c ++ d ∷ t) ≡ Ok (d ∷ t)
+  both_looks c d r t e =
+      let a = went_on (p (c ++ d ∷ r)) q (d ∷ r) e in
+      let u = P.takes (c ++ d ∷ r) a.0 a.1 in
+      let v = Q.takes a.0 (d ∷ r) a.2 in
+      let parts : c ≡ u.taken ++ v.taken = append_cancel_right c (u.taken ++ v.taken) (d ∷ r) (u.cut ∙ ap (λ (w : List ℕ). u.taken ++ w) v.cut ∙ sym (append_assoc u.taken v.taken (d ∷ r))) in
+      let there = before_rest p (c ++ d ∷ r) u.taken a.0 (v.taken ++ d ∷ r) a.1 u.cut v.cut in
+      let first = looks_no_further p P.looks_at_one u.taken v.taken d r t there in
+      let second = Q.looks_at_one v.taken d r t (ap q (sym v.cut) ∙ a.2) in
+      ap (λ (w : List ℕ). both p q (w ++ d ∷ t)) parts ∙ ap (both p q) (append_assoc u.taken v.taken (d ∷ t)) ∙ rw first second
+
+  -- the second has some text
+  pub both_scans : Scans (Joined L M) (both p q)
+  both_scans = record { takes = both_takes; stops = both_stops; looks_at_one = both_looks }
+
+-- ---- a choice by the first byte
+
+abbrev pub Either : (L M : List ℕ → Type 0) → List ℕ → Type 0
+Either L M c = L c ⊎ M c
+
+pub chosen_yes : (passes : ℕ → Bool) (p q : Scanner) (c : ℕ) (s : List ℕ) → passes c ≡ true → choose passes p q (c ∷ s) ≡ p (c ∷ s)
+chosen_yes passes p q c s h = rw h refl
+
+pub chosen_no : (passes : ℕ → Bool) (p q : Scanner) (c : ℕ) (s : List ℕ) → passes c ≡ false → choose passes p q (c ∷ s) ≡ q (c ∷ s)
+chosen_no passes p q c s h = rw h refl
+
+-- what is before a byte at which a scanner stops begins as the text does
+pub head_is : (front rest : List ℕ) (c : ℕ) (s : List ℕ) (d : ℕ) (r t : List ℕ) → c ∷ s ≡ front ++ rest → rest ≡ d ∷ r → (u : List ℕ) × (front ++ d ∷ t ≡ c ∷ u)
+head_is [] rest c s d r t cut is = let same : c ∷ s ≡ d ∷ r = cut ∙ is in let d-is : d ≡ c = cc in (t, ap (λ (z : ℕ). z ∷ t) d-is)
+head_is (e ∷ front) rest c s d r t cut is = let e-is : e ≡ c = cc in (front ++ d ∷ t, ap (λ (z : ℕ). z ∷ (front ++ d ∷ t)) e-is)
+
+module _ (passes : ℕ → Bool) (L M : List ℕ → Type 0) (p q : Scanner) (P : Scans L p) (Q : Scans M q) where
+  choose_takes : (s r : List ℕ) → choose passes p q s ≡ Ok r → Takes (Either L M) s r
+  choose_takes [] r e = let a = Q.takes [] r e in record { taken = a.taken; cut = a.cut; lawful = inr a.lawful }
+  choose_takes (c ∷ s) r e =
+      elim (chosen (passes c) (p (c ∷ s)) (q (c ∷ s)) (left_over r) e) [
+        | inl h ↦ let a = P.takes (c ∷ s) r h.1 in record { taken = a.taken; cut = a.cut; lawful = inl a.lawful }
+        | inr h ↦ let a = Q.takes (c ∷ s) r h.1 in record { taken = a.taken; cut = a.cut; lawful = inr a.lawful }
+      ]
+
+  choose_stops : (s : List ℕ) (left : ℕ) → choose passes p q s ≡ Err left → Stops (Either L M) (choose passes p q) s left
+  choose_stops [] left e = let a = Q.stops [] left e in record {
+    front = a.front;
+    rest = a.rest;
+    cut = a.cut;
+    left_is = a.left_is;
+    more = a.more;
+    goes_on = inr a.goes_on;
+    refused = λ d r t is. absurd (nil_is_not a.front a.rest d r a.cut is);
+  } where
+    nil_is_not : (front rest : List ℕ) (d : ℕ) (r : List ℕ) → [] ≡ front ++ rest → rest ≡ d ∷ r → ⊥
+    nil_is_not [] rest d r cut is = cc
+    nil_is_not (e ∷ front) rest d r cut is = cc
+  choose_stops (c ∷ s) left e =
+      elim (chosen (passes c) (p (c ∷ s)) (q (c ∷ s)) (stopped left) e) [
+        | inl h ↦ let a = P.stops (c ∷ s) left h.1 in record {
+          front = a.front;
+          rest = a.rest;
+          cut = a.cut;
+          left_is = a.left_is;
+          more = a.more;
+          goes_on = inl a.goes_on;
+          refused = λ d r t is.
+              let u = head_is a.front a.rest c s d r t a.cut is in
+              ap (choose passes p q) u.1 ∙ chosen_yes passes p q c u.0 h.0 ∙ ap p (sym u.1) ∙ a.refused d r t is;
+        }
+        | inr h ↦ let a = Q.stops (c ∷ s) left h.1 in record {
+          front = a.front;
+          rest = a.rest;
+          cut = a.cut;
+          left_is = a.left_is;
+          more = a.more;
+          goes_on = inr a.goes_on;
+          refused = λ d r t is.
+              let u = head_is a.front a.rest c s d r t a.cut is in
+              ap (choose passes p q) u.1 ∙ chosen_no passes p q c u.0 h.0 ∙ ap q (sym u.1) ∙ a.refused d r t is;
+        }
+      ]
+
+  choose_looks : (c : List ℕ) (d : ℕ) (r t : List ℕ) → choose passes p q (c ++ d ∷ r) ≡ Ok (d ∷ r) → choose passes p q (c ++ d ∷ t) ≡ Ok (d ∷ t)
+  choose_looks [] d r t e =
+      elim (chosen (passes d) (p (d ∷ r)) (q (d ∷ r)) (left_over (d ∷ r)) e) [
+        | inl h ↦ chosen_yes passes p q d t h.0 ∙ P.looks_at_one [] d r t h.1
+        | inr h ↦ chosen_no passes p q d t h.0 ∙ Q.looks_at_one [] d r t h.1
+      ]
+  choose_looks (x ∷ c) d r t e =
+      elim (chosen (passes x) (p (x ∷ (c ++ d ∷ r))) (q (x ∷ (c ++ d ∷ r))) (left_over (d ∷ r)) e) [
+        | inl h ↦ chosen_yes passes p q x (c ++ d ∷ t) h.0 ∙ P.looks_at_one (x ∷ c) d r t h.1
+        | inr h ↦ chosen_no passes p q x (c ++ d ∷ t) h.0 ∙ Q.looks_at_one (x ∷ c) d r t h.1
+      ]
+
+  pub choose_scans : Scans (Either L M) (choose passes p q)
+  choose_scans = record { takes = choose_takes; stops = choose_stops; looks_at_one = choose_looks }
+
+-- ---- no more than so many bytes
+
+pub record FewOf (n : ℕ) (passes : ℕ → Bool) (c : List ℕ) : Type 0 where
+  pub few : length c ≤ n
+  pub passed : IsTrue (list_all passes c)
+
+abbrev refuse : Scanner
+refuse s = Err (length s)
+
+refuse_scans : Scans Empty refuse
+refuse_scans = record {
+  takes = λ s r e. absurd (ok≢err r _ (sym e));
+  stops = λ s left e. record { front = []; rest = s; cut = refl; left_is = sym (err_is _ left e); more = []; goes_on = refl; refused = λ d r t is. refl };
+  looks_at_one = λ c d r t e. absurd (ok≢err (d ∷ r) _ (sym e));
+}
+
+up_to_none : (passes : ℕ → Bool) (s : List ℕ) → up_to zero passes s ≡ choose passes refuse nothing s
+unfolding up_to
+up_to_none passes [] = refl
+up_to_none passes (c ∷ s) = refl
+
+up_to_more : (n : ℕ) (passes : ℕ → Bool) (s : List ℕ) → up_to (suc n) passes s ≡ choose passes (both (one passes) (up_to n passes)) nothing s
+unfolding up_to
+up_to_more n passes [] = refl
+up_to_more n passes (c ∷ s) = elim (cases_Bool (passes c)) [ inl h ↦ rw h refl | inr h ↦ rw h refl ]
+
+none_few : (n : ℕ) (passes : ℕ → Bool) (c : List ℕ) → c ≡ [] → FewOf n passes c
+none_few n passes c is = subst (FewOf n passes) (sym is) (record { few = omega arith; passed = refl })
+
+more_few : (n : ℕ) (passes : ℕ → Bool) (c : List ℕ) → Joined (OneOf passes) (FewOf n passes) c → FewOf (suc n) passes c
+more_few n passes c j =
+    let is : c ≡ j.first.byte ∷ j.back = j.is ∙ ap (λ (u : List ℕ). u ++ j.back) j.first.is in
+    subst (FewOf (suc n) passes) (sym is) (record { few = omega (arith, j.second.few); passed = and_from _ _ j.first.passed j.second.passed })
+
+-- a test that some byte passes
+pub up_to_scans : (n : ℕ) (passes : ℕ → Bool) (sample : ℕ) → passes sample ≡ true → Scans (FewOf n passes) (up_to n passes)
+up_to_scans zero passes sample good =
+    wider (Either Empty Empty) (FewOf zero passes) _ (λ c h. none_few zero passes c (elim h [ inl is ↦ is | inr is ↦ is ]))
+    (renamed _ _ _ (up_to_none passes) (choose_scans passes Empty Empty refuse nothing refuse_scans nothing_scans))
+up_to_scans (suc n) passes sample good =
+    let more = both_scans (OneOf passes) (FewOf n passes) (one passes) (up_to n passes) (one_scans passes sample good) (up_to_scans n passes sample good) [] (none_few n passes [] refl) in
+    wider (Either (Joined (OneOf passes) (FewOf n passes)) Empty) (FewOf (suc n) passes) _ (λ c h. elim h [ inl j ↦ more_few n passes c j | inr is ↦ none_few (suc n) passes c is ])
+    (renamed _ _ _ (up_to_more n passes) (choose_scans passes _ _ _ nothing more nothing_scans))
+
+pub up_to_step : (n : ℕ) (passes : ℕ → Bool) (c : ℕ) (s : List ℕ) → passes c ≡ true → up_to (suc n) passes (c ∷ s) ≡ up_to n passes s
+unfolding up_to
+up_to_step n passes c s h = rw h refl
+
+pub up_to_full : (passes : ℕ → Bool) (c : ℕ) (s : List ℕ) → passes c ≡ true → up_to 0 passes (c ∷ s) ≡ Err (suc (length s))
+unfolding up_to
+up_to_full passes c s h = rw h refl
+
+-- the first of these bytes, if there is one, fails the test
+abbrev pub HeadFails : (ℕ → Bool) → List ℕ → Type 0
+HeadFails passes [] = Unit {0}
+HeadFails passes (c ∷ s) = passes c ≡ false
+
+up_to_halts : (n : ℕ) (passes : ℕ → Bool) (r : List ℕ) → HeadFails passes r → up_to n passes r ≡ Ok r
+unfolding up_to
+up_to_halts n passes [] h = refl
+up_to_halts zero passes (c ∷ r) h = rw h refl
+up_to_halts (suc n) passes (c ∷ r) h = rw h refl
+
+-- so many equal bytes are taken where no more stands behind them
+pub up_to_taken : (k n : ℕ) (passes : ℕ → Bool) (c : ℕ) (r : List ℕ) → k ≤ n → passes c ≡ true → HeadFails passes r → up_to n passes (replicate k c ++ r) ≡ Ok r
+up_to_taken zero n passes c r le good h = up_to_halts n passes r h
+up_to_taken (suc k) zero passes c r le good h = absurd (omega arith)
+up_to_taken (suc k) (suc n) passes c r le good h = up_to_step n passes c (replicate k c ++ r) good ∙ up_to_taken k n passes c r (omega arith) good h
+
+-- ---- exactly so many bytes
+
+pub record Run (n : ℕ) (passes : ℕ → Bool) (c : List ℕ) : Type 0 where
+  pub count : length c ≡ n
+  pub passed : IsTrue (list_all passes c)
+
+more_run : (n : ℕ) (passes : ℕ → Bool) (c : List ℕ) → Joined (OneOf passes) (Run n passes) c → Run (suc n) passes c
+more_run n passes c j =
+    let is : c ≡ j.first.byte ∷ j.back = j.is ∙ ap (λ (u : List ℕ). u ++ j.back) j.first.is in
+    subst (Run (suc n) passes) (sym is) (record { count = omega (arith, j.second.count); passed = and_from _ _ j.first.passed j.second.passed })
+
+run_sample : (n : ℕ) (passes : ℕ → Bool) (sample : ℕ) → passes sample ≡ true → Run n passes (replicate n sample)
+run_sample zero passes sample good = record { count = refl; passed = refl }
+run_sample (suc n) passes sample good =
+    let rest = run_sample n passes sample good in
+    record { count = omega (arith, rest.count); passed = and_from _ _ good rest.passed }
+
+-- a test that some byte passes
+pub run_scans : (n : ℕ) (passes : ℕ → Bool) (sample : ℕ) → passes sample ≡ true → Scans (Run n passes) (run n passes)
+run_scans zero passes sample good = wider Empty (Run zero passes) (run zero passes) (λ c is. subst (Run zero passes) (sym is) (record { count = refl; passed = refl })) nothing_scans
+run_scans (suc n) passes sample good =
+    wider (Joined (OneOf passes) (Run n passes)) (Run (suc n) passes) (run (suc n) passes) (more_run n passes)
+    (both_scans (OneOf passes) (Run n passes) (one passes) (run n passes) (one_scans passes sample good) (run_scans n passes sample good) (replicate n sample) (run_sample n passes sample good))
+
+-- ---- these bytes
+
+abbrev pub Only : List ℕ → List ℕ → Type 0
+Only cs c = c ≡ cs
+
+literal_more : (c : ℕ) (cs s : List ℕ) → literal (c ∷ cs) s ≡ both (one (λ d. eqb d c)) (literal cs) s
+unfolding literal
+literal_more c cs s = refl
+
+literal_none : (s : List ℕ) → literal [] s ≡ nothing s
+unfolding literal
+literal_none s = refl
+
+more_only : (c : ℕ) (cs u : List ℕ) → Joined (OneOf (λ d. eqb d c)) (Only cs) u → Only (c ∷ cs) u
+more_only c cs u j = j.is ∙ ap (λ (v : List ℕ). v ++ j.back) j.first.is ∙ ap (λ (v : List ℕ). j.first.byte ∷ v) j.second ∙ ap (λ (d : ℕ). d ∷ cs) (eqb-true j.first.byte c j.first.passed)
+
+pub literal_scans : (cs : List ℕ) → Scans (Only cs) (literal cs)
+literal_scans [] = renamed Empty nothing (literal []) literal_none nothing_scans
+literal_scans (c ∷ cs) =
+    wider (Joined (OneOf (λ d. eqb d c)) (Only cs)) (Only (c ∷ cs)) (literal (c ∷ cs)) (more_only c cs)
+    (renamed _ (both (one (λ d. eqb d c)) (literal cs)) (literal (c ∷ cs)) (literal_more c cs)
+    (both_scans (OneOf (λ d. eqb d c)) (Only cs) (one (λ d. eqb d c)) (literal cs) (one_scans (λ d. eqb d c) c (eq-eqb c c refl)) (literal_scans cs) cs refl))
+
+pub literal_taken : (cs r : List ℕ) → literal cs (cs ++ r) ≡ Ok r
+unfolding literal
+literal_taken [] r = refl
+literal_taken (c ∷ cs) r = rw (eq-eqb c c refl) (literal_taken cs r)

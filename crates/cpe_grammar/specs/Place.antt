@@ -1,0 +1,12 @@
+-- The place of a text that a grammar doesn't have: how far some text of the grammar begins as it does.
+use Rattle.std.specs.Prelude.{ℕ, ◌<◌, ◌≤◌, List, ◌++◌, length, take}
+
+-- some text of the grammar begins so
+abbrev pub Begins : (List ℕ → Type 0) → List ℕ → Type 0
+Begins Grammar front = (rest : List ℕ) × Grammar (front ++ rest)
+
+-- the length of the longest front of the text with which a text of the grammar begins
+pub record IsPlace (Grammar : List ℕ → Type 0) (text : List ℕ) (place : ℕ) : Type 0 where
+  pub within : place ≤ length text
+  pub begins : Begins Grammar (take place text)
+  pub longest : (n : ℕ) → place < n → n ≤ length text → Begins Grammar (take n text) → ⊥

@@ -1,0 +1,152 @@
+// Runs of bytes of one class, sixteen at a time.
+ghost use Rattle.std.specs.Prelude.{◌≡◌, ◌≤◌, ℕ, Bool, length, take, drop, nat_le};
+ghost use Rattle.std.specs.List.{prefix_len};
+ghost use Rattle.cpe_values.specs.Skipping.{skip_while};
+ghost use Rattle.cpe_values.specs.Lanes.{lanes_where, is_between};
+ghost use Rattle.cpe_values.specs.Spelling.{is_bare, is_letter};
+ghost use Rattle.cpe_values.specs.declared.spelling.Style.TheVariants as style;
+
+use crate::{Style, is_bare_byte};
+use std::simd::prelude::*;
+
+// A class of bytes: the test of one byte, and of sixteen at a time.
+trait Class {
+    ghost contains: { ℕ → Bool };
+
+    fn has(byte: u8) -> bool
+        ensures { result ≡ contains byte };
+
+    fn lanes(block: u8x16) -> u8x16
+        ensures { result ≡ lanes_where contains block };
+}
+
+// The lanes of the bytes from `first` to `last`. They are bytes and no mask, whose lanes a contract sees as signed.
+fn between(block: u8x16, first: u8, last: u8) -> u8x16
+    ensures { result ≡ lanes_where (is_between first last) block }
+{
+    let mask = block.simd_ge(u8x16::splat(first)) & block.simd_le(u8x16::splat(last));
+    mask.select(u8x16::splat(255), u8x16::splat(0))
+}
+
+// The lanes of the letters. The bit of 32 alone tells a small letter from a capital one.
+fn letters(block: u8x16) -> u8x16
+    ensures { result ≡ lanes_where is_letter block }
+{
+    between(block | u8x16::splat(32), b'a', b'z')
+}
+
+// The first lane whose top bit is not set, or 16.
+fn first_unset(lanes: u8x16) -> usize
+    ensures { result ≡ prefix_len (nat_le 128) lanes }
+{
+    let mask = lanes.simd_ge(u8x16::splat(128)).to_bitmask();
+    mask.trailing_ones() as usize
+}
+
+// How many of the first sixteen bytes are in the class before one that is not.
+fn front_length<C: Class>(bytes: &[u8]) -> usize
+    requires { 16 ≤ length bytes.now }
+    ensures { result ≡ prefix_len C.contains (take 16 bytes.now) }
+{
+    first_unset(C::lanes(u8x16::from_slice(bytes)))
+}
+
+fn behind(bytes: &[u8], count: usize) -> &[u8]
+    requires { count ≤ length bytes.now }
+    ensures { result.now ≡ drop count bytes.now }
+{
+    &bytes[count..]
+}
+
+fn skip_by_one<C: Class>(bytes: &[u8]) -> &[u8]
+    ensures { result.now ≡ skip_while C.contains bytes.now }
+{
+    let mut rest = bytes;
+    while let [byte, tail @ ..] = rest {
+        if !C::has(*byte) {
+            return rest;
+        }
+        rest = tail;
+    }
+    rest
+}
+
+// What is left behind the bytes of a class. A run is mostly short and much is left behind it, so one block tells its
+// length with no branch on any byte.
+fn skip<C: Class>(bytes: &[u8]) -> &[u8]
+    ensures { result.now ≡ skip_while C.contains bytes.now }
+{
+    let mut rest = bytes;
+    while rest.len() >= 16 {
+        let count = front_length::<C>(rest);
+        if count < 16 {
+            return behind(rest, count);
+        }
+        rest = behind(rest, 16);
+    }
+    skip_by_one::<C>(rest)
+}
+
+// The characters that stand bare in a formatted string.
+struct Bare;
+
+impl Class for Bare {
+    ghost contains = { is_bare style.Formatted };
+
+    fn has(byte: u8) -> bool {
+        is_bare_byte(Style::Formatted, byte)
+    }
+
+    fn lanes(block: u8x16) -> u8x16 {
+        // From `-` to `9` stands the slash alone that is not bare.
+        let from_hyphen_to_nine = between(block, b'-', b'9') & !between(block, b'/', b'/');
+        letters(block) | from_hyphen_to_nine | between(block, b'_', b'_')
+    }
+}
+
+/// What is left behind the characters that stand bare in a formatted string: letters, digits, `_`, `.` and `-`
+/// (NIST IR 7695, 6.2).
+pub fn skip_bare(bytes: &[u8]) -> &[u8]
+    ensures { result.now ≡ skip_while (is_bare style.Formatted) bytes.now }
+{
+    skip::<Bare>(bytes)
+}
+
+#[cfg(test)]
+mod tests {
+    use super::*;
+
+    const BARE: &[u8] = b"-.0123456789ABCDEFGHIJKLMNOPQRSTUVWXYZ_abcdefghijklmnopqrstuvwxyz";
+
+    #[test]
+    fn knows_each_byte(rt: HostRuntime) {
+        for byte in 0..=255u8 {
+            let text = [byte; 17];
+            let left = if BARE.contains(&byte) { 0 } else { 17 };
+            assert_eq!(rt; skip_bare(&text).len(), left, "block of {byte}");
+            assert_eq!(rt; skip_bare(&text[..1]).len(), left.min(1), "byte {byte}");
+        }
+    }
+
+    // How many of so many bytes are left where a colon stands at `place`.
+    fn left_at(place: usize, length: usize) -> usize {
+        let mut text = [b'x'; 40];
+        if place < 40 {
+            text[place] = b':';
+        }
+        skip_bare(text.get(..length).unwrap_or(&text)).len()
+    }
+
+    #[test]
+    fn stops_at_each_place(rt: HostRuntime) {
+        for length in 0..=40 {
+            for place in 0..=length {
+                assert_eq!(rt;
+                    left_at(place, length),
+                    length.saturating_sub(place),
+                    "place {place} of {length}"
+                );
+            }
+        }
+    }
+}
