@@ -5,6 +5,7 @@
 //! and lends each of them without a copy.
 #![tactic(auto)]
 
+mod failing;
 mod line;
 mod line_reader;
 mod newline;
@@ -14,6 +15,7 @@ mod source;
 mod standard;
 mod sure;
 
+pub use failing::{MemSink, MemSource};
 pub use line::{Found, Line, LineFault};
 pub use line_reader::LineReader;
 pub use sink::{Sink, SinkFault, write_all};

@@ -4,7 +4,7 @@ ghost use Rattle.std.specs.Io.{ReadsAtMost};
 ghost use Rattle.std.specs.Io.KnownBytes.{ReadConsumes, WriteAppends};
 ghost use Rattle.cpe_io.specs.Causes.{HasCause, HasSinkCause};
 ghost use Rattle.cpe_io.specs.Writes.{TakesSome};
-ghost use Rattle.cpe_io.specs.Feeding.{most_of_call, count_given, after_giving, count_taken};
+ghost use Rattle.cpe_io.specs.Feeding.{most_of_call, call_after, count_given, after_giving, count_taken};
 
 use crate::{Failed, Memory, Sink, SinkFault, Source};
 use std::alloc::Global;
@@ -54,6 +54,22 @@ impl SureSource {
             cuts,
             calls: 0,
         })
+    }
+}
+
+impl SureSource {
+    /// The number of the next read, from 0.
+    pub(crate) fn next_call(&self) -> u64
+        ensures { result ≡ self.now.calls }
+    {
+        self.calls
+    }
+
+    /// Counts a read that gives nothing.
+    pub(crate) fn pass_over(&mut self)
+        ensures { self.new ≡ record self.old { calls = call_after self.old.calls } }
+    {
+        self.calls = self.calls.saturating_add(1);
     }
 }
 
