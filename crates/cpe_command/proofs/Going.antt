@@ -1,15 +1,15 @@
 -- How far a run has come: the invariant of the loop over the lines, and what each way out of it leaves.
-use Rattle.std.proofs.Common.{◌≡◌, ◌⊎◌, ℕ, ◌+◌, ◌-◌, ◌^◌, ◌<◌, ◌≤◌, Bool, true, false, List, [], ◌∷◌, ◌++◌, length, map, Option, Some, None, Ok, Err, OnOk, is_err, is_none, IfSome, refl, sym, ap, ◌∙◌, subst, inl, inr, arith, append_assoc, append-nil, length-append}
+use Rattle.std.proofs.Common.{◌≡◌, ℕ, ◌+◌, ◌-◌, ◌^◌, ◌<◌, ◌≤◌, Bool, true, false, List, [], ◌∷◌, ◌++◌, length, Option, Some, None, Ok, Err, OnOk, is_err, is_none, IfSome, refl, sym, ap, ◌∙◌, subst, inl, inr, arith, append_assoc, append-nil, length-append}
 use Rattle.std.specs.declared.result.Result.{Result}
 use Rattle.std.proofs.lemmas.Bool.{true≢false}
-use Rattle.std.specs.Io.KnownBytes.{Consumes, Appends, Keeps, IsAtEnd}
+use Rattle.std.specs.Io.KnownBytes.{Consumes, Appends, IsAtEnd}
 use Rattle.std.proofs.KnownBytes.{Consumes-nil, Consumes-trans, Appends-nil, Appends-trans}
 use Rattle.cpe_io.specs.declared.line.LineFault.{LineFault}
 use Rattle.cpe_io.specs.declared.line.LineFault.TheVariants as fault
 use Rattle.cpe_io.specs.declared.sink.SinkFault.{SinkFault}
 use Rattle.cpe_io.specs.declared.sink.SinkFault.TheVariants as sink
 use Rattle.cpe_io.specs.Lines.{has_newline, lines, whole}
-use Rattle.cpe_io.specs.Reading.{Reading, new_reading, Cuts, IsLast, IsDone, Gives, Counts, Takes, FirstFault, IsCutShort}
+use Rattle.cpe_io.specs.Reading.{Reading, new_reading, IsLast, Gives, Takes, FirstFault, IsCutShort}
 use Rattle.cpe_io.specs.Writes.{BeginsWith, AppendsFront}
 use Rattle.cpe_io.proofs.Gathering.{clean_front}
 use Rattle.cpe_io.proofs.LineLemmas.{lines-cut, whole-cut, shorter-cut, lines-last, whole-none}

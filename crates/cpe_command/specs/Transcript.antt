@@ -1,5 +1,5 @@
 -- What the program writes, line by line, and its status.
-use Rattle.std.specs.Prelude.{ℕ, ◌+◌, Bool, true, false, ◌||◌, List, [], ◌∷◌, ◌++◌, take, Some, None, Ok, Err, is_err, codes, if◌then◌else◌}
+use Rattle.std.specs.Prelude.{ℕ, ◌+◌, Bool, false, ◌||◌, List, [], ◌∷◌, ◌++◌, take, Some, None, Ok, Err, is_err, codes, if◌then◌else◌}
 use Rattle.std.specs.declared.option.Option.{Option}
 use Rattle.std.specs.declared.result.Result.{Result}
 use Rattle.std.specs.Fmt.{decimal}

@@ -1,44 +1,51 @@
 -- Bodies: characters that stand bare are skipped at once, and the others one by one.
-use Rattle.std.proofs.Common.{◌≡◌, ℕ, suc, ◌≤◌, ◌<◌, Bool, true, false, ◌||◌, eqb, List, [], ◌∷◌, length, Result, Ok, Err, refl, sym, ap, subst, ◌∙◌, inl, inr, arith}
-use Rattle.std.proofs.lemmas.Bool.{cases_Bool, eqb-true, or_from, or_parts, both_ways}
+use Rattle.std.proofs.Common.{◌≡◌, ℕ, suc, ◌≤◌, ◌<◌, Bool, true, false, eqb, List, [], ◌∷◌, length, Result, Ok, Err, refl, sym, ap, subst, ◌∙◌, inl, inr, arith}
+use Rattle.std.proofs.lemmas.Bool.{cases_Bool, eqb-true}
 use Rattle.std.proofs.lemmas.Bool.Decides.{nat_tests}
 use Rattle.cpe_grammar.specs.Scanners.{◌>>=◌, both, choose, nothing, one}
-use Rattle.cpe_grammar.proofs.Results.{ok_is, ok≢err, err_is, left_over, stopped}
+use Rattle.cpe_grammar.proofs.Results.{ok_is, ok≢err, left_over, stopped}
+use Rattle.cpe_fs.specs.Scanning.{is_bare_here, is_quoted, starts_body, begins_with_backslash, character_end, body_end}
 use Rattle.cpe_values.specs.Skipping.{skip_while}
-use Rattle.cpe_fs.specs.Scanning.{is_bare_here, is_backslash, is_quoted, starts_body, begins_with_backslash, character_end, body_end}
 
 -- a backslash doesn't stand bare
 pub backslash_not_bare : is_bare_here 92 ≡ false
 backslash_not_bare = refl
 
+-- a character that stands bare is taken
 pub body_bare : (c : ℕ) (s : List ℕ) → is_bare_here c ≡ true → body_end (c ∷ s) ≡ body_end s
 unfolding body_end
 body_bare c [] h = rw h refl
 body_bare c (d ∷ s) h = rw h refl
 
+-- so is one behind its backslash
 pub body_quoted : (c : ℕ) (s : List ℕ) → is_quoted c ≡ true → body_end (92 ∷ c ∷ s) ≡ body_end s
 unfolding body_end
 body_quoted c s h = rw h refl
 
+-- other bytes end a body
 pub body_halts : (c : ℕ) (s : List ℕ) → is_bare_here c ≡ false → eqb c 92 ≡ false → body_end (c ∷ s) ≡ Ok (c ∷ s)
 unfolding body_end
 body_halts c [] bare other = rw (bare, other) refl
 body_halts c (d ∷ s) bare other = rw (bare, other) refl
 
+-- so does the end of the text
 pub body_empty : body_end [] ≡ Ok []
 unfolding body_end
 body_empty = refl
 
 -- ---- skipping
 
+-- skipping what stands bare changes nothing
 pub skip_same : (s : List ℕ) → body_end (skip_while is_bare_here s) ≡ body_end s
 skip_same [] = refl
 skip_same (c ∷ s) = elim (cases_Bool (is_bare_here c)) [ inl h ↦ rw h (skip_same s ∙ sym (body_bare c s h)) | inr h ↦ rw h refl ]
 
+-- what was skipped is not there again
 pub skip_again : (p : ℕ → Bool) (s : List ℕ) → skip_while p (skip_while p s) ≡ skip_while p s
 skip_again p [] = refl
 skip_again p (c ∷ s) = elim (cases_Bool (p c)) [ inl h ↦ rw h (skip_again p s) | inr h ↦ rw (h, h) refl ]
 
+-- what is left is no longer
 pub length-skip_while : (p : ℕ → Bool) (s : List ℕ) → length (skip_while p s) ≤ length s
 length-skip_while p [] = omega arith
 length-skip_while p (c ∷ s) = elim (cases_Bool (p c)) [ inl h ↦ rw h (omega (arith, length-skip_while p s)) | inr h ↦ rw h (omega arith) ]
@@ -55,6 +62,7 @@ skip_stops p c s e =
 
 -- ---- behind a backslash
 
+-- behind a backslash, what may be quoted is taken
 pub quoted_step : (s t : List ℕ) → one is_quoted s ≡ Ok t → body_end (92 ∷ s) ≡ body_end t
 quoted_step [] t e = absurd (ok≢err t 0 (sym e))
 quoted_step (c ∷ s) t e =
@@ -63,6 +71,7 @@ quoted_step (c ∷ s) t e =
       | inr h ↦ let is : stopped (suc (length s)) ≡ Ok t = rw h at e in absurd (ok≢err t _ (sym is))
     ]
 
+-- and nothing else is
 pub quoted_stop : (s : List ℕ) (n : ℕ) → one is_quoted s ≡ Err n → body_end (92 ∷ s) ≡ Err n
 unfolding body_end
 quoted_stop [] n e = e
@@ -72,6 +81,7 @@ quoted_stop (c ∷ s) n e =
       | inr h ↦ let is : stopped (suc (length s)) ≡ Err n = rw h at e in rw h is
     ]
 
+-- what is left is shorter
 pub shorter_quoted : (s t : List ℕ) → one is_quoted s ≡ Ok t → length t < length s
 shorter_quoted [] t e = absurd (ok≢err t 0 (sym e))
 shorter_quoted (c ∷ s) t e =
@@ -87,6 +97,7 @@ body_over (c ∷ s) e other = body_halts c s (skip_stops is_bare_here c s e) oth
 
 -- ---- one character, and then a body
 
+-- a body is characters, as long as one begins
 pub body_is : (s : List ℕ) → body_end s ≡ choose starts_body (both character_end body_end) nothing s
 unfolding character_end
 body_is [] = body_empty
@@ -100,14 +111,15 @@ body_is (c ∷ s) =
         | inr k ↦ body_halts c s h k ∙ rw (h, k) refl
       ]
     ] where
-  behind : (s : List ℕ) → body_end (92 ∷ s) ≡ (one is_quoted s >>= body_end)
-  behind s = go (one is_quoted s) refl where
-    go : (r : Result (List ℕ) ℕ) → one is_quoted s ≡ r → body_end (92 ∷ s) ≡ (r >>= body_end)
-    go (Ok t) e = quoted_step s t e
-    go (Err n) e = quoted_stop s n e
+      behind : (s : List ℕ) → body_end (92 ∷ s) ≡ (one is_quoted s >>= body_end)
+      behind s = go (one is_quoted s) refl where
+        go : (r : Result (List ℕ) ℕ) → one is_quoted s ≡ r → body_end (92 ∷ s) ≡ (r >>= body_end)
+        go (Ok t) e = quoted_step s t e
+        go (Err n) e = quoted_stop s n e
 
 -- ---- a step of the loop
 
+-- behind a character the body goes on
 pub character_step : (s t : List ℕ) → character_end s ≡ Ok t → body_end s ≡ body_end t
 unfolding character_end
 character_step [] t e = absurd (ok≢err t 0 (sym e))
@@ -123,6 +135,7 @@ character_step (c ∷ s) t e =
       ]
     ]
 
+-- where a backslash quotes nothing the body stops
 pub character_stop : (s : List ℕ) (n : ℕ) → begins_with_backslash s ≡ true → character_end s ≡ Err n → body_end s ≡ Err n
 unfolding character_end
 character_stop [] n h e = absurd cc
@@ -131,6 +144,7 @@ character_stop (c ∷ s) n h e =
     let quoted : one is_quoted s ≡ Err n = rw h at e in
     ap (λ (d : ℕ). body_end (d ∷ s)) is ∙ quoted_stop s n quoted
 
+-- what is left behind a character is shorter
 pub shorter_character : (s t : List ℕ) → character_end s ≡ Ok t → length t < length s
 unfolding character_end
 shorter_character [] t e = absurd (ok≢err t 0 (sym e))

@@ -1,8 +1,8 @@
 -- Parts and languages: what their scanners take, and that they take each of them.
-use Rattle.std.proofs.Common.{◌≡◌, ◌⊎◌, ℕ, suc, Bool, true, false, ◌&&◌, ◌||◌, eqb, IsTrue, List, [], ◌∷◌, ◌++◌, length, Result, Ok, Err, refl, sym, ap, subst, ◌∙◌, inl, inr, arith}
-use Rattle.std.specs.List.{flat_map, list_all}
+use Rattle.std.proofs.Common.{◌≡◌, ℕ, Bool, true, false, ◌&&◌, ◌||◌, eqb, IsTrue, List, [], ◌∷◌, ◌++◌, Ok, refl, sym, ap, subst, ◌∙◌, inl, inr, arith}
+use Rattle.std.specs.List.{list_all}
 use Rattle.std.proofs.lemmas.List.{append-nil}
-use Rattle.std.proofs.lemmas.Bool.{cases_Bool, eqb-true, and_parts, and_from, or_cases, or_left, or_right, both_ways}
+use Rattle.std.proofs.lemmas.Bool.{eqb-true, and_parts, and_from, or_cases, or_left, or_right, both_ways}
 use Rattle.std.proofs.lemmas.Bool.Decides.{nat_tests}
 use Rattle.cpe_values.specs.declared.value.Edge.{Edge}
 use Rattle.cpe_values.specs.declared.value.Edge.TheVariants as edge
@@ -13,7 +13,7 @@ use Rattle.cpe_values.specs.Spelling.{is_letter, is_digit}
 use Rattle.cpe_values.specs.Values.{IsValue}
 use Rattle.cpe_values.specs.Parts.{is_nothing}
 use Rattle.cpe_name.specs.Shapes.{is_part, is_part_letter, is_part_body, is_language, is_language_body, is_region}
-use Rattle.cpe_grammar.specs.Scanners.{◌>>=◌, both, choose, nothing, one, run}
+use Rattle.cpe_grammar.specs.Scanners.{both, nothing, one}
 use Rattle.cpe_grammar.proofs.Scans.{Scans, wider, Empty, nothing_scans, OneOf, one_scans, one_taken, Joined, both_scans, Either, choose_scans, HeadFails, Run, run_scans}
 use Rattle.cpe_fs.specs.Grammar.{component}
 use Rattle.cpe_fs.specs.Scanning.{is_bare_here, is_hyphen, is_part_byte, is_lone_byte, part_end, letters_end, digits_end, code_end, region_end, third_end, tag_end, language_end}
@@ -54,13 +54,14 @@ plain_parts t b h =
     let p = and_parts (is_nothing t.lead && is_nothing t.trail) b h in
     let q = and_parts (is_nothing t.lead) (is_nothing t.trail) p.0 in
     (ap (λ (e : Edge). parts e t.body t.trail) (is_none t.lead q.0) ∙ ap (λ (e : Edge). parts edge.None t.body e) (is_none t.trail q.1), p.1) where
-  is_none : (e : Edge) → is_nothing e ≡ true → e ≡ edge.None
-  is_none edge.None h = refl
-  is_none edge.Star h = absurd cc
-  is_none (edge.Marks n) h = absurd cc
+      is_none : (e : Edge) → is_nothing e ≡ true → e ≡ edge.None
+      is_none edge.None h = refl
+      is_none edge.Star h = absurd cc
+      is_none (edge.Marks n) h = absurd cc
 
 -- ---- parts
 
+-- the text of a part
 pub record IsPart (u : List ℕ) : Type 0 where
   pub value : Value
   pub suits : IsValue value × IsTrue (is_part value)
@@ -84,6 +85,7 @@ a_part u o =
           }
     ]
 
+-- the scanner of parts takes texts of parts
 pub part_scans : Scans IsPart part_end
 unfolding part_end
 part_scans = wider (OneOf is_part_byte) IsPart part_end a_part (one_scans is_part_byte 42 refl)
@@ -97,6 +99,7 @@ part_body_taken [] r h = absurd cc
 part_body_taken (c ∷ []) r h = ap (λ (u : List ℕ). part_end (u ++ r)) (plain_component (c ∷ []) (and_from _ _ (letter_bare c h) refl)) ∙ part_byte_taken c r (or_right _ _ h)
 part_body_taken (c ∷ d ∷ b) r h = absurd cc
 
+-- it takes each of them
 pub part_taken : (v : Value) (r : List ℕ) → is_part v ≡ true → part_end (component v ++ r) ≡ Ok r
 part_taken value.Any r h = part_byte_taken 42 r refl
 part_taken value.Na r h = part_byte_taken 45 r refl
@@ -292,6 +295,7 @@ tag_scans =
 
 -- ---- languages
 
+-- the text of a language
 pub record IsLanguage (u : List ℕ) : Type 0 where
   pub value : Value
   pub suits : IsValue value × IsTrue (is_language value)
@@ -310,6 +314,7 @@ a_language u h = elim h [
       record { value = plain u; suits = (plain_text is_language_body u refl refl bare lawful, lawful); is = sym (plain_component u bare) }
 ]
 
+-- the scanner of languages takes texts of languages
 pub language_scans : Scans IsLanguage language_end
 unfolding language_end
 language_scans =
@@ -325,6 +330,7 @@ unfolding language_end
 tag_language _ r (two a b v ha hb region) = rw (letter_not_lone a ha) refl
 tag_language _ r (three a b c v ha hb hc region) = rw (letter_not_lone a ha) refl
 
+-- it takes each of them, where the component ends
 pub language_taken : (v : Value) (r : List ℕ) → is_language v ≡ true → Ends r → language_end (component v ++ r) ≡ Ok r
 language_taken value.Any r h e = lone_taken 42 r refl
 language_taken value.Na r h e = lone_taken 45 r refl

@@ -2,11 +2,10 @@
 use Rattle.std.proofs.Common.{◌≡◌, ℕ, List, ◌++◌, map, Option, Some, None, Result, Ok, Err, refl, sym, ap, ◌∙◌}
 use Rattle.std.specs.Option.{option_map}
 use Rattle.cpe_name.specs.declared.name.Values.{Values}
-use Rattle.cpe_name.specs.Names.{attributes}
 use Rattle.cpe_name.specs.Text.{output_text}
 use Rattle.cpe_fs.specs.Grammar.{Fs, IsFs}
 use Rattle.cpe_fs.specs.Scanning.{whole_end}
-use Rattle.cpe_fs.specs.Spans.{value_at, named}
+use Rattle.cpe_fs.specs.SpanValues.{value_at, named}
 use Rattle.cpe_fs.specs.Unbound.{unbound, Says}
 use Rattle.cpe_fs.proofs.Whole.{whole_name, whole_taken, components_of}
 use Rattle.cpe_fs.proofs.ValueLemmas.{named_back}
@@ -23,6 +22,7 @@ some_is s t e = cc
 none_is_not : (s : List ℕ) → no_text ≡ some_text s → ⊥
 none_is_not s e = cc
 
+-- a formatted string says the output text of its name
 pub says_text : (name : Values) (s : List ℕ) → Fs name s → unbound s ≡ Some (output_text name)
 unfolding unbound
 says_text name s fs =
@@ -40,9 +40,11 @@ found_or_none s text (Ok rest) e is =
     record { name = fs.0; fs = fs.1; is = some_is text (output_text fs.0) (sym is ∙ says_text fs.0 s fs.1) }
 found_or_none s text (Err left) e is = absurd (none_is_not text (sym (stops_unsaid s left e) ∙ is))
 
+-- what is said is the output text of a name that has the string
 pub says_name : (s text : List ℕ) → unbound s ≡ Some text → Says s text
 says_name s text is = found_or_none s text (whole_end s) refl is
 
+-- where nothing is said no name has the string
 pub says_none : (s : List ℕ) → unbound s ≡ None → IsFs s → ⊥
 says_none s is fs = none_is_not (output_text fs.0) (sym is ∙ says_text fs.0 s fs.1)
 
@@ -55,8 +57,10 @@ unsaid s refused = go (unbound s) refl where
 
 -- ---- behind what stood before
 
+-- what was written is what is said
 pub said_is : (s : List ℕ) (name : Values) (old new : List ℕ) → Fs name s → new ≡ old ++ output_text name → some_text new ≡ option_map (λ said. old ++ said) (unbound s)
 said_is s name old new fs is = ap some_text is ∙ ap (option_map (λ said. old ++ said)) (sym (says_text name s fs))
 
+-- where no name has the string nothing is said
 pub unsaid_is : (s old : List ℕ) → (IsFs s → ⊥) → no_text ≡ option_map (λ said. old ++ said) (unbound s)
 unsaid_is s old refused = ap (option_map (λ said. old ++ said)) (sym (unsaid s refused))

@@ -1,9 +1,7 @@
 -- Texts of values: what their scanner takes, and that it takes each of them.
-use Rattle.std.proofs.Common.{◌≡◌, ◌≢◌, ◌⊎◌, ℕ, zero, suc, ◌≤◌, ◌^◌, Bool, true, false, ◌||◌, eqb, IsTrue, List, [], ◌∷◌, ◌++◌, length, replicate, Result, Ok, Err, refl, sym, ap, subst, ◌∙◌, inl, inr, append_assoc, arith}
+use Rattle.std.proofs.Common.{◌≡◌, ◌≢◌, ℕ, zero, suc, ◌≤◌, Bool, true, false, eqb, IsTrue, List, [], ◌∷◌, ◌++◌, length, replicate, Result, Ok, refl, sym, ap, subst, ◌∙◌, inl, inr, append_assoc, arith}
 use Rattle.std.specs.List.{flat_map, list_all}
-use Rattle.std.proofs.lemmas.List.{append-nil}
-use Rattle.std.proofs.lemmas.List.Concat.{flat_map-append}
-use Rattle.std.proofs.lemmas.Bool.{cases_Bool, eqb-true, and_parts, and_from, or_left, or_right, or_from, not-true, not_from_false, both_ways}
+use Rattle.std.proofs.lemmas.Bool.{cases_Bool, eqb-true, and_parts, and_from, or_left, not-true, not_from_false, both_ways}
 use Rattle.std.proofs.lemmas.Bool.Decides.{nat_tests}
 use Rattle.cpe_values.specs.declared.value.Edge.{Edge}
 use Rattle.cpe_values.specs.declared.value.Edge.TheVariants as edge
@@ -11,43 +9,51 @@ use Rattle.cpe_values.specs.declared.value.Value.{Value}
 use Rattle.cpe_values.specs.declared.value.Value.TheVariants as value
 use Rattle.cpe_values.specs.declared.spelling.Style.TheVariants as style
 use Rattle.cpe_values.specs.Faults.{is_lone_hyphen}
-use Rattle.cpe_values.specs.Parts.{Parts, parts, IsText, IsEdge, is_character}
+use Rattle.cpe_values.specs.Parts.{Parts, parts, IsEdge, is_character}
 use Rattle.cpe_values.specs.Spelling.{edge_text, character, spelling}
 use Rattle.cpe_values.specs.Values.{IsValue}
 use Rattle.cpe_values.proofs.Lawful.{lone_is}
-use Rattle.cpe_grammar.specs.Scanners.{Scanner, ◌>>=◌, both, choose, nothing, one, up_to}
-use Rattle.cpe_grammar.proofs.Scans.{Scans, wider, renamed, Empty, nothing_scans, OneOf, one_scans, one_taken, Joined, both_scans, Either, choose_scans, chosen_yes, chosen_no, FewOf, up_to_scans, HeadFails, up_to_taken}
+use Rattle.cpe_grammar.specs.Scanners.{◌>>=◌, both, choose, nothing, one}
+use Rattle.cpe_grammar.proofs.Scans.{Scans, wider, Empty, nothing_scans, OneOf, one_scans, Joined, both_scans, Either, choose_scans, chosen_yes, chosen_no, FewOf, up_to_scans, HeadFails, up_to_taken}
 use Rattle.cpe_grammar.proofs.Several.{several_scans}
 use Rattle.cpe_fs.specs.Grammar.{component}
 use Rattle.cpe_fs.specs.Scanning.{is_star, is_mark, is_backslash, is_bare_here, is_quoted, starts_body, marks_end, edge_end, character_end, body_end, stem_end, led_end, text_end}
 use Rattle.cpe_fs.specs.Spans.{IsSpan}
-use Rattle.cpe_fs.proofs.Bodies.{body_is, body_bare, body_quoted, body_halts, body_empty}
+use Rattle.cpe_fs.proofs.Bodies.{body_is, body_bare, body_quoted, body_empty}
 
 -- ---- characters and bodies
 
+-- a character as it stands in a component
 abbrev pub character_text : ℕ → List ℕ
 character_text c = character style.Formatted c
 
+-- a body as it stands in a component
 abbrev pub body_text : List ℕ → List ℕ
 body_text b = flat_map character_text b
 
+-- each of them is printable
 abbrev pub AreCharacters : List ℕ → Type 0
 AreCharacters b = IsTrue (list_all is_character b)
 
+-- what stands bare is printable
 pub bare_character : (c : ℕ) → is_bare_here c ≡ true → is_character c ≡ true
 bare_character c h = grind (arith, nat_tests)
 
+-- a bare character stands as itself
 pub bare_text : (c : ℕ) → is_bare_here c ≡ true → character_text c ≡ c ∷ []
 bare_text c h = rw h refl
 
+-- any other stands behind a backslash
 pub quoted_text : (c : ℕ) → is_bare_here c ≡ false → character_text c ≡ 92 ∷ c ∷ []
 quoted_text c h = rw h refl
 
+-- the text of a character
 pub record IsCharacter (u : List ℕ) : Type 0 where
   pub byte : ℕ
   pub printable : is_character byte ≡ true
   pub is : u ≡ character_text byte
 
+-- the text of characters, or of none
 pub record IsBody (u : List ℕ) : Type 0 where
   pub bytes : List ℕ
   pub printable : AreCharacters bytes
@@ -62,6 +68,7 @@ a_quoted u j =
 a_bare : (u : List ℕ) → OneOf is_bare_here u → IsCharacter u
 a_bare u o = record { byte = o.byte; printable = bare_character o.byte o.passed; is = o.is ∙ sym (bare_text o.byte o.passed) }
 
+-- a character is taken
 pub character_scans : Scans IsCharacter character_end
 unfolding character_end
 character_scans =
@@ -87,11 +94,13 @@ some_character u c none =
       | inr h ↦ let is : 92 ∷ c.byte ∷ [] ≡ [] = sym (quoted_text c.byte h) ∙ sym c.is ∙ none in cc
     ]
 
+-- a body is taken
 pub body_scans : Scans IsBody body_end
 body_scans = several_scans IsCharacter IsBody no_body more_body some_character starts_body character_end body_end body_is character_scans
 
 -- ---- edges
 
+-- the text of a special, or of none
 pub record IsEdgeText (u : List ℕ) : Type 0 where
   pub edge : Edge
   pub good : IsEdge edge
@@ -108,10 +117,12 @@ marks_edge (c ∷ u) few = record { edge = edge.Marks (suc (length u)); good = (
 star_edge : (u : List ℕ) → OneOf is_star u → IsEdgeText u
 star_edge u o = record { edge = edge.Star; good = tt; is = o.is ∙ ap (λ (d : ℕ). d ∷ []) (eqb-true o.byte 42 o.passed) }
 
+-- marks are taken
 pub marks_scans : Scans (FewOf 4294967295 is_mark) marks_end
 unfolding marks_end
 marks_scans = up_to_scans 4294967295 is_mark 63 refl
 
+-- a special is taken
 pub edge_scans : Scans IsEdgeText edge_end
 unfolding edge_end
 edge_scans =
@@ -120,6 +131,7 @@ edge_scans =
 
 -- ---- a body of some characters, and a trail
 
+-- a body of one character at least, and a trail
 pub record IsStem (u : List ℕ) : Type 0 where
   pub first : ℕ
   pub bytes : List ℕ
@@ -141,6 +153,7 @@ a_stem u j = record {
       ∙ ap (λ (v : List ℕ). body_text (j.first.first.byte ∷ j.first.second.bytes) ++ v) j.second.is;
 }
 
+-- a stem is taken
 pub stem_scans : Scans IsStem stem_end
 unfolding stem_end
 stem_scans =
@@ -188,6 +201,7 @@ led_scans = choose_scans starts_body IsStem Empty stem_end nothing stem_scans no
 a_letter : IsStem (97 ∷ [])
 a_letter = record { first = 97; bytes = []; printable = refl; trail = edge.None; good = tt; is = refl }
 
+-- the scanner of texts takes texts of values
 pub text_scans : Scans IsSpan text_end
 unfolding text_end
 text_scans =
@@ -203,6 +217,7 @@ abbrev pub Ends : List ℕ → Type 0
 Ends [] = Unit {0}
 Ends (c ∷ s) = c ≡ 58
 
+-- where a component ends nothing goes on that no colon is
 pub ends_fail : (passes : ℕ → Bool) (r : List ℕ) → passes 58 ≡ false → Ends r → HeadFails passes r
 ends_fail passes [] never h = tt
 ends_fail passes (c ∷ s) never h = rw h never
@@ -234,6 +249,7 @@ body_over : (r : List ℕ) → HeadFails starts_body r → body_end r ≡ Ok r
 body_over [] h = body_empty
 body_over (c ∷ r) h = body_is (c ∷ r) ∙ chosen_no starts_body (both character_end body_end) nothing c r h
 
+-- each body is taken before what begins none
 pub body_taken : (b r : List ℕ) → AreCharacters b → HeadFails starts_body r → body_end (body_text b ++ r) ≡ Ok r
 body_taken [] r printable h = body_over r h
 body_taken (c ∷ b) r printable h =
@@ -314,14 +330,15 @@ parts_taken lead (c ∷ b) trail r good printable some good' h =
     ap text_end (regroup (edge_text lead) (body_text (c ∷ b)) (edge_text trail) r)
     ∙ led_taken lead (body_text (c ∷ b) ++ (edge_text trail ++ r)) good (body_begins c b (edge_text trail ++ r))
     ∙ stem_taken c b trail r printable good' h where
-  regroup : (x y z w : List ℕ) → (x ++ y ++ z) ++ w ≡ x ++ (y ++ (z ++ w))
-  regroup x y z w = simp append_assoc
+      regroup : (x y z w : List ℕ) → (x ++ y ++ z) ++ w ≡ x ++ (y ++ (z ++ w))
+      regroup x y z w = simp append_assoc
 
 star_taken : (r : List ℕ) → Ends r → text_end (42 ∷ r) ≡ Ok r
 unfolding text_end led_end
 star_taken [] h = refl
 star_taken (c ∷ r) h = rw h refl
 
+-- each text of a value is taken, where the component ends
 pub text_taken : (v : Value) (r : List ℕ) → IsValue v → Ends r → text_end (component v ++ r) ≡ Ok r
 text_taken value.Any r good h = star_taken r h
 text_taken value.Na r good h = parts_taken edge.None (45 ∷ []) edge.None r tt refl (λ e. absurd cc) tt h

@@ -1,6 +1,5 @@
 -- The value of which a component is the text.
-use Rattle.std.proofs.Common.{◌≡◌, ◌≢◌, ℕ, zero, suc, ◌+◌, ◌<◌, ◌≤◌, ◌^◌, Bool, true, false, ◌||◌, eqb, IsTrue, List, [], ◌∷◌, ◌++◌, length, drop, replicate, map, refl, sym, ap, subst, ◌∙◌, inl, inr, append_assoc, arith}
-use Rattle.std.specs.List.{prefix_len}
+use Rattle.std.proofs.Common.{◌≡◌, ◌≢◌, ℕ, zero, suc, ◌+◌, ◌<◌, ◌^◌, true, false, eqb, List, [], ◌∷◌, ◌++◌, drop, replicate, map, refl, sym, ap, subst, ◌∙◌, inl, inr, append_assoc, arith}
 use Rattle.std.proofs.lemmas.List.{append-nil}
 use Rattle.std.proofs.lemmas.Bool.{cases_Bool, eqb-true, or_parts, both_ways}
 use Rattle.std.proofs.lemmas.Bool.Decides.{nat_tests}
@@ -9,19 +8,20 @@ use Rattle.cpe_values.specs.declared.value.Edge.TheVariants as edge
 use Rattle.cpe_values.specs.declared.value.Value.{Value}
 use Rattle.cpe_values.specs.declared.value.Value.TheVariants as value
 use Rattle.cpe_values.specs.declared.spelling.Style.TheVariants as style
-use Rattle.cpe_values.specs.Parts.{Parts, parts, IsText, IsEdge, is_character}
+use Rattle.cpe_values.specs.Parts.{Parts, parts, IsText, IsEdge}
 use Rattle.cpe_values.specs.Spelling.{edge_text, spelling}
 use Rattle.cpe_values.specs.Values.{IsValue}
 use Rattle.cpe_name.specs.declared.name.Values.{Values}
 use Rattle.cpe_name.specs.declared.attribute.Attribute.{Attribute}
 use Rattle.cpe_name.specs.declared.name.NameFault.{NameFault}
 use Rattle.cpe_name.specs.declared.name.NameFault.TheVariants.{BadPart, BadLanguage}
-use Rattle.cpe_name.specs.Names.{attributes, value_of, Suits, IsName, IsFault}
+use Rattle.cpe_name.specs.Names.{attributes, value_of, IsName, IsFault}
 use Rattle.cpe_fs.specs.Grammar.{component, Fs}
 use Rattle.cpe_fs.specs.Scanning.{is_bare_here}
-use Rattle.cpe_fs.specs.Spans.{is_only, IsSpan, AreSpans, spans, AreComponents, is_mark, is_special, marks_count, edge_at, behind_edge, body_at, behind_body, parts_at, value_at, named}
+use Rattle.cpe_fs.specs.Spans.{is_only, IsSpan, AreSpans, spans, AreComponents}
+use Rattle.cpe_fs.specs.SpanValues.{is_special, marks_count, edge_at, behind_edge, body_at, behind_body, parts_at, value_at, named}
 use Rattle.cpe_fs.specs.declared.scan.Components.{Components}
-use Rattle.cpe_fs.proofs.Texts.{AreCharacters, body_text, bare_text, quoted_text}
+use Rattle.cpe_fs.proofs.Texts.{body_text, bare_text, quoted_text}
 use Rattle.cpe_fs.proofs.Whole.{AllSuit, good_of, values_of, named_values, suit_values, components_of}
 
 -- ---- specials
@@ -139,6 +139,7 @@ parts_back t is =
     ap parts_at stem
     ∙ rw (edge_back t.lead (body_text t.body ++ edge_text t.trail) is.lead begins, behind_back t.lead (body_text t.body ++ edge_text t.trail) is.lead begins, body.0, body.1, edge_alone t.trail is.trail) refl
 
+-- a text that is one byte
 pub only_is : (byte : ℕ) (s : List ℕ) → is_only byte s ≡ true → s ≡ byte ∷ []
 only_is byte [] h = absurd cc
 only_is byte (c ∷ []) h = ap (λ (d : ℕ). d ∷ []) (eqb-true c byte h)
@@ -185,12 +186,15 @@ values_back [] (v ∷ vs) h = absurd h
 values_back (a ∷ rest) [] h = absurd h
 values_back (a ∷ rest) (v ∷ vs) h = ap (λ (u : Value). u ∷ map value_at (map component vs)) (value_back v (good_of a v h.0)) ∙ ap (λ (us : List Value). v ∷ us) (values_back rest vs h.1)
 
+-- the components of a name are texts of values
 pub spans_are : (s : List ℕ) (c : Components) → AreComponents s c → AreSpans (spans c)
 spans_are s c are = subst AreSpans (sym are.are) (are_spans attributes (values_of are.name) (suit_values are.name are.fs.0))
 
+-- the values of the components of a name are its values
 pub named_back : (w : Values) → IsName w → named (map value_at (map (λ a. component (value_of w a)) attributes)) ≡ w
 named_back w good = ap named (values_back attributes (values_of w) (suit_values w good)) ∙ named_values w
 
+-- the values of the components that were found are those of the name
 pub name_back : (s : List ℕ) (c : Components) (are : AreComponents s c) → named (map value_at (spans c)) ≡ are.name
 name_back s c are = ap (λ (us : List (List ℕ)). named (map value_at us)) are.are ∙ named_back are.name are.fs.0
 

@@ -1,5 +1,5 @@
 -- The whole text: its scanner takes the formatted strings, and stops at the place of what is none.
-use Rattle.std.proofs.Common.{◌≡◌, ℕ, suc, ◌+◌, ◌-◌, ◌≤◌, eqb, true, false, List, [], ◌∷◌, ◌++◌, length, take, drop, map, Result, Ok, Err, refl, sym, ap, subst, ◌∙◌, append_assoc, arith, length-append}
+use Rattle.std.proofs.Common.{◌≡◌, ℕ, ◌-◌, ◌≤◌, eqb, true, false, List, [], ◌∷◌, ◌++◌, length, take, drop, map, Result, Ok, Err, refl, sym, ap, subst, ◌∙◌, append_assoc, arith, length-append}
 use Rattle.std.specs.Prelude.{codes}
 use Rattle.std.specs.List.{flat_map}
 use Rattle.std.proofs.lemmas.List.{append-nil, nil_from_length, take_at}
@@ -11,13 +11,14 @@ use Rattle.cpe_name.specs.declared.name.Values.{Values}
 use Rattle.cpe_name.specs.declared.attribute.Attribute.{Attribute}
 use Rattle.cpe_name.specs.declared.attribute.Attribute.TheVariants.{Part, Vendor, Product, Version, Update, Edition, Language, SwEdition, TargetSw, TargetHw, Other}
 use Rattle.cpe_name.specs.Names.{attributes, value_of, Suits, IsName}
-use Rattle.cpe_grammar.specs.Scanners.{◌>>=◌, both, nothing, ending, one, literal}
-use Rattle.cpe_grammar.proofs.Scans.{Scans, wider, Empty, nothing_scans, ending_scans, OneOf, one_scans, one_taken, Joined, both_scans, Only, literal_scans, literal_taken}
+use Rattle.cpe_grammar.specs.Scanners.{◌>>=◌, both, ending, one, literal}
+use Rattle.cpe_grammar.proofs.Scans.{Scans, wider, Empty, nothing_scans, ending_scans, OneOf, one_scans, Joined, both_scans, Only, literal_scans, literal_taken}
 use Rattle.cpe_grammar.proofs.Results.{went_on, ok_is, ok≢err}
 use Rattle.cpe_grammar.proofs.Places.{not_taken, within_text, place_of}
 use Rattle.cpe_fs.specs.Grammar.{component, fs_text, Fs, IsFs}
 use Rattle.cpe_fs.specs.Scanning.{is_colon, part_end, language_end, text_end, component_end, field_end, fields_end, whole_end}
-use Rattle.cpe_fs.specs.Spans.{IsSpan, spans, lengths, AreComponents, Leaves, behind_field, between, component_at, components_at, named}
+use Rattle.cpe_fs.specs.Spans.{IsSpan, spans, total_length, AreComponents, Leaves, behind_field, between, component_at, components_at}
+use Rattle.cpe_fs.specs.SpanValues.{named}
 use Rattle.cpe_fs.specs.declared.scan.Components.{Components}
 use Rattle.cpe_fs.proofs.Texts.{Ends, text_scans, text_taken}
 use Rattle.cpe_fs.proofs.Languages.{IsPart, part_scans, part_taken, IsLanguage, language_scans, language_taken}
@@ -69,6 +70,7 @@ any_suits TargetSw = tt
 any_suits TargetHw = tt
 any_suits Other = tt
 
+-- what suits an attribute is a value
 pub good_of : (a : Attribute) (v : Value) → Suits a v → IsValue v
 good_of Part v h = h.0
 good_of Language v h = h.0
@@ -116,7 +118,7 @@ any_fields : (which : List Attribute) → AreFields which (fields_text (map (λ 
 any_fields [] = record { values = []; suit = tt; is = refl }
 any_fields (a ∷ rest) = let more = any_fields rest in record { values = value.Any ∷ more.values; suit = (any_suits a, more.suit); is = ap (λ (w : List ℕ). 58 ∷ 42 ∷ w) more.is }
 
-field_scans : (a : Attribute) → Scans (Joined (OneOf is_colon) (IsComponent a)) (field_end a)
+field_scans : (a : Attribute) → Scans (Joined (OneOf is_colon) (IsComponent a)) (field_end (component_end a))
 unfolding field_end
 field_scans a =
     both_scans (OneOf is_colon) (IsComponent a) (one is_colon) (component_end a) (one_scans is_colon 58 refl) (component_scans a) (42 ∷ [])
@@ -126,9 +128,9 @@ fields_scans : (which : List Attribute) → Scans (AreFields which) (fields_end 
 fields_scans [] = wider Empty (AreFields []) (fields_end []) (λ u is. record { values = []; suit = tt; is = is }) nothing_scans
 fields_scans (a ∷ rest) =
     wider (Joined (Joined (OneOf is_colon) (IsComponent a)) (AreFields rest)) (AreFields (a ∷ rest)) (fields_end (a ∷ rest)) (more_fields a rest)
-    (both_scans (Joined (OneOf is_colon) (IsComponent a)) (AreFields rest) (field_end a) (fields_end rest) (field_scans a) (fields_scans rest) (fields_text (map (λ a. value.Any) rest)) (any_fields rest))
+    (both_scans (Joined (OneOf is_colon) (IsComponent a)) (AreFields rest) (field_end (component_end a)) (fields_end rest) (field_scans a) (fields_scans rest) (fields_text (map (λ a. value.Any) rest)) (any_fields rest))
 
-field_taken : (a : Attribute) (v : Value) (r : List ℕ) → Suits a v → Ends r → field_end a (field v ++ r) ≡ Ok r
+field_taken : (a : Attribute) (v : Value) (r : List ℕ) → Suits a v → Ends r → field_end (component_end a) (field v ++ r) ≡ Ok r
 unfolding field_end
 field_taken a v r suit h = component_taken a v r suit h
 
@@ -147,17 +149,18 @@ fields_taken (a ∷ rest) (v ∷ vs) r suit h =
 
 -- ---- the components that stand there
 
-behind_taken : (a : Attribute) (s r : List ℕ) → field_end a s ≡ Ok r → behind_field a s ≡ r
+behind_taken : (a : Attribute) (s r : List ℕ) → field_end (component_end a) s ≡ Ok r → behind_field (component_end a) s ≡ r
 unfolding behind_field
 behind_taken a s r e = rw e refl
 
 front_is : (u r : List ℕ) → take (length (u ++ r) - length r) (u ++ r) ≡ u
 front_is u r = take_at u r (length (u ++ r) - length r) (omega (arith, length-append u r))
 
-component_there : (a : Attribute) (v : Value) (r : List ℕ) → Suits a v → Ends r → component_at a (field v ++ r) ≡ component v
+component_there : (a : Attribute) (v : Value) (r : List ℕ) → Suits a v → Ends r → component_at (component_end a) (field v ++ r) ≡ component v
 unfolding component_at
 component_there a v r suit h = ap (between (field v ++ r)) (behind_taken a (field v ++ r) r (field_taken a v r suit h)) ∙ front_is (component v) r
 
+-- the components that stand in the fields of these values are their texts
 pub components_there : (which : List Attribute) (vs : List Value) (r : List ℕ) → AllSuit which vs → Ends r → components_at which (fields_text vs ++ r) ≡ map component vs
 components_there [] [] r suit h = refl
 components_there [] (v ∷ vs) r suit h = absurd suit
@@ -165,7 +168,7 @@ components_there (a ∷ rest) [] r suit h = absurd suit
 components_there (a ∷ rest) (v ∷ vs) r suit h =
     let next = fields_end_next vs r h in
     ap (components_at (a ∷ rest)) (append_assoc (field v) (fields_text vs) r)
-    ∙ ap (λ (u : List ℕ). u ∷ components_at rest (behind_field a (field v ++ (fields_text vs ++ r)))) (component_there a v (fields_text vs ++ r) suit.0 next)
+    ∙ ap (λ (u : List ℕ). u ∷ components_at rest (behind_field (component_end a) (field v ++ (fields_text vs ++ r)))) (component_there a v (fields_text vs ++ r) suit.0 next)
     ∙ ap (λ (s : List ℕ). component v ∷ components_at rest s) (behind_taken a (field v ++ (fields_text vs ++ r)) (fields_text vs ++ r) (field_taken a v (fields_text vs ++ r) suit.0 next))
     ∙ ap (λ (us : List (List ℕ)). component v ∷ us) (components_there rest vs r suit.1 h)
 
@@ -174,6 +177,7 @@ components_there (a ∷ rest) (v ∷ vs) r suit h =
 abbrev prefix : List ℕ
 prefix = codes "cpe:2.3"
 
+-- the values of a name, in order
 abbrev pub values_of : Values → List Value
 values_of w = map (value_of w) attributes
 
@@ -196,9 +200,11 @@ is_named (a ∷ b ∷ c ∷ d ∷ e ∷ f ∷ g ∷ h ∷ i ∷ []) s = absurd s
 is_named (a ∷ b ∷ c ∷ d ∷ e ∷ f ∷ g ∷ h ∷ i ∷ j ∷ []) s = absurd s.1.1.1.1.1.1.1.1.1.1
 is_named (a ∷ b ∷ c ∷ d ∷ e ∷ f ∷ g ∷ h ∷ i ∷ j ∷ k ∷ l ∷ vs) s = absurd s.1.1.1.1.1.1.1.1.1.1.1
 
+-- they make the name
 pub named_values : (w : Values) → named (values_of w) ≡ w
 named_values w = refl
 
+-- they suit their attributes
 pub suit_values : (w : Values) → IsName w → AllSuit attributes (values_of w)
 suit_values w h = h
 
@@ -218,6 +224,7 @@ an_fs u j =
     let back : j.back ≡ fields_text j.second.first.values = j.second.is ∙ ap (λ (w : List ℕ). w ++ j.second.back) j.second.first.is ∙ ap (λ (w : List ℕ). fields_text j.second.first.values ++ w) j.second.second ∙ append-nil (fields_text j.second.first.values) in
     (named j.second.first.values, whole_fs j.second.first.values u j.second.first.suit (j.is ∙ ap (λ (w : List ℕ). w ++ j.back) j.first ∙ ap (λ (w : List ℕ). prefix ++ w) back))
 
+-- the scanner of whole texts takes formatted strings
 pub whole_scans : Scans IsFs whole_end
 unfolding whole_end
 whole_scans =
@@ -242,6 +249,7 @@ whole_name s rest e =
     let text : s ≡ all.taken = all.cut ∙ ap (λ (r : List ℕ). all.taken ++ r) (ending_empty end.0 rest end.2) ∙ append-nil all.taken in
     subst IsFs (sym text) all.lawful
 
+-- it takes each of them
 pub whole_taken : (s : List ℕ) → IsFs s → whole_end s ≡ Ok []
 unfolding whole_end
 whole_taken s h =
@@ -253,6 +261,7 @@ whole_taken s h =
     ∙ ap (both (fields_end attributes) ending) (sym (append-nil (fields_text vs)))
     ∙ ap (λ (x : Result (List ℕ) ℕ). x >>= ending) (fields_taken attributes vs [] (suit_values w h.1.0) tt)
 
+-- where it stops is the place
 pub leaves : (s : List ℕ) (left : ℕ) → whole_end s ≡ Err left → Leaves s left
 leaves s left e = record {
   refused = not_taken IsFs whole_end whole_scans whole_taken s left e;
@@ -262,13 +271,14 @@ leaves s left e = record {
 
 -- ---- what the code finds
 
-fields_length : (vs : List Value) → lengths (map component vs) ≤ length (fields_text vs)
+fields_length : (vs : List Value) → total_length (map component vs) ≤ length (fields_text vs)
 fields_length [] = omega arith
 fields_length (v ∷ vs) = omega (arith, fields_length vs, length-append (component v) (fields_text vs))
 
 map_values : (w : Values) → map component (values_of w) ≡ map (λ a. component (value_of w a)) attributes
 map_values w = refl
 
+-- what the code finds are the components of the name
 pub found : (s fields rest : List ℕ) (c : Components) → literal prefix s ≡ Ok fields → fields_end attributes fields ≡ Ok rest → eqb (length rest) 0 ≡ true → spans c ≡ components_at attributes fields → AreComponents s c
 found s fields rest c start taken over are =
     let empty : rest ≡ [] = nil_from_length rest (eqb-true (length rest) 0 over) in
@@ -282,7 +292,7 @@ found s fields rest c start taken over are =
       name = named vs;
       fs = whole_fs vs s back.lawful.suit whole;
       are = there ∙ ap (λ (us : List Value). map component us) (sym (is_named vs back.lawful.suit).values) ∙ map_values (named vs);
-      within = omega (arith, ap lengths there, fields_length vs, ap length whole, length-append prefix (fields_text vs));
+      within = omega (arith, ap total_length there, fields_length vs, ap length whole, length-append prefix (fields_text vs));
     }
 
 -- the components that stand in a formatted string are those of its name
@@ -295,10 +305,12 @@ components_of w s fs =
 
 -- ---- where the code stops
 
+-- within the prefix
 pub start_leaves : (s : List ℕ) (left : ℕ) → literal prefix s ≡ Err left → Leaves s left
 unfolding whole_end
 start_leaves s left e = leaves s left (rw e refl)
 
+-- within the fields
 pub fields_leave : (s fields : List ℕ) (left : ℕ) → literal prefix s ≡ Ok fields → fields_end attributes fields ≡ Err left → Leaves s left
 unfolding whole_end
 fields_leave s fields left start e = leaves s left (rw start (ap (λ (x : Result (List ℕ) ℕ). x >>= ending) e))
@@ -307,6 +319,7 @@ no_ending : (r : List ℕ) → eqb (length r) 0 ≡ false → ending r ≡ Err (
 no_ending [] more = absurd cc
 no_ending (c ∷ r) more = refl
 
+-- behind the last field
 pub end_leaves : (s fields rest : List ℕ) → literal prefix s ≡ Ok fields → fields_end attributes fields ≡ Ok rest → eqb (length rest) 0 ≡ false → Leaves s (length rest)
 unfolding whole_end
 end_leaves s fields rest start taken more = leaves s (length rest) (rw start (ap (λ (x : Result (List ℕ) ℕ). x >>= ending) taken ∙ no_ending rest more))

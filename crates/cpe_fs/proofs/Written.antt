@@ -1,9 +1,9 @@
 -- A component with its bare `.` and `-` quoted is the text of its value.
-use Rattle.std.proofs.Common.{◌≡◌, ◌≢◌, ℕ, zero, suc, Bool, true, false, ◌||◌, eqb, List, [], ◌∷◌, ◌++◌, map, replicate, get_or, refl, sym, ap, ◌∙◌, inl, inr, append_assoc, arith}
+use Rattle.std.proofs.Common.{◌≡◌, ◌≢◌, ℕ, zero, suc, true, false, ◌||◌, eqb, List, [], ◌∷◌, ◌++◌, map, replicate, get_or, refl, sym, ap, ◌∙◌, inl, inr, append_assoc, arith}
 use Rattle.std.specs.Prelude.{codes}
 use Rattle.std.specs.List.{flat_map}
 use Rattle.std.proofs.lemmas.List.Concat.{flat_map-append}
-use Rattle.std.proofs.lemmas.Bool.{cases_Bool, eqb-true}
+use Rattle.std.proofs.lemmas.Bool.{cases_Bool}
 use Rattle.std.proofs.lemmas.Bool.Decides.{nat_tests}
 use Rattle.cpe_values.specs.declared.value.Edge.{Edge}
 use Rattle.cpe_values.specs.declared.value.Edge.TheVariants as edge
@@ -14,16 +14,15 @@ use Rattle.cpe_values.specs.Parts.{Parts, IsText}
 use Rattle.cpe_values.specs.Values.{IsValue}
 use Rattle.cpe_values.specs.Spelling.{edge_text, is_word, character, spelling}
 use Rattle.cpe_name.specs.declared.name.Values.{Values}
-use Rattle.cpe_name.specs.declared.attribute.Attribute.{Attribute}
 use Rattle.cpe_name.specs.declared.attribute.Attribute.TheVariants.{Part, Vendor, Product, Version, Update, Edition, Language, SwEdition, TargetSw, TargetHw, Other}
 use Rattle.cpe_name.specs.Names.{attributes, value_of, IsName}
 use Rattle.cpe_name.specs.Text.{value_text, attribute_text, output_text}
-use Rattle.cpe_fs.specs.Grammar.{component, Fs}
-use Rattle.cpe_fs.specs.Spans.{is_only, AreComponents, spans, value_at}
-use Rattle.cpe_fs.specs.Rewriting.{requoted, in_quotes, span_text, attribute_bytes, components_text}
+use Rattle.cpe_fs.specs.Grammar.{component}
+use Rattle.cpe_fs.specs.Spans.{is_only, AreComponents, spans}
+use Rattle.cpe_fs.specs.SpanValues.{value_at}
+use Rattle.cpe_fs.specs.Rewriting.{requoted, span_text, attribute_bytes, components_text}
 use Rattle.cpe_fs.specs.declared.scan.Components.{Components}
 use Rattle.cpe_fs.proofs.ValueLemmas.{value_back, only_is}
-use Rattle.cpe_fs.proofs.Whole.{AllSuit, good_of, values_of, suit_values}
 
 word_is_kept : (c : ℕ) → is_word c ≡ true → (eqb c 46 || eqb c 45) ≡ false
 word_is_kept c h = grind (arith, nat_tests)
@@ -121,5 +120,6 @@ name_text w c good e =
     ) (regroup (codes "wfn:[part=") (codes ",vendor=") (codes ",product=") (codes ",version=") (codes ",update=") (codes ",edition=") (codes ",language=") (codes ",sw_edition=") (codes ",target_sw=") (codes ",target_hw=") (codes ",other=") (value_text w.part) (value_text w.vendor) (value_text w.product) (value_text w.version) (value_text w.update) (value_text w.edition) (value_text w.language) (value_text w.sw_edition) (value_text w.target_sw) (value_text w.target_hw) (value_text w.other) (codes "]")
     ∙ sym (output_is w))
 
+-- what is written of the components is the output text of the name
 pub components_say : (s : List ℕ) (c : Components) (are : AreComponents s c) → components_text c ≡ output_text are.name
 components_say s c are = name_text are.name c are.fs.0 are.are

@@ -2,4 +2,5 @@ pub mod Grammar
 pub mod Unbound
 pub mod Scanning
 pub mod Spans
+pub mod SpanValues
 pub mod Rewriting

@@ -1,5 +1,5 @@
 -- The scanners of a formatted string, as the code goes over it. No public clause speaks of them.
-use Rattle.std.specs.Prelude.{◌≡◌, ℕ, suc, List, [], ◌∷◌, length, codes, Bool, true, false, not, ◌&&◌, ◌||◌, ◌==◌, Result, Ok, Err, if◌then◌else◌}
+use Rattle.std.specs.Prelude.{ℕ, suc, List, [], ◌∷◌, length, codes, Bool, false, not, ◌&&◌, ◌||◌, ◌==◌, Ok, Err, if◌then◌else◌}
 use Rattle.cpe_values.specs.declared.spelling.Style.TheVariants as style
 use Rattle.cpe_values.specs.Parts.{is_character}
 use Rattle.cpe_values.specs.Spelling.{is_bare, is_letter, is_digit}
@@ -26,6 +26,7 @@ is_colon c = c == 58
 abbrev pub is_hyphen : ℕ → Bool
 is_hyphen c = c == 45
 
+-- stands without a backslash
 abbrev pub is_bare_here : ℕ → Bool
 is_bare_here c = is_bare style.Formatted c
 
@@ -33,6 +34,7 @@ is_bare_here c = is_bare style.Formatted c
 abbrev pub is_quoted : ℕ → Bool
 is_quoted c = is_character c && not (is_bare_here c)
 
+-- a character begins with it
 abbrev pub starts_body : ℕ → Bool
 starts_body c = is_bare_here c || is_backslash c
 
@@ -46,12 +48,15 @@ class_of c = if is_bare_here c then 1 else (if is_quoted c then 2 else 0)
 
 -- ---- texts
 
+-- marks, of which there are 4,294,967,295 at most
 unfoldable pub marks_end : Scanner
 marks_end s = up_to 4294967295 is_mark s
 
+-- a trail: an asterisk, marks, or nothing
 unfoldable pub edge_end : Scanner
 edge_end s = choose is_star (one is_star) marks_end s
 
+-- a character: bare, or behind a backslash
 unfoldable pub character_end : Scanner
 character_end s = choose is_backslash (both (one is_backslash) (one is_quoted)) (one is_bare_here) s
 
@@ -71,6 +76,7 @@ stem_end s = character_end s >>= body_end >>= edge_end
 unfoldable pub led_end : Scanner
 led_end s = choose starts_body stem_end nothing s
 
+-- `*`, `-` or a text
 unfoldable pub text_end : Scanner
 text_end s = choose is_star (both (one is_star) led_end) (both marks_end stem_end) s
 
@@ -80,24 +86,31 @@ text_end s = choose is_star (both (one is_star) led_end) (both marks_end stem_en
 abbrev pub is_part_byte : ℕ → Bool
 is_part_byte c = c == 42 || c == 45 || is_part_letter c
 
+-- `*`, `-` or one of three letters
 unfoldable pub part_end : Scanner
 part_end s = one is_part_byte s
 
+-- two letters
 unfoldable pub letters_end : Scanner
 letters_end s = run 2 is_letter s
 
+-- three digits
 unfoldable pub digits_end : Scanner
 digits_end s = run 3 is_digit s
 
+-- a code of a region
 unfoldable pub code_end : Scanner
 code_end s = choose is_digit digits_end letters_end s
 
+-- a hyphen and a code, or nothing
 unfoldable pub region_end : Scanner
 region_end s = choose is_hyphen (both (one is_hyphen) code_end) nothing s
 
+-- one more letter, or nothing
 unfoldable pub third_end : Scanner
 third_end s = choose is_letter (one is_letter) nothing s
 
+-- two letters or three, and a region
 unfoldable pub tag_end : Scanner
 tag_end s = letters_end s >>= third_end >>= region_end
 
@@ -105,11 +118,13 @@ tag_end s = letters_end s >>= third_end >>= region_end
 abbrev pub is_lone_byte : ℕ → Bool
 is_lone_byte c = c == 42 || c == 45
 
+-- `*`, `-` or a language tag
 unfoldable pub language_end : Scanner
 language_end s = choose is_lone_byte (one is_lone_byte) tag_end s
 
 -- ---- the whole
 
+-- the component of an attribute
 abbrev pub component_end : Attribute → Scanner
 component_end Part = part_end
 component_end Language = language_end
@@ -124,12 +139,14 @@ component_end TargetHw = text_end
 component_end Other = text_end
 
 -- a colon and a component
-unfoldable pub field_end : Attribute → Scanner
-field_end a s = one is_colon s >>= component_end a
+unfoldable pub field_end : Scanner → Scanner
+field_end component s = one is_colon s >>= component
 
+-- the fields of these attributes
 abbrev pub fields_end : List Attribute → Scanner
 fields_end [] s = Ok s
-fields_end (a ∷ rest) s = field_end a s >>= fields_end rest
+fields_end (a ∷ rest) s = field_end (component_end a) s >>= fields_end rest
 
+-- the prefix, eleven fields, and the end
 unfoldable pub whole_end : Scanner
 whole_end s = literal (codes "cpe:2.3") s >>= both (fields_end attributes) ending

@@ -12,17 +12,18 @@ ghost use Rattle.cpe_fs.specs.Grammar.{Fs, IsFs};
 ghost use Rattle.cpe_fs.specs.Unbound.{unbound, Says, Writes};
 
 mod scan;
+#[cfg(test)]
+mod tests;
 mod values;
 mod write;
-
-use cpe_name::Wfn;
-use cpe_values::Memory;
-use std::alloc::Global;
-use thiserror::Error;
 
 use crate::scan::scan_fs;
 use crate::values::values_of;
 use crate::write::put_name;
+use cpe_name::Wfn;
+use cpe_values::Memory;
+use std::alloc::Global;
+use thiserror::Error;
 
 /// The bytes that an output text has beside its values: the names of the attributes, the brackets,
 /// the commas and the quotes.
@@ -60,7 +61,9 @@ pub fn unbind_fs(alloc: Global, text: &[u8]) -> Result<Wfn, FsFault>
     ensures found { IfOk result (λ name. Fs name text.now) }
     // A name that has this text is found, unless memory runs out.
     ensures only { (name : Values) → Fs name text.now → MatchResult result (λ found. found ≡ name) (λ fault. fault ≡ FsFault.Memory) }
+    // A text that no name has is refused as such, whatever the memory.
     ensures refused { result ≡ Err FsFault.NotFs → ¬ (IsFs text.now) }
+    ensures memory { result ≡ Err FsFault.Memory → IsFs text.now }
 {
     let Ok(components) = scan_fs(text) else {
         return Err(FsFault::NotFs);
@@ -72,15 +75,15 @@ pub fn unbind_fs(alloc: Global, text: &[u8]) -> Result<Wfn, FsFault>
 }
 
 /// Writes the output text of the name that has this formatted string into `room`, from `at` on, and
-/// makes no name. It answers the place behind what was written, or `None` where no name has this
-/// text; then nothing was written. It takes no memory.
+/// makes no name. It answers the place behind what was written; what stands from there on is not told.
+/// `None` says that no name has this text, and leaves the room as it was. It takes no memory.
 pub fn write_unbound(room: &mut [u8], at: usize, text: &[u8]) -> Option<usize>
     requires { at + 2 * length text.now + FRAME ≤ length room.old }
     // What was written is the text of a name that has this formatted string.
     ensures found { IfSome result (λ end. Writes text.now (take at room.old) (take end room.new)) }
     // The text of a name that has this formatted string is written.
     ensures only { (name : Values) → Fs name text.now → MatchOption result ⊥ (λ end. take end room.new ≡ take at room.old ++ output_text name) }
-    ensures refused { IfNone result (¬ (IsFs text.now)) }
+    ensures none { IfNone result (¬ (IsFs text.now)) }
 
     // The same by a function.
     ensures said { option_map (λ end. take end room.new) result ≡ option_map (λ said. take at room.old ++ said) (unbound text.now) }
@@ -99,5 +102,5 @@ pub fn write_unbound(room: &mut [u8], at: usize, text: &[u8]) -> Option<usize>
 pub fn unbound_is()
     ensures named { (name : Values) (s : List ℕ) → Fs name s → unbound s ≡ Some (output_text name) }
     ensures found { (s text : List ℕ) → unbound s ≡ Some text → Says s text }
-    ensures refused { (s : List ℕ) → unbound s ≡ None → ¬ (IsFs s) }
+    ensures none { (s : List ℕ) → unbound s ≡ None → ¬ (IsFs s) }
 {}

@@ -7,10 +7,9 @@ ghost use Rattle.cpe_grammar.specs.Scanners.{Tells, one, literal};
 ghost use Rattle.cpe_values.specs.Spelling.{is_bare, is_letter, is_digit};
 ghost use Rattle.cpe_values.specs.declared.spelling.Style.TheVariants as style;
 ghost use Rattle.cpe_name.specs.Names.{attributes};
-ghost use Rattle.cpe_fs.specs.Scanning.{is_quoted, starts_body, begins_with_backslash, class_of, marks_end, edge_end, character_end, body_end, stem_end, led_end, text_end, part_end, letters_end, digits_end, code_end, region_end, third_end, tag_end, language_end, component_end, field_end, fields_end, whole_end};
-ghost use Rattle.cpe_fs.specs.Spans.{AreComponents, Leaves, is_only, spans, behind_field, component_at, components_at};
+ghost use Rattle.cpe_fs.specs.Scanning.{is_quoted, starts_body, begins_with_backslash, class_of, marks_end, edge_end, character_end, body_end, stem_end, led_end, text_end, part_end, letters_end, digits_end, code_end, region_end, third_end, tag_end, language_end, field_end, fields_end, whole_end};
+ghost use Rattle.cpe_fs.specs.Spans.{AreComponents, Leaves, spans, behind_field, component_at, components_at};
 
-use cpe_name::Attribute;
 use cpe_values::{is_digit_byte, is_letter_byte, skip_bare};
 
 /// The class of each byte in a body.
@@ -142,6 +141,8 @@ fn scan_body(bytes: &[u8]) -> Result<&[u8], usize>
     Ok(rest)
 }
 
+/// A body and a trail.
+#[inline(always)]
 #[tactic(auto, unfolding(crate::specs::Scanning::stem_end))]
 fn scan_stem(bytes: &[u8]) -> Result<&[u8], usize>
     ensures { Tells (λ rest. rest.now) result (stem_end bytes.now) }
@@ -275,17 +276,6 @@ fn scan_language(bytes: &[u8]) -> Result<&[u8], usize>
     }
 }
 
-#[inline(always)]
-fn scan_component(which: Attribute, bytes: &[u8]) -> Result<&[u8], usize>
-    ensures { Tells (λ rest. rest.now) result (component_end which bytes.now) }
-{
-    match which {
-        Attribute::Part => scan_part(bytes),
-        Attribute::Language => scan_language(bytes),
-        _ => scan_text(bytes),
-    }
-}
-
 /// The front of a slice before a rest of it.
 fn front_of<'a>(all: &'a [u8], rest: &[u8]) -> &'a [u8]
     ensures { result.now ≡ take (length all.now - length rest.now) all.now }
@@ -293,16 +283,39 @@ fn front_of<'a>(all: &'a [u8], rest: &[u8]) -> &'a [u8]
     &all[..all.len().saturating_sub(rest.len())]
 }
 
-/// A colon and a component: the component, and what is left behind it.
-#[inline(always)]
+/// A colon and a part: the part, and what is left behind it.
 #[tactic(auto, unfolding(crate::specs::Scanning::field_end, crate::specs::Spans::behind_field, crate::specs::Spans::component_at))]
-fn scan_field(which: Attribute, bytes: &[u8]) -> Result<(&[u8], &[u8]), usize>
-    ensures told { Tells (λ x. x.1.now) result (field_end which bytes.now) }
-    ensures rest { IfOk result (λ x. x.1.now ≡ behind_field which bytes.now) }
-    ensures component { IfOk result (λ x. x.0.now ≡ component_at which bytes.now) }
+fn part_field(bytes: &[u8]) -> Result<(&[u8], &[u8]), usize>
+    ensures told { Tells (λ x. x.1.now) result (field_end part_end bytes.now) }
+    ensures component { IfOk result (λ x. x.0.now ≡ component_at part_end bytes.now) }
+    ensures rest { IfOk result (λ x. x.1.now ≡ behind_field part_end bytes.now) }
 {
     let start = scan_byte(b':', bytes)?;
-    let rest = scan_component(which, start)?;
+    let rest = scan_part(start)?;
+    Ok((front_of(start, rest), rest))
+}
+
+/// A colon and a text: the text, and what is left behind it.
+#[tactic(auto, unfolding(crate::specs::Scanning::field_end, crate::specs::Spans::behind_field, crate::specs::Spans::component_at))]
+fn text_field(bytes: &[u8]) -> Result<(&[u8], &[u8]), usize>
+    ensures told { Tells (λ x. x.1.now) result (field_end text_end bytes.now) }
+    ensures component { IfOk result (λ x. x.0.now ≡ component_at text_end bytes.now) }
+    ensures rest { IfOk result (λ x. x.1.now ≡ behind_field text_end bytes.now) }
+{
+    let start = scan_byte(b':', bytes)?;
+    let rest = scan_text(start)?;
+    Ok((front_of(start, rest), rest))
+}
+
+/// A colon and a language: the language, and what is left behind it.
+#[tactic(auto, unfolding(crate::specs::Scanning::field_end, crate::specs::Spans::behind_field, crate::specs::Spans::component_at))]
+fn language_field(bytes: &[u8]) -> Result<(&[u8], &[u8]), usize>
+    ensures told { Tells (λ x. x.1.now) result (field_end language_end bytes.now) }
+    ensures component { IfOk result (λ x. x.0.now ≡ component_at language_end bytes.now) }
+    ensures rest { IfOk result (λ x. x.1.now ≡ behind_field language_end bytes.now) }
+{
+    let start = scan_byte(b':', bytes)?;
+    let rest = scan_language(start)?;
     Ok((front_of(start, rest), rest))
 }
 
@@ -337,17 +350,17 @@ fn scan_fields(bytes: &[u8]) -> Result<(Components, &[u8]), usize>
     ensures told { Tells (λ x. x.1.now) result (fields_end attributes bytes.now) }
     ensures spans { IfOk result (λ x. spans x.0 ≡ components_at attributes bytes.now) }
 {
-    let (part, rest) = scan_field(Attribute::Part, bytes)?;
-    let (vendor, rest) = scan_field(Attribute::Vendor, rest)?;
-    let (product, rest) = scan_field(Attribute::Product, rest)?;
-    let (version, rest) = scan_field(Attribute::Version, rest)?;
-    let (update, rest) = scan_field(Attribute::Update, rest)?;
-    let (edition, rest) = scan_field(Attribute::Edition, rest)?;
-    let (language, rest) = scan_field(Attribute::Language, rest)?;
-    let (sw_edition, rest) = scan_field(Attribute::SwEdition, rest)?;
-    let (target_sw, rest) = scan_field(Attribute::TargetSw, rest)?;
-    let (target_hw, rest) = scan_field(Attribute::TargetHw, rest)?;
-    let (other, rest) = scan_field(Attribute::Other, rest)?;
+    let (part, rest) = part_field(bytes)?;
+    let (vendor, rest) = text_field(rest)?;
+    let (product, rest) = text_field(rest)?;
+    let (version, rest) = text_field(rest)?;
+    let (update, rest) = text_field(rest)?;
+    let (edition, rest) = text_field(rest)?;
+    let (language, rest) = language_field(rest)?;
+    let (sw_edition, rest) = text_field(rest)?;
+    let (target_sw, rest) = text_field(rest)?;
+    let (target_hw, rest) = text_field(rest)?;
+    let (other, rest) = text_field(rest)?;
     let components = Components {
         part,
         vendor,
@@ -364,13 +377,6 @@ fn scan_fields(bytes: &[u8]) -> Result<(Components, &[u8]), usize>
     Ok((components, rest))
 }
 
-/// Whether a component is this byte alone.
-pub(crate) fn is_only(span: &[u8], byte: u8) -> bool
-    ensures { result ≡ is_only byte span.now }
-{
-    matches!(span, [only] if *only == byte)
-}
-
 /// The components of a formatted string, or how many bytes are left where the text leaves the
 /// grammar.
 #[tactic(auto, using(crate::proofs::Whole::start_leaves, crate::proofs::Whole::fields_leave))]
@@ -379,9 +385,9 @@ pub(crate) fn scan_fs(text: &[u8]) -> Result<Components, usize>
     ensures refused { IfErr result (Leaves text.now) }
 {
     let rest = scan_literal(b"cpe:2.3", text)?;
-    let (components, rest) = scan_fields(rest)?;
-    if !rest.is_empty() {
-        return Err(rest.len());
+    let (components, behind) = scan_fields(rest)?;
+    if !behind.is_empty() {
+        return Err(behind.len());
     }
     Ok(components)
 }

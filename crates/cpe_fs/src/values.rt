@@ -1,13 +1,13 @@
 // The values of a name, made from where the components of its formatted string lie.
 ghost use Rattle.std.specs.Prelude.{◌≡◌, ◌<◌, ◌≤◌, ◌^◌, ◌∷◌, [], length, map, IfOk, MatchOption, ⊤};
 ghost use Rattle.cpe_values.specs.Parts.{parts, IsText};
-ghost use Rattle.cpe_fs.specs.Spans.{is_only, IsSpan, AreSpans, spans, marks_count, edge_at, behind_edge, body_at, behind_body, parts_at, value_at, named};
+ghost use Rattle.cpe_fs.specs.Spans.{is_only, IsSpan, AreSpans, spans};
+ghost use Rattle.cpe_fs.specs.SpanValues.{marks_count, edge_at, behind_edge, body_at, behind_body, parts_at, value_at, named};
 
+use crate::scan::Components;
 use cpe_name::Values;
 use cpe_values::{Edge, Memory, Pattern, Value, ValueFault};
 use std::alloc::Global;
-
-use crate::scan::{Components, is_only};
 
 /// How many marks stand in front.
 fn count_marks(bytes: &[u8]) -> usize
@@ -34,7 +34,7 @@ fn split_edge(bytes: &[u8]) -> (Edge, &[u8])
 }
 
 /// The next character of a body, if one stands there, and what is left behind it.
-#[tactic(auto, unfolding(crate::specs::Spans::body_at, crate::specs::Spans::behind_body))]
+#[tactic(auto, unfolding(crate::specs::SpanValues::body_at, crate::specs::SpanValues::behind_body))]
 fn next_character(bytes: &[u8]) -> Option<(u8, &[u8])>
     ensures body { MatchOption result (body_at bytes.now ≡ []) (λ x. body_at bytes.now ≡ x.0 ∷ body_at x.1.now) }
     ensures rest { MatchOption result (behind_body bytes.now ≡ bytes.now) (λ x. behind_body bytes.now ≡ behind_body x.1.now) }
@@ -52,7 +52,7 @@ fn split_body(alloc: Global, bytes: &[u8]) -> Result<(Vec<u8>, &[u8]), Memory>
     ensures body { IfOk result (λ x. x.0.items ≡ body_at bytes.now) }
     ensures rest { IfOk result (λ x. x.1.now ≡ behind_body bytes.now) }
 {
-    let mut body = Vec::new(alloc);
+    let mut body = Vec::with_capacity(alloc, bytes.len())?;
     let mut rest = bytes;
     while let Some((byte, tail)) = next_character(rest) {
         body.push(byte)?;
@@ -82,6 +82,13 @@ fn text_of(alloc: Global, span: &[u8]) -> Result<Pattern, Memory>
     let (body, rest) = split_body(alloc, rest)?;
     let (trail, _) = split_edge(rest);
     make_text(alloc, lead, &body, trail)
+}
+
+/// Whether a component is this byte alone.
+fn is_only(span: &[u8], byte: u8) -> bool
+    ensures { result ≡ is_only byte span.now }
+{
+    matches!(span, [only] if *only == byte)
 }
 
 /// The value that has this text.

@@ -1,12 +1,12 @@
 // The text of a well-formed name, written from where the components of its formatted string lie
-// (NIST IR 7695, 6.1 and 6.2). The room is the caller's: nothing here takes memory.
+// (NIST IR 7695, 6.2.3). The room is the caller's: nothing here takes memory.
 ghost use Rattle.std.specs.Prelude.{◌≡◌, ◌≤◌, ◌+◌, ◌*◌, ◌++◌, ◌∷◌, [], length, take, codes, ◌||◌, ◌==◌};
 ghost use Rattle.std.specs.List.{flat_map};
-ghost use Rattle.cpe_fs.specs.Spans.{is_only, spans, lengths};
+ghost use Rattle.cpe_fs.specs.Spans.{spans, total_length};
 ghost use Rattle.cpe_fs.specs.Rewriting.{requoted, in_quotes, span_text, attribute_bytes, components_text};
 
 use crate::FRAME;
-use crate::scan::{Components, is_only};
+use crate::scan::Components;
 
 /// Puts bytes at a place. It tells the place behind them.
 fn put(room: &mut [u8], at: usize, bytes: &[u8]) -> usize
@@ -75,12 +75,10 @@ fn put_span(room: &mut [u8], at: usize, span: &[u8]) -> usize
     ensures room { length room.new ≡ length room.old }
     ensures written { take result room.new ≡ take at room.old ++ span_text span.now }
 {
-    if is_only(span, b'*') {
-        put(room, at, b"ANY")
-    } else if is_only(span, b'-') {
-        put(room, at, b"NA")
-    } else {
-        put_in_quotes(room, at, span)
+    match span {
+        [b'*'] => put(room, at, b"ANY"),
+        [b'-'] => put(room, at, b"NA"),
+        _ => put_in_quotes(room, at, span),
     }
 }
 
@@ -99,8 +97,8 @@ fn put_attribute(room: &mut [u8], at: usize, key: &[u8], span: &[u8]) -> usize
 
 /// Puts the text of the name that has these components.
 pub(crate) fn put_name(room: &mut [u8], at: usize, components: &Components) -> usize
-    requires { at + 2 * lengths (spans components.now) + FRAME ≤ length room.old }
-    ensures at { result ≤ at + 2 * lengths (spans components.now) + FRAME }
+    requires { at + 2 * total_length (spans components.now) + FRAME ≤ length room.old }
+    ensures at { result ≤ at + 2 * total_length (spans components.now) + FRAME }
     ensures room { length room.new ≡ length room.old }
     ensures written { take result room.new ≡ take at room.old ++ components_text components.now }
 {

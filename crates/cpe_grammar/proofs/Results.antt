@@ -24,11 +24,14 @@ pub chosen : {X : Type 0} (b : Bool) (x y z : X) → cond b x y ≡ z → ((b �
 chosen true x y z e = inl (refl, e)
 chosen false x y z e = inr (refl, e)
 
+-- what is left is one thing
 pub ok_is : (s t : List ℕ) → left_over s ≡ left_over t → s ≡ t
 ok_is s t e = cc
 
+-- so is where it stopped
 pub err_is : (m n : ℕ) → stopped m ≡ stopped n → m ≡ n
 err_is m n e = cc
 
+-- nothing is both taken and refused
 pub ok≢err : (s : List ℕ) (n : ℕ) → left_over s ≡ stopped n → ⊥
 ok≢err s n e = cc

@@ -36,6 +36,7 @@ looks_no_further p looks c (x ∷ front) d r t e = looks c x (front ++ d ∷ r) 
 
 -- ---- a wider language, and the same scanner by another name
 
+-- a scanner of a language is one of a wider language
 pub wider : (L M : List ℕ → Type 0) (p : Scanner) → ((c : List ℕ) → L c → M c) → Scans L p → Scans M p
 wider L M p widen P = record {
   takes = λ s r e. let a = P.takes s r e in record { taken = a.taken; cut = a.cut; lawful = widen a.taken a.lawful };
@@ -51,6 +52,7 @@ wider L M p widen P = record {
   looks_at_one = P.looks_at_one;
 }
 
+-- a scanner that answers the same is as good
 pub renamed : (L : List ℕ → Type 0) (p q : Scanner) → ((s : List ℕ) → q s ≡ p s) → Scans L p → Scans L q
 renamed L p q same P = record {
   takes = λ s r e. P.takes s r (sym (same s) ∙ e);
@@ -68,9 +70,11 @@ renamed L p q same P = record {
 
 -- ---- nothing, the end, and a byte that must not stand there
 
+-- the empty text alone
 abbrev pub Empty : List ℕ → Type 0
 Empty c = c ≡ []
 
+-- taking nothing
 pub nothing_scans : Scans Empty nothing
 nothing_scans = record {
   takes = λ s r e. record { taken = []; cut = ok_is s r e; lawful = refl };
@@ -90,19 +94,23 @@ ending_looks : (c : List ℕ) (d : ℕ) (r t : List ℕ) → ending (c ++ d ∷ 
 ending_looks [] d r t e = absurd (ok≢err (d ∷ r) _ (sym e))
 ending_looks (x ∷ c) d r t e = absurd (ok≢err (d ∷ r) _ (sym e))
 
+-- taking the end
 pub ending_scans : Scans Empty ending
 ending_scans = record { takes = ending_takes; stops = ending_stops; looks_at_one = ending_looks }
 
 -- ---- one byte
 
+-- one byte that passes
 pub record OneOf (passes : ℕ → Bool) (c : List ℕ) : Type 0 where
   pub byte : ℕ
   pub is : c ≡ byte ∷ []
   pub passed : passes byte ≡ true
 
+-- a byte that passes is taken
 pub one_taken : (passes : ℕ → Bool) (c : ℕ) (s : List ℕ) → passes c ≡ true → one passes (c ∷ s) ≡ Ok s
 one_taken passes c s h = rw h refl
 
+-- a byte that fails is refused
 pub one_refused : (passes : ℕ → Bool) (c : ℕ) (s : List ℕ) → passes c ≡ false → one passes (c ∷ s) ≡ Err (suc (length s))
 one_refused passes c s h = rw h refl
 
@@ -156,12 +164,17 @@ one_scans passes sample good = record { takes = one_takes passes; stops = one_st
 
 -- ---- one scanner behind another
 
+-- a text of the one language, and behind it one of the other
 pub record Joined (L M : List ℕ → Type 0) (c : List ℕ) : Type 0 where
   pub front : List ℕ
   pub back : List ℕ
   pub is : c ≡ front ++ back
   pub first : L front
   pub second : M back
+
+-- two cuts make one
+pub cut_twice : (s u m v r : List ℕ) → s ≡ u ++ m → m ≡ v ++ r → s ≡ (u ++ v) ++ r
+cut_twice s u m v r first second = first ∙ ap (λ (w : List ℕ). u ++ w) second ∙ sym (append_assoc u v r)
 
 -- where the front was taken before this rest, it is taken before it
 pub before_rest : (p : Scanner) (s u m n : List ℕ) → p s ≡ Ok m → s ≡ u ++ m → m ≡ n → p (u ++ n) ≡ Ok n
@@ -174,7 +187,7 @@ module _ (L M : List ℕ → Type 0) (p q : Scanner) (P : Scans L p) (Q : Scans 
       let u = P.takes s a.0 a.1 in
       let v = Q.takes a.0 r a.2 in record {
         taken = u.taken ++ v.taken;
-        cut = u.cut ∙ ap (λ (w : List ℕ). u.taken ++ w) v.cut ∙ sym (append_assoc u.taken v.taken r);
+        cut = cut_twice s u.taken a.0 v.taken r u.cut v.cut;
         lawful = record { front = u.taken; back = v.taken; is = refl; first = u.lawful; second = v.lawful };
       }
 
@@ -193,7 +206,7 @@ module _ (L M : List ℕ → Type 0) (p q : Scanner) (P : Scans L p) (Q : Scans 
         | inr h ↦ let u = P.takes s h.0 h.1 in let a = Q.stops h.0 left h.2 in record {
           front = u.taken ++ a.front;
           rest = a.rest;
-          cut = u.cut ∙ ap (λ (w : List ℕ). u.taken ++ w) a.cut ∙ sym (append_assoc u.taken a.front a.rest);
+          cut = cut_twice s u.taken h.0 a.front a.rest u.cut a.cut;
           left_is = a.left_is;
           more = a.more;
           goes_on = record { front = u.taken; back = a.front ++ a.more; is = append_assoc u.taken a.front a.more; first = u.lawful; second = a.goes_on };
@@ -209,7 +222,7 @@ module _ (L M : List ℕ → Type 0) (p q : Scanner) (P : Scans L p) (Q : Scans 
       let a = went_on (p (c ++ d ∷ r)) q (d ∷ r) e in
       let u = P.takes (c ++ d ∷ r) a.0 a.1 in
       let v = Q.takes a.0 (d ∷ r) a.2 in
-      let parts : c ≡ u.taken ++ v.taken = append_cancel_right c (u.taken ++ v.taken) (d ∷ r) (u.cut ∙ ap (λ (w : List ℕ). u.taken ++ w) v.cut ∙ sym (append_assoc u.taken v.taken (d ∷ r))) in
+      let parts : c ≡ u.taken ++ v.taken = append_cancel_right c (u.taken ++ v.taken) (d ∷ r) (cut_twice (c ++ d ∷ r) u.taken a.0 v.taken (d ∷ r) u.cut v.cut) in
       let there = before_rest p (c ++ d ∷ r) u.taken a.0 (v.taken ++ d ∷ r) a.1 u.cut v.cut in
       let first = looks_no_further p P.looks_at_one u.taken v.taken d r t there in
       let second = Q.looks_at_one v.taken d r t (ap q (sym v.cut) ∙ a.2) in
@@ -221,12 +234,15 @@ module _ (L M : List ℕ → Type 0) (p q : Scanner) (P : Scans L p) (Q : Scans 
 
 -- ---- a choice by the first byte
 
+-- a text of either language
 abbrev pub Either : (L M : List ℕ → Type 0) → List ℕ → Type 0
 Either L M c = L c ⊎ M c
 
+-- the first byte passes
 pub chosen_yes : (passes : ℕ → Bool) (p q : Scanner) (c : ℕ) (s : List ℕ) → passes c ≡ true → choose passes p q (c ∷ s) ≡ p (c ∷ s)
 chosen_yes passes p q c s h = rw h refl
 
+-- the first byte fails
 pub chosen_no : (passes : ℕ → Bool) (p q : Scanner) (c : ℕ) (s : List ℕ) → passes c ≡ false → choose passes p q (c ∷ s) ≡ q (c ∷ s)
 chosen_no passes p q c s h = rw h refl
 
@@ -300,6 +316,7 @@ module _ (passes : ℕ → Bool) (L M : List ℕ → Type 0) (p q : Scanner) (P 
 
 -- ---- no more than so many bytes
 
+-- no more than n bytes, which pass
 pub record FewOf (n : ℕ) (passes : ℕ → Bool) (c : List ℕ) : Type 0 where
   pub few : length c ≤ n
   pub passed : IsTrue (list_all passes c)
@@ -342,13 +359,10 @@ up_to_scans (suc n) passes sample good =
     wider (Either (Joined (OneOf passes) (FewOf n passes)) Empty) (FewOf (suc n) passes) _ (λ c h. elim h [ inl j ↦ more_few n passes c j | inr is ↦ none_few (suc n) passes c is ])
     (renamed _ _ _ (up_to_more n passes) (choose_scans passes _ _ _ nothing more nothing_scans))
 
+-- one byte less may follow
 pub up_to_step : (n : ℕ) (passes : ℕ → Bool) (c : ℕ) (s : List ℕ) → passes c ≡ true → up_to (suc n) passes (c ∷ s) ≡ up_to n passes s
 unfolding up_to
 up_to_step n passes c s h = rw h refl
-
-pub up_to_full : (passes : ℕ → Bool) (c : ℕ) (s : List ℕ) → passes c ≡ true → up_to 0 passes (c ∷ s) ≡ Err (suc (length s))
-unfolding up_to
-up_to_full passes c s h = rw h refl
 
 -- the first of these bytes, if there is one, fails the test
 abbrev pub HeadFails : (ℕ → Bool) → List ℕ → Type 0
@@ -369,6 +383,7 @@ up_to_taken (suc k) (suc n) passes c r le good h = up_to_step n passes c (replic
 
 -- ---- exactly so many bytes
 
+-- n bytes, which pass
 pub record Run (n : ℕ) (passes : ℕ → Bool) (c : List ℕ) : Type 0 where
   pub count : length c ≡ n
   pub passed : IsTrue (list_all passes c)
@@ -393,6 +408,7 @@ run_scans (suc n) passes sample good =
 
 -- ---- these bytes
 
+-- this text alone
 abbrev pub Only : List ℕ → List ℕ → Type 0
 Only cs c = c ≡ cs
 
@@ -407,6 +423,7 @@ literal_none s = refl
 more_only : (c : ℕ) (cs u : List ℕ) → Joined (OneOf (λ d. eqb d c)) (Only cs) u → Only (c ∷ cs) u
 more_only c cs u j = j.is ∙ ap (λ (v : List ℕ). v ++ j.back) j.first.is ∙ ap (λ (v : List ℕ). j.first.byte ∷ v) j.second ∙ ap (λ (d : ℕ). d ∷ cs) (eqb-true j.first.byte c j.first.passed)
 
+-- taking one text
 pub literal_scans : (cs : List ℕ) → Scans (Only cs) (literal cs)
 literal_scans [] = renamed Empty nothing (literal []) literal_none nothing_scans
 literal_scans (c ∷ cs) =
@@ -414,6 +431,7 @@ literal_scans (c ∷ cs) =
     (renamed _ (both (one (λ d. eqb d c)) (literal cs)) (literal (c ∷ cs)) (literal_more c cs)
     (both_scans (OneOf (λ d. eqb d c)) (Only cs) (one (λ d. eqb d c)) (literal cs) (one_scans (λ d. eqb d c) c (eq-eqb c c refl)) (literal_scans cs) cs refl))
 
+-- that text is taken before any rest
 pub literal_taken : (cs r : List ℕ) → literal cs (cs ++ r) ≡ Ok r
 unfolding literal
 literal_taken [] r = refl

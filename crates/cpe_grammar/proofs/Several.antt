@@ -4,7 +4,7 @@ use Rattle.std.proofs.lemmas.List.{append_cancel_right}
 use Rattle.std.proofs.lemmas.Bool.{cases_Bool}
 use Rattle.cpe_grammar.specs.Scanners.{Scanner, both, choose, nothing}
 use Rattle.cpe_grammar.proofs.Results.{went_on, stopped_at, ok_is, ok≢err}
-use Rattle.cpe_grammar.proofs.Scans.{Takes, Stops, Scans, looks_no_further, chosen_yes, chosen_no, before_rest, head_is}
+use Rattle.cpe_grammar.proofs.Scans.{Takes, Stops, Scans, looks_no_further, chosen_yes, chosen_no, cut_twice, before_rest, head_is}
 
 -- what is left behind some bytes is shorter
 shorter : (s u m : List ℕ) (n : ℕ) → s ≡ u ++ m → u ≢ [] → length s ≤ suc n → length m ≤ n
@@ -30,7 +30,7 @@ module _ (L M : List ℕ → Type 0) (none : M []) (more : (u v : List ℕ) → 
             let u = P.takes (c ∷ s) a.0 a.1 in
             let v = several_takes n a.0 r (shorter (c ∷ s) u.taken a.0 n u.cut (some u.taken u.lawful) le) a.2 in record {
               taken = u.taken ++ v.taken;
-              cut = u.cut ∙ ap (λ (w : List ℕ). u.taken ++ w) v.cut ∙ sym (append_assoc u.taken v.taken r);
+              cut = cut_twice (c ∷ s) u.taken a.0 v.taken r u.cut v.cut;
               lawful = more u.taken v.taken u.lawful v.lawful;
             }
         | inr h ↦ record { taken = []; cut = ok_is (c ∷ s) r (sym (several_no c s h) ∙ e); lawful = none }
@@ -59,14 +59,14 @@ module _ (L M : List ℕ → Type 0) (none : M []) (more : (u v : List ℕ) → 
                   let a = several_stops n k.0 left (shorter (c ∷ s) u.taken k.0 n u.cut (some u.taken u.lawful) le) k.2 in record {
                     front = u.taken ++ a.front;
                     rest = a.rest;
-                    cut = u.cut ∙ ap (λ (w : List ℕ). u.taken ++ w) a.cut ∙ sym (append_assoc u.taken a.front a.rest);
+                    cut = cut_twice (c ∷ s) u.taken k.0 a.front a.rest u.cut a.cut;
                     left_is = a.left_is;
                     more = a.more;
                     goes_on = rw append_assoc (more u.taken (a.front ++ a.more) u.lawful a.goes_on);
                     refused = λ d r t there.
                         let taken = before_rest p (c ∷ s) u.taken k.0 (a.front ++ d ∷ r) k.1 u.cut (a.cut ∙ ap (λ (w : List ℕ). a.front ++ w) there) in
                         let here = looks_no_further p P.looks_at_one u.taken a.front d r t taken in
-                        let whole : c ∷ s ≡ (u.taken ++ a.front) ++ d ∷ r = u.cut ∙ ap (λ (w : List ℕ). u.taken ++ w) (a.cut ∙ ap (λ (w : List ℕ). a.front ++ w) there) ∙ sym (append_assoc u.taken a.front (d ∷ r)) in
+                        let whole : c ∷ s ≡ (u.taken ++ a.front) ++ d ∷ r = cut_twice (c ∷ s) u.taken k.0 a.front (d ∷ r) u.cut (a.cut ∙ ap (λ (w : List ℕ). a.front ++ w) there) in
                         let begun = head_is (u.taken ++ a.front) (d ∷ r) c s d r t whole refl in
                         ap several begun.1 ∙ several_yes c begun.0 h ∙ ap (both p several) (sym begun.1) ∙ ap (both p several) (append_assoc u.taken a.front (d ∷ t)) ∙ rw here (a.refused d r t there);
                   }
@@ -93,7 +93,7 @@ module _ (L M : List ℕ → Type 0) (none : M []) (more : (u v : List ℕ) → 
             let u = P.takes (x ∷ (c ++ d ∷ r)) a.0 a.1 in
             let short : length a.0 ≤ n = shorter (x ∷ (c ++ d ∷ r)) u.taken a.0 n u.cut (some u.taken u.lawful) le in
             let v = several_takes n a.0 (d ∷ r) short a.2 in
-            let parts : x ∷ c ≡ u.taken ++ v.taken = append_cancel_right (x ∷ c) (u.taken ++ v.taken) (d ∷ r) (u.cut ∙ ap (λ (w : List ℕ). u.taken ++ w) v.cut ∙ sym (append_assoc u.taken v.taken (d ∷ r))) in
+            let parts : x ∷ c ≡ u.taken ++ v.taken = append_cancel_right (x ∷ c) (u.taken ++ v.taken) (d ∷ r) (cut_twice (x ∷ (c ++ d ∷ r)) u.taken a.0 v.taken (d ∷ r) u.cut v.cut) in
             let taken = before_rest p (x ∷ (c ++ d ∷ r)) u.taken a.0 (v.taken ++ d ∷ r) a.1 u.cut v.cut in
             let first = looks_no_further p P.looks_at_one u.taken v.taken d r t taken in
             let second = several_looks n v.taken d r t (omega (arith, ap length v.cut)) (ap several (sym v.cut) ∙ a.2) in

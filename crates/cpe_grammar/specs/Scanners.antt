@@ -1,4 +1,4 @@
--- Scanners, and how they are put together. A scanner takes a front of a text: it answers what is left behind
+-- Scanners, and how they are put together. A scanner takes a front of a text. It answers what is left behind
 -- the front, or how many bytes are left where the text goes wrong.
 use Rattle.std.specs.Prelude.{◌≡◌, ℕ, zero, suc, List, [], ◌∷◌, length, Bool, Result, Ok, Err, ◌==◌, if◌then◌else◌}
 
@@ -25,6 +25,7 @@ abbrev pub choose : (ℕ → Bool) → Scanner → Scanner → Scanner
 choose passes this other [] = other []
 choose passes this other (c ∷ s) = if passes c then this (c ∷ s) else other (c ∷ s)
 
+-- takes nothing
 abbrev pub nothing : Scanner
 nothing s = Ok s
 

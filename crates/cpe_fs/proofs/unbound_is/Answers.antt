@@ -7,5 +7,5 @@ returns-clause-named c = says_text
 pub returns-clause-found : goal.returns-clause-found
 returns-clause-found c = says_name
 
-pub returns-clause-refused : goal.returns-clause-refused
-returns-clause-refused c = says_none
+pub returns-clause-none : goal.returns-clause-none
+returns-clause-none c = says_none

@@ -1,7 +1,5 @@
 use Rattle.std.proofs.Common.{ℕ, List, ◌++◌, take, ap, ◌∙◌}
-use Rattle.std.specs.Option.{option_map}
 use Rattle.cpe_name.specs.Text.{output_text}
-use Rattle.cpe_fs.specs.Spans.{AreComponents}
 use Rattle.cpe_fs.proofs.ValueLemmas.{one_name}
 use Rattle.cpe_fs.proofs.Written.{components_say}
 use Rattle.cpe_fs.proofs.Said.{said_is, unsaid_is}

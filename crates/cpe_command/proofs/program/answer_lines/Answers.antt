@@ -1,11 +1,9 @@
-use Rattle.std.proofs.Common.{◌≡◌, ℕ, true, false, List, [], ◌++◌, Some, None, IfSome, Ok, Err, ap, sym, ◌∙◌, subst, refl, arith}
+use Rattle.std.proofs.Common.{◌≡◌, ℕ, false, List, ◌++◌, IfSome, sym, ◌∙◌, subst, arith}
 use Rattle.cpe_io.specs.Lines.{has_newline}
 use Rattle.cpe_io.specs.Reading.{Gives}
 use Rattle.cpe_io.specs.Shown.{lent}
 use Rattle.cpe_command.specs.Pages.{standing}
 use Rattle.cpe_command.specs.Transcript.{answer, step}
-use Rattle.cpe_command.specs.Ran.{Ran}
-use Rattle.cpe_command.specs.declared.status.Status.{Status}
 use Rattle.cpe_command.proofs.Going.{Going-start, Going-flushed, Ran-start, Ran-sink_fault, Ran-memory, Ran-fault, Ran-finish, number_is_small, closer_said, Going-said, lent_none, on_ok}
 use Rattle.cpe_command.proofs.program.answer_lines.Goals as goal
 

@@ -1,6 +1,6 @@
 use Rattle.std.proofs.Common.{◌≡◌, length}
-use Rattle.cpe_values.specs.Skipping.{skip_while}
 use Rattle.cpe_fs.specs.Scanning.{body_end, is_bare_here}
+use Rattle.cpe_values.specs.Skipping.{skip_while}
 use Rattle.cpe_fs.proofs.scan.scan_body.Given as goal
 
 abbrev pub invariant-loop-rest : goal.invariant-loop-rest

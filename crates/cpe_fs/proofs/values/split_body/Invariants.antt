@@ -1,5 +1,5 @@
 use Rattle.std.proofs.Common.{◌≡◌, ◌++◌, length}
-use Rattle.cpe_fs.specs.Spans.{body_at, behind_body}
+use Rattle.cpe_fs.specs.SpanValues.{body_at, behind_body}
 use Rattle.cpe_fs.proofs.values.split_body.Given as goal
 
 abbrev pub invariant-loop-byte : goal.invariant-loop-byte

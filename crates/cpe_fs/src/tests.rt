@@ -1,0 +1,224 @@
+// Expected values are written by hand from the grammar of NIST IR 7695, 6.2.
+use super::*;
+use cpe_name::write_wfn;
+use std::process::Abort;
+use std::test::Fail;
+
+/// A text with one byte left out, and the ASCII bytes with which it is a formatted string.
+struct Gap {
+    before: &'static [u8],
+    behind: &'static [u8],
+    accepted: &'static [u8],
+}
+
+const BARE: &[u8] = b"-.0123456789ABCDEFGHIJKLMNOPQRSTUVWXYZ_abcdefghijklmnopqrstuvwxyz";
+
+const LETTERS: &[u8] = b"ABCDEFGHIJKLMNOPQRSTUVWXYZabcdefghijklmnopqrstuvwxyz";
+
+const GAPS: [Gap; 17] = [
+    // the prefix
+    Gap {
+        before: b"cpe:",
+        behind: b".3:a:v:p:1:u:e:*:*:*:*:*",
+        accepted: b"2",
+    },
+    // the part
+    Gap {
+        before: b"cpe:2.3:",
+        behind: b":v:p:1:u:e:*:*:*:*:*",
+        accepted: b"*-aho",
+    },
+    // the only byte of a component
+    Gap {
+        before: b"cpe:2.3:a:",
+        behind: b":p:1:u:e:*:*:*:*:*",
+        accepted: b"*-.0123456789ABCDEFGHIJKLMNOPQRSTUVWXYZ_abcdefghijklmnopqrstuvwxyz",
+    },
+    // the first of two
+    Gap {
+        before: b"cpe:2.3:a:v:",
+        behind: b"p:1:u:e:*:*:*:*:*",
+        accepted: b"*-.0123456789?ABCDEFGHIJKLMNOPQRSTUVWXYZ_abcdefghijklmnopqrstuvwxyz",
+    },
+    // within a body
+    Gap {
+        before: b"cpe:2.3:a:v:p:1",
+        behind: b"0:u:e:*:*:*:*:*",
+        accepted: BARE,
+    },
+    // behind a backslash
+    Gap {
+        before: b"cpe:2.3:a:v:p:1:u\\",
+        behind: b":e:*:*:*:*:*",
+        accepted: b"!\"#$%&'()*+,/:;<=>?@[\\]^`{|}~",
+    },
+    // behind a leading asterisk
+    Gap {
+        before: b"cpe:2.3:a:v:p:1:u:*",
+        behind: b":*:*:*:*:*",
+        accepted: BARE,
+    },
+    // behind a leading mark
+    Gap {
+        before: b"cpe:2.3:a:v:p:1:u:e:*:?",
+        behind: b"s:*:*:*",
+        accepted: b"-.0123456789?ABCDEFGHIJKLMNOPQRSTUVWXYZ_abcdefghijklmnopqrstuvwxyz",
+    },
+    // behind a trailing asterisk
+    Gap {
+        before: b"cpe:2.3:a:v:p:1:u:e:*:*:s*",
+        behind: b"h:*",
+        accepted: b":",
+    },
+    // behind a trailing mark
+    Gap {
+        before: b"cpe:2.3:a:v:p:1:u:e:*:*:s?",
+        behind: b":h:*",
+        accepted: b"?",
+    },
+    // the last byte of all
+    Gap {
+        before: b"cpe:2.3:a:v:p:1:u:e:*:*:*:*:o",
+        behind: b"",
+        accepted: b"*-.0123456789?ABCDEFGHIJKLMNOPQRSTUVWXYZ_abcdefghijklmnopqrstuvwxyz",
+    },
+    // the first letter of a language, the second, and the third
+    Gap {
+        before: b"cpe:2.3:a:v:p:1:u:e:",
+        behind: b"n:*:*:*:*",
+        accepted: LETTERS,
+    },
+    Gap {
+        before: b"cpe:2.3:a:v:p:1:u:e:e",
+        behind: b":*:*:*:*",
+        accepted: LETTERS,
+    },
+    Gap {
+        before: b"cpe:2.3:a:v:p:1:u:e:en",
+        behind: b":*:*:*:*",
+        accepted: LETTERS,
+    },
+    // before a region, and behind its hyphen
+    Gap {
+        before: b"cpe:2.3:a:v:p:1:u:e:en",
+        behind: b"us:*:*:*:*",
+        accepted: b"-",
+    },
+    Gap {
+        before: b"cpe:2.3:a:v:p:1:u:e:en-",
+        behind: b"s:*:*:*:*",
+        accepted: LETTERS,
+    },
+    Gap {
+        before: b"cpe:2.3:a:v:p:1:u:e:eng-",
+        behind: b"40:*:*:*:*",
+        accepted: b"0123456789",
+    },
+];
+
+const REFUSED: [&[u8]; 16] = [
+    b"",
+    b"cpe:2.3:",
+    b"cpe:2.3:a:foo\\",
+    b"cpe:2.3:a:foo\\.:p:1:u:e:*:*:*:*:*",
+    b"cpe:2.3:a:foo\\-:p:1:u:e:*:*:*:*:*",
+    b"cpe:2.3:a:v:p:1:u:e:*:*:*:*",
+    b"cpe:2.3:a:v:p:1:u:e:*:*:*:*:*:*",
+    b"cpe:2.3:a:v:p:1:u:e:*:*:*:*:",
+    b"cpe:2.3:ab:v:p:1:u:e:*:*:*:*:*",
+    b"cpe:2.3:a:?:p:1:u:e:*:*:*:*:*",
+    b"cpe:2.3:a:*?:p:1:u:e:*:*:*:*:*",
+    b"cpe:2.3:a:v:p:1:u:e:e:*:*:*:*",
+    b"cpe:2.3:a:v:p:1:u:e:en-1:*:*:*:*",
+    b"cpe:2.3:a:v:p:1:u:e:en-12:*:*:*:*",
+    b"cpe:2.3:a:v:p:1:u:e:en-1234:*:*:*:*",
+    b"cpe:2.3:a:v:p:1:u:e:engl:*:*:*:*",
+];
+
+const UNBOUND: [(&[u8], &[u8]); 4] = [
+    (
+        b"cpe:2.3:a:microsoft:internet_explorer:8.0.6001:beta:*:*:*:*:*:*",
+        b"wfn:[part=\"a\",vendor=\"microsoft\",product=\"internet_explorer\",version=\"8\\.0\\.6001\",update=\"beta\",edition=ANY,language=ANY,sw_edition=ANY,target_sw=ANY,target_hw=ANY,other=ANY]",
+    ),
+    (
+        b"cpe:2.3:a:-:--:*-:\\\\*:*:*:*:*:*:*",
+        b"wfn:[part=\"a\",vendor=NA,product=\"\\-\\-\",version=\"*\\-\",update=\"\\\\*\",edition=ANY,language=ANY,sw_edition=ANY,target_sw=ANY,target_hw=ANY,other=ANY]",
+    ),
+    (
+        b"cpe:2.3:-:V:??a\\*??:*a.b*:\\?:*:en-US:-:-:-:-",
+        b"wfn:[part=NA,vendor=\"V\",product=\"??a\\*??\",version=\"*a\\.b*\",update=\"\\?\",edition=ANY,language=\"en\\-US\",sw_edition=NA,target_sw=NA,target_hw=NA,other=NA]",
+    ),
+    (
+        b"cpe:2.3:*:*:*:*:*:*:*:*:*:*:*",
+        b"wfn:[part=ANY,vendor=ANY,product=ANY,version=ANY,update=ANY,edition=ANY,language=ANY,sw_edition=ANY,target_sw=ANY,target_hw=ANY,other=ANY]",
+    ),
+];
+
+/// The output text of the name, by way of the name.
+fn by_name(alloc: Global, text: &[u8]) -> Result<Option<Vec<u8>>, FsFault> {
+    match unbind_fs(alloc, text) {
+        Ok(name) => Ok(Some(write_wfn(alloc, &name)?)),
+        Err(FsFault::NotFs) => Ok(None),
+        Err(FsFault::Memory) => Err(FsFault::Memory),
+    }
+}
+
+/// The same without a name, behind three bytes that stay.
+fn at_once(rt: &impl Abort, text: &[u8]) -> Option<[u8; 1024]> {
+    let mut room = [b'#'; 1024];
+    assert!(rt; text.len() <= 400);
+    let end = write_unbound(&mut room, 3, text)?;
+    assert!(rt; end <= 1024);
+    Some(room)
+}
+
+/// What both say of a text, which is the same.
+fn said(rt: &impl Abort, alloc: Global, text: &[u8]) -> Result<Option<Vec<u8>>, FsFault> {
+    let said = by_name(alloc, text)?;
+    let written = at_once(rt, text);
+    assert_eq!(rt; said.is_some(), written.is_some());
+    if let (Some(said), Some(written)) = (&said, &written) {
+        assert!(rt; written.starts_with(b"###"));
+        assert!(rt; written.get(3..).is_some_and(|rest| rest.starts_with(said)));
+    }
+    Ok(said)
+}
+
+#[test]
+fn unbinds(rt: HostRuntime) -> Result<(), Fail> {
+    for (text, want) in UNBOUND {
+        let said = said(&rt, rt.alloc(), text)?.ok_or("refused")?;
+        assert_eq!(rt; said.as_slice(), want);
+    }
+    Ok(())
+}
+
+#[test]
+fn refuses(rt: HostRuntime) -> Result<(), Fail> {
+    for text in REFUSED {
+        assert!(rt; said(&rt, rt.alloc(), text)?.is_none(), "{text:?}");
+    }
+    Ok(())
+}
+
+fn fill(alloc: Global, gap: &Gap, byte: u8) -> Result<Vec<u8>, FsFault> {
+    let mut text = Vec::new(alloc);
+    text.extend_from_slice(gap.before)
+        .map_err(|_| FsFault::Memory)?;
+    text.push(byte).map_err(|_| FsFault::Memory)?;
+    text.extend_from_slice(gap.behind)
+        .map_err(|_| FsFault::Memory)?;
+    Ok(text)
+}
+
+#[test]
+fn takes_these_bytes_alone(rt: HostRuntime) -> Result<(), Fail> {
+    for gap in &GAPS {
+        for byte in 0..128 {
+            let text = fill(rt.alloc(), gap, byte)?;
+            let said = said(&rt, rt.alloc(), &text)?;
+            assert_eq!(rt; said.is_some(), gap.accepted.contains(&byte), "{text:?}");
+        }
+    }
+    Ok(())
+}
