@@ -1,3 +1,4 @@
 mod TranscriptLemmas
 mod Usage
 mod Going
+mod Gaining

@@ -17,10 +17,10 @@ use Rattle.cpe_command.specs.declared.status.Status.TheVariants.{Done, SomeRefus
 abbrev pub begins_as_uri : List ℕ → Bool
 begins_as_uri text = str_eq_ignore_ascii_case (take 5 text) (codes "cpe:/")
 
--- a line of this text, or the reason that no name has it
-abbrev pub named : Option (List ℕ) → Result (List ℕ) Reason
-named (Some text) = Ok (text ++ codes "\n")
-named None = Err Name
+-- a line of the text that was said, or the reason with the place
+abbrev pub named : Result (List ℕ) ℕ → Result (List ℕ) Reason
+named (Ok text) = Ok (text ++ codes "\n")
+named (Err place) = Err (Name place)
 
 -- what a formatted string says: the text of its name
 abbrev pub unbinds : List ℕ → Result (List ℕ) Reason
@@ -35,7 +35,7 @@ says Unbind (Some (x ∷ xs)) = unbinds (x ∷ xs)
 abbrev pub reason_text : Reason → List ℕ
 reason_text Long = codes "long"
 reason_text NotBuilt = codes "not-built"
-reason_text Name = codes "name"
+reason_text (Name place) = codes "name " ++ decimal place
 
 -- what the refused line of this number writes
 abbrev pub refusal : ℕ → Reason → List ℕ

@@ -1,5 +1,6 @@
 // What a line writes.
-ghost use Rattle.std.specs.Prelude.{◌≡◌, ◌+◌, ◌^◌, ◌<◌, ◌++◌, List, ℕ, Some, OnOk, IfOk, IfSome, is_none};
+ghost use Rattle.std.specs.Prelude.{◌≡◌, ◌+◌, ◌^◌, ◌<◌, ◌++◌, List, ℕ, Some, OnOk, IfOk, IfSome, is_none, codes};
+ghost use Rattle.std.specs.Fmt.{decimal};
 ghost use Rattle.cpe_io.specs.Shown.{lent};
 ghost use Rattle.cpe_command.specs.Transcript.{answer, step, refusal, reason_text, says, unbinds, begins_as_uri};
 ghost use Rattle.cpe_command.specs.Pages.{standing, Said};
@@ -18,8 +19,8 @@ pub enum Reason {
     Long,
     /// The line begins as a URI, which the program can't read yet.
     NotBuilt,
-    /// No name has this formatted string.
-    Name,
+    /// No name has this formatted string, and this is its place.
+    Name(usize),
 }
 
 /// Whether there is no line any more.
@@ -80,8 +81,8 @@ fn say_name(page: &mut Page, text: &[u8]) -> Result<Option<Reason>, AllocError>
     if is_begun_as_uri(text) {
         return Ok(Some(Reason::NotBuilt));
     }
-    if !page.push_unbound(text)? {
-        return Ok(Some(Reason::Name));
+    if let Some(place) = page.push_unbound(text)? {
+        return Ok(Some(Reason::Name(place)));
     }
     page.push(b"\n")?;
     Ok(None)
@@ -104,16 +105,24 @@ fn push_refusal(page: &mut Page, number: u64, reason: Reason) -> Result<(), Allo
     page.push(b"refused ")?;
     page.push(digits.format(number).as_bytes())?;
     page.push(b" ")?;
-    page.push(text_of(reason))?;
+    push_reason(page, reason)?;
     page.push(b"\n")
 }
 
-fn text_of(reason: Reason) -> &'static [u8]
-    ensures { result.now ≡ reason_text reason }
+fn push_reason(page: &mut Page, reason: Reason) -> Result<(), AllocError>
+    ensures { OnOk result (page.new ≡ page.old ++ reason_text reason) }
 {
     match reason {
-        Reason::Long => b"long",
-        Reason::NotBuilt => b"not-built",
-        Reason::Name => b"name",
+        Reason::Long => page.push(b"long"),
+        Reason::NotBuilt => page.push(b"not-built"),
+        Reason::Name(place) => push_place(page, place),
     }
+}
+
+fn push_place(page: &mut Page, place: usize) -> Result<(), AllocError>
+    ensures { OnOk result (page.new ≡ page.old ++ (codes "name " ++ decimal place)) }
+{
+    let mut digits = Buffer::new();
+    page.push(b"name ")?;
+    page.push(digits.format(place).as_bytes())
 }

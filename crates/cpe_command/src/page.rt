@@ -59,18 +59,19 @@ impl Page {
         Ok(())
     }
 
-    /// Puts the text of the name behind what is gathered that has this formatted string. It tells whether there is one.
-    pub fn push_unbound(&mut self, text: &[u8]) -> Result<bool, AllocError>
+    /// Puts the text of the name that has this formatted string behind what is gathered. Where no name has it, it tells
+    /// the place instead.
+    pub fn push_unbound(&mut self, text: &[u8]) -> Result<Option<usize>, AllocError>
         ensures { IfOk result (Gains (unbound text.now) self.old self.new) }
     {
         let most = text.len().saturating_mul(2).saturating_add(FRAME);
         make_room(&mut self.room, self.used, most)?;
         match write_unbound(&mut self.room, self.used, text) {
-            Some(end) => {
+            Ok(end) => {
                 self.used = end;
-                Ok(true)
+                Ok(None)
             }
-            None => Ok(false),
+            Err(place) => Ok(Some(place)),
         }
     }
 

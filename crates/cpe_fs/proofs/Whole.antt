@@ -264,9 +264,11 @@ whole_taken s h =
 -- where it stops is the place
 pub leaves : (s : List ℕ) (left : ℕ) → whole_end s ≡ Err left → Leaves s left
 leaves s left e = record {
-  refused = not_taken IsFs whole_end whole_scans whole_taken s left e;
   within = within_text IsFs whole_end whole_scans whole_taken s left e;
-  place = place_of IsFs whole_end whole_scans whole_taken s left e;
+  at = record {
+    refused = not_taken IsFs whole_end whole_scans whole_taken s left e;
+    is_place = place_of IsFs whole_end whole_scans whole_taken s left e;
+  };
 }
 
 -- ---- what the code finds

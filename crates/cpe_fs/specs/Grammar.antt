@@ -1,12 +1,15 @@
 -- Formatted strings and their names (NIST IR 7695, 6.2).
 use Rattle.std.specs.Prelude.{◌≡◌, ℕ, List, [], ◌∷◌, ◌++◌, map, codes}
 use Rattle.std.specs.List.{join_with_byte}
+use Rattle.cpe_grammar.specs.Place.{IsPlace}
 use Rattle.cpe_values.specs.declared.value.Value.{Value}
 use Rattle.cpe_values.specs.declared.value.Value.TheVariants as value
 use Rattle.cpe_values.specs.declared.spelling.Style.TheVariants as style
 use Rattle.cpe_values.specs.Spelling.{spelling}
 use Rattle.cpe_name.specs.declared.name.Values.{Values}
 use Rattle.cpe_name.specs.Names.{attributes, value_of, IsName}
+use Rattle.cpe_fs.specs.declared.FsFault.{FsFault}
+use Rattle.cpe_fs.specs.declared.FsFault.TheVariants as fault
 
 -- `*` for any value, `-` for one that is not applicable, or the spelling of a text
 abbrev pub component : Value → List ℕ
@@ -25,3 +28,13 @@ Fs name s = IsName name × (s ≡ fs_text name)
 -- some name has it
 abbrev pub IsFs : List ℕ → Type 0
 IsFs s = (name : Values) × Fs name s
+
+-- no name has this text, and this is its place: as far as some formatted string begins as it does
+pub record LeavesAt (s : List ℕ) (place : ℕ) : Type 0 where
+  pub refused : ¬ (IsFs s)
+  pub is_place : IsPlace IsFs s place
+
+-- what a fault says of a text; want of memory comes only where some name has it
+abbrev pub Refuses : FsFault → List ℕ → Type 0
+Refuses (fault.At place) s = LeavesAt s place
+Refuses fault.Memory s = IsFs s

@@ -1,13 +1,12 @@
 -- Where the components of a formatted string lie, as the code finds them. No public clause speaks of it.
 use Rattle.std.specs.Prelude.{◌≡◌, ℕ, ◌+◌, ◌-◌, ◌≤◌, Bool, false, List, [], ◌∷◌, length, take, map, Result, Ok, Err, ◌==◌}
-use Rattle.cpe_grammar.specs.Place.{IsPlace}
 use Rattle.cpe_grammar.specs.Scanners.{Scanner}
 use Rattle.cpe_values.specs.declared.value.Value.{Value}
 use Rattle.cpe_values.specs.Values.{IsValue}
 use Rattle.cpe_name.specs.declared.attribute.Attribute.{Attribute}
 use Rattle.cpe_name.specs.declared.name.Values.{Values}
 use Rattle.cpe_name.specs.Names.{attributes, value_of}
-use Rattle.cpe_fs.specs.Grammar.{component, Fs, IsFs}
+use Rattle.cpe_fs.specs.Grammar.{component, Fs, LeavesAt}
 use Rattle.cpe_fs.specs.Scanning.{component_end, field_end}
 use Rattle.cpe_fs.specs.declared.scan.Components.{Components}
 
@@ -46,9 +45,8 @@ pub record AreComponents (text : List ℕ) (c : Components) : Type 0 where
 
 -- no name has this text, and it leaves the grammar with so many bytes left
 pub record Leaves (text : List ℕ) (left : ℕ) : Type 0 where
-  pub refused : ¬ (IsFs text)
   pub within : left ≤ length text
-  pub place : IsPlace IsFs text (length text - left)
+  pub at : LeavesAt text (length text - left)
 
 -- ---- where they lie
 

@@ -1,5 +1,5 @@
--- What a formatted string says in the text of well-formed names: the output text of the name that has it.
-use Rattle.std.specs.Prelude.{◌≡◌, ℕ, List, ◌++◌, drop, map, Option, Some, None, Result, Ok, Err}
+-- What a text says as a formatted string: the output text of the name that has it, or its place where no name has it.
+use Rattle.std.specs.Prelude.{◌≡◌, ℕ, ◌-◌, List, ◌++◌, length, drop, map, Result, Ok, Err}
 use Rattle.cpe_name.specs.declared.name.Values.{Values}
 use Rattle.cpe_name.specs.Names.{attributes}
 use Rattle.cpe_name.specs.Text.{output_text}
@@ -20,10 +20,10 @@ pub record Writes (s old new : List ℕ) : Type 0 where
   pub fs : Fs name s
   pub written : new ≡ old ++ output_text name
 
-abbrev said : List ℕ → Result (List ℕ) ℕ → Option (List ℕ)
-said s (Ok rest) = Some (output_text (named (map value_at (components_at attributes (drop 7 s)))))
-said s (Err left) = None
+abbrev said : List ℕ → Result (List ℕ) ℕ → Result (List ℕ) ℕ
+said s (Ok rest) = Ok (output_text (named (map value_at (components_at attributes (drop 7 s)))))
+said s (Err left) = Err (length s - left)
 
--- none where no name has the text; `unbound_is` fixes it
-unfoldable pub unbound : List ℕ → Option (List ℕ)
+-- the text of the name, or the place; `unbound_is` fixes it
+unfoldable pub unbound : List ℕ → Result (List ℕ) ℕ
 unbound s = said s (whole_end s)

@@ -4,11 +4,11 @@
 //! and finds where its components lie. From there the name is made, or its text is written at once.
 #![tactic(auto)]
 
-ghost use Rattle.std.specs.Prelude.{◌≡◌, ℕ, List, ◌+◌, ◌*◌, ◌++◌, ◌≤◌, length, take, Some, None, IfOk, IfSome, IfNone, MatchOption, MatchResult};
-ghost use Rattle.std.specs.Option.{option_map};
+ghost use Rattle.std.specs.Prelude.{◌≡◌, ℕ, List, ◌+◌, ◌*◌, ◌++◌, ◌≤◌, length, take, Ok, Err, IfOk, IfErr, OnErr, MatchResult};
+ghost use Rattle.std.specs.Result.{result_map_both};
 ghost use Rattle.cpe_name.specs.declared.name.Values.{Values};
 ghost use Rattle.cpe_name.specs.Text.{output_text};
-ghost use Rattle.cpe_fs.specs.Grammar.{Fs, IsFs};
+ghost use Rattle.cpe_fs.specs.Grammar.{Fs, LeavesAt, Refuses};
 ghost use Rattle.cpe_fs.specs.Unbound.{unbound, Says, Writes};
 
 mod scan;
@@ -32,9 +32,10 @@ pub const FRAME: usize = 127;
 /// Why a text has no name.
 #[derive(Clone, Copy, Debug, PartialEq, Eq, Error)]
 pub enum FsFault {
-    /// It is the formatted string of no name.
-    #[error("no name has this text")]
-    NotFs,
+    /// It is the formatted string of no name. The place is the length of its longest front with which some formatted
+    /// string begins: at the byte behind it the text goes wrong, or it is cut off there.
+    #[error("no name has this text: it goes wrong at byte {0}")]
+    At(usize),
     /// Memory ran out.
     #[error("out of memory")]
     Memory,
@@ -55,18 +56,18 @@ impl From<Memory> for FsFault {
 ///
 /// # Errors
 ///
-/// `NotFs` exactly where no name has this text, else `Memory` where memory runs out.
+/// `At` the place exactly where no name has this text, whatever the memory; else `Memory` where memory runs out.
 pub fn unbind_fs(alloc: Global, text: &[u8]) -> Result<Wfn, FsFault>
     // What is found has this text.
     ensures found { IfOk result (λ name. Fs name text.now) }
     // A name that has this text is found, unless memory runs out.
     ensures only { (name : Values) → Fs name text.now → MatchResult result (λ found. found ≡ name) (λ fault. fault ≡ FsFault.Memory) }
-    // A text that no name has is refused as such, whatever the memory.
-    ensures refused { result ≡ Err FsFault.NotFs → ¬ (IsFs text.now) }
-    ensures memory { result ≡ Err FsFault.Memory → IsFs text.now }
+    // A text that no name has is refused as such and with its place, whatever the memory.
+    ensures refused { IfErr result (λ fault. Refuses fault text.now) }
 {
-    let Ok(components) = scan_fs(text) else {
-        return Err(FsFault::NotFs);
+    let components = match scan_fs(text) {
+        Ok(components) => components,
+        Err(left) => return Err(FsFault::At(text.len() - left)),
     };
     match Wfn::new(values_of(alloc, &components)?) {
         Ok(name) => Ok(name),
@@ -76,31 +77,35 @@ pub fn unbind_fs(alloc: Global, text: &[u8]) -> Result<Wfn, FsFault>
 
 /// Writes the output text of the name that has this formatted string into `room`, from `at` on, and
 /// makes no name. It answers the place behind what was written; what stands from there on is not told.
-/// `None` says that no name has this text, and leaves the room as it was. It takes no memory.
-pub fn write_unbound(room: &mut [u8], at: usize, text: &[u8]) -> Option<usize>
+/// It takes no memory.
+///
+/// # Errors
+///
+/// The place of the text as in [`FsFault::At`], exactly where no name has it; the room is then as it was.
+pub fn write_unbound(room: &mut [u8], at: usize, text: &[u8]) -> Result<usize, usize>
     requires { at + 2 * length text.now + FRAME ≤ length room.old }
     // What was written is the text of a name that has this formatted string.
-    ensures found { IfSome result (λ end. Writes text.now (take at room.old) (take end room.new)) }
+    ensures found { IfOk result (λ end. Writes text.now (take at room.old) (take end room.new)) }
     // The text of a name that has this formatted string is written.
-    ensures only { (name : Values) → Fs name text.now → MatchOption result ⊥ (λ end. take end room.new ≡ take at room.old ++ output_text name) }
-    ensures none { IfNone result (¬ (IsFs text.now)) }
+    ensures only { (name : Values) → Fs name text.now → MatchResult result (λ end. take end room.new ≡ take at room.old ++ output_text name) (λ place. ⊥) }
+    ensures refused { IfErr result (LeavesAt text.now) }
 
     // The same by a function.
-    ensures said { option_map (λ end. take end room.new) result ≡ option_map (λ said. take at room.old ++ said) (unbound text.now) }
+    ensures said { result_map_both (λ end. take end room.new) (λ place. place) result ≡ result_map_both (λ said. take at room.old ++ said) (λ place. place) (unbound text.now) }
 
-    ensures within { IfSome result (λ end. end ≤ at + 2 * length text.now + FRAME) }
+    ensures within { IfOk result (λ end. end ≤ at + 2 * length text.now + FRAME) }
     ensures length { length room.new ≡ length room.old }
-    ensures unchanged { IfNone result (room.new ≡ room.old) }
+    ensures unchanged { OnErr result (room.new ≡ room.old) }
 {
     match scan_fs(text) {
-        Ok(components) => Some(put_name(room, at, &components)),
-        Err(_) => None,
+        Ok(components) => Ok(put_name(room, at, &components)),
+        Err(left) => Err(text.len() - left),
     }
 }
 
-/// What `unbound` says of a text: the output text of the name that has it, and nothing where no name has it.
+/// What `unbound` says of a text: the output text of the name that has it, and its place exactly where no name has it.
 pub fn unbound_is()
-    ensures named { (name : Values) (s : List ℕ) → Fs name s → unbound s ≡ Some (output_text name) }
-    ensures found { (s text : List ℕ) → unbound s ≡ Some text → Says s text }
-    ensures none { (s : List ℕ) → unbound s ≡ None → ¬ (IsFs s) }
+    ensures named { (name : Values) (s : List ℕ) → Fs name s → unbound s ≡ Ok (output_text name) }
+    ensures found { (s text : List ℕ) → unbound s ≡ Ok text → Says s text }
+    ensures refused { (s : List ℕ) (place : ℕ) → unbound s ≡ Err place → LeavesAt s place }
 {}

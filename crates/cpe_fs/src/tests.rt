@@ -116,23 +116,38 @@ const GAPS: [Gap; 17] = [
     },
 ];
 
-const REFUSED: [&[u8]; 16] = [
-    b"",
-    b"cpe:2.3:",
-    b"cpe:2.3:a:foo\\",
-    b"cpe:2.3:a:foo\\.:p:1:u:e:*:*:*:*:*",
-    b"cpe:2.3:a:foo\\-:p:1:u:e:*:*:*:*:*",
-    b"cpe:2.3:a:v:p:1:u:e:*:*:*:*",
-    b"cpe:2.3:a:v:p:1:u:e:*:*:*:*:*:*",
-    b"cpe:2.3:a:v:p:1:u:e:*:*:*:*:",
-    b"cpe:2.3:ab:v:p:1:u:e:*:*:*:*:*",
-    b"cpe:2.3:a:?:p:1:u:e:*:*:*:*:*",
-    b"cpe:2.3:a:*?:p:1:u:e:*:*:*:*:*",
-    b"cpe:2.3:a:v:p:1:u:e:e:*:*:*:*",
-    b"cpe:2.3:a:v:p:1:u:e:en-1:*:*:*:*",
-    b"cpe:2.3:a:v:p:1:u:e:en-12:*:*:*:*",
-    b"cpe:2.3:a:v:p:1:u:e:en-1234:*:*:*:*",
-    b"cpe:2.3:a:v:p:1:u:e:engl:*:*:*:*",
+/// Texts that no name has, each with its place.
+const REFUSED: [(&[u8], usize); 30] = [
+    (b"", 0),
+    (b"c", 1),
+    (b"CPE:2.3:", 0),
+    (b"cpe:/a", 4),
+    (b"cpe:2.3", 7),
+    (b"cpe:2.3:", 8),
+    (b"cpe:2.3:x", 8),
+    (b"cpe:2.3:ab:v:p:1:u:e:*:*:*:*:*", 9),
+    (b"cpe:2.3:a:foo\\\\", 15),
+    (b"cpe:2.3:a:foo\\", 14),
+    (b"cpe:2.3:a:foo\\.:p:1:u:e:*:*:*:*:*", 14),
+    (b"cpe:2.3:a:foo\\-:p:1:u:e:*:*:*:*:*", 14),
+    (b"cpe:2.3:a:foo\\_:p:1:u:e:*:*:*:*:*", 14),
+    (b"cpe:2.3:a:foo!:p:1:u:e:*:*:*:*:*", 13),
+    (b"cpe:2.3:a:foo:bar:1.0:*:*:*:*:ip", 32),
+    (b"cpe:2.3:a:v:p:1:u:e:*:*:*:*", 27),
+    (b"cpe:2.3:a:v:p:1:u:e:*:*:*:*:*:*", 29),
+    (b"cpe:2.3:a:v:p:1:u:e:*:*:*:*:", 28),
+    (b"cpe:2.3:a::p:1:u:e:*:*:*:*:*", 10),
+    (b"cpe:2.3:a:?:p:1:u:e:*:*:*:*:*", 11),
+    (b"cpe:2.3:a:*?:p:1:u:e:*:*:*:*:*", 11),
+    (b"cpe:2.3:a:**:p:1:u:e:*:*:*:*:*", 11),
+    (b"cpe:2.3:a:a*b:p:1:u:e:*:*:*:*:*", 12),
+    (b"cpe:2.3:a:a?*:p:1:u:e:*:*:*:*:*", 12),
+    (b"cpe:2.3:a:v:p:1:u:e:e:*:*:*:*", 21),
+    (b"cpe:2.3:a:v:p:1:u:e:en-:*:*:*:*", 23),
+    (b"cpe:2.3:a:v:p:1:u:e:en-1a:*:*:*:*", 24),
+    (b"cpe:2.3:a:v:p:1:u:e:en-12:*:*:*:*", 25),
+    (b"cpe:2.3:a:v:p:1:u:e:en-1234:*:*:*:*", 26),
+    (b"cpe:2.3:a:v:p:1:u:e:engl:*:*:*:*", 23),
 ];
 
 const UNBOUND: [(&[u8], &[u8]); 4] = [
@@ -154,32 +169,38 @@ const UNBOUND: [(&[u8], &[u8]); 4] = [
     ),
 ];
 
-/// The output text of the name, by way of the name.
-fn by_name(alloc: Global, text: &[u8]) -> Result<Option<Vec<u8>>, FsFault> {
+/// What a text says: the output text of its name, or its place.
+type Said = Result<Vec<u8>, usize>;
+
+/// By way of the name.
+fn by_name(alloc: Global, text: &[u8]) -> Result<Said, FsFault> {
     match unbind_fs(alloc, text) {
-        Ok(name) => Ok(Some(write_wfn(alloc, &name)?)),
-        Err(FsFault::NotFs) => Ok(None),
+        Ok(name) => Ok(Ok(write_wfn(alloc, &name)?)),
+        Err(FsFault::At(place)) => Ok(Err(place)),
         Err(FsFault::Memory) => Err(FsFault::Memory),
     }
 }
 
 /// The same without a name, behind three bytes that stay.
-fn at_once(rt: &impl Abort, text: &[u8]) -> Option<[u8; 1024]> {
+fn at_once(rt: &impl Abort, text: &[u8]) -> Result<[u8; 1024], usize> {
     let mut room = [b'#'; 1024];
     assert!(rt; text.len() <= 400);
     let end = write_unbound(&mut room, 3, text)?;
     assert!(rt; end <= 1024);
-    Some(room)
+    Ok(room)
 }
 
 /// What both say of a text, which is the same.
-fn said(rt: &impl Abort, alloc: Global, text: &[u8]) -> Result<Option<Vec<u8>>, FsFault> {
+fn said(rt: &impl Abort, alloc: Global, text: &[u8]) -> Result<Said, FsFault> {
     let said = by_name(alloc, text)?;
     let written = at_once(rt, text);
-    assert_eq!(rt; said.is_some(), written.is_some());
-    if let (Some(said), Some(written)) = (&said, &written) {
-        assert!(rt; written.starts_with(b"###"));
-        assert!(rt; written.get(3..).is_some_and(|rest| rest.starts_with(said)));
+    match (&said, &written) {
+        (Ok(said), Ok(written)) => {
+            assert!(rt; written.starts_with(b"###"));
+            assert!(rt; written.get(3..).is_some_and(|rest| rest.starts_with(said)));
+        }
+        (Err(place), Err(other)) => assert_eq!(rt; place, other),
+        _ => assert!(rt; false, "one of them refuses"),
     }
     Ok(said)
 }
@@ -187,16 +208,16 @@ fn said(rt: &impl Abort, alloc: Global, text: &[u8]) -> Result<Option<Vec<u8>>, 
 #[test]
 fn unbinds(rt: HostRuntime) -> Result<(), Fail> {
     for (text, want) in UNBOUND {
-        let said = said(&rt, rt.alloc(), text)?.ok_or("refused")?;
+        let said = said(&rt, rt.alloc(), text)?.map_err(|_| "refused")?;
         assert_eq!(rt; said.as_slice(), want);
     }
     Ok(())
 }
 
 #[test]
-fn refuses(rt: HostRuntime) -> Result<(), Fail> {
-    for text in REFUSED {
-        assert!(rt; said(&rt, rt.alloc(), text)?.is_none(), "{text:?}");
+fn refuses_at_a_place(rt: HostRuntime) -> Result<(), Fail> {
+    for (text, place) in REFUSED {
+        assert_eq!(rt; said(&rt, rt.alloc(), text)?.err(), Some(place), "{text:?}");
     }
     Ok(())
 }
@@ -217,7 +238,7 @@ fn takes_these_bytes_alone(rt: HostRuntime) -> Result<(), Fail> {
         for byte in 0..128 {
             let text = fill(rt.alloc(), gap, byte)?;
             let said = said(&rt, rt.alloc(), &text)?;
-            assert_eq!(rt; said.is_some(), gap.accepted.contains(&byte), "{text:?}");
+            assert_eq!(rt; said.is_ok(), gap.accepted.contains(&byte), "{text:?}");
         }
     }
     Ok(())

@@ -1,5 +1,5 @@
 -- Where a scanner of whole texts stops is the place.
-use Rattle.std.proofs.Common.{◌≡◌, ℕ, zero, suc, ◌-◌, ◌<◌, ◌≤◌, List, [], ◌∷◌, ◌++◌, length, take, Ok, Err, refl, sym, ap, subst, ◌∙◌, append_assoc, arith, length-append}
+use Rattle.std.proofs.Common.{◌≡◌, ◌⊎◌, ℕ, zero, suc, ◌-◌, ◌<◌, ◌≤◌, List, [], ◌∷◌, ◌++◌, length, take, Ok, Err, inl, inr, refl, sym, ap, subst, ◌∙◌, append_assoc, arith, length-append}
 use Rattle.std.proofs.lemmas.List.{take_at}
 use Rattle.cpe_grammar.specs.Place.{IsPlace}
 use Rattle.cpe_grammar.specs.Scanners.{Scanner}
@@ -16,6 +16,29 @@ longer (c ∷ front) rest zero lt le = absurd (omega arith)
 longer (c ∷ front) rest (suc n) lt le =
     let so = longer front rest n (omega arith) (omega arith) in
     (so.0, so.1, so.2, so.3, ap (λ (u : List ℕ). c ∷ u) so.4)
+
+-- a text has one place
+pub one_place : (L : List ℕ → Type 0) (s : List ℕ) (p q : ℕ) → IsPlace L s p → IsPlace L s q → p ≡ q
+one_place L s p q a b =
+    elim (order p q) [
+      | inl less ↦ absurd (a.longest q less b.within b.begins)
+      | inr rest ↦ elim rest [
+        | inl more ↦ absurd (b.longest p more a.within a.begins)
+        | inr same ↦ same
+      ]
+    ]
+  where
+    order : (m n : ℕ) → (m < n) ⊎ ((n < m) ⊎ (m ≡ n))
+    order zero zero = inr (inr refl)
+    order zero (suc n) = inl (omega arith)
+    order (suc m) zero = inr (inl (omega arith))
+    order (suc m) (suc n) = elim (order m n) [
+      | inl less ↦ inl (omega (arith, less))
+      | inr rest ↦ elim rest [
+        | inl more ↦ inr (inl (omega (arith, more)))
+        | inr same ↦ inr (inr (ap suc same))
+      ]
+    ]
 
 -- a scanner that takes each text of the language whole
 module _ (L : List ℕ → Type 0) (p : Scanner) (P : Scans L p) (whole : (s : List ℕ) → L s → p s ≡ Ok []) where

@@ -8,7 +8,7 @@ use Rattle.cpe_fs.proofs.unbind_fs.Goals as goal
 pub unreachable-requires : goal.unreachable-requires
 unreachable-requires c =
     let are = c.in-Ok.ensures.found in
-    no_fault c.in-Err.field-0 are.name are.fs.0 (subst (IsFault c.in-Err.field-0) (c.in_ok-values_of.ensures ∙ name_back c.args.text.now c.in-Ok.components are) c.in-Err.ensures.fault)
+    no_fault c.in-Err-new.field-0 are.name are.fs.0 (subst (IsFault c.in-Err-new.field-0) (c.in_ok-values_of.ensures ∙ name_back c.args.text.now c.in-Ok.components are) c.in-Err-new.ensures.fault)
 
 pub returns-clause-found : goal.returns-clause-found
 returns-clause-found c =

@@ -1,4 +1,4 @@
-use Rattle.cpe_fs.proofs.Said.{says_text, says_name, says_none}
+use Rattle.cpe_fs.proofs.Said.{says_text, says_name, says_place}
 use Rattle.cpe_fs.proofs.unbound_is.Goals as goal
 
 pub returns-clause-named : goal.returns-clause-named
@@ -7,5 +7,5 @@ returns-clause-named c = says_text
 pub returns-clause-found : goal.returns-clause-found
 returns-clause-found c = says_name
 
-pub returns-clause-none : goal.returns-clause-none
-returns-clause-none c = says_none
+pub returns-clause-refused : goal.returns-clause-refused
+returns-clause-refused c = says_place

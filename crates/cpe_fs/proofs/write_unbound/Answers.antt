@@ -21,4 +21,4 @@ returns-in-Ok-clause-said c =
     said_is c.args.text.now are.name _ _ are.fs (c.put_name.ensures.written ∙ ap (λ (u : List ℕ). take c.args.at c.args.room.now ++ u) (components_say c.args.text.now c.in-Ok.components are))
 
 pub returns-in-Err-clause-said : goal.returns-in-Err-clause-said
-returns-in-Err-clause-said c = unsaid_is c.args.text.now (take c.args.at c.args.room.now) c.in-Err.ensures.refused.refused
+returns-in-Err-clause-said c = unsaid_is c.args.text.now (take c.args.at c.args.room.now) _ c.in-Err.ensures.refused.at
