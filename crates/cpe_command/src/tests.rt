@@ -2,7 +2,7 @@
 ghost use Rattle.std.specs.Prelude.{◌≡◌, ◌<◌};
 
 use crate::{Status, run};
-use cpe_io::{SureSink, SureSource};
+use cpe_io::{MemSink, MemSource, SureSink, SureSource};
 use cpe_steps::Steps;
 use std::alloc::Global;
 use std::marker::Brand;
@@ -57,36 +57,46 @@ const ANY_FROM_PRODUCT: &[u8] =
 #[test]
 fn unbind_answers_each_line_in_any_pieces(rt: HostRuntime) -> Result<(), Fail> {
     let words = words_of(rt.alloc(), &["unbind"])?;
-    let rows: [(&[u8], Status, &[u8]); 10] = [
+    let rows: [(&[u8], Status, &[u8]); 12] = [
         (b"", Status::Done, b""),
         (b"\n\r\n\n", Status::Done, b""),
         (EXPLORER, Status::Done, EXPLORER_TEXT),
-        (b"cpe:2.3:a", Status::SomeRefused, b"refused 1 name\n"),
+        (b"cpe:2.3:a", Status::SomeRefused, b"refused 1 name 9\n"),
+        (
+            b"cpe:2.3:a:foo:bar:1.0:*:*:*:*:ip",
+            Status::SomeRefused,
+            b"refused 1 name 32\n",
+        ),
         (b"CPE:/a:v:p", Status::SomeRefused, b"refused 1 not-built\n"),
         (
             b"cPe:/\n\r\r\n \n",
             Status::SomeRefused,
-            b"refused 1 not-built\nrefused 2 name\nrefused 3 name\n",
+            b"refused 1 not-built\nrefused 2 name 0\nrefused 3 name 0\n",
         ),
         (
             b"cpe:\ncpe:2",
             Status::SomeRefused,
-            b"refused 1 name\nrefused 2 name\n",
+            b"refused 1 name 4\nrefused 2 name 5\n",
         ),
         (
             b"\ncpe:2.3:a:\0\n\xff\xfe\r\n",
             Status::SomeRefused,
-            b"refused 2 name\nrefused 3 name\n",
+            b"refused 2 name 10\nrefused 3 name 0\n",
         ),
         (
             b"cpe:2.3:a:foo\\.:*:*:*:*:*:*:*:*:*\r\n",
             Status::SomeRefused,
-            b"refused 1 name\n",
+            b"refused 1 name 14\n",
+        ),
+        (
+            b"cpe:2.3:a:foo\\",
+            Status::SomeRefused,
+            b"refused 1 name 14\n",
         ),
         (
             b"\xef\xbb\xbfcpe:2.3:*:*:*:*:*:*:*:*:*:*:*",
             Status::SomeRefused,
-            b"refused 1 name\n",
+            b"refused 1 name 0\n",
         ),
     ];
     for (input, status, output) in rows {
@@ -168,6 +178,77 @@ fn other_words_get_the_usage_line(rt: HostRuntime) -> Result<(), Fail> {
         let (answer, written) = run_in_pieces(rt.alloc(), &words, EXPLORER, 3)?;
         assert_eq!(rt; answer, Status::Usage);
         assert_eq!(rt; written.as_slice(), usage.as_slice());
+    }
+    Ok(())
+}
+
+// The same where some reads and some writes fail; a read gives at most so many bytes as `piece`, a write takes three.
+fn run_failing(
+    alloc: Global,
+    input: &[u8],
+    piece: usize,
+    read_fails: &[u64],
+    write_fails: &[u64],
+) -> Result<(Status, Vec<u8>), Fail> {
+    let words = words_of(alloc, &["unbind"])?;
+    run_failing_counting::<Brand>(
+        alloc,
+        &words,
+        input,
+        piece,
+        read_fails,
+        write_fails,
+        Blank::new(1),
+    )
+}
+
+fn run_failing_counting<L: Ledger>(
+    alloc: Global,
+    words: &[String],
+    input: &[u8],
+    piece: usize,
+    read_fails: &[u64],
+    write_fails: &[u64],
+    blank: Blank,
+) -> Result<(Status, Vec<u8>), Fail>
+    requires name { blank.name ≡ L.name }
+    requires parts { blank.parts ≡ L.parts }
+    requires some { 0 < blank.parts }
+{
+    let mut steps = Steps::<L>::new(blank);
+    let mut source = MemSource::new(alloc, input, &[piece], read_fails)?;
+    let mut sink = MemSink::new(alloc, 3, write_fails)?;
+    let status = run(alloc, words, &mut source, &mut sink, &mut steps);
+    Ok((status, Vec::from_slice(alloc, sink.bytes())?))
+}
+
+#[test]
+fn a_fault_ends_the_run_and_what_whole_lines_say_stands(rt: HostRuntime) -> Result<(), Fail> {
+    let rows: [(&[u64], &[u64], Status, &[u8]); 6] = [
+        // No fault: a line at a read, three bytes at a write.
+        (
+            &[],
+            &[],
+            Status::SomeRefused,
+            b"refused 1 name 0\nrefused 2 name 0\nrefused 3 name 1\n",
+        ),
+        // The first read fails, then the one behind the first line, then the one that would see the end.
+        (&[0], &[], Status::ReadFault, b""),
+        (&[1], &[], Status::ReadFault, b"refused 1 name 0\n"),
+        (
+            &[3],
+            &[],
+            Status::ReadFault,
+            b"refused 1 name 0\nrefused 2 name 0\n",
+        ),
+        // The first write fails, and one in the middle of a line.
+        (&[], &[0], Status::WriteFault, b""),
+        (&[], &[2], Status::WriteFault, b"refuse"),
+    ];
+    for (read_fails, write_fails, status, output) in rows {
+        let (answer, written) = run_failing(rt.alloc(), b"x\ny\nc", 2, read_fails, write_fails)?;
+        assert_eq!(rt; answer, status);
+        assert_eq!(rt; written.as_slice(), output);
     }
     Ok(())
 }
