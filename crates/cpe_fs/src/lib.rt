@@ -8,9 +8,11 @@ ghost use Rattle.std.specs.Prelude.{◌≡◌, ℕ, List, ◌+◌, ◌*◌, ◌+
 ghost use Rattle.std.specs.Result.{result_map_both};
 ghost use Rattle.cpe_name.specs.declared.name.Values.{Values};
 ghost use Rattle.cpe_name.specs.Text.{output_text};
-ghost use Rattle.cpe_fs.specs.Grammar.{Fs, LeavesAt, Refuses};
+ghost use Rattle.cpe_name.specs.Names.{IsName};
+ghost use Rattle.cpe_fs.specs.Grammar.{fs_text, Fs, LeavesAt, Refuses};
 ghost use Rattle.cpe_fs.specs.Unbound.{unbound, Says, Writes};
 
+mod bind;
 mod scan;
 #[cfg(test)]
 mod tests;
@@ -20,6 +22,7 @@ mod write;
 use crate::scan::scan_fs;
 use crate::values::values_of;
 use crate::write::put_name;
+pub use bind::{bind_fs, fs_len};
 use cpe_name::Wfn;
 use cpe_values::Memory;
 use std::alloc::Global;
@@ -108,4 +111,12 @@ pub fn unbound_is()
     ensures named { (name : Values) (s : List ℕ) → Fs name s → unbound s ≡ Ok (output_text name) }
     ensures found { (s text : List ℕ) → unbound s ≡ Ok text → Says s text }
     ensures refused { (s : List ℕ) (place : ℕ) → unbound s ≡ Err place → LeavesAt s place }
+{}
+
+/// Each name has one formatted string, and no text is that of two names. So [`unbind_fs`] gives back the name of what
+/// [`bind_fs`] wrote, and `bind_fs` writes again each text that `unbind_fs` has read.
+pub fn one_text()
+    ensures some { (name : Values) → IsName name → Fs name (fs_text name) }
+    ensures text { (name : Values) (a b : List ℕ) → Fs name a → Fs name b → a ≡ b }
+    ensures name { (a b : Values) (text : List ℕ) → Fs a text → Fs b text → a ≡ b }
 {}

@@ -243,3 +243,15 @@ fn takes_these_bytes_alone(rt: HostRuntime) -> Result<(), Fail> {
     }
     Ok(())
 }
+
+#[test]
+fn binds_again_what_was_unbound(rt: HostRuntime) -> Result<(), Fail> {
+    for (text, _) in UNBOUND {
+        let name = unbind_fs(rt.alloc(), text)?;
+        let again = bind_fs(rt.alloc(), &name)?;
+        assert_eq!(rt; again.as_slice(), text);
+        assert_eq!(rt; fs_len(&name), text.len() as u128);
+        assert!(rt; unbind_fs(rt.alloc(), &again)? == name);
+    }
+    Ok(())
+}

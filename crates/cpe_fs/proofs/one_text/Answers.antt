@@ -1,0 +1,5 @@
+use Rattle.cpe_fs.proofs.ValueLemmas.{one_name}
+use Rattle.cpe_fs.proofs.one_text.Goals as goal
+
+pub returns-clause-name : goal.returns-clause-name
+returns-clause-name c = one_name

@@ -1,0 +1,106 @@
+// From names to formatted strings (NIST IR 7695, 6.2.2).
+ghost use Rattle.std.specs.Prelude.{◌≡◌, ◌++◌, ◌∷◌, ◌+◌, ◌^◌, ◌<◌, length, IfOk, OnOk};
+ghost use Rattle.std.specs.List.{flat_map};
+ghost use Rattle.cpe_values.specs.Spelling.{edge_text, character};
+ghost use Rattle.cpe_values.specs.declared.spelling.Style.TheVariants as style;
+ghost use Rattle.cpe_name.specs.Names.{value_of};
+ghost use Rattle.cpe_fs.specs.Grammar.{component, fs_text};
+
+use cpe_name::{ATTRIBUTES, Attribute, Wfn};
+use cpe_values::{Edge, Memory, Style, Value, is_bare_byte, push_spelling};
+use std::alloc::Global;
+
+fn push_component(out: &mut Vec<u8>, value: &Value) -> Result<(), Memory>
+    ensures { OnOk result (out.new.items ≡ out.old.items ++ component value.now) }
+{
+    match value {
+        Value::Any => out.push(b'*')?,
+        Value::Na => out.push(b'-')?,
+        Value::Text(text) => push_spelling(out, Style::Formatted, text)?,
+    }
+    Ok(())
+}
+
+// A colon and a component for each attribute.
+fn push_fields(out: &mut Vec<u8>, name: &Wfn, which: &[Attribute]) -> Result<(), Memory>
+    ensures { OnOk result (out.new.items ≡ out.old.items ++ flat_map (λ a. 58 ∷ component (value_of name.now a)) which.now) }
+{
+    for attribute in which {
+        out.push(b':')?;
+        push_component(out, name.get(*attribute))?;
+    }
+    Ok(())
+}
+
+/// The formatted string of a name (NIST IR 7695, 6.2.2). Each name has exactly one, and letter case is kept.
+///
+/// # Errors
+/// Want of memory alone.
+pub fn bind_fs(alloc: Global, name: &Wfn) -> Result<Vec<u8>, Memory>
+    ensures { IfOk result (λ text. text.items ≡ fs_text name.now) }
+{
+    let mut out = Vec::new(alloc);
+    out.extend_from_slice(b"cpe:2.3")?;
+    push_fields(&mut out, name, &ATTRIBUTES)?;
+    Ok(out)
+}
+
+fn edge_len(edge: Edge) -> u64
+    ensures value { result ≡ length (edge_text edge) }
+    ensures small { result < 2 ^ 32 }
+{
+    match edge {
+        Edge::None => 0,
+        Edge::Star => 1,
+        Edge::Marks(marks) => u64::from(marks),
+    }
+}
+
+fn body_len(body: &[u8]) -> u128
+    ensures value { result ≡ length (flat_map (character style.Formatted) body.now) }
+    ensures small { result < 2 ^ 65 }
+{
+    let mut len = 0u128;
+    for byte in body {
+        len += if is_bare_byte(Style::Formatted, *byte) {
+            1
+        } else {
+            2
+        };
+    }
+    len
+}
+
+fn component_len(value: &Value) -> u128
+    ensures value { result ≡ length (component value.now) }
+    ensures small { result < 2 ^ 66 }
+{
+    match value {
+        Value::Any => 1,
+        Value::Na => 1,
+        Value::Text(text) => {
+            u128::from(edge_len(text.lead()))
+                + body_len(text.stem())
+                + u128::from(edge_len(text.trail()))
+        }
+    }
+}
+
+fn fields_len(name: &Wfn, which: &[Attribute]) -> u128
+    requires { length which.now < 12 }
+    ensures value { result ≡ length (flat_map (λ a. 58 ∷ component (value_of name.now a)) which.now) }
+    ensures small { result < 2 ^ 70 }
+{
+    let mut len = 0u128;
+    for attribute in which {
+        len += 1 + component_len(name.get(*attribute));
+    }
+    len
+}
+
+/// The length of the formatted string of a name, in bytes. It takes no memory.
+pub fn fs_len(name: &Wfn) -> u128
+    ensures { result ≡ length (fs_text name.now) }
+{
+    7 + fields_len(name, &ATTRIBUTES)
+}
