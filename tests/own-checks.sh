@@ -72,7 +72,7 @@ answers_long_lines() {
     } > "$room/long.txt"
     {
         printf 'wfn:[part="a",vendor="v",product="%s",%s\n' "$(letters 65508)" "$rest"
-        printf 'refused 2 long\nrefused 3 long\nrefused 4 name\nrefused 5 long\n'
+        printf 'refused 2 long\nrefused 3 long\nrefused 4 name 0\nrefused 5 long\n'
     } > "$room/long.out"
     answers 'lines about the greatest length' "$room/long.txt" "$room/long.out" 1 unbind
 }

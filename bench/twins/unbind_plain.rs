@@ -28,8 +28,8 @@ enum Value {
     Text(String),
 }
 
-/// The text is no formatted string.
-struct NotFs;
+/// The text is no formatted string: it goes wrong at this place.
+struct At(usize);
 
 struct Reader<'a> {
     text: &'a [u8],
@@ -52,7 +52,7 @@ impl Reader<'_> {
     }
 
     /// `*`, `-`, or a text: wildcards before it, its body, wildcards behind it.
-    fn value(&mut self) -> Result<Value, NotFs> {
+    fn value(&mut self) -> Result<Value, At> {
         let mut out = String::new();
         if self.eat(b'*') {
             if self.at_end_of_component() {
@@ -84,7 +84,7 @@ impl Reader<'_> {
     }
 
     /// One character or more, each as a well-formed name quotes it.
-    fn body(&mut self, out: &mut String) -> Result<(), NotFs> {
+    fn body(&mut self, out: &mut String) -> Result<(), At> {
         let start = self.pos;
         while let Some(c) = self.peek() {
             match c {
@@ -100,7 +100,7 @@ impl Reader<'_> {
                             out.push('\\');
                             out.push(c as char);
                         }
-                        _ => return Err(NotFs),
+                        _ => return Err(At(self.pos)),
                     }
                 }
                 _ => break,
@@ -108,18 +108,18 @@ impl Reader<'_> {
             self.pos += 1;
         }
         if self.pos == start {
-            Err(NotFs)
+            Err(At(start))
         } else {
             Ok(())
         }
     }
 
-    fn part(&mut self) -> Result<Value, NotFs> {
+    fn part(&mut self) -> Result<Value, At> {
         let value = match self.peek() {
             Some(b'*') => Value::Any,
             Some(b'-') => Value::Na,
             Some(c @ (b'a' | b'h' | b'o')) => Value::Text((c as char).to_string()),
-            _ => return Err(NotFs),
+            _ => return Err(At(self.pos)),
         };
         self.pos += 1;
         Ok(value)
@@ -136,7 +136,7 @@ impl Reader<'_> {
     }
 
     /// `*`, `-`, or two or three letters, perhaps with a region: two letters or three digits.
-    fn language(&mut self) -> Result<Value, NotFs> {
+    fn language(&mut self) -> Result<Value, At> {
         if self.eat(b'*') {
             return Ok(Value::Any);
         }
@@ -145,7 +145,7 @@ impl Reader<'_> {
         }
         let mut out = String::new();
         if self.some_of(3, u8::is_ascii_alphabetic, &mut out) < 2 {
-            return Err(NotFs);
+            return Err(At(self.pos));
         }
         if self.eat(b'-') {
             out.push_str("\\-");
@@ -154,24 +154,24 @@ impl Reader<'_> {
                 n => n == 2,
             };
             if !is_region {
-                return Err(NotFs);
+                return Err(At(self.pos));
             }
         }
         Ok(Value::Text(out))
     }
 }
 
-fn unbind_fs(text: &[u8]) -> Result<Vec<Value>, NotFs> {
+fn unbind_fs(text: &[u8]) -> Result<Vec<Value>, At> {
     let mut reader = Reader { text, pos: 0 };
     for &c in b"cpe:2.3:" {
         if !reader.eat(c) {
-            return Err(NotFs);
+            return Err(At(reader.pos));
         }
     }
     let mut values = Vec::with_capacity(NAMES.len());
     for i in 0..NAMES.len() {
         if i > 0 && !reader.eat(b':') {
-            return Err(NotFs);
+            return Err(At(reader.pos));
         }
         values.push(match i {
             0 => reader.part()?,
@@ -180,7 +180,7 @@ fn unbind_fs(text: &[u8]) -> Result<Vec<Value>, NotFs> {
         });
     }
     if reader.pos < text.len() {
-        Err(NotFs)
+        Err(At(reader.pos))
     } else {
         Ok(values)
     }
@@ -216,11 +216,14 @@ fn answer(out: &mut impl Write, number: u64, line: &[u8]) -> io::Result<bool> {
         return Ok(false);
     } else if is_uri(text) {
         writeln!(out, "refused {number} not-built")?;
-    } else if let Ok(values) = unbind_fs(text) {
-        write_wfn(out, &values)?;
-        return Ok(false);
     } else {
-        writeln!(out, "refused {number} name")?;
+        match unbind_fs(text) {
+            Ok(values) => {
+                write_wfn(out, &values)?;
+                return Ok(false);
+            }
+            Err(At(place)) => writeln!(out, "refused {number} name {place}")?,
+        }
     }
     Ok(true)
 }

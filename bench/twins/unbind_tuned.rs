@@ -61,8 +61,8 @@ fn wildcards(s: &[u8], mut i: usize, out: &mut Vec<u8>) -> usize {
 }
 
 /// Puts the characters that stand from `i`, runs of plain ones at once, and gives where
-/// they end; `None` where there is none, or a backslash stands before what it can't quote.
-fn body(s: &[u8], start: usize, out: &mut Vec<u8>) -> Option<usize> {
+/// they end; or the place where there is none, or a backslash stands before what it can't quote.
+fn body(s: &[u8], start: usize, out: &mut Vec<u8>) -> Result<usize, usize> {
     let mut i = start;
     loop {
         let run = i;
@@ -75,27 +75,27 @@ fn body(s: &[u8], start: usize, out: &mut Vec<u8>) -> Option<usize> {
             i += 1;
         } else if s.get(i) == Some(&b'\\') {
             if class_at(s, i + 1) != QUOTED {
-                return None;
+                return Err(i + 1);
             }
             out.extend_from_slice(&s[i..i + 2]);
             i += 2;
         } else {
-            return (i > start).then_some(i);
+            return if i > start { Ok(i) } else { Err(i) };
         }
     }
 }
 
 /// Puts the component that starts at `i`, and gives where it ends.
-fn value(s: &[u8], i: usize, out: &mut Vec<u8>) -> Option<usize> {
+fn value(s: &[u8], i: usize, out: &mut Vec<u8>) -> Result<usize, usize> {
     if matches!(s.get(i + 1), None | Some(b':')) {
         match s.get(i) {
             Some(b'*') => {
                 out.extend_from_slice(b"ANY");
-                return Some(i + 1);
+                return Ok(i + 1);
             }
             Some(b'-') => {
                 out.extend_from_slice(b"NA");
-                return Some(i + 1);
+                return Ok(i + 1);
             }
             _ => {}
         }
@@ -105,29 +105,29 @@ fn value(s: &[u8], i: usize, out: &mut Vec<u8>) -> Option<usize> {
     let body_end = body(s, lead_end, out)?;
     let end = wildcards(s, body_end, out);
     out.push(b'"');
-    Some(end)
+    Ok(end)
 }
 
-fn part(s: &[u8], i: usize, out: &mut Vec<u8>) -> Option<usize> {
+fn part(s: &[u8], i: usize, out: &mut Vec<u8>) -> Result<usize, usize> {
     match s.get(i) {
         Some(b'*') => out.extend_from_slice(b"ANY"),
         Some(b'-') => out.extend_from_slice(b"NA"),
         Some(&c @ (b'a' | b'h' | b'o')) => out.extend_from_slice(&[b'"', c, b'"']),
-        _ => return None,
+        _ => return Err(i),
     }
-    Some(i + 1)
+    Ok(i + 1)
 }
 
 /// `*`, `-`, or two or three letters, perhaps with a region: two letters or three digits.
-fn language(s: &[u8], i: usize, out: &mut Vec<u8>) -> Option<usize> {
+fn language(s: &[u8], i: usize, out: &mut Vec<u8>) -> Result<usize, usize> {
     match s.get(i) {
         Some(b'*') => {
             out.extend_from_slice(b"ANY");
-            return Some(i + 1);
+            return Ok(i + 1);
         }
         Some(b'-') => {
             out.extend_from_slice(b"NA");
-            return Some(i + 1);
+            return Ok(i + 1);
         }
         _ => {}
     }
@@ -136,7 +136,7 @@ fn language(s: &[u8], i: usize, out: &mut Vec<u8>) -> Option<usize> {
     };
     let mut end = run(i, 3, u8::is_ascii_alphabetic);
     if end < i + 2 {
-        return None;
+        return Err(end);
     }
     out.push(b'"');
     out.extend_from_slice(&s[i..end]);
@@ -146,29 +146,29 @@ fn language(s: &[u8], i: usize, out: &mut Vec<u8>) -> Option<usize> {
         if end == region {
             end = run(region, 3, u8::is_ascii_digit);
             if end < region + 3 {
-                return None;
+                return Err(end);
             }
         } else if end < region + 2 {
-            return None;
+            return Err(end);
         }
         out.extend_from_slice(b"\\-");
         out.extend_from_slice(&s[region..end]);
     }
     out.push(b'"');
-    Some(end)
+    Ok(end)
 }
 
-/// Puts the answer to a formatted string; where the text is none, `out` may keep a part.
-fn unbind(s: &[u8], out: &mut Vec<u8>) -> Option<()> {
+/// Puts the answer to a formatted string; or gives the place where the text goes wrong, and `out` may keep a part.
+fn unbind(s: &[u8], out: &mut Vec<u8>) -> Result<(), usize> {
     let prefix = b"cpe:2.3:";
     if !s.starts_with(prefix) {
-        return None;
+        return Err(prefix.iter().zip(s).take_while(|(a, b)| a == b).count());
     }
     let mut i = prefix.len();
     for (n, key) in KEYS.iter().enumerate() {
         if n > 0 {
             if s.get(i) != Some(&b':') {
-                return None;
+                return Err(i);
             }
             i += 1;
         }
@@ -180,7 +180,7 @@ fn unbind(s: &[u8], out: &mut Vec<u8>) -> Option<()> {
         };
     }
     out.extend_from_slice(b"]\n");
-    (i == s.len()).then_some(())
+    if i == s.len() { Ok(()) } else { Err(i) }
 }
 
 /// Whether the text is a URI by its first five bytes, which `cpe unbind` does not read yet.
@@ -189,7 +189,7 @@ fn is_uri(s: &[u8]) -> bool {
         .is_some_and(|head| head.eq_ignore_ascii_case(b"cpe:/"))
 }
 
-fn refuse(out: &mut Vec<u8>, number: u64, reason: &[u8]) {
+fn decimal(out: &mut Vec<u8>, number: u64) {
     let (mut digits, mut first, mut rest) = ([0; 20], 20, number);
     loop {
         first -= 1;
@@ -199,8 +199,12 @@ fn refuse(out: &mut Vec<u8>, number: u64, reason: &[u8]) {
             break;
         }
     }
-    out.extend_from_slice(b"refused ");
     out.extend_from_slice(&digits[first..]);
+}
+
+fn refuse(out: &mut Vec<u8>, number: u64, reason: &[u8]) {
+    out.extend_from_slice(b"refused ");
+    decimal(out, number);
     out.extend_from_slice(reason);
 }
 
@@ -215,12 +219,14 @@ fn answer(out: &mut Vec<u8>, number: u64, line: &[u8]) -> bool {
         return true;
     }
     let mark = out.len();
-    let refused = unbind(text, out).is_none();
-    if refused {
-        out.truncate(mark);
-        refuse(out, number, b" name\n");
-    }
-    refused
+    let Err(place) = unbind(text, out) else {
+        return false;
+    };
+    out.truncate(mark);
+    refuse(out, number, b" name ");
+    decimal(out, place as u64);
+    out.push(b'\n');
+    true
 }
 
 fn main() -> io::Result<ExitCode> {
