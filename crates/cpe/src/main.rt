@@ -33,5 +33,5 @@ fn status_of<L: Ledger>(rt: &HostRuntime, words: &[String], blank: Blank) -> u8
     let mut steps = Steps::<L>::new(blank);
     let mut source = StdSource::new(rt.stdin());
     let mut sink = StdSink::new(rt.stdout());
-    run(rt.alloc(), words, &mut source, &mut sink, &mut steps) as u8
+    run(rt.alloc(), words, &mut source, &mut sink, &mut steps).number()
 }

@@ -78,7 +78,7 @@ fn say_text(page: &mut Page, command: Command, text: &[u8]) -> Result<Option<Rea
 fn say_name(page: &mut Page, text: &[u8]) -> Result<Option<Reason>, AllocError>
     ensures { IfOk result (Said (unbinds text.now) page.old page.new) }
 {
-    if is_begun_as_uri(text) {
+    if begins_as_uri(text) {
         return Ok(Some(Reason::NotBuilt));
     }
     if let Some(place) = page.push_unbound(text)? {
@@ -88,7 +88,7 @@ fn say_name(page: &mut Page, text: &[u8]) -> Result<Option<Reason>, AllocError>
     Ok(None)
 }
 
-fn is_begun_as_uri(text: &[u8]) -> bool
+fn begins_as_uri(text: &[u8]) -> bool
     ensures { result ≡ begins_as_uri text.now }
 {
     matches!(

@@ -80,6 +80,7 @@ impl Page {
         ensures ok { OnOk result (Flushes (K.held sink.old) (K.held sink.new) self.old self.new) }
         ensures front { AppendsFront (K.held sink.old) (K.held sink.new) self.old }
         ensures due { holds_line ≡ false → OnOk result (self.new ≡ []) }
+        ensures full { FULL ≤ length self.old → OnOk result (self.new ≡ []) }
         ensures cause { HasSinkCause (K.faults sink.old) (K.faults sink.new) result }
     {
         if holds_line && self.used < FULL {

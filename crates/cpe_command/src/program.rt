@@ -40,6 +40,9 @@ pub fn run<S: Source, K: Sink, L: Ledger>(
     // Words that are no command leave the source alone.
     ensures untouched { command_of (map string_bytes words.now) ≡ None → source.new ≡ source.old }
 
+    // No look at a kept name is counted yet.
+    ensures steps { steps.new ≡ steps.old }
+
     // A fault has its cause.
     ensures read_fault { result ≡ Status.ReadFault → Rose (S.faults source.old) (S.faults source.new) }
     ensures write_fault { result ≡ Status.WriteFault → Rose (K.faults sink.old) (K.faults sink.new) }

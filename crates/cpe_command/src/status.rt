@@ -1,6 +1,6 @@
 // How a run ended.
 ghost use Rattle.std.specs.Prelude.{◌≡◌};
-ghost use Rattle.cpe_command.specs.Statuses.{of_sink_fault, of_line_fault};
+ghost use Rattle.cpe_command.specs.Statuses.{of_sink_fault, of_line_fault, number_of};
 
 use cpe_io::{LineFault, SinkFault};
 
@@ -21,6 +21,15 @@ pub enum Status {
     Memory = 5,
     /// 2^40 bytes were taken and the input did not end. What their whole lines write stands written.
     Endless = 6,
+}
+
+impl Status {
+    /// The exit status of the program.
+    pub fn number(self) -> u8
+        ensures { result ≡ number_of self }
+    {
+        self as u8
+    }
 }
 
 impl From<SinkFault> for Status {

@@ -54,52 +54,54 @@ const EXPLORER_TEXT: &[u8] =
 const ANY_FROM_PRODUCT: &[u8] =
     b",product=ANY,version=ANY,update=ANY,edition=ANY,language=ANY,sw_edition=ANY,target_sw=ANY,target_hw=ANY,other=ANY]\n";
 
+// Inputs of `unbind`, and what comes of each.
+const UNBIND: [(&[u8], Status, &[u8]); 12] = [
+    (b"", Status::Done, b""),
+    (b"\n\r\n\n", Status::Done, b""),
+    (EXPLORER, Status::Done, EXPLORER_TEXT),
+    (b"cpe:2.3:a", Status::SomeRefused, b"refused 1 name 9\n"),
+    (
+        b"cpe:2.3:a:foo:bar:1.0:*:*:*:*:ip",
+        Status::SomeRefused,
+        b"refused 1 name 32\n",
+    ),
+    (b"CPE:/a:v:p", Status::SomeRefused, b"refused 1 not-built\n"),
+    (
+        b"cPe:/\n\r\r\n \n",
+        Status::SomeRefused,
+        b"refused 1 not-built\nrefused 2 name 0\nrefused 3 name 0\n",
+    ),
+    (
+        b"cpe:\ncpe:2",
+        Status::SomeRefused,
+        b"refused 1 name 4\nrefused 2 name 5\n",
+    ),
+    (
+        b"\ncpe:2.3:a:\0\n\xff\xfe\r\n",
+        Status::SomeRefused,
+        b"refused 2 name 10\nrefused 3 name 0\n",
+    ),
+    (
+        b"cpe:2.3:a:foo\\.:*:*:*:*:*:*:*:*:*\r\n",
+        Status::SomeRefused,
+        b"refused 1 name 14\n",
+    ),
+    (
+        b"cpe:2.3:a:foo\\",
+        Status::SomeRefused,
+        b"refused 1 name 14\n",
+    ),
+    (
+        b"\xef\xbb\xbfcpe:2.3:*:*:*:*:*:*:*:*:*:*:*",
+        Status::SomeRefused,
+        b"refused 1 name 0\n",
+    ),
+];
+
 #[test]
 fn unbind_answers_each_line_in_any_pieces(rt: HostRuntime) -> Result<(), Fail> {
     let words = words_of(rt.alloc(), &["unbind"])?;
-    let rows: [(&[u8], Status, &[u8]); 12] = [
-        (b"", Status::Done, b""),
-        (b"\n\r\n\n", Status::Done, b""),
-        (EXPLORER, Status::Done, EXPLORER_TEXT),
-        (b"cpe:2.3:a", Status::SomeRefused, b"refused 1 name 9\n"),
-        (
-            b"cpe:2.3:a:foo:bar:1.0:*:*:*:*:ip",
-            Status::SomeRefused,
-            b"refused 1 name 32\n",
-        ),
-        (b"CPE:/a:v:p", Status::SomeRefused, b"refused 1 not-built\n"),
-        (
-            b"cPe:/\n\r\r\n \n",
-            Status::SomeRefused,
-            b"refused 1 not-built\nrefused 2 name 0\nrefused 3 name 0\n",
-        ),
-        (
-            b"cpe:\ncpe:2",
-            Status::SomeRefused,
-            b"refused 1 name 4\nrefused 2 name 5\n",
-        ),
-        (
-            b"\ncpe:2.3:a:\0\n\xff\xfe\r\n",
-            Status::SomeRefused,
-            b"refused 2 name 10\nrefused 3 name 0\n",
-        ),
-        (
-            b"cpe:2.3:a:foo\\.:*:*:*:*:*:*:*:*:*\r\n",
-            Status::SomeRefused,
-            b"refused 1 name 14\n",
-        ),
-        (
-            b"cpe:2.3:a:foo\\",
-            Status::SomeRefused,
-            b"refused 1 name 14\n",
-        ),
-        (
-            b"\xef\xbb\xbfcpe:2.3:*:*:*:*:*:*:*:*:*:*:*",
-            Status::SomeRefused,
-            b"refused 1 name 0\n",
-        ),
-    ];
-    for (input, status, output) in rows {
+    for (input, status, output) in UNBIND {
         for piece in [1, 2, 65536] {
             let (answer, written) = run_in_pieces(rt.alloc(), &words, input, piece)?;
             assert_eq!(rt; answer, status);

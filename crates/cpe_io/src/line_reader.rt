@@ -59,9 +59,7 @@ impl LineReader {
     pub fn new(alloc: Global, budget: u64) -> Result<LineReader, Memory>
         ensures { IfOk result (λ r. r ≡ new_reading budget) }
     {
-        let Ok(buffer) = ReadBuffer::new(alloc) else {
-            return Err(Memory);
-        };
+        let buffer = ReadBuffer::new(alloc)?;
         Ok(LineReader {
             alloc,
             buffer,
