@@ -1,4 +1,3 @@
-pub mod Classes
 pub mod Bodies
 pub mod Texts
 pub mod Languages

@@ -1,4 +1,5 @@
--- The scanners of a formatted string, as the code goes over it. No public clause speaks of them.
+-- The scanners of a formatted string, as the code goes over it. Of the public words `unbound` alone rests on them, and
+-- `unbound_is` fixes it by the grammar.
 use Rattle.std.specs.Prelude.{ℕ, suc, List, [], ◌∷◌, length, codes, Bool, false, not, ◌&&◌, ◌||◌, ◌==◌, Ok, Err, if◌then◌else◌}
 use Rattle.cpe_values.specs.declared.spelling.Style.TheVariants as style
 use Rattle.cpe_values.specs.Parts.{is_character}
@@ -41,10 +42,6 @@ starts_body c = is_bare_here c || is_backslash c
 abbrev pub begins_with_backslash : List ℕ → Bool
 begins_with_backslash [] = false
 begins_with_backslash (c ∷ s) = is_backslash c
-
--- the class of a byte in a body: 1 where it stands bare, 2 where it stands behind a backslash
-abbrev pub class_of : ℕ → ℕ
-class_of c = if is_bare_here c then 1 else (if is_quoted c then 2 else 0)
 
 -- ---- texts
 

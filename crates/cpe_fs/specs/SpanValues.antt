@@ -1,4 +1,4 @@
--- The value of which a component is the text: a component is the text of one value at most. No public clause speaks of it.
+-- The value of which a component is the text: a component is the text of one value at most. Of the public words `unbound` alone rests on it.
 use Rattle.std.specs.Prelude.{ℕ, Bool, ◌||◌, List, [], ◌∷◌, drop, get_or, if◌then◌else◌}
 use Rattle.std.specs.List.{prefix_len}
 use Rattle.cpe_values.specs.declared.value.Edge.{Edge}

@@ -2,65 +2,26 @@
 //
 // Each function takes a front of a text. It answers what is left behind it, or how many bytes are
 // left where no formatted string goes on.
-ghost use Rattle.std.specs.Prelude.{◌≡◌, ◌==◌, ◌≤◌, ◌-◌, ◌+◌, [], take, slice_index, length, Ok, Err, IfOk, IfErr};
+ghost use Rattle.std.specs.Prelude.{◌≡◌, ◌==◌, ◌≤◌, ◌-◌, ◌+◌, [], take, length, Ok, Err, IfOk, IfErr};
 ghost use Rattle.cpe_grammar.specs.Scanners.{Tells, one, literal};
 ghost use Rattle.cpe_values.specs.Spelling.{is_bare, is_letter, is_digit};
 ghost use Rattle.cpe_values.specs.declared.spelling.Style.TheVariants as style;
 ghost use Rattle.cpe_name.specs.Names.{attributes};
-ghost use Rattle.cpe_fs.specs.Scanning.{is_quoted, starts_body, begins_with_backslash, class_of, marks_end, edge_end, character_end, body_end, stem_end, led_end, text_end, part_end, letters_end, digits_end, code_end, region_end, third_end, tag_end, language_end, field_end, fields_end, whole_end};
+ghost use Rattle.cpe_fs.specs.Scanning.{is_quoted, starts_body, begins_with_backslash, marks_end, edge_end, character_end, body_end, stem_end, led_end, text_end, part_end, letters_end, digits_end, code_end, region_end, third_end, tag_end, language_end, field_end, fields_end, whole_end};
 ghost use Rattle.cpe_fs.specs.Spans.{AreComponents, Leaves, spans, behind_field, component_at, components_at};
 
-use cpe_values::{is_digit_byte, is_letter_byte, skip_bare};
-
-/// The class of each byte in a body.
-#[rattlefmt::skip]
-const CLASS: [u8; 256] = [
-    0, 0, 0, 0, 0, 0, 0, 0, 0, 0, 0, 0, 0, 0, 0, 0,
-    0, 0, 0, 0, 0, 0, 0, 0, 0, 0, 0, 0, 0, 0, 0, 0,
-    0, 2, 2, 2, 2, 2, 2, 2, 2, 2, 2, 2, 2, 1, 1, 2,
-    1, 1, 1, 1, 1, 1, 1, 1, 1, 1, 2, 2, 2, 2, 2, 2,
-    2, 1, 1, 1, 1, 1, 1, 1, 1, 1, 1, 1, 1, 1, 1, 1,
-    1, 1, 1, 1, 1, 1, 1, 1, 1, 1, 1, 2, 2, 2, 2, 1,
-    2, 1, 1, 1, 1, 1, 1, 1, 1, 1, 1, 1, 1, 1, 1, 1,
-    1, 1, 1, 1, 1, 1, 1, 1, 1, 1, 1, 2, 2, 2, 2, 0,
-    0, 0, 0, 0, 0, 0, 0, 0, 0, 0, 0, 0, 0, 0, 0, 0,
-    0, 0, 0, 0, 0, 0, 0, 0, 0, 0, 0, 0, 0, 0, 0, 0,
-    0, 0, 0, 0, 0, 0, 0, 0, 0, 0, 0, 0, 0, 0, 0, 0,
-    0, 0, 0, 0, 0, 0, 0, 0, 0, 0, 0, 0, 0, 0, 0, 0,
-    0, 0, 0, 0, 0, 0, 0, 0, 0, 0, 0, 0, 0, 0, 0, 0,
-    0, 0, 0, 0, 0, 0, 0, 0, 0, 0, 0, 0, 0, 0, 0, 0,
-    0, 0, 0, 0, 0, 0, 0, 0, 0, 0, 0, 0, 0, 0, 0, 0,
-    0, 0, 0, 0, 0, 0, 0, 0, 0, 0, 0, 0, 0, 0, 0, 0,
-];
-
-/// The class of a character that stands bare.
-const BARE: u8 = 1;
-
-/// The class of a character that stands behind a backslash.
-const QUOTED: u8 = 2;
-
-fn entry(classes: &[u8; 256], byte: u8) -> u8
-    ensures { result ≡ slice_index classes.now byte }
-{
-    classes[byte as usize]
-}
-
-fn class(byte: u8) -> u8
-    ensures { result ≡ class_of byte }
-{
-    entry(&CLASS, byte)
-}
+use cpe_values::{Style, is_digit_byte, is_letter_byte, is_printable_byte, skip_bare};
 
 fn is_bare_byte(byte: u8) -> bool
     ensures { result ≡ is_bare style.Formatted byte }
 {
-    class(byte) == BARE
+    cpe_values::is_bare_byte(Style::Formatted, byte)
 }
 
 fn is_quoted_byte(byte: u8) -> bool
     ensures { result ≡ is_quoted byte }
 {
-    class(byte) == QUOTED
+    is_printable_byte(byte) && !is_bare_byte(byte)
 }
 
 fn starts_a_body(byte: u8) -> bool

@@ -5,16 +5,27 @@ ghost use Rattle.cpe_name.specs.Text.{attribute_name};
 /// An attribute of a name (NIST IR 7695, 5), in the order of the formatted string.
 #[derive(Clone, Copy, Debug, PartialEq, Eq, Hash)]
 pub enum Attribute {
+    /// What kind of thing is named: an application, hardware or an operating system.
     Part,
+    /// Who made or sells the product.
     Vendor,
+    /// The product's title or name.
     Product,
+    /// The vendor's version of the product.
     Version,
+    /// The vendor's update or service pack of that version.
     Update,
+    /// The edition, as names of CPE 2.2 have it.
     Edition,
+    /// The language of the user interface.
     Language,
+    /// For which market or class of users the product is made.
     SwEdition,
+    /// The software environment in which the product runs.
     TargetSw,
+    /// The instruction set or hardware on which the product runs.
     TargetHw,
+    /// Anything else of note that the vendor gives.
     Other,
 }
 

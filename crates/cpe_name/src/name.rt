@@ -9,7 +9,7 @@ use cpe_values::Value;
 use std::marker::Model;
 use thiserror::Error;
 
-/// Eleven values, one for each attribute, whatever they are: [`Wfn::new`] tells whether they are a name.
+/// Eleven values, each for the [`Attribute`] of its name, whatever they are: [`Wfn::new`] tells whether they are a name.
 #[derive(Debug, Drop)]
 pub struct Values {
     pub part: Value,

@@ -41,8 +41,7 @@ fn push_later(out: &mut Vec<u8>, name: &Wfn, later: &[Attribute]) -> Result<(), 
     Ok(())
 }
 
-/// The text of a name: `wfn:[part="a",..,other=ANY]`, with all eleven attributes in their order and no spaces
-///.
+/// The text of a name: `wfn:[part="a",..,other=ANY]`, with all eleven attributes in their order and no spaces.
 ///
 /// # Errors
 /// Want of memory alone.
