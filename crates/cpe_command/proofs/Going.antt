@@ -11,7 +11,7 @@ use Rattle.cpe_io.specs.declared.sink.SinkFault.TheVariants as sink
 use Rattle.cpe_io.specs.Lines.{has_newline, lines, whole}
 use Rattle.cpe_io.specs.Reading.{Reading, new_reading, IsLast, Gives, Takes, FirstFault, IsCutShort}
 use Rattle.cpe_io.specs.Writes.{BeginsWith, AppendsFront}
-use Rattle.cpe_io.proofs.Gathering.{clean_front}
+use Rattle.cpe_io.proofs.NewlineLemmas.{clean_front}
 use Rattle.cpe_io.proofs.LineLemmas.{lines-cut, whole-cut, shorter-cut, lines-last, whole-none}
 use Rattle.cpe_command.specs.declared.command.Command.{Command}
 use Rattle.cpe_command.specs.declared.status.Status.{Status}
