@@ -24,7 +24,8 @@ as_pointwise : (v w : Values) (which : List Attribute) → list_all (λ a. same_
 as_pointwise v w [] = refl
 as_pointwise v w (a ∷ rest) = ap (λ (b : Bool). same_value (value_of v a) (value_of w a) && b) (as_pointwise v w rest)
 
-abbrev named : List Value → Values
+-- these values, in the order of the attributes
+abbrev pub named : List Value → Values
 named vs = record {
   part = get_or vs 0 value.Any;
   vendor = get_or vs 1 value.Any;

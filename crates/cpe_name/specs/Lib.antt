@@ -4,3 +4,7 @@ pub mod Text
 pub mod Wildcards
 pub mod Equal
 pub mod Put
+pub mod WfnText
+pub mod Scanning
+pub mod Spans
+pub mod Unwriting

@@ -6,6 +6,9 @@ mod attribute;
 mod copy;
 mod equal;
 mod name;
+mod quoted;
+mod read;
+mod scan;
 mod shape;
 #[cfg(test)]
 mod tests;
@@ -13,4 +16,6 @@ mod write;
 
 pub use attribute::{ATTRIBUTES, Attribute};
 pub use name::{NameFault, Values, Wfn};
+pub use read::{WfnFault, read_wfn, wfn_texts};
+pub use scan::{Written, scan_wfn};
 pub use write::write_wfn;

@@ -3,3 +3,4 @@ pub mod Lawful
 pub mod LowerTexts
 pub mod SkippingLemmas
 pub mod LaneLemmas
+pub mod Unspelled

@@ -7,3 +7,5 @@ pub mod Equal
 pub mod Lower
 pub mod Skipping
 pub mod Lanes
+pub mod Spelled
+pub mod Unspelling

@@ -11,6 +11,7 @@ mod memory;
 mod spelling;
 #[cfg(test)]
 mod tests;
+mod unspell;
 mod value;
 
 pub use bare::skip_bare;
@@ -18,4 +19,5 @@ pub use memory::Memory;
 pub use spelling::{
     Style, is_bare_byte, is_digit_byte, is_letter_byte, is_printable_byte, push_spelling,
 };
+pub use unspell::read_spelling;
 pub use value::{Edge, Pattern, Value, ValueFault};

@@ -1,0 +1,122 @@
+-- Bodies, character by character.
+use Rattle.std.proofs.Common.{◌≡◌, ℕ, suc, ◌<◌, true, false, eqb, List, [], ◌∷◌, length, Result, Ok, Err, refl, sym, ap, subst, ◌∙◌, inl, inr, arith}
+use Rattle.std.proofs.lemmas.Bool.{cases_Bool, eqb-true, or_parts}
+use Rattle.std.proofs.lemmas.Bool.Decides.{nat_tests}
+use Rattle.cpe_grammar.specs.Scanners.{◌>>=◌, both, choose, nothing, one}
+use Rattle.cpe_grammar.proofs.Results.{ok_is, ok≢err, left_over, stopped}
+use Rattle.cpe_name.specs.Scanning.{is_bare_here, is_quoted, starts_body, begins_body, character_end, body_end}
+
+-- a character that stands bare is taken
+pub body_bare : (c : ℕ) (s : List ℕ) → is_bare_here c ≡ true → body_end (c ∷ s) ≡ body_end s
+unfolding body_end
+body_bare c [] h = rw h refl
+body_bare c (d ∷ s) h = rw h refl
+
+-- so is one behind its backslash
+pub body_quoted : (c : ℕ) (s : List ℕ) → is_quoted c ≡ true → body_end (92 ∷ c ∷ s) ≡ body_end s
+unfolding body_end
+body_quoted c s h = rw h refl
+
+-- other bytes end a body
+body_halts : (c : ℕ) (s : List ℕ) → is_bare_here c ≡ false → eqb c 92 ≡ false → body_end (c ∷ s) ≡ Ok (c ∷ s)
+unfolding body_end
+body_halts c [] bare other = rw (bare, other) refl
+body_halts c (d ∷ s) bare other = rw (bare, other) refl
+
+-- so does the end of the text
+pub body_empty : body_end [] ≡ Ok []
+unfolding body_end
+body_empty = refl
+
+-- what begins no character ends a body
+pub body_ends : (s : List ℕ) → begins_body s ≡ false → body_end s ≡ Ok s
+body_ends [] h = body_empty
+body_ends (c ∷ s) h = let p = or_parts (is_bare_here c) (eqb c 92) h in body_halts c s p.0 p.1
+
+-- ---- behind a backslash
+
+-- behind a backslash, what may be quoted is taken
+quoted_step : (s t : List ℕ) → one is_quoted s ≡ Ok t → body_end (92 ∷ s) ≡ body_end t
+quoted_step [] t e = absurd (ok≢err t 0 (sym e))
+quoted_step (c ∷ s) t e =
+    elim (cases_Bool (is_quoted c)) [
+      | inl h ↦ let is : left_over s ≡ Ok t = rw h at e in body_quoted c s h ∙ ap body_end (ok_is s t is)
+      | inr h ↦ let is : stopped (suc (length s)) ≡ Ok t = rw h at e in absurd (ok≢err t _ (sym is))
+    ]
+
+-- and nothing else is
+quoted_stop : (s : List ℕ) (n : ℕ) → one is_quoted s ≡ Err n → body_end (92 ∷ s) ≡ Err n
+unfolding body_end
+quoted_stop [] n e = e
+quoted_stop (c ∷ s) n e =
+    elim (cases_Bool (is_quoted c)) [
+      | inl h ↦ let is : left_over s ≡ Err n = rw h at e in absurd (ok≢err s n is)
+      | inr h ↦ let is : stopped (suc (length s)) ≡ Err n = rw h at e in rw h is
+    ]
+
+-- what is left is shorter
+shorter_quoted : (s t : List ℕ) → one is_quoted s ≡ Ok t → length t < length s
+shorter_quoted [] t e = absurd (ok≢err t 0 (sym e))
+shorter_quoted (c ∷ s) t e =
+    elim (cases_Bool (is_quoted c)) [
+      | inl h ↦ let is : left_over s ≡ Ok t = rw h at e in omega (arith, ap length (ok_is s t is))
+      | inr h ↦ let is : stopped (suc (length s)) ≡ Ok t = rw h at e in absurd (ok≢err t _ (sym is))
+    ]
+
+-- ---- one character, and then a body
+
+-- a body is characters, as long as one begins
+pub body_is : (s : List ℕ) → body_end s ≡ choose starts_body (both character_end body_end) nothing s
+unfolding character_end
+body_is [] = body_empty
+body_is (c ∷ s) =
+    elim (cases_Bool (is_bare_here c)) [
+      | inl h ↦
+          let other : eqb c 92 ≡ false = grind (arith, nat_tests) in
+          body_bare c s h ∙ rw (h, other) refl
+      | inr h ↦ elim (cases_Bool (eqb c 92)) [
+        | inl k ↦ let is : c ≡ 92 = eqb-true c 92 k in subst (λ (d : ℕ). body_end (d ∷ s) ≡ choose starts_body (both character_end body_end) nothing (d ∷ s)) (sym is) (behind s)
+        | inr k ↦ body_halts c s h k ∙ rw (h, k) refl
+      ]
+    ] where
+      behind : (s : List ℕ) → body_end (92 ∷ s) ≡ (one is_quoted s >>= body_end)
+      behind s = go (one is_quoted s) refl where
+        go : (r : Result (List ℕ) ℕ) → one is_quoted s ≡ r → body_end (92 ∷ s) ≡ (r >>= body_end)
+        go (Ok t) e = quoted_step s t e
+        go (Err n) e = quoted_stop s n e
+
+-- ---- a step of the loop
+
+-- behind a character the body goes on
+pub character_step : (s t : List ℕ) → character_end s ≡ Ok t → body_end s ≡ body_end t
+unfolding character_end
+character_step [] t e = absurd (ok≢err t 0 (sym e))
+character_step (c ∷ s) t e =
+    elim (cases_Bool (eqb c 92)) [
+      | inl h ↦
+          let is : c ≡ 92 = eqb-true c 92 h in
+          let quoted : one is_quoted s ≡ Ok t = rw h at e in
+          ap (λ (d : ℕ). body_end (d ∷ s)) is ∙ quoted_step s t quoted
+      | inr h ↦ elim (cases_Bool (is_bare_here c)) [
+        | inl k ↦ let is : left_over s ≡ Ok t = rw (h, k) at e in body_bare c s k ∙ ap body_end (ok_is s t is)
+        | inr k ↦ let is : stopped (suc (length s)) ≡ Ok t = rw (h, k) at e in absurd (ok≢err t _ (sym is))
+      ]
+    ]
+
+-- where a character begins and none ends the body stops
+pub character_stop : (s : List ℕ) (n : ℕ) → begins_body s ≡ true → character_end s ≡ Err n → body_end s ≡ Err n
+character_stop [] n h e = absurd cc
+character_stop (c ∷ s) n h e = body_is (c ∷ s) ∙ rw (h, e) refl
+
+-- what is left behind a character is shorter
+pub shorter_character : (s t : List ℕ) → character_end s ≡ Ok t → length t < length s
+unfolding character_end
+shorter_character [] t e = absurd (ok≢err t 0 (sym e))
+shorter_character (c ∷ s) t e =
+    elim (cases_Bool (eqb c 92)) [
+      | inl h ↦ let quoted : one is_quoted s ≡ Ok t = rw h at e in omega (arith, shorter_quoted s t quoted)
+      | inr h ↦ elim (cases_Bool (is_bare_here c)) [
+        | inl k ↦ let is : left_over s ≡ Ok t = rw (h, k) at e in omega (arith, ap length (ok_is s t is))
+        | inr k ↦ let is : stopped (suc (length s)) ≡ Ok t = rw (h, k) at e in absurd (ok≢err t _ (sym is))
+      ]
+    ]

@@ -1,0 +1,26 @@
+-- The value of which a text is that, as the code finds it. No public clause speaks of it.
+use Rattle.std.specs.Prelude.{◌≡◌, ℕ, ◌-◌, ◌==◌, List, [], ◌∷◌, length, take, drop, if◌then◌else◌}
+use Rattle.cpe_values.specs.declared.value.Value.{Value}
+use Rattle.cpe_values.specs.declared.value.Value.TheVariants as value
+use Rattle.cpe_values.specs.Values.{IsValue}
+use Rattle.cpe_values.specs.Unspelling.{parts_at}
+use Rattle.cpe_name.specs.Text.{value_text}
+use Rattle.cpe_name.specs.Spans.{or_any}
+
+-- the text of some value, or nothing for ANY
+pub record IsAnyText (u : List ℕ) : Type 0 where
+  pub value : Value
+  pub good : IsValue value
+  pub is : or_any u ≡ value_text value
+
+abbrev pub AreAnyTexts : List (List ℕ) → Type 0
+AreAnyTexts [] = Unit {0}
+AreAnyTexts (u ∷ us) = IsAnyText u × AreAnyTexts us
+
+-- without the first byte and the last
+abbrev pub inner : List ℕ → List ℕ
+inner u = take (length u - 1 - 1) (drop 1 u)
+
+abbrev pub value_from : List ℕ → Value
+value_from [] = value.Any
+value_from (c ∷ u) = if c == 34 then value.Text (parts_at (inner (c ∷ u))) else (if c == 78 then value.Na else value.Any)

@@ -1,0 +1,359 @@
+// Where the values of a name lie in one of its texts. Nothing here takes memory.
+ghost use Rattle.std.specs.Prelude.{◌≡◌, ◌-◌, ◌==◌, ◌≤◌, ◌∷◌, ℕ, List, [], take, length, Some, None, IfSome, MatchOption};
+ghost use Rattle.std.specs.Option.{option_map};
+ghost use Rattle.cpe_name.specs.Names.{attributes};
+ghost use Rattle.cpe_name.specs.WfnText.{rank, IsWfnText};
+ghost use Rattle.cpe_name.specs.Scanning.{Finds, value_at, is_lone, is_part_in_quotes, is_part_text, is_region_behind, is_language_in_quotes, is_language_text, has_shape, may_have, after_at, key_text, name_at, item_at, skip, next_at, slot, put_text, none_given, is_some_text, step_at, list_at, is_end, list_or_end, all_at};
+ghost use Rattle.cpe_name.specs.Spans.{texts, AreWritten};
+
+use crate::quoted::scan_value;
+use crate::{ATTRIBUTES, Attribute};
+use cpe_values::{is_digit_byte, is_letter_byte};
+
+/// The values of a name as they stand in one of its texts: `ANY`, `NA`, or a text between double quotes.
+/// Where the text gives no value there is nothing, and the value is ANY.
+#[derive(Clone, Copy, Debug)]
+pub struct Written<'a> {
+    pub part: &'a [u8],
+    pub vendor: &'a [u8],
+    pub product: &'a [u8],
+    pub version: &'a [u8],
+    pub update: &'a [u8],
+    pub edition: &'a [u8],
+    pub language: &'a [u8],
+    pub sw_edition: &'a [u8],
+    pub target_sw: &'a [u8],
+    pub target_hw: &'a [u8],
+    pub other: &'a [u8],
+}
+
+impl<'a> Written<'a> {
+    fn none() -> Written<'a>
+        ensures { texts result ≡ none_given }
+    {
+        Written {
+            part: b"",
+            vendor: b"",
+            product: b"",
+            version: b"",
+            update: b"",
+            edition: b"",
+            language: b"",
+            sw_edition: b"",
+            target_sw: b"",
+            target_hw: b"",
+            other: b"",
+        }
+    }
+
+    fn get(&self, which: Attribute) -> &'a [u8]
+        ensures { result.now ≡ slot (texts self.now) which }
+    {
+        match which {
+            Attribute::Part => self.part,
+            Attribute::Vendor => self.vendor,
+            Attribute::Product => self.product,
+            Attribute::Version => self.version,
+            Attribute::Update => self.update,
+            Attribute::Edition => self.edition,
+            Attribute::Language => self.language,
+            Attribute::SwEdition => self.sw_edition,
+            Attribute::TargetSw => self.target_sw,
+            Attribute::TargetHw => self.target_hw,
+            Attribute::Other => self.other,
+        }
+    }
+
+    // The same with another text at one attribute.
+    fn with(&self, which: Attribute, text: &'a [u8]) -> Written<'a>
+        ensures { texts result ≡ put_text (texts self.now) which text.now }
+    {
+        let mut written = *self;
+        match which {
+            Attribute::Part => written.part = text,
+            Attribute::Vendor => written.vendor = text,
+            Attribute::Product => written.product = text,
+            Attribute::Version => written.version = text,
+            Attribute::Update => written.update = text,
+            Attribute::Edition => written.edition = text,
+            Attribute::Language => written.language = text,
+            Attribute::SwEdition => written.sw_edition = text,
+            Attribute::TargetSw => written.target_sw = text,
+            Attribute::TargetHw => written.target_hw = text,
+            Attribute::Other => written.other = text,
+        }
+        written
+    }
+}
+
+// The front of a slice before a rest of it.
+fn front_of<'a>(all: &'a [u8], rest: &[u8]) -> &'a [u8]
+    ensures { result.now ≡ take (length all.now - length rest.now) all.now }
+{
+    &all[..all.len().saturating_sub(rest.len())]
+}
+
+// The text of a value, and what is left behind it.
+#[tactic(auto, unfolding(crate::specs::Scanning::value_at))]
+fn split_value(bytes: &[u8]) -> Option<(&[u8], &[u8])>
+    ensures { Finds (λ x. (x.0.now, x.1.now)) result (value_at bytes.now) }
+{
+    match scan_value(bytes) {
+        Ok(rest) => Some((front_of(bytes, rest), rest)),
+        Err(_) => None,
+    }
+}
+
+fn is_lone(text: &[u8]) -> bool
+    ensures { result ≡ is_lone text.now }
+{
+    matches!(text, [b'"', b'\\', b'-', b'"'])
+}
+
+fn is_part_in_quotes(bytes: &[u8]) -> bool
+    ensures { result ≡ is_part_in_quotes bytes.now }
+{
+    match bytes {
+        [letter, quote] => {
+            (*letter == b'a' || *letter == b'h' || *letter == b'o') && *quote == b'"'
+        }
+        _ => false,
+    }
+}
+
+fn is_part_text(text: &[u8]) -> bool
+    ensures { result ≡ is_part_text text.now }
+{
+    match text {
+        [b'"', rest @ ..] => is_part_in_quotes(rest),
+        _ => true,
+    }
+}
+
+// A region or nothing, and the closing quote.
+fn is_region_behind(bytes: &[u8]) -> bool
+    ensures { result ≡ is_region_behind bytes.now }
+{
+    match bytes {
+        [quote] => *quote == b'"',
+        [slash, hyphen, a, b, quote] => {
+            *slash == b'\\'
+                && *hyphen == b'-'
+                && is_letter_byte(*a)
+                && is_letter_byte(*b)
+                && *quote == b'"'
+        }
+        [slash, hyphen, a, b, c, quote] => {
+            *slash == b'\\'
+                && *hyphen == b'-'
+                && is_digit_byte(*a)
+                && is_digit_byte(*b)
+                && is_digit_byte(*c)
+                && *quote == b'"'
+        }
+        _ => false,
+    }
+}
+
+fn is_language_in_quotes(bytes: &[u8]) -> bool
+    ensures { result ≡ is_language_in_quotes bytes.now }
+{
+    match bytes {
+        [a, b, c, rest @ ..] => {
+            is_letter_byte(*a)
+                && is_letter_byte(*b)
+                && (is_region_behind(&bytes[2..]) || is_letter_byte(*c) && is_region_behind(rest))
+        }
+        _ => false,
+    }
+}
+
+fn is_language_text(text: &[u8]) -> bool
+    ensures { result ≡ is_language_text text.now }
+{
+    match text {
+        [b'"', rest @ ..] => is_language_in_quotes(rest),
+        _ => true,
+    }
+}
+
+// Whether the text of a value has the shape that the attribute asks for.
+fn has_shape(which: Attribute, text: &[u8]) -> bool
+    ensures { result ≡ has_shape which text.now }
+{
+    match which {
+        Attribute::Part => is_part_text(text),
+        Attribute::Language => is_language_text(text),
+        _ => true,
+    }
+}
+
+// What stands behind this byte, if it stands first.
+#[tactic(auto, unfolding(crate::specs::Scanning::after_at))]
+fn after_byte(expected: u8, bytes: &[u8]) -> Option<&[u8]>
+    ensures { MatchOption result ((more : List ℕ) → after_at (expected ∷ more) bytes.now ≡ None) (λ r. (more : List ℕ) → after_at (expected ∷ more) bytes.now ≡ after_at more r.now) }
+{
+    match bytes {
+        [first, rest @ ..] if *first == expected => Some(rest),
+        _ => None,
+    }
+}
+
+// What stands behind these bytes, if the text begins with them.
+#[tactic(auto, unfolding(crate::specs::Scanning::after_at))]
+fn after<'a>(expected: &[u8], bytes: &'a [u8]) -> Option<&'a [u8]>
+    ensures { option_map (λ r. r.now) result ≡ after_at expected.now bytes.now }
+{
+    let mut rest = bytes;
+    for byte in expected {
+        match after_byte(*byte, rest) {
+            Some(tail) => rest = tail,
+            None => return None,
+        }
+    }
+    Some(rest)
+}
+
+// The name of an attribute and `=`.
+fn key_of(which: Attribute) -> &'static [u8]
+    ensures { result.now ≡ key_text which }
+{
+    match which {
+        Attribute::Part => b"part=",
+        Attribute::Vendor => b"vendor=",
+        Attribute::Product => b"product=",
+        Attribute::Version => b"version=",
+        Attribute::Update => b"update=",
+        Attribute::Edition => b"edition=",
+        Attribute::Language => b"language=",
+        Attribute::SwEdition => b"sw_edition=",
+        Attribute::TargetSw => b"target_sw=",
+        Attribute::TargetHw => b"target_hw=",
+        Attribute::Other => b"other=",
+    }
+}
+
+// Which of these attributes stands there, and what is left behind its key.
+#[tactic(auto, unfolding(crate::specs::Scanning::name_at))]
+fn name_among<'a>(which: &[Attribute], bytes: &'a [u8]) -> Option<(Attribute, &'a [u8])>
+    ensures { Finds (λ x. (x.0, x.1.now)) result (name_at which.now bytes.now) }
+{
+    for attribute in which {
+        if let Some(rest) = after(key_of(*attribute), bytes) {
+            return Some((*attribute, rest));
+        }
+    }
+    None
+}
+
+// An attribute, the text of its value, and what is left behind them.
+#[tactic(auto, unfolding(crate::specs::Scanning::item_at))]
+fn scan_item(bytes: &[u8]) -> Option<(Attribute, &[u8], &[u8])>
+    ensures { Finds (λ x. ((x.0, x.1.now), x.2.now)) result (item_at bytes.now) }
+{
+    let (which, rest) = name_among(&ATTRIBUTES, bytes)?;
+    let (text, rest) = split_value(rest)?;
+    if is_lone(text) || !has_shape(which, text) {
+        return None;
+    }
+    Some((which, text, rest))
+}
+
+#[tactic(auto, unfolding(crate::specs::Scanning::skip))]
+fn skip_spaces(bytes: &[u8]) -> &[u8]
+    ensures { result.now ≡ skip bytes.now }
+{
+    let mut rest = bytes;
+    while let [b' ', tail @ ..] = rest {
+        rest = tail;
+    }
+    rest
+}
+
+// The end of the text, or what stands behind a comma and spaces.
+#[tactic(auto, unfolding(crate::specs::Scanning::next_at))]
+fn scan_next(bytes: &[u8]) -> Option<Option<&[u8]>>
+    ensures { Finds (λ next. option_map (λ r. r.now) next) result (next_at bytes.now) }
+{
+    match bytes {
+        [b',', rest @ ..] => Some(Some(skip_spaces(rest))),
+        [b']'] => Some(None),
+        _ => None,
+    }
+}
+
+fn is_some_text(text: &[u8]) -> bool
+    ensures { result ≡ is_some_text text.now }
+{
+    !text.is_empty()
+}
+
+// One attribute that was not given before, and what follows it.
+#[tactic(auto, unfolding(crate::specs::Scanning::step_at))]
+fn scan_step<'a>(written: &Written<'a>, bytes: &'a [u8]) -> Option<(Written<'a>, Option<&'a [u8]>)>
+    ensures { Finds (λ x. (texts x.0, option_map (λ r. r.now) x.1)) result (step_at (texts written.now) bytes.now) }
+{
+    let (which, text, rest) = scan_item(bytes)?;
+    if is_some_text(written.get(which)) {
+        return None;
+    }
+    let next = scan_next(rest)?;
+    Some((written.with(which, text), next))
+}
+
+// The attributes up to the end. There are eleven, so a twelfth would be given twice.
+#[tactic(auto, using(crate::proofs::Steps::over))]
+fn scan_list(bytes: &[u8]) -> Option<Written>
+    ensures { Finds texts result (list_at 11 none_given bytes.now) }
+{
+    let mut written = Written::none();
+    let mut rest = bytes;
+    for _ in 0..11u8 {
+        let Some((more, next)) = scan_step(&written, rest) else {
+            return None;
+        };
+        written = more;
+        match next {
+            Some(tail) => rest = tail,
+            None => return Some(written),
+        }
+    }
+    None
+}
+
+fn is_end(bytes: &[u8]) -> bool
+    ensures { result ≡ is_end bytes.now }
+{
+    matches!(bytes, [b']'])
+}
+
+fn scan_list_or_end(bytes: &[u8]) -> Option<Written>
+    ensures { Finds texts result (list_or_end bytes.now) }
+{
+    if is_end(bytes) {
+        return Some(Written::none());
+    }
+    scan_list(bytes)
+}
+
+// The whole text.
+#[tactic(auto, unfolding(crate::specs::Scanning::all_at))]
+fn scan_all(text: &[u8]) -> Option<Written>
+    ensures { Finds texts result (all_at text.now) }
+{
+    let Some(rest) = after(b"wfn:[", text) else {
+        return None;
+    };
+    scan_list_or_end(rest)
+}
+
+/// Where the values of a name lie in one of its texts (NIST IR 7695, 5.3). It takes no memory.
+///
+/// The list of attributes may be empty and stand in any order, each at most once, with any number of spaces behind
+/// a comma and nowhere else. There is no answer exactly where no name has the text.
+pub fn scan_wfn(text: &[u8]) -> Option<Written>
+    ensures found { IfSome result (AreWritten text.now) }
+    ensures refused { result ≡ None → ¬ (IsWfnText text.now) }
+{
+    scan_all(text)
+}
