@@ -6,7 +6,8 @@ use Rattle.cpe_name.specs.Text.{output_text}
 use Rattle.cpe_grammar.proofs.Places.{one_place}
 use Rattle.cpe_fs.specs.Grammar.{Fs, IsFs, LeavesAt}
 use Rattle.cpe_fs.specs.Scanning.{whole_end}
-use Rattle.cpe_fs.specs.SpanValues.{value_at, named}
+use Rattle.cpe_name.specs.Equal.{named}
+use Rattle.cpe_fs.specs.SpanValues.{value_at}
 use Rattle.cpe_fs.specs.Unbound.{unbound, Says}
 use Rattle.cpe_fs.proofs.Whole.{whole_name, whole_taken, components_of, leaves}
 use Rattle.cpe_fs.proofs.ValueLemmas.{named_back}

@@ -18,7 +18,7 @@ use Rattle.cpe_grammar.proofs.Places.{not_taken, within_text, place_of}
 use Rattle.cpe_fs.specs.Grammar.{component, fs_text, Fs, IsFs}
 use Rattle.cpe_fs.specs.Scanning.{is_colon, part_end, language_end, text_end, component_end, field_end, fields_end, whole_end}
 use Rattle.cpe_fs.specs.Spans.{IsSpan, spans, total_length, AreComponents, Leaves, behind_field, between, component_at, components_at}
-use Rattle.cpe_fs.specs.SpanValues.{named}
+use Rattle.cpe_name.specs.Equal.{named}
 use Rattle.cpe_fs.specs.declared.scan.Components.{Components}
 use Rattle.cpe_fs.proofs.Texts.{Ends, text_scans, text_taken}
 use Rattle.cpe_fs.proofs.Languages.{IsPart, part_scans, part_taken, IsLanguage, language_scans, language_taken}

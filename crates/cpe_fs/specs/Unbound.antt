@@ -6,7 +6,8 @@ use Rattle.cpe_name.specs.Text.{output_text}
 use Rattle.cpe_fs.specs.Grammar.{Fs}
 use Rattle.cpe_fs.specs.Scanning.{whole_end}
 use Rattle.cpe_fs.specs.Spans.{components_at}
-use Rattle.cpe_fs.specs.SpanValues.{value_at, named}
+use Rattle.cpe_name.specs.Equal.{named}
+use Rattle.cpe_fs.specs.SpanValues.{value_at}
 
 -- the name that has this formatted string has this output text
 pub record Says (s text : List ℕ) : Type 0 where
