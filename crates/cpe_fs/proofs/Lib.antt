@@ -5,3 +5,4 @@ pub mod Whole
 pub mod ValueLemmas
 pub mod Written
 pub mod Said
+pub mod Bounds

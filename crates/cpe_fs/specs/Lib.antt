@@ -4,3 +4,5 @@ pub mod Scanning
 pub mod Spans
 pub mod SpanValues
 pub mod Rewriting
+pub mod Bound
+pub mod Unquoting

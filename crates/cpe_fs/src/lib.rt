@@ -4,26 +4,31 @@
 //! and finds where its components lie. From there the name is made, or its text is written at once.
 #![tactic(auto)]
 
-ghost use Rattle.std.specs.Prelude.{◌≡◌, ℕ, List, ◌+◌, ◌*◌, ◌++◌, ◌≤◌, length, take, Ok, Err, IfOk, IfErr, OnErr, MatchResult};
+ghost use Rattle.std.specs.Prelude.{◌≡◌, ℕ, List, ◌+◌, ◌*◌, ◌++◌, ◌≤◌, length, take, Ok, Err, Some, None, IfOk, IfErr, IfSome, OnErr, MatchResult, MatchOption};
+ghost use Rattle.std.specs.Option.{option_map};
 ghost use Rattle.std.specs.Result.{result_map_both};
 ghost use Rattle.cpe_name.specs.declared.name.Values.{Values};
 ghost use Rattle.cpe_name.specs.Text.{output_text};
 ghost use Rattle.cpe_name.specs.Names.{IsName};
+ghost use Rattle.cpe_name.specs.WfnText.{WfnText, IsWfnText};
 ghost use Rattle.cpe_fs.specs.Grammar.{fs_text, Fs, LeavesAt, Refuses};
+ghost use Rattle.cpe_fs.specs.Bound.{bound, Binds, WritesBound};
 ghost use Rattle.cpe_fs.specs.Unbound.{unbound, Says, Writes};
 
 mod bind;
+mod bound;
 mod scan;
 #[cfg(test)]
 mod tests;
 mod values;
 mod write;
 
+use crate::bound::put_string;
 use crate::scan::scan_fs;
 use crate::values::values_of;
 use crate::write::put_name;
 pub use bind::{bind_fs, fs_len};
-use cpe_name::Wfn;
+use cpe_name::{Wfn, scan_wfn};
 use cpe_values::Memory;
 use std::alloc::Global;
 use thiserror::Error;
@@ -31,6 +36,10 @@ use thiserror::Error;
 /// The bytes that an output text has beside its values: the names of the attributes, the brackets,
 /// the commas and the quotes.
 pub const FRAME: usize = 127;
+
+/// The bytes that a formatted string has beside the values of the text that it is made from: `cpe:2.3`, eleven colons,
+/// and eleven values that the text may leave out.
+pub const BOUND_FRAME: usize = 29;
 
 /// Why a text has no name.
 #[derive(Clone, Copy, Debug, PartialEq, Eq, Error)]
@@ -119,4 +128,35 @@ pub fn one_text()
     ensures some { (name : Values) → IsName name → Fs name (fs_text name) }
     ensures text { (name : Values) (a b : List ℕ) → Fs name a → Fs name b → a ≡ b }
     ensures name { (a b : Values) (text : List ℕ) → Fs a text → Fs b text → a ≡ b }
+{}
+
+/// Writes the formatted string of the name that has this text (NIST IR 7695, 5.3 and 6.2.2) into `room`, from `at` on,
+/// and makes no name. It answers the place behind what was written; what stands from there on is not told.
+/// It takes no memory. There is no answer exactly where no name has the text; the room is then as it was.
+pub fn write_bound(room: &mut [u8], at: usize, text: &[u8]) -> Option<usize>
+    requires { at + length text.now + BOUND_FRAME ≤ length room.old }
+    // What was written is the formatted string of a name that has this text.
+    ensures found { IfSome result (λ end. WritesBound text.now (take at room.old) (take end room.new)) }
+    // The formatted string of a name that has this text is written.
+    ensures only { (name : Values) → WfnText name text.now → MatchOption result ⊥ (λ end. take end room.new ≡ take at room.old ++ fs_text name) }
+    ensures none { result ≡ None → ¬ (IsWfnText text.now) }
+
+    // The same by a function.
+    ensures said { option_map (λ end. take end room.new) result ≡ option_map (λ said. take at room.old ++ said) (bound text.now) }
+
+    ensures within { IfSome result (λ end. end ≤ at + length text.now + BOUND_FRAME) }
+    ensures length { length room.new ≡ length room.old }
+    ensures unchanged { result ≡ None → room.new ≡ room.old }
+{
+    let Some(written) = scan_wfn(text) else {
+        return None;
+    };
+    Some(put_string(room, at, &written))
+}
+
+/// What `bound` says of a text: the formatted string of the name that has it, and nothing exactly where no name has it.
+pub fn bound_is()
+    ensures named { (name : Values) (s : List ℕ) → WfnText name s → bound s ≡ Some (fs_text name) }
+    ensures found { (s text : List ℕ) → bound s ≡ Some text → Binds s text }
+    ensures none { (s : List ℕ) → bound s ≡ None → ¬ (IsWfnText s) }
 {}

@@ -9,7 +9,7 @@ use crate::FRAME;
 use crate::scan::Components;
 
 /// Puts bytes at a place. It tells the place behind them.
-fn put(room: &mut [u8], at: usize, bytes: &[u8]) -> usize
+pub(crate) fn put(room: &mut [u8], at: usize, bytes: &[u8]) -> usize
     requires { at + length bytes.now ≤ length room.old }
     ensures at { result ≡ at + length bytes.now }
     ensures room { length room.new ≡ length room.old }
@@ -20,7 +20,7 @@ fn put(room: &mut [u8], at: usize, bytes: &[u8]) -> usize
     end
 }
 
-fn put_byte(room: &mut [u8], at: usize, byte: u8) -> usize
+pub(crate) fn put_byte(room: &mut [u8], at: usize, byte: u8) -> usize
     requires { at + 1 ≤ length room.old }
     ensures at { result ≡ at + 1 }
     ensures room { length room.new ≡ length room.old }

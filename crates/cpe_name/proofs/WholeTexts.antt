@@ -106,7 +106,8 @@ from_any : (u : List ℕ) → value_from u ≡ value_from (or_any u)
 from_any [] = refl
 from_any (c ∷ u) = refl
 
-value_found : (v : Value) (u : List ℕ) → IsValue v → or_any u ≡ value_text v → value_from u ≡ v
+-- a value is found from its text
+pub value_found : (v : Value) (u : List ℕ) → IsValue v → or_any u ≡ value_text v → value_from u ≡ v
 value_found v u good is = from_any u ∙ ap value_from is ∙ value_back v good
 
 by_same : (f g : Attribute → List ℕ) (rest : List (Attribute × ℕ)) → AllByRecursion (λ b. f b ≡ g b) (names rest) → flat_map (later_by f) rest ≡ flat_map (later_by g) rest
@@ -225,6 +226,7 @@ none_new (b ∷ bs) = (ap is_some_text (none_slot b), none_new bs)
 pub record Again (w : Values) (s : List ℕ) : Type 0 where
   pub given : List (List ℕ)
   pub at : all_at s ≡ Some given
+  pub whole : by (slot given) ≡ given
   pub are : (a : Attribute) → or_any (slot given a) ≡ value_text (value_of w a)
 
 again_text : (w : Values) (s : List ℕ) (t : WfnText w s) (a : Attribute) → or_any (slot (by (given w (names t.items))) a) ≡ value_text (value_of w a)
@@ -270,12 +272,14 @@ unfolding all_at after_at
 all_again w s t = record {
   given = by (given w (names t.items));
   at = ap all_at t.text ∙ list_found w t.items t.name t.once;
+  whole = refl;
   are = again_text w s t;
 }
 
 -- ---- names
 
-good_value : (w : Values) (a : Attribute) → IsName w → IsValue (value_of w a)
+-- each value of a name is lawful
+pub good_value : (w : Values) (a : Attribute) → IsName w → IsValue (value_of w a)
 good_value w Part n = n.0.0
 good_value w Vendor n = n.1.0
 good_value w Product n = n.1.1.0
@@ -292,10 +296,11 @@ named_alike : (f g : Attribute → Value) → ((a : Attribute) → f a ≡ g a) 
 named_alike f g h = rw (h Part, h Vendor, h Product, h Version, h Update, h Edition, h Language, h SwEdition, h TargetSw, h TargetHw, h Other) refl
 
 -- the values of the texts of a name are its values
-name_back : (w : Values) (m : List (List ℕ)) → IsName w → ((a : Attribute) → or_any (slot m a) ≡ value_text (value_of w a)) → named (map value_from (by (slot m))) ≡ w
+pub name_back : (w : Values) (m : List (List ℕ)) → IsName w → ((a : Attribute) → or_any (slot m a) ≡ value_text (value_of w a)) → named (map value_from (by (slot m))) ≡ w
 name_back w m name are = named_alike (λ a. value_from (slot m a)) (value_of w) (λ a. value_found (value_of w a) (slot m a) (good_value w a name) (are a))
 
-each_text : (w : Values) (m : List (List ℕ)) → map or_any (by (slot m)) ≡ map (λ a. value_text (value_of w a)) attributes → (a : Attribute) → or_any (slot m a) ≡ value_text (value_of w a)
+-- each text is that of the value
+pub each_text : (w : Values) (m : List (List ℕ)) → map or_any (by (slot m)) ≡ map (λ a. value_text (value_of w a)) attributes → (a : Attribute) → or_any (slot m a) ≡ value_text (value_of w a)
 each_text w m are a = sym (slot_by (λ b. or_any (slot m b)) a) ∙ ap (λ (l : List (List ℕ)). slot l a) are ∙ slot_by (λ b. value_text (value_of w b)) a
 
 -- a text is that of one name

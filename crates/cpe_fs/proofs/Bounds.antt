@@ -1,0 +1,235 @@
+-- What is written of the texts of values is the formatted string of their name.
+use Rattle.std.proofs.Common.{◌≡◌, ℕ, zero, suc, ◌+◌, ◌-◌, Bool, true, false, ◌||◌, eqb, List, [], ◌∷◌, ◌++◌, length, take, map, replicate, Option, Some, None, refl, sym, ap, subst, ◌∙◌, inl, inr, append_assoc, arith, length-append}
+use Rattle.std.specs.Prelude.{codes}
+use Rattle.std.specs.List.{flat_map}
+use Rattle.std.specs.Option.{option_map}
+use Rattle.std.proofs.lemmas.List.{append-nil, take_at}
+use Rattle.std.proofs.lemmas.Bool.{cases_Bool, or_left, or_right, or_from}
+use Rattle.std.proofs.lemmas.Bool.Decides.{nat_tests}
+use Rattle.cpe_values.specs.declared.value.Edge.{Edge}
+use Rattle.cpe_values.specs.declared.value.Edge.TheVariants as edge
+use Rattle.cpe_values.specs.declared.value.Value.{Value}
+use Rattle.cpe_values.specs.declared.value.Value.TheVariants as value
+use Rattle.cpe_values.specs.declared.spelling.Style.TheVariants as style
+use Rattle.cpe_values.specs.Parts.{Parts}
+use Rattle.cpe_values.specs.Values.{IsValue}
+use Rattle.cpe_values.specs.Spelling.{edge_text, is_word, character, spelling}
+use Rattle.cpe_name.specs.declared.name.Values.{Values}
+use Rattle.cpe_name.specs.declared.attribute.Attribute.{Attribute}
+use Rattle.cpe_name.specs.declared.attribute.Attribute.TheVariants.{Part, Vendor, Product, Version, Update, Edition, Language, SwEdition, TargetSw, TargetHw, Other}
+use Rattle.cpe_name.specs.declared.scan.Written.{Written}
+use Rattle.cpe_name.specs.Equal.{named}
+use Rattle.cpe_name.specs.Names.{value_of}
+use Rattle.cpe_name.specs.Text.{value_text}
+use Rattle.cpe_name.specs.WfnText.{WfnText, IsWfnText}
+use Rattle.cpe_name.specs.Scanning.{slot, all_at}
+use Rattle.cpe_name.specs.Spans.{texts, or_any, AreWritten}
+use Rattle.cpe_name.specs.Unwriting.{value_from}
+use Rattle.cpe_name.proofs.WholeTexts.{Read, all_reads, Again, all_again, value_found, good_value, name_back, each_text}
+use Rattle.cpe_fs.specs.Grammar.{component, fs_text}
+use Rattle.cpe_fs.specs.Bound.{bound, Binds}
+use Rattle.cpe_fs.specs.Unquoting.{begins_bare, unquoted, component_from, keyed, written_string}
+
+-- ---- characters
+
+kept : (c : ℕ) (s : List ℕ) → eqb c 92 ≡ false → unquoted (c ∷ s) ≡ c ∷ unquoted s
+unfolding unquoted
+kept c s h = rw h refl
+
+dropped : (s : List ℕ) → begins_bare s ≡ true → unquoted (92 ∷ s) ≡ unquoted s
+unfolding unquoted
+dropped s h = rw h refl
+
+stays : (s : List ℕ) → begins_bare s ≡ false → unquoted (92 ∷ s) ≡ 92 ∷ unquoted s
+unfolding unquoted
+stays s h = rw h refl
+
+before_other : (c : ℕ) (s : List ℕ) → begins_bare s ≡ false → unquoted (c ∷ s) ≡ c ∷ unquoted s
+unfolding unquoted
+before_other c s h = elim (cases_Bool (eqb c 92)) [ inl k ↦ rw (k, h) refl | inr k ↦ rw k refl ]
+
+word_no_slash : (c : ℕ) → is_word c ≡ true → eqb c 92 ≡ false
+word_no_slash c h = grind (arith, nat_tests)
+
+word_no_bare : (c : ℕ) → is_word c ≡ true → (eqb c 46 || eqb c 45) ≡ false
+word_no_bare c h = grind (arith, nat_tests)
+
+dot_no_slash : (c : ℕ) → eqb c 46 ≡ true → eqb c 92 ≡ false
+dot_no_slash c h = grind (arith, nat_tests)
+
+hyphen_no_slash : (c : ℕ) → eqb c 45 ≡ true → eqb c 92 ≡ false
+hyphen_no_slash c h = grind (arith, nat_tests)
+
+-- a character in one style gives that in the other
+unquoted_character : (c : ℕ) (s : List ℕ) → begins_bare s ≡ false → unquoted (character style.Wfn c ++ s) ≡ character style.Formatted c ++ unquoted s
+unquoted_character c s h =
+    elim (cases_Bool (is_word c)) [
+      | inl w ↦ rw w (kept c s (word_no_slash c w))
+      | inr w ↦ elim (cases_Bool (eqb c 46)) [
+        | inl d ↦ rw (w, d) (dropped (c ∷ s) (or_left _ _ d) ∙ kept c s (dot_no_slash c d))
+        | inr d ↦ elim (cases_Bool (eqb c 45)) [
+          | inl k ↦ rw (w, d, k) (dropped (c ∷ s) (or_right _ _ k) ∙ kept c s (hyphen_no_slash c k))
+          | inr k ↦ rw (w, d, k) (stays (c ∷ s) (or_from _ _ d k) ∙ ap (λ (u : List ℕ). 92 ∷ u) (before_other c s h))
+        ]
+      ]
+    ]
+
+character_no_bare : (c : ℕ) (s : List ℕ) → begins_bare (character style.Wfn c ++ s) ≡ false
+character_no_bare c s =
+    elim (cases_Bool (is_word c)) [
+      | inl w ↦ rw w (word_no_bare c w)
+      | inr w ↦ rw w refl
+    ]
+
+-- ---- bodies and edges
+
+body_no_bare : (b s : List ℕ) → begins_bare s ≡ false → begins_bare (flat_map (character style.Wfn) b ++ s) ≡ false
+body_no_bare [] s h = h
+body_no_bare (c ∷ b) s h = ap begins_bare (append_assoc (character style.Wfn c) (flat_map (character style.Wfn) b) s) ∙ character_no_bare c (flat_map (character style.Wfn) b ++ s)
+
+unquoted_body : (b s : List ℕ) → begins_bare s ≡ false → unquoted (flat_map (character style.Wfn) b ++ s) ≡ flat_map (character style.Formatted) b ++ unquoted s
+unquoted_body [] s h = refl
+unquoted_body (c ∷ b) s h =
+    ap unquoted (append_assoc (character style.Wfn c) (flat_map (character style.Wfn) b) s)
+    ∙ unquoted_character c (flat_map (character style.Wfn) b ++ s) (body_no_bare b s h)
+    ∙ ap (λ (u : List ℕ). character style.Formatted c ++ u) (unquoted_body b s h)
+    ∙ sym (append_assoc (character style.Formatted c) (flat_map (character style.Formatted) b) (unquoted s))
+
+unquoted_marks : (n : ℕ) (s : List ℕ) → unquoted (replicate n 63 ++ s) ≡ replicate n 63 ++ unquoted s
+unquoted_marks zero s = refl
+unquoted_marks (suc n) s = kept 63 (replicate n 63 ++ s) refl ∙ ap (λ (u : List ℕ). 63 ∷ u) (unquoted_marks n s)
+
+unquoted_edge : (e : Edge) (s : List ℕ) → unquoted (edge_text e ++ s) ≡ edge_text e ++ unquoted s
+unquoted_edge edge.None s = refl
+unquoted_edge edge.Star s = kept 42 s refl
+unquoted_edge (edge.Marks n) s = unquoted_marks n s
+
+nothing_kept : unquoted [] ≡ []
+unfolding unquoted
+nothing_kept = refl
+
+-- nothing is kept of nothing
+pub none_kept : (s : List ℕ) → length s ≡ 0 → unquoted s ≡ []
+none_kept [] h = nothing_kept
+none_kept (c ∷ s) h = absurd (omega (arith, h))
+
+unquoted_end : (e : Edge) → unquoted (edge_text e) ≡ edge_text e
+unquoted_end e = ap unquoted (sym (append-nil (edge_text e))) ∙ unquoted_edge e [] ∙ ap (λ (u : List ℕ). edge_text e ++ u) nothing_kept ∙ append-nil (edge_text e)
+
+edge_no_bare : (e : Edge) → begins_bare (edge_text e) ≡ false
+edge_no_bare edge.None = refl
+edge_no_bare edge.Star = refl
+edge_no_bare (edge.Marks zero) = refl
+edge_no_bare (edge.Marks (suc n)) = refl
+
+-- the spelling in one style gives that in the other
+unquoted_spelling : (t : Parts) → unquoted (spelling style.Wfn t) ≡ spelling style.Formatted t
+unquoted_spelling t =
+    ap unquoted (append_assoc (edge_text t.lead) (flat_map (character style.Wfn) t.body) (edge_text t.trail))
+    ∙ unquoted_edge t.lead (flat_map (character style.Wfn) t.body ++ edge_text t.trail)
+    ∙ ap (λ (u : List ℕ). edge_text t.lead ++ u) (unquoted_body t.body (edge_text t.trail) (edge_no_bare t.trail) ∙ ap (λ (u : List ℕ). flat_map (character style.Formatted) t.body ++ u) (unquoted_end t.trail))
+    ∙ sym (append_assoc (edge_text t.lead) (flat_map (character style.Formatted) t.body) (edge_text t.trail))
+
+-- ---- components
+
+front_is : (x : List ℕ) → take (length (x ++ 34 ∷ []) - 1) (x ++ 34 ∷ []) ≡ x
+front_is x =
+    let long : length (x ++ 34 ∷ []) - 1 ≡ length x = omega (arith, length-append x (34 ∷ [])) in
+    ap (λ (n : ℕ). take n (x ++ 34 ∷ [])) long ∙ take_at x (34 ∷ []) (length x) refl
+
+text_component : (v : Value) → component_from (value_text v) ≡ component v
+unfolding component_from
+text_component value.Any = refl
+text_component value.Na = refl
+text_component (value.Text t) = ap unquoted (front_is (spelling style.Wfn t)) ∙ unquoted_spelling t
+
+none_component : component_from [] ≡ component value.Any
+unfolding component_from
+none_component = refl
+
+component_is : (u : List ℕ) (v : Value) → IsValue v → or_any u ≡ value_text v → component_from u ≡ component v
+component_is [] v good is = none_component ∙ ap component (value_found v [] good is)
+component_is (c ∷ u) v good is = ap component_from is ∙ text_component v
+
+-- ---- names
+
+string_by : (Attribute → List ℕ) → List ℕ
+string_by f =
+    (codes "cpe:2.3:" ++ f Part) ++ (58 ∷ f Vendor) ++ (58 ∷ f Product) ++ (58 ∷ f Version) ++ (58 ∷ f Update) ++ (58 ∷ f Edition) ++ (58 ∷ f Language) ++ (58 ∷ f SwEdition) ++ (58 ∷ f TargetSw) ++ (58 ∷ f TargetHw)
+    ++ (58 ∷ f Other)
+
+strings_alike : (f g : Attribute → List ℕ) → ((a : Attribute) → f a ≡ g a) → string_by f ≡ string_by g
+unfolding string_by
+strings_alike f g h = rw (h Part, h Vendor, h Product, h Version, h Update, h Edition, h Language, h SwEdition, h TargetSw, h TargetHw, h Other) refl
+
+regroup : (p a b c d e f g h i j : List ℕ) → p ++ a ++ b ++ c ++ d ++ e ++ f ++ g ++ h ++ i ++ j ≡ p ++ (a ++ (b ++ (c ++ (d ++ (e ++ (f ++ (g ++ (h ++ (i ++ j)))))))))
+regroup p a b c d e f g h i j = simp append_assoc
+
+fs_by : (w : Values) → string_by (λ a. component (value_of w a)) ≡ fs_text w
+unfolding string_by
+fs_by w = regroup (codes "cpe:2.3:" ++ component w.part) (58 ∷ component w.vendor) (58 ∷ component w.product) (58 ∷ component w.version) (58 ∷ component w.update) (58 ∷ component w.edition) (58 ∷ component w.language) (58 ∷ component w.sw_edition) (58 ∷ component w.target_sw) (58 ∷ component w.target_hw) (58 ∷ component w.other)
+
+string_of : (t : Written) → string_by (λ a. component_from (slot (texts t) a)) ≡ written_string t
+unfolding string_by keyed
+string_of t = refl
+
+-- what is written of the texts of a name is its formatted string
+pub written_is : (s : List ℕ) (t : Written) (are : AreWritten s t) → written_string t ≡ fs_text are.name
+written_is s t are =
+    sym (string_of t)
+    ∙ strings_alike (λ a. component_from (slot (texts t) a)) (λ a. component (value_of are.name a)) (λ a. component_is (slot (texts t) a) (value_of are.name a) (good_value are.name a are.has.name) (each_text are.name (texts t) are.are a))
+    ∙ fs_by are.name
+
+-- ---- what a text says
+
+abbrev text_said : List ℕ → Option (List ℕ)
+text_said t = Some t
+
+abbrev nothing_said : Option (List ℕ)
+nothing_said = None
+
+text_is : (s t : List ℕ) → text_said s ≡ text_said t → s ≡ t
+text_is s t e = cc
+
+not_both : (s : List ℕ) → text_said s ≡ nothing_said → ⊥
+not_both s e = cc
+
+-- the text of a name says its formatted string
+pub says_string : (name : Values) (s : List ℕ) → WfnText name s → bound s ≡ Some (fs_text name)
+unfolding bound
+says_string name s has =
+    let x = all_again name s has in
+    let back : named (map value_from x.given) ≡ name = ap (λ (m : List (List ℕ)). named (map value_from m)) (sym x.whole) ∙ name_back name x.given has.name x.are in
+    rw x.at (ap (λ (w : Values). text_said (fs_text w)) back)
+
+no_string : (s : List ℕ) → all_at s ≡ None → bound s ≡ None
+unfolding bound
+no_string s e = rw e refl
+
+-- what is said is the formatted string of a name that has the text
+pub says_name : (s text : List ℕ) → bound s ≡ Some text → Binds s text
+says_name s text is = go (all_at s) refl where
+  go : (r : Option (List (List ℕ))) → all_at s ≡ r → Binds s text
+  go (Some m) e = let so = all_reads s m e in record { name = so.name; has = so.has; is = text_is text (fs_text so.name) (sym is ∙ says_string so.name s so.has) }
+  go None e = absurd (not_both text (sym is ∙ no_string s e))
+
+-- where nothing is said no name has the text
+pub says_nothing : (s : List ℕ) → bound s ≡ None → IsWfnText s → ⊥
+says_nothing s none is = not_both (fs_text is.0) (sym (says_string is.0 s is.1) ∙ none)
+
+-- nothing is said of a text that no name has
+pub nothing_is_said : (s : List ℕ) → (IsWfnText s → ⊥) → bound s ≡ None
+nothing_is_said s never = go (bound s) refl where
+  go : (r : Option (List ℕ)) → bound s ≡ r → bound s ≡ None
+  go (Some text) e = let so = says_name s text e in absurd (never (so.name, so.has))
+  go None e = e
+
+-- ---- behind what stood before
+
+-- what was written is what is said
+pub said_is : (s : List ℕ) (name : Values) (old new : List ℕ) → WfnText name s → new ≡ old ++ fs_text name → text_said new ≡ option_map (λ said. old ++ said) (bound s)
+said_is s name old new has is = ap text_said is ∙ ap (option_map (λ said. old ++ said)) (sym (says_string name s has))
+
+-- nothing is written of a text that no name has
+pub unsaid_is : (s old : List ℕ) → (IsWfnText s → ⊥) → nothing_said ≡ option_map (λ said. old ++ said) (bound s)
+unsaid_is s old never = ap (option_map (λ said. old ++ said)) (sym (nothing_is_said s never))

@@ -1,0 +1,28 @@
+-- The formatted string of a name, made from the texts of its values byte by byte: the backslash before `.` and `-` is
+-- dropped, and all else stands. No public clause speaks of it.
+use Rattle.std.specs.Prelude.{ℕ, ◌-◌, Bool, false, List, [], ◌∷◌, ◌++◌, length, take, codes, ◌||◌, ◌&&◌, ◌==◌, if◌then◌else◌}
+use Rattle.cpe_name.specs.declared.scan.Written.{Written}
+
+-- a `.` or a `-` stands in front
+abbrev pub begins_bare : List ℕ → Bool
+begins_bare [] = false
+begins_bare (c ∷ s) = c == 46 || c == 45
+
+-- without each backslash before `.` and `-`
+unfoldable pub unquoted : List ℕ → List ℕ
+unquoted [] = []
+unquoted (c ∷ s) = if c == 92 && begins_bare s then unquoted s else c ∷ unquoted s
+
+-- the component of the value that has this text; nothing is ANY
+unfoldable pub component_from : List ℕ → List ℕ
+component_from [] = 42 ∷ []
+component_from (c ∷ s) = if c == 34 then unquoted (take (length s - 1) s) else (if c == 78 then 45 ∷ [] else 42 ∷ [])
+
+-- a key, and the component of a value
+unfoldable pub keyed : List ℕ → List ℕ → List ℕ
+keyed key u = key ++ component_from u
+
+-- the whole string
+abbrev pub written_string : Written → List ℕ
+written_string w =
+    keyed (codes "cpe:2.3:") w.part.now ++ keyed (codes ":") w.vendor.now ++ keyed (codes ":") w.product.now ++ keyed (codes ":") w.version.now ++ keyed (codes ":") w.update.now ++ keyed (codes ":") w.edition.now ++ keyed (codes ":") w.language.now ++ keyed (codes ":") w.sw_edition.now ++ keyed (codes ":") w.target_sw.now ++ keyed (codes ":") w.target_hw.now ++ keyed (codes ":") w.other.now
