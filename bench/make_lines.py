@@ -3,15 +3,21 @@
 
 usage: make_lines.py MODE LINES FILE
 
-valid    formatted strings, drawn from the sample
-refused  formatted strings that are spoilt: one third each is cut off late, is cut off
-         early, and has inside it a character that can't stand there unquoted
-long     formatted strings of 65,536 bytes, nearly all of them in the product
-edges    lines about the greatest length, long ones and odd line ends (LINES is not read);
-         only for the comparison of outputs
+valid        formatted strings, drawn from the sample
+refused      formatted strings that are spoilt: one third each is cut off late, is cut off
+             early, and has inside it a character that can't stand there unquoted
+long         formatted strings of 65,536 bytes, nearly all of them in the product
+wfn          the texts of the well-formed names of the lines of `valid`, all eleven
+             attributes in their order
+wfn-refused  such texts that are spoilt: one third each is cut off, has a fault of quoting
+             inside a value, and has an attribute twice or a part that is none
+edges        lines about the greatest length, long ones and odd line ends, and names whose
+             attributes stand in other ways (LINES is not read); only for the comparison
+             of outputs
 """
 import pathlib
 import random
+import re
 import sys
 
 SAMPLE = pathlib.Path(__file__).resolve().parent / "official-names.txt"
@@ -20,6 +26,10 @@ LONGEST = 65536
 PREFIX = b"cpe:2.3:"
 # None of these stands in a formatted string without a backslash, or at all.
 SPOILERS = (b"!", b"/", b"(", b"\\.", b" ", b"\x7f", b"\xc3\xa9")
+ATTRIBUTES = b"part vendor product version update edition language sw_edition target_sw target_hw other".split()
+# None of these stands between the quotes of a value, behind a whole character.
+QUOTE_FAULTS = (b".", b"-", b"!", b'"', b"\\a", b"\\_", b" ", b"\x7f", b"\xc3\xa9")
+BAD_PARTS = (b'"x"', b'"A"', b'"ah"', b'"*"', b'""', b"a")
 
 
 class Draw:
@@ -97,19 +107,107 @@ def long_lines(count):
         yield named(body_of(draw, products, room))
 
 
+def value_of(component):
+    """The value of a component of a formatted string, as the text of a well-formed name has it."""
+    if component in (b"*", b"-"):
+        return b"ANY" if component == b"*" else b"NA"
+    return b'"' + re.sub(rb"\\.|[.-]", lambda it: it[0] if len(it[0]) == 2 else b"\\" + it[0], component) + b'"'
+
+
+def attributes_of(name):
+    """The eleven attributes of the name of this formatted string, such as `vendor="foo"`."""
+    components = re.findall(rb"(?:\\.|[^\\:])+", name[len(PREFIX) :])
+    return [key + b"=" + value_of(it) for key, it in zip(ATTRIBUTES, components, strict=True)]
+
+
+def well_formed(attributes, comma=b","):
+    return b"wfn:[" + comma.join(attributes) + b"]"
+
+
+def wfn_lines(count):
+    texts = {name: well_formed(attributes_of(name)) for name in sample()}
+    return map(texts.get, valid_lines(count))
+
+
+def cut_off(draw, attributes):
+    """The text up to anywhere, at least one byte of it, and never its last."""
+    text = well_formed(attributes)
+    return text[: draw.between(1, len(text) - 1)]
+
+
+def misquoted(draw, attributes):
+    """The text with a fault of quoting in a value, where no backslash stands before it."""
+    spoilt = draw.one_of([n for n, it in enumerate(attributes) if it.endswith(b'"')])
+    before, value = attributes[spoilt].split(b'"', 1)
+    while True:
+        at = draw.between(0, len(value) - 1)
+        if value[:at].endswith(b"\\"):
+            continue
+        value = value[:at] + draw.one_of(QUOTE_FAULTS) + value[at:]
+        return well_formed([*attributes[:spoilt], before + b'"' + value, *attributes[spoilt + 1 :]])
+
+
+def doubled_or_bad_part(draw, attributes):
+    """The text with an attribute twice, or with a part that is none."""
+    if draw.between(0, 1):
+        return well_formed([b"part=" + draw.one_of(BAD_PARTS), *attributes[1:]])
+    at = draw.between(0, len(attributes))
+    return well_formed([*attributes[:at], draw.one_of(attributes), *attributes[at:]])
+
+
+def refused_wfn_lines(count):
+    draw, names = Draw(), [attributes_of(name) for name in sample()]
+    spoil = (cut_off, misquoted, doubled_or_bad_part)
+    for number in range(count):
+        yield spoil[number % 3](draw, draw.one_of(names))
+
+
+def wfn_edges():
+    """Texts about the greatest length, and such whose attributes stand in other ways than in `wfn`."""
+    room = LONGEST - len(b'wfn:[product=""]')
+    attributes = attributes_of(sample()[0])
+    given = [it for it in attributes if not it.endswith(b"=ANY")]
+    orders = (attributes, attributes[::-1], given, given[::-1])
+    commas = (b",", b", ", b",   ", b" ,", b",\t")
+    return [
+        *(b'wfn:[product="' + b"x" * (room + more) + b'"]' for more in (-2, -1, 0, 1, 2)),
+        b'wfn:[product="' + b"\\." * (room // 2) + b'"]',
+        b"wfn:[part=NA," + b" " * (LONGEST - 22) + b"other=NA]",
+        b"wfn:[part=NA," + b" " * (LONGEST - 14) + b"]",
+        *(well_formed(order, comma) for order in orders for comma in commas),
+        *(well_formed([it]) for it in attributes),
+        *(well_formed([it, it]) for it in attributes),
+        b"wfn:[]",
+        b"wfn:[ ]",
+        b"wfn:[,]",
+        b'wfn:[vendor="?*"]',
+        b'wfn:[vendor="\\-"]',
+        b'wfn:[vendor="*x??",product="???x*",version="*\\-",update="\\-?"]',
+        b'wfn:[language="en\\-001", part="h"]',
+        b'wfn:[language="en\\-01"]',
+    ]
+
+
 def edges():
     """One text, since its line ends differ and the last line has none."""
     room = LONGEST - len(named(b""))
     fitting = [named(b"x" * (room - short)) for short in (0, 1, 2)]
     too_long = [named(b"x" * (room + more)) for more in (1, 2, LONGEST, 4 * LONGEST)]
     name = sample()[0]
+    odd = (b"", b"\r", name, name + b"\r", b" ", b"CPE:/a:v:p", b"x" * LONGEST)
     lines = []
-    for line in (*fitting, *too_long, b"", b"\r", name, name + b"\r", b" ", b"CPE:/a:v:p", b"x" * LONGEST):
+    for line in (*fitting, *too_long, *odd, *wfn_edges()):
         lines += [line + b"\n", line + b"\r\n"]
     return b"".join(lines) + b"x" * (4 * LONGEST)
 
 
-MODES = {"valid": valid_lines, "refused": refused_lines, "long": long_lines}
+MODES = {
+    "valid": valid_lines,
+    "refused": refused_lines,
+    "long": long_lines,
+    "wfn": wfn_lines,
+    "wfn-refused": refused_wfn_lines,
+}
 
 
 def write(mode, count, path):

@@ -1,8 +1,9 @@
 #!/usr/bin/env python3
-"""Measures `cpe unbind` against unproved Rust programs that write the same, on the same input.
+"""Measures `cpe unbind` and `cpe bind fs` against unproved Rust programs that write the same,
+on the same input.
 
-Prints a table for each input: seconds, the ratio to `cpe unbind`, and peak memory. README.md
-beside this file says how to read it.
+Prints a table for each command and input: seconds, the ratio to `cpe`, and peak memory.
+README.md beside this file says how to read it.
 """
 import argparse
 import fcntl
@@ -22,10 +23,11 @@ import make_lines
 HERE = pathlib.Path(__file__).resolve().parent
 TOP = HERE.parent
 BUILD = TOP / "build" / "bench"
-OURS = "cpe unbind"
-# What copies only, and what answers as `cpe unbind` does.
+# The commands, each with the twins that answer as it does; and what copies only.
+UNBIND, BIND = "cpe unbind", "cpe bind fs"
+TWINS = {UNBIND: ["unbind_tuned", "unbind_plain"], BIND: ["bind_tuned", "bind_plain"]}
 COPIES = ["lines"]
-TWINS = ["unbind_tuned", "unbind_plain"]
+USAGE = 2
 PIECE = 1 << 16
 
 
@@ -40,7 +42,7 @@ def built_twins():
         return {}
     BUILD.mkdir(parents=True, exist_ok=True)
     found = {}
-    for name in TWINS + COPIES:
+    for name in [*TWINS[UNBIND], *TWINS[BIND], *COPIES]:
         source, program = HERE / "twins" / f"{name}.rs", BUILD / name
         if is_older(program, source):
             # (the processor that Rattle builds for, too)
@@ -78,15 +80,15 @@ def difference(ours, theirs, path):
     return found or (f"exit status {statuses[0]} and {statuses[1]}" if statuses[0] != statuses[1] else None)
 
 
-def check_twins(ours, programs, paths):
+def check_twins(command, programs, paths):
     """Ends this run where a twin doesn't answer as our program does: its times would tell nothing."""
     differ = False
-    for name in (it for it in TWINS if it in programs):
+    for name in (it for it in TWINS[command] if it in programs):
         for path in paths:
-            found = difference(ours, programs[name], path)
+            found = difference(programs[command], programs[name], path)
             if found:
                 differ = True
-                print(f"{name} and {OURS} differ on {path.name}: {found}")
+                print(f"{name} and {command} differ on {path.name}: {found}")
     if differ:
         sys.exit(1)
 
@@ -142,19 +144,31 @@ def in_kib(number):
     return "-" if number is None else f"{number:,}"
 
 
-def measure(programs, path, rounds):
+def measure(command, programs, path, rounds):
     times = best_times(programs, path, rounds)
     print(f"\n{path.name}: {path.stat().st_size / 1e6:.1f} MB, best of {rounds}, output to /dev/null")
     print(f"{'program':<14}{'seconds':>9}{'ratio':>8}{'peak KiB':>10}")
     for name, words in programs.items():
-        ratio, most = times[name] / times[OURS], in_kib(peak(words, path))
+        ratio, most = times[name] / times[command], in_kib(peak(words, path))
         print(f"{name:<14}{times[name]:>9.3f}{ratio:>8.2f}{most:>10}", flush=True)
 
 
 def measure_memory(ours, counts):
-    print(f"\n{OURS}, peak memory by the number of lines")
+    print(f"\n{UNBIND}, peak memory by the number of lines")
     for count in counts:
         print(f"{count:>10,} lines{in_kib(peak(ours, made('valid', count))):>10} KiB")
+
+
+def knows(words):
+    """Whether the program has this command; where it hasn't, it answers its usage line."""
+    run = subprocess.run(words, stdin=subprocess.DEVNULL, stdout=subprocess.PIPE)
+    return not (run.returncode == USAGE and run.stdout.startswith(b"usage: "))
+
+
+def side_by_side(program, command, others):
+    """The words of our program under this command and of the others that are measured with it, by name."""
+    names = [it for it in [*TWINS[command], *COPIES] if it in others]
+    return {command: [program, *command.split()[1:]], **{name: others[name] for name in names}}
 
 
 def said():
@@ -172,16 +186,22 @@ def said():
 
 def main():
     given = said()
-    ours = [given.program.resolve(), "unbind"]
-    programs = {OURS: ours, **built_twins()}
+    others = built_twins()
+    unbind, bind = (side_by_side(given.program.resolve(), command, others) for command in (UNBIND, BIND))
     # (as many lines as make about 60 MB, where the other inputs have 1,000,000)
     long = max(1, given.lines * 915 // 1_000_000)
-    paths = [made("valid", given.lines), made("refused", given.lines), made("long", long)]
-    check_twins(ours, programs, [*paths, made("edges", 0)])
+    parts = [(UNBIND, unbind, [made("valid", given.lines), made("refused", given.lines), made("long", long)])]
+    if knows(bind[BIND]):
+        parts.append((BIND, bind, [made("wfn", given.lines), made("wfn-refused", given.lines)]))
+    else:
+        print(f"the program has no command {BIND}: that part is left out")
+    for command, programs, paths in parts:
+        check_twins(command, programs, [*paths, made("edges", 0)])
     print(f"load before: {os.getloadavg()[0]:.1f} on {os.cpu_count()} processors")
-    for path in paths:
-        measure(programs, path, given.rounds)
-    measure_memory(ours, [given.lines // 100, given.lines // 10, given.lines])
+    for command, programs, paths in parts:
+        for path in paths:
+            measure(command, programs, path, given.rounds)
+    measure_memory(unbind[UNBIND], [given.lines // 100, given.lines // 10, given.lines])
     print(f"\nload behind: {os.getloadavg()[0]:.1f}")
 
 

@@ -77,6 +77,14 @@ answers_long_lines() {
     answers 'lines about the greatest length' "$room/long.txt" "$room/long.out" 1 unbind
 }
 
+# The texts of names go back to their formatted strings.
+answers_bindings() {
+    answers 'the texts of names' examples/wfn.txt examples/wfn.out 1 bind fs
+    limited "$program" unbind < examples/names.txt 2> /dev/null |
+        limited "$program" bind fs > "$room/out" 2> "$room/error"
+    judge 'the real names unbound and bound again' $? 0 examples/names.txt
+}
+
 # Words that are no command leave the input unread.
 answers_usage() {
     echo "$usage" > "$room/usage.out"
@@ -127,6 +135,7 @@ answers 'the mixed lines' examples/mixed.txt examples/mixed.out 1 unbind
 answers 'an empty input' /dev/null /dev/null 0 unbind
 answers_in_pieces
 answers_long_lines
+answers_bindings
 answers_usage
 answers_at_once
 fails_on_a_full_device
