@@ -1,5 +1,5 @@
 -- What the parts of the program do to the output that is gathered.
-use Rattle.std.specs.Prelude.{◌≡◌, ℕ, List, ◌++◌, Some, None, Ok, Err}
+use Rattle.std.specs.Prelude.{◌≡◌, ℕ, Bool, true, false, List, ◌++◌, Some, None, Ok, Err}
 use Rattle.std.specs.declared.option.Option.{Option}
 use Rattle.std.specs.declared.result.Result.{Result}
 use Rattle.std.specs.Io.KnownBytes.{Appends}
@@ -17,6 +17,11 @@ standing progress = record { number = progress.number; refused = progress.refuse
 abbrev pub Gains : Result (List ℕ) ℕ → List ℕ → List ℕ → Option ℕ → Type 0
 Gains (Ok text) old new refused = (new ≡ old ++ text) × (refused ≡ None)
 Gains (Err place) old new refused = (new ≡ old) × (refused ≡ Some place)
+
+-- the text was put behind the page, or there is none and the page is as it was
+abbrev pub GainsText : Option (List ℕ) → List ℕ → List ℕ → Bool → Type 0
+GainsText (Some text) old new gained = (new ≡ old ++ text) × (gained ≡ true)
+GainsText None old new gained = (new ≡ old) × (gained ≡ false)
 
 -- what a line says was put behind the page, or the page is as it was and the reason is told
 abbrev pub Said : Result (List ℕ) Reason → List ℕ → List ℕ → Option Reason → Type 0

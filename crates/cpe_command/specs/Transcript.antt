@@ -5,11 +5,12 @@ use Rattle.std.specs.declared.result.Result.{Result}
 use Rattle.std.specs.Fmt.{decimal}
 use Rattle.std.specs.Str.{str_eq_ignore_ascii_case}
 use Rattle.cpe_fs.specs.Unbound.{unbound}
+use Rattle.cpe_fs.specs.Bound.{bound}
 use Rattle.cpe_io.specs.Lines.{lines}
 use Rattle.cpe_command.specs.declared.command.Command.{Command}
-use Rattle.cpe_command.specs.declared.command.Command.TheVariants.{Unbind}
+use Rattle.cpe_command.specs.declared.command.Command.TheVariants.{Unbind, BindFs}
 use Rattle.cpe_command.specs.declared.answer.Reason.{Reason}
-use Rattle.cpe_command.specs.declared.answer.Reason.TheVariants.{Long, NotBuilt, Name}
+use Rattle.cpe_command.specs.declared.answer.Reason.TheVariants.{Long, Wfn, NotBuilt, Name}
 use Rattle.cpe_command.specs.declared.status.Status.{Status}
 use Rattle.cpe_command.specs.declared.status.Status.TheVariants.{Done, SomeRefused, Usage}
 
@@ -26,14 +27,21 @@ named (Err place) = Err (Name place)
 abbrev pub unbinds : List ℕ → Result (List ℕ) Reason
 unbinds text = if begins_as_uri text then Err NotBuilt else named (unbound text)
 
+-- a line of the text that was said, or that there is none
+abbrev pub bound_line : Option (List ℕ) → Result (List ℕ) Reason
+bound_line (Some text) = Ok (text ++ codes "\n")
+bound_line None = Err Wfn
+
 -- what a line says: what is to be written for it, or why it is refused. A line that is too long is `None`
 abbrev pub says : Command → Option (List ℕ) → Result (List ℕ) Reason
 says command None = Err Long
 says command (Some []) = Ok []
 says Unbind (Some (x ∷ xs)) = unbinds (x ∷ xs)
+says BindFs (Some (x ∷ xs)) = bound_line (bound (x ∷ xs))
 
 abbrev pub reason_text : Reason → List ℕ
 reason_text Long = codes "long"
+reason_text Wfn = codes "wfn"
 reason_text NotBuilt = codes "not-built"
 reason_text (Name place) = codes "name " ++ decimal place
 

@@ -2,7 +2,8 @@
 ghost use Rattle.std.specs.Prelude.{◌≡◌, ◌+◌, ◌^◌, ◌<◌, ◌++◌, List, ℕ, Some, OnOk, IfOk, IfSome, is_none, codes};
 ghost use Rattle.std.specs.Fmt.{decimal};
 ghost use Rattle.cpe_io.specs.Shown.{lent};
-ghost use Rattle.cpe_command.specs.Transcript.{answer, step, refusal, reason_text, says, unbinds, begins_as_uri};
+ghost use Rattle.cpe_fs.specs.Bound.{bound};
+ghost use Rattle.cpe_command.specs.Transcript.{answer, step, refusal, reason_text, says, unbinds, bound_line, begins_as_uri};
 ghost use Rattle.cpe_command.specs.Pages.{standing, Said};
 
 use crate::command::Command;
@@ -17,6 +18,8 @@ use std::alloc::AllocError;
 pub enum Reason {
     /// The line has more than 65,536 bytes.
     Long,
+    /// The line is the text of no well-formed name.
+    Wfn,
     /// The line begins as a URI, which the program can't read yet.
     NotBuilt,
     /// No name has this formatted string, and this is its place.
@@ -72,6 +75,7 @@ fn say_text(page: &mut Page, command: Command, text: &[u8]) -> Result<Option<Rea
     match (command, text) {
         (_, []) => Ok(None),
         (Command::Unbind, _) => say_name(page, text),
+        (Command::BindFs, _) => say_formatted_string(page, text),
     }
 }
 
@@ -83,6 +87,16 @@ fn say_name(page: &mut Page, text: &[u8]) -> Result<Option<Reason>, AllocError>
     }
     if let Some(place) = page.push_unbound(text)? {
         return Ok(Some(Reason::Name(place)));
+    }
+    page.push(b"\n")?;
+    Ok(None)
+}
+
+fn say_formatted_string(page: &mut Page, text: &[u8]) -> Result<Option<Reason>, AllocError>
+    ensures { IfOk result (Said (bound_line (bound text.now)) page.old page.new) }
+{
+    if !page.push_bound(text)? {
+        return Ok(Some(Reason::Wfn));
     }
     page.push(b"\n")?;
     Ok(None)
@@ -114,6 +128,7 @@ fn push_reason(page: &mut Page, reason: Reason) -> Result<(), AllocError>
 {
     match reason {
         Reason::Long => page.push(b"long"),
+        Reason::Wfn => page.push(b"wfn"),
         Reason::NotBuilt => page.push(b"not-built"),
         Reason::Name(place) => push_place(page, place),
     }

@@ -1,5 +1,5 @@
 // The commands.
-ghost use Rattle.std.specs.Prelude.{◌≡◌, map, string_bytes};
+ghost use Rattle.std.specs.Prelude.{◌≡◌, [], ◌∷◌, map, string_bytes};
 ghost use Rattle.cpe_command.specs.Command.{command_of};
 
 /// What the program is asked to do with each line.
@@ -7,18 +7,35 @@ ghost use Rattle.cpe_command.specs.Command.{command_of};
 pub enum Command {
     /// A formatted string is written as the text of its well-formed name.
     Unbind,
+    /// The text of a well-formed name is written as its formatted string.
+    BindFs,
 }
 
 /// The command that the words name, if they name one.
 pub fn read_words(words: &[String]) -> Option<Command>
     ensures { result ≡ command_of (map string_bytes words.now) }
 {
-    let [word] = words else {
-        return None;
-    };
-    if word.as_str() == "unbind" {
-        Some(Command::Unbind)
-    } else {
-        None
+    match words {
+        [word] => read_word(word),
+        [first, second] => read_two(first, second),
+        _ => None,
     }
+}
+
+fn read_word(word: &String) -> Option<Command>
+    ensures { result ≡ command_of (string_bytes word.now ∷ []) }
+{
+    if word.as_str() == "unbind" {
+        return Some(Command::Unbind);
+    }
+    None
+}
+
+fn read_two(first: &String, second: &String) -> Option<Command>
+    ensures { result ≡ command_of (string_bytes first.now ∷ string_bytes second.now ∷ []) }
+{
+    if first.as_str() == "bind" && second.as_str() == "fs" {
+        return Some(Command::BindFs);
+    }
+    None
 }

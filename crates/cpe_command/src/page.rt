@@ -4,9 +4,10 @@ ghost use Rattle.std.specs.Io.KnownBytes.{Appends};
 ghost use Rattle.cpe_io.specs.Causes.{HasSinkCause};
 ghost use Rattle.cpe_io.specs.Writes.{AppendsFront};
 ghost use Rattle.cpe_fs.specs.Unbound.{unbound};
-ghost use Rattle.cpe_command.specs.Pages.{Flushes, Gains};
+ghost use Rattle.cpe_fs.specs.Bound.{bound};
+ghost use Rattle.cpe_command.specs.Pages.{Flushes, Gains, GainsText};
 
-use cpe_fs::{FRAME, write_unbound};
+use cpe_fs::{BOUND_FRAME, FRAME, write_bound, write_unbound};
 use cpe_io::{Sink, SinkFault, write_all};
 use std::alloc::{AllocError, Global};
 use std::marker::Model;
@@ -72,6 +73,21 @@ impl Page {
                 Ok(None)
             }
             Err(place) => Ok(Some(place)),
+        }
+    }
+
+    /// Puts the formatted string of the name that has this text behind what is gathered. It tells whether there is one.
+    pub fn push_bound(&mut self, text: &[u8]) -> Result<bool, AllocError>
+        ensures { IfOk result (GainsText (bound text.now) self.old self.new) }
+    {
+        let most = text.len().saturating_add(BOUND_FRAME);
+        make_room(&mut self.room, self.used, most)?;
+        match write_bound(&mut self.room, self.used, text) {
+            Some(end) => {
+                self.used = end;
+                Ok(true)
+            }
+            None => Ok(false),
         }
     }
 

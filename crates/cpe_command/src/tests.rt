@@ -254,3 +254,42 @@ fn a_fault_ends_the_run_and_what_whole_lines_say_stands(rt: HostRuntime) -> Resu
     }
     Ok(())
 }
+
+#[test]
+fn bind_fs_answers_each_line_in_any_pieces(rt: HostRuntime) -> Result<(), Fail> {
+    let words = words_of(rt.alloc(), &["bind", "fs"])?;
+    let rows: [(&[u8], Status, &[u8]); 4] = [
+        (b"\n\r\n", Status::Done, b""),
+        (
+            b"wfn:[part=\"a\",vendor=\"foo\\\\bar\",product=\"big\\$money_2010\",sw_edition=\"special\",target_sw=\"ipod_touch\",target_hw=\"80gb\"]",
+            Status::Done,
+            b"cpe:2.3:a:foo\\\\bar:big\\$money_2010:*:*:*:*:special:ipod_touch:80gb:*\n",
+        ),
+        (
+            b"wfn:[vendor=\"a.b\"]\r\nwfn:[]",
+            Status::SomeRefused,
+            b"refused 1 wfn\ncpe:2.3:*:*:*:*:*:*:*:*:*:*:*\n",
+        ),
+        (EXPLORER, Status::SomeRefused, b"refused 1 wfn\n"),
+    ];
+    for (input, status, output) in rows {
+        for piece in [1, 2, 65536] {
+            let (answer, written) = run_in_pieces(rt.alloc(), &words, input, piece)?;
+            assert_eq!(rt; answer, status);
+            assert_eq!(rt; written.as_slice(), output);
+        }
+    }
+    Ok(())
+}
+
+#[test]
+fn bind_fs_takes_back_what_unbind_wrote(rt: HostRuntime) -> Result<(), Fail> {
+    let unbind = words_of(rt.alloc(), &["unbind"])?;
+    let bind = words_of(rt.alloc(), &["bind", "fs"])?;
+    let (_, names) = run_in_pieces(rt.alloc(), &unbind, EXPLORER, 65536)?;
+    let (answer, text) = run_in_pieces(rt.alloc(), &bind, &names, 65536)?;
+    assert_eq!(rt; answer, Status::Done);
+    assert!(rt; text.starts_with(EXPLORER));
+    assert_eq!(rt; text.len(), EXPLORER.len() + 1);
+    Ok(())
+}
