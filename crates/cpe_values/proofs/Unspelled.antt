@@ -8,7 +8,7 @@ use Rattle.cpe_values.specs.declared.value.Edge.{Edge}
 use Rattle.cpe_values.specs.declared.value.Edge.TheVariants as edge
 use Rattle.cpe_values.specs.declared.spelling.Style.{Style}
 use Rattle.cpe_values.specs.declared.spelling.Style.TheVariants as style
-use Rattle.cpe_values.specs.Parts.{Parts, parts, IsText, IsEdge}
+use Rattle.cpe_values.specs.Parts.{Parts, IsText, IsEdge}
 use Rattle.cpe_values.specs.Spelling.{is_bare, character, edge_text, spelling}
 use Rattle.cpe_values.specs.Spelled.{IsSpelling}
 use Rattle.cpe_values.specs.Unspelling.{is_special, marks_count, edge_at, behind_edge, body_at, behind_body, parts_at}

@@ -1,5 +1,5 @@
 -- Values in lower case, and values with specials (NIST IR 7695, 5.3).
-use Rattle.std.specs.Prelude.{Bool, true, false, not, ◌||◌}
+use Rattle.std.specs.Prelude.{Bool, false, not, ◌||◌}
 use Rattle.std.specs.Str.{str_to_ascii_lowercase}
 use Rattle.cpe_values.specs.declared.value.Value.{Value}
 use Rattle.cpe_values.specs.declared.value.Value.TheVariants as value
