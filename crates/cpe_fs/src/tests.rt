@@ -255,3 +255,64 @@ fn binds_again_what_was_unbound(rt: HostRuntime) -> Result<(), Fail> {
     }
     Ok(())
 }
+
+/// Texts of names, each with its formatted string.
+const BOUND: [(&[u8], &[u8]); 6] = [
+    (b"wfn:[]", b"cpe:2.3:*:*:*:*:*:*:*:*:*:*:*"),
+    (
+        b"wfn:[part=\"a\",vendor=\"foo\\\\bar\",product=\"big\\$money_2010\",sw_edition=\"special\",target_sw=\"ipod_touch\",target_hw=\"80gb\"]",
+        b"cpe:2.3:a:foo\\\\bar:big\\$money_2010:*:*:*:*:special:ipod_touch:80gb:*",
+    ),
+    (
+        b"wfn:[version=\"8\\.0\\-*\",   part=\"a\", vendor=NA,language=\"en\\-US\"]",
+        b"cpe:2.3:a:-:*:8.0-*:*:*:en-US:*:*:*:*",
+    ),
+    (
+        b"wfn:[other=\"??\\\\\\.\\-*\",update=ANY]",
+        b"cpe:2.3:*:*:*:*:*:*:*:*:*:*:??\\\\.-*",
+    ),
+    (
+        b"wfn:[edition=\"*\\-\",product=\"\\-\\-\",target_hw=\"\\:\"]",
+        b"cpe:2.3:*:*:--:*:*:*-:*:*:*:\\::*",
+    ),
+    (
+        b"wfn:[part=NA,vendor=NA,product=NA,version=NA,update=NA,edition=NA,language=NA,sw_edition=NA,target_sw=NA,target_hw=NA,other=NA]",
+        b"cpe:2.3:-:-:-:-:-:-:-:-:-:-:-",
+    ),
+];
+
+/// Texts that no name has.
+const NOT_BOUND: [&[u8]; 6] = [
+    b"",
+    b"cpe:2.3:*:*:*:*:*:*:*:*:*:*:*",
+    b"wfn:[vendor=\"a.b\"]",
+    b"wfn:[vendor=\"\\-\"]",
+    b"wfn:[part=\"a\",part=\"a\"]",
+    b"wfn:[part=\"a\"",
+];
+
+/// The formatted string of a name, behind three bytes that stay, and its end.
+fn bound_at_once(rt: &impl Abort, text: &[u8]) -> Option<([u8; 1024], usize)> {
+    let mut room = [b'#'; 1024];
+    assert!(rt; text.len() <= 900);
+    let end = write_bound(&mut room, 3, text)?;
+    Some((room, end))
+}
+
+#[test]
+fn binds(rt: HostRuntime) -> Result<(), Fail> {
+    for (text, want) in BOUND {
+        let (room, end) = bound_at_once(&rt, text).ok_or("refused")?;
+        let written = room.get(..end).unwrap_or(&[]);
+        assert!(rt; written.starts_with(b"###"), "{text:?}");
+        assert_eq!(rt; written.get(3..).unwrap_or(&[]), want);
+    }
+    Ok(())
+}
+
+#[test]
+fn binds_no_other_text(rt: HostRuntime) {
+    for text in NOT_BOUND {
+        assert!(rt; bound_at_once(&rt, text).is_none(), "{text:?}");
+    }
+}

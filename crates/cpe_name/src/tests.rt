@@ -117,3 +117,84 @@ fn a_wildcard_in_any_attribute_is_found(rt: HostRuntime) -> Result<(), Fail> {
     assert!(rt; name.has_wildcards());
     Ok(())
 }
+
+// Texts of names, each with the output text. They are written by hand from NIST IR 7695, 5.3.
+const READ: [(&[u8], &[u8]); 5] = [
+    (
+        b"wfn:[]",
+        b"wfn:[part=ANY,vendor=ANY,product=ANY,version=ANY,update=ANY,edition=ANY,language=ANY,sw_edition=ANY,target_sw=ANY,target_hw=ANY,other=ANY]",
+    ),
+    (
+        b"wfn:[part=\"a\",vendor=\"foo\\\\bar\",product=\"big\\$money_2010\",sw_edition=\"special\",target_sw=\"ipod_touch\",target_hw=\"80gb\"]",
+        b"wfn:[part=\"a\",vendor=\"foo\\\\bar\",product=\"big\\$money_2010\",version=ANY,update=ANY,edition=ANY,language=ANY,sw_edition=\"special\",target_sw=\"ipod_touch\",target_hw=\"80gb\",other=ANY]",
+    ),
+    (
+        b"wfn:[version=\"8\\.*\",   part=\"a\", vendor=NA,language=\"en\\-US\"]",
+        b"wfn:[part=\"a\",vendor=NA,product=ANY,version=\"8\\.*\",update=ANY,edition=ANY,language=\"en\\-US\",sw_edition=ANY,target_sw=ANY,target_hw=ANY,other=ANY]",
+    ),
+    (
+        b"wfn:[other=\"*\\-\",update=\"??\\?\\\"??\",language=\"spa\\-419\",edition=ANY]",
+        b"wfn:[part=ANY,vendor=ANY,product=ANY,version=ANY,update=\"??\\?\\\"??\",edition=ANY,language=\"spa\\-419\",sw_edition=ANY,target_sw=ANY,target_hw=ANY,other=\"*\\-\"]",
+    ),
+    (
+        b"wfn:[part=NA,vendor=ANY,product=\"_\",version=NA,update=\"\\-\\-\",edition=\"Z\",language=NA,sw_edition=\"0\",target_sw=\"\\~\",target_hw=\"\\!\",other=NA]",
+        b"wfn:[part=NA,vendor=ANY,product=\"_\",version=NA,update=\"\\-\\-\",edition=\"Z\",language=NA,sw_edition=\"0\",target_sw=\"\\~\",target_hw=\"\\!\",other=NA]",
+    ),
+];
+
+// Texts that no name has.
+const NO_WFN: [&[u8]; 36] = [
+    b"",
+    b"wfn:[",
+    b"WFN:[]",
+    b"wfn:[ ]",
+    b"wfn:[]]",
+    b"wfn:[part=\"a\"]x",
+    b"wfn:[part=\"a\",]",
+    b"wfn:[part=\"a\",,vendor=NA]",
+    b"wfn:[part=\"a\"vendor=NA]",
+    b"wfn:[part=\"a\",part=\"h\"]",
+    b"wfn:[part=\"a\",part=\"a\"]",
+    b"wfn:[vendor=ANY,part=NA,vendor=ANY]",
+    b"wfn:[part=\"a\" ,vendor=NA]",
+    b"wfn:[ part=\"a\"]",
+    b"wfn:[part=\"a\" ]",
+    b"wfn:[part =\"a\"]",
+    b"wfn:[part= \"a\"]",
+    b"wfn:[part=\"a\",\tvendor=NA]",
+    b"wfn:[Part=\"a\"]",
+    b"wfn:[parts=\"a\"]",
+    b"wfn:[part=a]",
+    b"wfn:[part=any]",
+    b"wfn:[part=ANYx]",
+    b"wfn:[part=\"x\"]",
+    b"wfn:[part=\"a*\"]",
+    b"wfn:[language=\"englisch\"]",
+    b"wfn:[language=\"en-US\"]",
+    b"wfn:[language=\"en\\-1a\"]",
+    b"wfn:[vendor=\"a.b\"]",
+    b"wfn:[vendor=\"\\a\"]",
+    b"wfn:[vendor=\"a\\ b\"]",
+    b"wfn:[vendor=\"a]",
+    b"wfn:[vendor=\"\"]",
+    b"wfn:[vendor=\"\\-\"]",
+    b"wfn:[vendor=\"*\"]",
+    b"wfn:[vendor=\"a*b\"]",
+];
+
+#[test]
+fn a_name_is_read_from_its_text(rt: HostRuntime) -> Result<(), Fail> {
+    for (text, want) in READ {
+        let name = read_wfn(rt.alloc(), text)?;
+        let written = write_wfn(rt.alloc(), &name)?;
+        assert_eq!(rt; written.as_slice(), want);
+    }
+    Ok(())
+}
+
+#[test]
+fn a_text_of_no_name_is_refused(rt: HostRuntime) {
+    for text in NO_WFN {
+        assert_eq!(rt; read_wfn(rt.alloc(), text).err(), Some(WfnFault::NotWfn), "{text:?}");
+    }
+}
