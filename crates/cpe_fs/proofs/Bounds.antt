@@ -1,5 +1,5 @@
 -- What is written of the texts of values is the formatted string of their name.
-use Rattle.std.proofs.Common.{◌≡◌, ℕ, zero, suc, ◌+◌, ◌-◌, Bool, true, false, ◌||◌, eqb, List, [], ◌∷◌, ◌++◌, length, take, map, replicate, Option, Some, None, refl, sym, ap, subst, ◌∙◌, inl, inr, append_assoc, arith, length-append}
+use Rattle.std.proofs.Common.{◌≡◌, ℕ, zero, suc, ◌-◌, true, false, ◌||◌, eqb, List, [], ◌∷◌, ◌++◌, length, take, map, replicate, Option, Some, None, refl, sym, ap, ◌∙◌, inl, inr, append_assoc, arith, length-append}
 use Rattle.std.specs.Prelude.{codes}
 use Rattle.std.specs.List.{flat_map}
 use Rattle.std.specs.Option.{option_map}
@@ -25,7 +25,7 @@ use Rattle.cpe_name.specs.WfnText.{WfnText, IsWfnText}
 use Rattle.cpe_name.specs.Scanning.{slot, all_at}
 use Rattle.cpe_name.specs.Spans.{texts, or_any, AreWritten}
 use Rattle.cpe_name.specs.Unwriting.{value_from}
-use Rattle.cpe_name.proofs.WholeTexts.{Read, all_reads, Again, all_again, value_found, good_value, name_back, each_text}
+use Rattle.cpe_name.proofs.WholeTexts.{all_reads, all_again, value_found, good_value, name_back, each_text}
 use Rattle.cpe_fs.specs.Grammar.{component, fs_text}
 use Rattle.cpe_fs.specs.Bound.{bound, Binds}
 use Rattle.cpe_fs.specs.Unquoting.{begins_bare, unquoted, component_from, keyed, written_string}

@@ -130,7 +130,7 @@ pub fn one_text()
     ensures name { (a b : Values) (text : List ℕ) → Fs a text → Fs b text → a ≡ b }
 {}
 
-/// Writes the formatted string of the name that has this text (NIST IR 7695, 5.3 and 6.2.2) into `room`, from `at` on,
+/// Writes the formatted string of the name that has this text (NIST IR 7695, 5 and 6.2.2) into `room`, from `at` on,
 /// and makes no name. It answers the place behind what was written; what stands from there on is not told.
 /// It takes no memory. There is no answer exactly where no name has the text; the room is then as it was.
 pub fn write_bound(room: &mut [u8], at: usize, text: &[u8]) -> Option<usize>

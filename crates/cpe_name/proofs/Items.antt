@@ -1,6 +1,5 @@
 -- One attribute is read exactly.
-use Rattle.std.proofs.Common.{◌≡◌, ◌⊎◌, ℕ, zero, suc, ◌+◌, ◌-◌, Bool, true, false, not, ◌||◌, ◌&&◌, cond, eqb, List, [], ◌∷◌, ◌++◌, length, take, drop, Result, Ok, Err, Option, Some, None, refl, sym, ap, subst, ◌∙◌, inl, inr, append_assoc, arith, replicate, length-append}
-use Rattle.std.specs.Prelude.{codes}
+use Rattle.std.proofs.Common.{◌≡◌, ◌⊎◌, ℕ, zero, suc, ◌-◌, Bool, true, false, ◌&&◌, cond, eqb, List, [], ◌∷◌, ◌++◌, length, take, drop, Result, Ok, Err, Option, Some, None, refl, sym, ap, subst, ◌∙◌, inl, inr, append_assoc, arith, replicate, length-append}
 use Rattle.std.proofs.lemmas.List.{nil_from_length, take_at, append_cancel_right}
 use Rattle.std.proofs.lemmas.Bool.{cases_Bool, eqb-true, and_parts, and_from, not-true, not_from_false, false_from_ne_true, both_ways}
 use Rattle.cpe_values.specs.declared.value.Edge.TheVariants as edge
@@ -15,9 +14,8 @@ use Rattle.cpe_values.proofs.Unspelled.{parts_are}
 use Rattle.cpe_name.specs.declared.attribute.Attribute.{Attribute}
 use Rattle.cpe_name.specs.declared.attribute.Attribute.TheVariants.{Part, Vendor, Product, Version, Update, Edition, Language, SwEdition, TargetSw, TargetHw, Other}
 use Rattle.cpe_name.specs.Names.{attributes, Suits}
-use Rattle.cpe_name.specs.Shapes.{is_part, is_language}
 use Rattle.cpe_name.specs.Text.{attribute_name, value_text}
-use Rattle.cpe_name.specs.Scanning.{◌>>?◌, value_end, value_at, cut, between, is_lone, is_part_text, is_part_in_quotes, is_language_text, is_language_in_quotes, has_shape, may_have, after_at, key_text, or_found, name_at, item_at, skip, next_at}
+use Rattle.cpe_name.specs.Scanning.{◌>>?◌, value_end, value_at, cut, between, is_lone, is_part_text, is_language_text, has_shape, may_have, after_at, key_text, or_found, name_at, item_at, skip, next_at}
 use Rattle.cpe_name.proofs.QuotedTexts.{IsInQuotes, IsValueText, value_scans, value_taken}
 use Rattle.cpe_name.proofs.Shapes.{part_from, part_passes, language_from, language_passes}
 

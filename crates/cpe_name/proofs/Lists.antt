@@ -1,11 +1,10 @@
 -- A list of attributes is read exactly.
 use Rattle.std.proofs.Common.{◌≡◌, ℕ, zero, suc, ◌+◌, ◌<◌, ◌≤◌, Bool, true, false, cond, eqb, List, [], ◌∷◌, ◌++◌, length, map, get_or, Option, Some, None, refl, sym, ap, subst, ◌∙◌, inl, inr, append_assoc, arith, replicate, length-append}
-use Rattle.std.specs.Prelude.{codes}
 use Rattle.std.specs.Cmp.{IsEquivalence}
 use Rattle.std.specs.List.{flat_map, AllByRecursion, IsDistinct}
 use Rattle.std.proofs.lemmas.List.{append-nil}
 use Rattle.std.proofs.lemmas.Map.Made.{length-le_from_is_member}
-use Rattle.std.proofs.lemmas.Bool.{cases_Bool, eqb-true, eq-eqb, or_parts, or_cases, or_from, both_ways}
+use Rattle.std.proofs.lemmas.Bool.{cases_Bool, eqb-true, eq-eqb, or_parts, or_from, both_ways}
 use Rattle.cpe_values.specs.declared.value.Value.{Value}
 use Rattle.cpe_values.specs.declared.value.Value.TheVariants as value
 use Rattle.cpe_name.specs.declared.name.Values.{Values}
@@ -14,7 +13,7 @@ use Rattle.cpe_name.specs.declared.attribute.Attribute.TheVariants.{Part, Vendor
 use Rattle.cpe_name.specs.Names.{attributes, value_of, Suits, IsName}
 use Rattle.cpe_name.specs.Text.{attribute_name, value_text, attribute_text}
 use Rattle.cpe_name.specs.WfnText.{rank, same_attribute, is_listed, names, later_text, list_text}
-use Rattle.cpe_name.specs.Spans.{or_any, total_length}
+use Rattle.cpe_name.specs.Spans.{total_length}
 use Rattle.cpe_name.specs.Scanning.{◌>>?◌, item_at, next_at, slot, put_text, is_some_text, step_at, go_on, list_at}
 use Rattle.cpe_name.proofs.Items.{found, some_is, none≢some, went_on, chosen, IsSlot, item_text, item_reads, item_again, NextRead, next_reads, next_again, next_end}
 

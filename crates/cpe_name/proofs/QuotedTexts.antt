@@ -1,19 +1,19 @@
 -- Texts between double quotes: what their scanner takes, and that it takes each of them.
-use Rattle.std.proofs.Common.{◌≡◌, ◌≢◌, ℕ, zero, suc, ◌≤◌, Bool, true, false, eqb, IsTrue, List, [], ◌∷◌, ◌++◌, length, replicate, Result, Ok, refl, sym, ap, subst, ◌∙◌, inl, inr, append_assoc, arith}
+use Rattle.std.proofs.Common.{◌≡◌, ◌≢◌, ℕ, zero, suc, ◌≤◌, true, false, eqb, IsTrue, List, [], ◌∷◌, ◌++◌, length, replicate, Ok, refl, sym, ap, subst, ◌∙◌, inl, inr, append_assoc, arith}
 use Rattle.std.specs.Prelude.{codes}
 use Rattle.std.specs.List.{flat_map, list_all}
-use Rattle.std.proofs.lemmas.Bool.{cases_Bool, eqb-true, and_parts, and_from, or_left, not-true, not_from_false, both_ways}
+use Rattle.std.proofs.lemmas.Bool.{cases_Bool, eqb-true, and_parts, and_from, not-true, not_from_false}
 use Rattle.std.proofs.lemmas.Bool.Decides.{nat_tests}
 use Rattle.cpe_values.specs.declared.value.Edge.{Edge}
 use Rattle.cpe_values.specs.declared.value.Edge.TheVariants as edge
 use Rattle.cpe_values.specs.declared.value.Value.{Value}
 use Rattle.cpe_values.specs.declared.value.Value.TheVariants as value
 use Rattle.cpe_values.specs.declared.spelling.Style.TheVariants as style
-use Rattle.cpe_values.specs.Parts.{Parts, parts, IsEdge, IsText, is_character}
-use Rattle.cpe_values.specs.Spelling.{edge_text, character, spelling}
+use Rattle.cpe_values.specs.Parts.{Parts, parts, IsEdge, is_character}
+use Rattle.cpe_values.specs.Spelling.{edge_text, character}
 use Rattle.cpe_values.specs.Values.{IsValue}
 use Rattle.cpe_grammar.specs.Scanners.{◌>>=◌, both, choose, nothing, one, literal}
-use Rattle.cpe_grammar.proofs.Scans.{Scans, wider, OneOf, one_scans, one_taken, Joined, both_scans, Either, choose_scans, chosen_no, FewOf, up_to_scans, HeadFails, up_to_taken, Only, literal_scans, literal_taken}
+use Rattle.cpe_grammar.proofs.Scans.{Scans, wider, OneOf, one_scans, Joined, both_scans, Either, choose_scans, chosen_no, FewOf, up_to_scans, HeadFails, up_to_taken, Only, literal_scans, literal_taken}
 use Rattle.cpe_grammar.proofs.Several.{several_scans}
 use Rattle.cpe_name.specs.Text.{value_text}
 use Rattle.cpe_name.specs.Scanning.{is_star, is_mark, is_backslash, is_quote, is_bare_here, is_quoted, starts_body, marks_end, edge_end, character_end, body_end, stem_end, quoted_end, begins_any, begins_na, value_end}

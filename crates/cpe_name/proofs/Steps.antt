@@ -1,5 +1,5 @@
 -- One attribute more of a list.
-use Rattle.std.proofs.Common.{◌≡◌, ℕ, suc, ◌+◌, ◌-◌, ◌<◌, ◌≤◌, List, [], Option, Some, None, refl, sym, ap, subst, ◌∙◌, arith}
+use Rattle.std.proofs.Common.{◌≡◌, ℕ, suc, ◌+◌, ◌-◌, ◌<◌, ◌≤◌, List, Option, Some, None, refl, sym, ap, subst, ◌∙◌, arith}
 use Rattle.cpe_name.specs.Scanning.{◌>>?◌, step_at, go_on, list_at}
 
 step_is : (n : ℕ) (l : List (List ℕ)) (s : List ℕ) → list_at (suc n) l s ≡ (step_at l s >>? λ x. go_on x.1 x.0 (list_at n x.0))

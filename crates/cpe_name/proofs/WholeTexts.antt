@@ -1,13 +1,12 @@
 -- The whole text of a name is read exactly.
-use Rattle.std.proofs.Common.{◌≡◌, ◌⊎◌, ℕ, zero, suc, ◌+◌, ◌-◌, ◌≤◌, Bool, true, false, cond, eqb, List, [], ◌∷◌, ◌++◌, length, take, drop, map, get_or, Option, Some, None, IfSome, refl, sym, ap, subst, ◌∙◌, inl, inr, append_assoc, arith, length-append}
+use Rattle.std.proofs.Common.{◌≡◌, ℕ, ◌-◌, ◌≤◌, Bool, true, false, cond, List, [], ◌∷◌, ◌++◌, length, take, map, Option, Some, None, IfSome, refl, sym, ap, subst, ◌∙◌, inl, inr, append_assoc, arith, length-append}
 use Rattle.std.specs.Prelude.{codes}
 use Rattle.std.specs.List.{flat_map, AllByRecursion, IsDistinct}
 use Rattle.std.proofs.lemmas.List.{append-nil, take_at}
-use Rattle.std.proofs.lemmas.Bool.{cases_Bool, eqb-true, or_cases, or_left, or_right, or_parts, both_ways}
+use Rattle.std.proofs.lemmas.Bool.{cases_Bool, eqb-true, or_cases, or_left, or_right, both_ways}
 use Rattle.cpe_values.specs.declared.value.Value.{Value}
 use Rattle.cpe_values.specs.declared.value.Value.TheVariants as value
 use Rattle.cpe_values.specs.declared.spelling.Style.TheVariants as style
-use Rattle.cpe_values.specs.Parts.{Parts}
 use Rattle.cpe_values.specs.Values.{IsValue}
 use Rattle.cpe_values.specs.Spelling.{spelling}
 use Rattle.cpe_values.specs.Unspelling.{parts_at}
@@ -20,13 +19,13 @@ use Rattle.cpe_name.specs.declared.attribute.Attribute.TheVariants.{Part, Vendor
 use Rattle.cpe_name.specs.declared.scan.Written.{Written}
 use Rattle.cpe_name.specs.Equal.{named}
 use Rattle.cpe_name.specs.Names.{attributes, value_of, Suits, IsName, IsFault}
-use Rattle.cpe_name.specs.Text.{attribute_name, value_text, attribute_text, output_text}
+use Rattle.cpe_name.specs.Text.{attribute_name, value_text, output_text}
 use Rattle.cpe_name.specs.WfnText.{same_attribute, is_listed, names, later_text, list_text, WfnText, IsWfnText}
-use Rattle.cpe_name.specs.Spans.{texts, or_any, total_length, AreWritten}
-use Rattle.cpe_name.specs.Unwriting.{IsAnyText, AreAnyTexts, inner, value_from}
-use Rattle.cpe_name.specs.Scanning.{◌>>?◌, Finds, after_at, slot, none_given, is_some_text, list_at, is_end, list_or_end, all_at}
-use Rattle.cpe_name.proofs.Items.{found, nothing_found, some_is, none≢some, went_on, chosen, after_reads, IsSlot, item_text, good_of}
-use Rattle.cpe_name.proofs.Lists.{same_is, by, slot_by, alike_by, given_length, value_some, list_by, later_by, AreNew, AreSlots, ListRead, list_reads, AreTexts, Fits, list_again, few_items, all_listed}
+use Rattle.cpe_name.specs.Spans.{texts, or_any, AreWritten}
+use Rattle.cpe_name.specs.Unwriting.{AreAnyTexts, inner, value_from}
+use Rattle.cpe_name.specs.Scanning.{Finds, after_at, slot, none_given, is_some_text, list_at, is_end, list_or_end, all_at}
+use Rattle.cpe_name.proofs.Items.{found, some_is, none≢some, went_on, chosen, after_reads, IsSlot, good_of}
+use Rattle.cpe_name.proofs.Lists.{same_is, by, slot_by, alike_by, given_length, value_some, list_by, later_by, AreNew, AreSlots, list_reads, AreTexts, Fits, list_again, few_items, all_listed}
 
 -- ---- a name from its texts
 

@@ -1,5 +1,4 @@
 -- A name with another value at one attribute.
-use Rattle.std.specs.Prelude.{◌≡◌, false}
 use Rattle.cpe_values.specs.declared.value.Value.{Value}
 use Rattle.cpe_values.specs.declared.value.Value.TheVariants as value
 use Rattle.cpe_name.specs.declared.name.Values.{Values}

@@ -1,4 +1,4 @@
--- The texts of a well-formed name (NIST IR 7695, 5.3): some of its attributes in any order, each at most once.
+-- The texts of a well-formed name (NIST IR 7695, 5): some of its attributes in any order, each at most once.
 -- One that is missing is ANY. Spaces stand behind commas alone.
 use Rattle.std.specs.Prelude.{◌≡◌, ℕ, Bool, false, ◌==◌, List, [], ◌∷◌, ◌++◌, map, replicate, codes}
 use Rattle.std.specs.List.{flat_map, list_any, IsDistinct}

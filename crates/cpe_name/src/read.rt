@@ -84,7 +84,7 @@ fn values_of(alloc: Global, written: &Written) -> Result<Values, Memory>
     })
 }
 
-/// The name that has this text (NIST IR 7695, 5.3): attributes in any order, each at most once, with spaces behind
+/// The name that has this text (NIST IR 7695, 5): attributes in any order, each at most once, with spaces behind
 /// commas alone; a missing one is ANY. Letter case is kept.
 ///
 /// # Errors

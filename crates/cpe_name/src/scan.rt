@@ -347,7 +347,7 @@ fn scan_all(text: &[u8]) -> Option<Written>
     scan_list_or_end(rest)
 }
 
-/// Where the values of a name lie in one of its texts (NIST IR 7695, 5.3). It takes no memory.
+/// Where the values of a name lie in one of its texts (NIST IR 7695, 5). It takes no memory.
 ///
 /// The list of attributes may be empty and stand in any order, each at most once, with any number of spaces behind
 /// a comma and nowhere else. There is no answer exactly where no name has the text.

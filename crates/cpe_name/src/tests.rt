@@ -195,6 +195,10 @@ fn a_name_is_read_from_its_text(rt: HostRuntime) -> Result<(), Fail> {
 #[test]
 fn a_text_of_no_name_is_refused(rt: HostRuntime) {
     for text in NO_WFN {
-        assert_eq!(rt; read_wfn(rt.alloc(), text).err(), Some(WfnFault::NotWfn), "{text:?}");
+        assert_eq!(rt;
+            read_wfn(rt.alloc(), text).err(),
+            Some(WfnFault::NotWfn),
+            "{text:?}"
+        );
     }
 }

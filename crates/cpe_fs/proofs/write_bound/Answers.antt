@@ -1,5 +1,4 @@
-use Rattle.std.proofs.Common.{◌≡◌, ℕ, List, ◌++◌, take, refl, ap, ◌∙◌}
-use Rattle.cpe_name.specs.declared.name.Values.{Values}
+use Rattle.std.proofs.Common.{ℕ, List, ◌++◌, take, refl, ap, ◌∙◌}
 use Rattle.cpe_name.proofs.WholeTexts.{one_name}
 use Rattle.cpe_fs.specs.Grammar.{fs_text}
 use Rattle.cpe_fs.proofs.Bounds.{written_is, said_is, unsaid_is}

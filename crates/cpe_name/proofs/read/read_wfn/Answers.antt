@@ -1,8 +1,8 @@
-use Rattle.std.proofs.Common.{◌≡◌, sym, subst, ◌∙◌}
+use Rattle.std.proofs.Common.{sym, subst, ◌∙◌}
 use Rattle.cpe_name.specs.declared.name.Values.{Values}
 use Rattle.cpe_name.specs.Names.{IsFault}
 use Rattle.cpe_name.specs.WfnText.{WfnText}
-use Rattle.cpe_name.proofs.WholeTexts.{texts_are, values_are, no_fault, one_name}
+use Rattle.cpe_name.proofs.WholeTexts.{values_are, no_fault, one_name}
 use Rattle.cpe_name.proofs.read.read_wfn.Goals as goal
 
 pub unreachable-requires : goal.unreachable-requires

@@ -1,4 +1,4 @@
-use Rattle.std.proofs.Common.{◌≡◌, ℕ, List, ap, ◌∙◌, rules, take}
+use Rattle.std.proofs.Common.{◌≡◌, ap, ◌∙◌, rules, take}
 use Rattle.std.specs.Vec.{with_items}
 use Rattle.std.proofs.lemmas.List.{with_items_is, places}
 use Rattle.cpe_fs.specs.Unbound.{unbound}
