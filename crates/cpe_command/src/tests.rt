@@ -293,3 +293,17 @@ fn bind_fs_takes_back_what_unbind_wrote(rt: HostRuntime) -> Result<(), Fail> {
     assert_eq!(rt; text.len(), EXPLORER.len() + 1);
     Ok(())
 }
+
+#[test]
+fn a_whole_line_is_answered_before_a_fault(rt: HostRuntime) -> Result<(), Fail> {
+    let alloc = rt.alloc();
+    let mut input = Vec::from_slice(alloc, EXPLORER)?;
+    input.push(b'\n')?;
+    let (answer, written) = run_failing(alloc, &input, 65536, &[1], &[])?;
+    assert_eq!(rt; answer, Status::ReadFault);
+    assert_eq!(rt; written.as_slice(), EXPLORER_TEXT);
+    let (answer, written) = run_failing(alloc, &input, 65536, &[], &[0])?;
+    assert_eq!(rt; answer, Status::WriteFault);
+    assert!(rt; written.is_empty());
+    Ok(())
+}
