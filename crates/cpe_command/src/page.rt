@@ -9,6 +9,7 @@ ghost use Rattle.cpe_command.specs.Pages.{Flushes, Gains, GainsText};
 
 use cpe_fs::{BOUND_FRAME, FRAME, write_bound, write_unbound};
 use cpe_io::{Sink, SinkFault, write_all};
+use cpe_room::put;
 use std::alloc::{AllocError, Global};
 use std::marker::Model;
 
@@ -119,16 +120,4 @@ fn make_room(room: &mut Vec<u8>, used: usize, most: usize) -> Result<(), AllocEr
         room.resize(used.saturating_add(most), 0)?;
     }
     Ok(())
-}
-
-// Puts bytes at a place, and tells the place behind them.
-fn put(room: &mut [u8], at: usize, bytes: &[u8]) -> usize
-    requires { at + length bytes.now ≤ length room.old }
-    ensures at { result ≡ at + length bytes.now }
-    ensures room { length room.new ≡ length room.old }
-    ensures written { take result room.new ≡ take at room.old ++ bytes.now }
-{
-    let end = at + bytes.len();
-    room[at..end].copy_from_slice(bytes);
-    end
 }

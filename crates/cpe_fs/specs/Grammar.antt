@@ -1,7 +1,7 @@
 -- Formatted strings and their names (NIST IR 7695, 6.2).
 use Rattle.std.specs.Prelude.{◌≡◌, ℕ, List, [], ◌∷◌, ◌++◌, map, codes}
 use Rattle.std.specs.List.{join_with_byte}
-use Rattle.cpe_grammar.specs.Place.{IsPlace}
+use Rattle.cpe_grammar.specs.Place.{Leaves}
 use Rattle.cpe_values.specs.declared.value.Value.{Value}
 use Rattle.cpe_values.specs.declared.value.Value.TheVariants as value
 use Rattle.cpe_values.specs.declared.spelling.Style.TheVariants as style
@@ -30,9 +30,8 @@ abbrev pub IsFs : List ℕ → Type 0
 IsFs s = (name : Values) × Fs name s
 
 -- no name has this text, and this is its place: as far as some formatted string begins as it does
-pub record LeavesAt (s : List ℕ) (place : ℕ) : Type 0 where
-  pub refused : ¬ (IsFs s)
-  pub is_place : IsPlace IsFs s place
+abbrev pub LeavesAt : List ℕ → ℕ → Type 0
+LeavesAt s place = Leaves IsFs s place
 
 -- what a fault says of a text; want of memory comes only where some name has it
 abbrev pub Refuses : FsFault → List ℕ → Type 0

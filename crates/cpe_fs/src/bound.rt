@@ -5,8 +5,8 @@ ghost use Rattle.cpe_name.specs.Spans.{texts, total_length};
 ghost use Rattle.cpe_fs.specs.Unquoting.{begins_bare, unquoted, component_from, keyed, written_string};
 
 use crate::BOUND_FRAME;
-use crate::write::{put, put_byte};
 use cpe_name::Written;
+use cpe_room::{put, put_byte};
 
 fn begins_bare(bytes: &[u8]) -> bool
     ensures { result ≡ begins_bare bytes.now }

@@ -7,28 +7,7 @@ ghost use Rattle.cpe_fs.specs.Rewriting.{requoted, in_quotes, span_text, attribu
 
 use crate::FRAME;
 use crate::scan::Components;
-
-/// Puts bytes at a place. It tells the place behind them.
-pub(crate) fn put(room: &mut [u8], at: usize, bytes: &[u8]) -> usize
-    requires { at + length bytes.now ≤ length room.old }
-    ensures at { result ≡ at + length bytes.now }
-    ensures room { length room.new ≡ length room.old }
-    ensures written { take result room.new ≡ take at room.old ++ bytes.now }
-{
-    let end = at + bytes.len();
-    room[at..end].copy_from_slice(bytes);
-    end
-}
-
-pub(crate) fn put_byte(room: &mut [u8], at: usize, byte: u8) -> usize
-    requires { at + 1 ≤ length room.old }
-    ensures at { result ≡ at + 1 }
-    ensures room { length room.new ≡ length room.old }
-    ensures written { take result room.new ≡ take at room.old ++ byte ∷ [] }
-{
-    room[at] = byte;
-    at + 1
-}
+use cpe_room::{put, put_byte};
 
 /// Puts a character, and a backslash before it where it stands bare in a formatted string alone.
 /// The backslash is always written: no branch depends on the byte.

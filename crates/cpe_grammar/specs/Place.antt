@@ -10,3 +10,8 @@ pub record IsPlace (Grammar : List ℕ → Type 0) (text : List ℕ) (place : �
   pub within : place ≤ length text
   pub begins : Begins Grammar (take place text)
   pub longest : (n : ℕ) → place < n → n ≤ length text → Begins Grammar (take n text) → ⊥
+
+-- the grammar doesn't have the text, and this is its place
+pub record Leaves (Grammar : List ℕ → Type 0) (text : List ℕ) (place : ℕ) : Type 0 where
+  pub refused : ¬ (Grammar text)
+  pub is_place : IsPlace Grammar text place

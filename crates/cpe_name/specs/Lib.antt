@@ -3,6 +3,7 @@ pub mod Names
 pub mod Text
 pub mod Wildcards
 pub mod Equal
+pub mod Lower
 pub mod Put
 pub mod WfnText
 pub mod Scanning

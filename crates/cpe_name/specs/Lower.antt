@@ -1,0 +1,14 @@
+-- Names in lower case (NIST IR 7695, 5.3).
+use Rattle.std.specs.Prelude.{◌≡◌, map}
+use Rattle.cpe_values.specs.Lower.{lower_value}
+use Rattle.cpe_name.specs.declared.name.Values.{Values}
+use Rattle.cpe_name.specs.Equal.{named}
+use Rattle.cpe_name.specs.Names.{attributes, value_of}
+
+-- each value with all its letters in lower case
+abbrev pub lower_name : Values → Values
+lower_name w = named (map (λ a. lower_value (value_of w a)) attributes)
+
+-- no letter is a capital one
+abbrev pub IsLower : Values → Type 0
+IsLower w = lower_name w ≡ w

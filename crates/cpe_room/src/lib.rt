@@ -1,0 +1,27 @@
+//! Writing into a room: a slice that is the caller's and long enough, from a place on. Nothing here takes memory.
+#![tactic(auto)]
+
+ghost use Rattle.std.specs.Prelude.{◌≡◌, ◌≤◌, ◌+◌, ◌++◌, ◌∷◌, [], length, take};
+
+/// Puts bytes at a place, and tells the place behind them.
+pub fn put(room: &mut [u8], at: usize, bytes: &[u8]) -> usize
+    requires { at + length bytes.now ≤ length room.old }
+    ensures at { result ≡ at + length bytes.now }
+    ensures room { length room.new ≡ length room.old }
+    ensures written { take result room.new ≡ take at room.old ++ bytes.now }
+{
+    let end = at + bytes.len();
+    room[at..end].copy_from_slice(bytes);
+    end
+}
+
+/// Puts one byte at a place, and tells the place behind it.
+pub fn put_byte(room: &mut [u8], at: usize, byte: u8) -> usize
+    requires { at + 1 ≤ length room.old }
+    ensures at { result ≡ at + 1 }
+    ensures room { length room.new ≡ length room.old }
+    ensures written { take result room.new ≡ take at room.old ++ byte ∷ [] }
+{
+    room[at] = byte;
+    at + 1
+}

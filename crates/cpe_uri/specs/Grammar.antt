@@ -1,0 +1,66 @@
+-- URIs and their names (NIST IR 7695, 6.1.3), in each accepted spelling.
+use Rattle.std.specs.Prelude.{◌≡◌, ◌⊎◌, ℕ, ◌≤◌, Bool, false, not, ◌==◌, List, [], ◌∷◌, ◌++◌, length, get_or, codes, IsTrue}
+use Rattle.std.specs.List.{join_with_byte, list_all, AllByRecursion}
+use Rattle.std.specs.Str.{str_to_ascii_lowercase}
+use Rattle.cpe_grammar.specs.Place.{Leaves}
+use Rattle.cpe_values.specs.declared.value.Value.{Value}
+use Rattle.cpe_values.specs.declared.value.Value.TheVariants as value
+use Rattle.cpe_name.specs.declared.name.Values.{Values}
+use Rattle.cpe_name.specs.declared.attribute.Attribute.{Attribute}
+use Rattle.cpe_name.specs.declared.attribute.Attribute.TheVariants.{Edition}
+use Rattle.cpe_name.specs.Names.{value_of, IsName}
+use Rattle.cpe_name.specs.Lower.{IsLower}
+use Rattle.cpe_uri.specs.Spelling.{Stands}
+use Rattle.cpe_uri.specs.Canon.{extended}
+
+-- ---- the component of the edition
+
+abbrev pub is_tilde : ℕ → Bool
+is_tilde c = c == 126
+
+abbrev pub begins_with_tilde : List ℕ → Bool
+begins_with_tilde [] = false
+begins_with_tilde (c ∷ s) = is_tilde c
+
+-- the edition alone; it doesn't begin with the byte `~`
+pub record Alone (w : Values) (s : List ℕ) : Type 0 where
+  pub bare : begins_with_tilde s ≡ false
+  pub edition : Stands w.edition s
+  pub others : AllByRecursion (λ a. value_of w a ≡ value.Any) extended
+
+-- a field for each of these attributes, with a tilde before it and none in it
+abbrev pub Fields : Values → List Attribute → List ℕ → Type 0
+Fields w [] s = s ≡ []
+Fields w (a ∷ rest) s = (field more : List ℕ) × (s ≡ 126 ∷ field ++ more) × Stands (value_of w a) field × IsTrue (list_all (λ c. not (is_tilde c)) field) × Fields w rest more
+
+-- the edition alone, or packed with those four
+abbrev pub EditionStands : Values → List ℕ → Type 0
+EditionStands w s = Alone w s ⊎ Fields w (Edition ∷ extended) s
+
+-- ---- the whole
+
+-- the name, which is in lower case, has this URI: one component to seven; one that is missing counts as empty
+pub record Uri (w : Values) (s : List ℕ) : Type 0 where
+  pub name : IsName w
+  pub lower : IsLower w
+  pub prefix : List ℕ
+  pub components : List (List ℕ)
+  pub text : s ≡ prefix ++ join_with_byte 58 components
+  pub begins : str_to_ascii_lowercase prefix ≡ codes "cpe:/"
+  pub some : 1 ≤ length components
+  pub few : length components ≤ 7
+  pub part : Stands w.part (get_or components 0 [])
+  pub vendor : Stands w.vendor (get_or components 1 [])
+  pub product : Stands w.product (get_or components 2 [])
+  pub version : Stands w.version (get_or components 3 [])
+  pub update : Stands w.update (get_or components 4 [])
+  pub edition : EditionStands w (get_or components 5 [])
+  pub language : Stands w.language (get_or components 6 [])
+
+-- some name has it
+abbrev pub IsUri : List ℕ → Type 0
+IsUri s = (w : Values) × Uri w s
+
+-- no name has this text, and this is its place: as far as some URI begins as it does
+abbrev pub LeavesUri : List ℕ → ℕ → Type 0
+LeavesUri s place = Leaves IsUri s place

@@ -1,0 +1,4 @@
+pub mod Spelling
+pub mod Canon
+pub mod Grammar
+pub mod Spans

@@ -1,0 +1,32 @@
+-- Where the values of a name lie in its URI, as the code finds them. No public clause rests on it.
+use Rattle.std.specs.Prelude.{◌≡◌, ◌⊎◌, ℕ, ◌-◌, ◌≤◌, Bool, ◌==◌, List, [], ◌∷◌, length}
+use Rattle.std.specs.List.{AllByRecursion}
+use Rattle.cpe_values.specs.declared.value.Value.{Value}
+use Rattle.cpe_values.specs.Lower.{lower_value}
+use Rattle.cpe_name.specs.declared.name.Values.{Values}
+use Rattle.cpe_name.specs.declared.attribute.Attribute.{Attribute}
+use Rattle.cpe_name.specs.declared.scan.Written.{Written}
+use Rattle.cpe_name.specs.Names.{attributes, value_of, Suits}
+use Rattle.cpe_name.specs.Spans.{texts, total_length}
+use Rattle.cpe_name.specs.Scanning.{slot}
+use Rattle.cpe_uri.specs.Spelling.{Stands}
+use Rattle.cpe_uri.specs.Grammar.{Uri, LeavesUri}
+
+-- some value that suits the attribute, in lower case, may stand so
+pub record IsComponent (a : Attribute) (s : List ℕ) : Type 0 where
+  pub value : Value
+  pub suits : Suits a value
+  pub lower : lower_value value ≡ value
+  pub stands : Stands value s
+
+-- the values of the name stand in these pieces of its URI
+pub record AreComponents (s : List ℕ) (c : Written) : Type 0 where
+  pub name : Values
+  pub uri : Uri name s
+  pub are : AllByRecursion (λ a. Stands (value_of name a) (slot (texts c) a)) attributes
+  pub within : total_length (texts c) ≤ length s
+
+-- no name has this text, and it leaves the grammar with so many bytes left
+pub record LeavesWith (s : List ℕ) (left : ℕ) : Type 0 where
+  pub within : left ≤ length s
+  pub at : LeavesUri s (length s - left)
