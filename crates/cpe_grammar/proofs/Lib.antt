@@ -1,4 +1,5 @@
 pub mod Results
 pub mod Scans
 pub mod Several
+pub mod Reading
 pub mod Places

@@ -1,2 +1,3 @@
 pub mod Place
 pub mod Scanners
+pub mod Machines

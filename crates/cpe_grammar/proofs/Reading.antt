@@ -1,0 +1,118 @@
+-- A machine each of whose states can be completed is a scanner of the texts that it takes whole.
+use Rattle.std.proofs.Common.{◌≡◌, ◌⊎◌, ℕ, suc, Bool, true, false, List, [], ◌∷◌, ◌++◌, length, Option, Some, None, Ok, Err, refl, sym, ap, ◌∙◌, inl, inr}
+use Rattle.std.proofs.lemmas.Bool.{cases_Bool}
+use Rattle.std.proofs.lemmas.List.{append_cancel_right}
+use Rattle.cpe_grammar.specs.Machines.{machine}
+use Rattle.cpe_grammar.proofs.Results.{left_over, stopped, chosen, ok_is, err_is, ok≢err}
+use Rattle.cpe_grammar.proofs.Scans.{Takes, Stops, Scans}
+
+-- which way a step went
+pub stepped : {S : Type 0} (o : Option S) → ((q : S) × (o ≡ Some q)) ⊎ (o ≡ None)
+stepped (Some q) = inl (q, refl)
+stepped None = inr refl
+
+module _ {S : Type 0} (step : S → ℕ → Option S) (ends : S → Bool) where
+  -- there is a step
+  pub goes : (q t : S) (c : ℕ) (s : List ℕ) → step q c ≡ Some t → machine step ends q (c ∷ s) ≡ machine step ends t s
+  goes q t c s e = rw e refl
+
+  -- there is none, and it may end
+  pub ends_here : (q : S) (c : ℕ) (s : List ℕ) → step q c ≡ None → ends q ≡ true → machine step ends q (c ∷ s) ≡ Ok (c ∷ s)
+  ends_here q c s e h = rw (e, h) refl
+
+  -- there is none, and it may not end
+  pub halts : (q : S) (c : ℕ) (s : List ℕ) → step q c ≡ None → ends q ≡ false → machine step ends q (c ∷ s) ≡ Err (suc (length s))
+  halts q c s e h = rw (e, h) refl
+
+  pub ends_there : (q : S) → ends q ≡ true → machine step ends q [] ≡ Ok []
+  ends_there q h = rw h refl
+
+  -- the texts that it takes whole from a state on
+  abbrev pub Taken : S → List ℕ → Type 0
+  Taken q s = machine step ends q s ≡ Ok []
+
+  machine_takes : (q : S) (s r : List ℕ) → machine step ends q s ≡ Ok r → Takes (Taken q) s r
+  machine_takes q [] r e =
+      elim (chosen (ends q) (left_over []) (stopped 0) (left_over r) e) [
+        | inl h ↦ record { taken = []; cut = ok_is [] r h.1; lawful = ends_there q h.0 }
+        | inr h ↦ absurd (ok≢err r 0 (sym h.1))
+      ]
+  machine_takes q (c ∷ s) r e =
+      elim (stepped (step q c)) [
+        | inl go ↦
+            let a = machine_takes go.0 s r (sym (goes q go.0 c s go.1) ∙ e) in
+            record { taken = c ∷ a.taken; cut = ap (λ (u : List ℕ). c ∷ u) a.cut; lawful = goes q go.0 c a.taken go.1 ∙ a.lawful }
+        | inr none ↦ elim (cases_Bool (ends q)) [
+          | inl h ↦ record { taken = []; cut = ok_is (c ∷ s) r (sym (ends_here q c s none h) ∙ e); lawful = ends_there q h }
+          | inr h ↦ absurd (ok≢err r _ (sym e ∙ halts q c s none h))
+        ]
+      ]
+
+  machine_looks : (q : S) (u : List ℕ) (d : ℕ) (r t : List ℕ) → machine step ends q (u ++ d ∷ r) ≡ Ok (d ∷ r) → machine step ends q (u ++ d ∷ t) ≡ Ok (d ∷ t)
+  machine_looks q [] d r t e =
+      elim (stepped (step q d)) [
+        | inl go ↦
+            let a = machine_takes go.0 r (d ∷ r) (sym (goes q go.0 d r go.1) ∙ e) in
+            absurd (longer a.taken a.cut)
+        | inr none ↦ elim (cases_Bool (ends q)) [
+          | inl h ↦ ends_here q d t none h
+          | inr h ↦ absurd (ok≢err (d ∷ r) _ (sym e ∙ halts q d r none h))
+        ]
+      ]
+    where
+      longer : (v : List ℕ) → r ≡ v ++ d ∷ r → ⊥
+      longer v cut = absurd_nil v (append_cancel_right [] (v ++ d ∷ []) r (cut ∙ regroup v))
+        where
+          regroup : (v : List ℕ) → v ++ d ∷ r ≡ (v ++ d ∷ []) ++ r
+          regroup [] = refl
+          regroup (x ∷ v) = ap (λ (u : List ℕ). x ∷ u) (regroup v)
+
+          absurd_nil : (v : List ℕ) → [] ≡ v ++ d ∷ [] → ⊥
+          absurd_nil [] e = absurd cc
+          absurd_nil (x ∷ v) e = absurd cc
+  machine_looks q (x ∷ u) d r t e =
+      elim (stepped (step q x)) [
+        | inl go ↦ goes q go.0 x (u ++ d ∷ t) go.1 ∙ machine_looks go.0 u d r t (sym (goes q go.0 x (u ++ d ∷ r) go.1) ∙ e)
+        | inr none ↦ elim (cases_Bool (ends q)) [
+          | inl h ↦ let all : x ∷ u ≡ [] = append_cancel_right (x ∷ u) [] (d ∷ r) (ok_is _ _ (sym (ends_here q x (u ++ d ∷ r) none h) ∙ e)) in absurd cc
+          | inr h ↦ absurd (ok≢err (d ∷ r) _ (sym e ∙ halts q x (u ++ d ∷ r) none h))
+        ]
+      ]
+
+  -- the states that it comes to, each of which some text completes
+  module _ (Good : S → Type 0) (stays : (q t : S) (c : ℕ) → Good q → step q c ≡ Some t → Good t) (more : (q : S) → Good q → (u : List ℕ) × Taken q u) where
+    machine_stops : (q : S) → Good q → (s : List ℕ) (left : ℕ) → machine step ends q s ≡ Err left → Stops (Taken q) (machine step ends q) s left
+    machine_stops q good [] left e =
+        elim (chosen (ends q) (left_over []) (stopped 0) (stopped left) e) [
+          | inl h ↦ absurd (ok≢err [] left h.1)
+          | inr h ↦ let u = more q good in record { front = []; rest = []; cut = refl; left_is = sym (err_is 0 left h.1); more = u.0; goes_on = u.1; refused = λ d r t no. absurd cc }
+        ]
+    machine_stops q good (c ∷ s) left e =
+        elim (stepped (step q c)) [
+          | inl go ↦
+              let a = machine_stops go.0 (stays q go.0 c good go.1) s left (sym (goes q go.0 c s go.1) ∙ e) in record {
+                front = c ∷ a.front;
+                rest = a.rest;
+                cut = ap (λ (u : List ℕ). c ∷ u) a.cut;
+                left_is = a.left_is;
+                more = a.more;
+                goes_on = goes q go.0 c (a.front ++ a.more) go.1 ∙ a.goes_on;
+                refused = λ d r t is. goes q go.0 c (a.front ++ d ∷ t) go.1 ∙ a.refused d r t is;
+              }
+          | inr none ↦ elim (cases_Bool (ends q)) [
+            | inl h ↦ absurd (ok≢err _ left (sym (ends_here q c s none h) ∙ e))
+            | inr h ↦ let u = more q good in record {
+              front = [];
+              rest = c ∷ s;
+              cut = refl;
+              left_is = sym (err_is _ left (sym (halts q c s none h) ∙ e));
+              more = u.0;
+              goes_on = u.1;
+              refused = λ d r t is. let same : c ≡ d = cc in halts q d t (ap (step q) (sym same) ∙ none) h;
+            }
+          ]
+        ]
+
+    -- it is a scanner of them
+    pub machine_scans : (q : S) → Good q → Scans (Taken q) (machine step ends q)
+    machine_scans q good = record { takes = machine_takes q; stops = machine_stops q good; looks_at_one = machine_looks q }
