@@ -1,0 +1,267 @@
+// Where a component of a URI ends (NIST IR 7695, 6.1). Nothing here takes memory.
+ghost use Rattle.std.specs.Prelude.{◌≡◌, ◌≤◌, ◌<◌, ℕ, Bool, true, length, ◌||◌};
+ghost use Rattle.cpe_grammar.specs.Scanners.{Tells};
+ghost use Rattle.cpe_values.specs.Parts.{is_character};
+ghost use Rattle.cpe_uri.specs.Spelling.{is_hex, hex_value, has_percent_form};
+ghost use Rattle.cpe_uri.specs.Reading.{after_mark, after_star, takes_character, is_start, after_character, next, is_over, stands_bare, takes_special, takes_digit, after_bare, after_percent, after_digit, after_code, step, may_end, finished, read_from, text_end};
+
+use cpe_values::{Style, is_bare_byte, skip_bare};
+
+/// How much of a component was read.
+#[derive(Clone, Copy)]
+pub(crate) enum Stage {
+    /// Nothing.
+    Start,
+    /// A bare hyphen, which is NA where the component ends.
+    Na,
+    /// A hyphen in its percent form, which is no component alone.
+    Hyphen,
+    /// An asterisk before the body.
+    LeadStar,
+    /// So many question marks before the body.
+    LeadMarks(u32),
+    /// Some of the body.
+    Body,
+    /// So many question marks after the body.
+    TrailMarks(u32),
+    /// An asterisk after the body.
+    TrailStar,
+}
+
+/// The same, and how much of a percent form.
+#[derive(Clone, Copy)]
+pub(crate) enum State {
+    /// Nothing of one.
+    Whole(Stage),
+    /// The percent sign.
+    Percent(Stage),
+    /// The percent sign and a digit of this number.
+    Half(Stage, u8),
+}
+
+fn after_mark(stage: Stage) -> Option<Stage>
+    ensures { result ≡ after_mark stage }
+{
+    match stage {
+        Stage::Start => Some(Stage::LeadMarks(1)),
+        Stage::Na | Stage::Hyphen | Stage::Body => Some(Stage::TrailMarks(1)),
+        Stage::LeadMarks(marks) if marks < u32::MAX => Some(Stage::LeadMarks(marks + 1)),
+        Stage::TrailMarks(marks) if marks < u32::MAX => Some(Stage::TrailMarks(marks + 1)),
+        _ => None,
+    }
+}
+
+fn after_star(stage: Stage) -> Option<Stage>
+    ensures { result ≡ after_star stage }
+{
+    match stage {
+        Stage::Start => Some(Stage::LeadStar),
+        Stage::Na | Stage::Hyphen | Stage::Body => Some(Stage::TrailStar),
+        _ => None,
+    }
+}
+
+fn takes_character(stage: Stage) -> bool
+    ensures { result ≡ takes_character stage }
+{
+    !matches!(stage, Stage::TrailMarks(_) | Stage::TrailStar)
+}
+
+fn is_start(stage: Stage) -> bool
+    ensures { result ≡ is_start stage }
+{
+    matches!(stage, Stage::Start)
+}
+
+fn after_character(stage: Stage, code: u16) -> Option<Stage>
+    ensures { result ≡ after_character stage code }
+{
+    if !takes_character(stage) {
+        return None;
+    }
+    if is_start(stage) && code == 45 {
+        Some(Stage::Hyphen)
+    } else {
+        Some(Stage::Body)
+    }
+}
+
+fn is_printable(code: u16) -> bool
+    ensures { result ≡ is_character code }
+{
+    matches!(code, 33..=126)
+}
+
+fn next(stage: Stage, code: u16) -> Option<Stage>
+    ensures { result ≡ next stage code }
+{
+    match code {
+        1 => after_mark(stage),
+        2 => after_star(stage),
+        _ if is_printable(code) => after_character(stage, code),
+        _ => None,
+    }
+}
+
+fn is_over(stage: Stage) -> bool
+    ensures { result ≡ is_over stage }
+{
+    !matches!(
+        stage,
+        Stage::Hyphen | Stage::LeadStar | Stage::LeadMarks(_)
+    )
+}
+
+fn stands_bare(packed: bool, byte: u8) -> bool
+    ensures { result ≡ stands_bare packed byte }
+{
+    is_bare_byte(Style::Formatted, byte) || byte == b'~' && !packed
+}
+
+fn takes_special(stage: Stage) -> bool
+    ensures { result ≡ takes_special stage }
+{
+    after_mark(stage).is_some() || after_star(stage).is_some()
+}
+
+fn takes_digit(stage: Stage, digit: u8) -> bool
+    ensures { result ≡ takes_digit stage digit }
+{
+    if digit == 0 {
+        takes_special(stage)
+    } else {
+        matches!(digit, 2..=7) && takes_character(stage)
+    }
+}
+
+fn after_bare(stage: Stage, byte: u8) -> Option<State>
+    ensures { result ≡ after_bare stage byte }
+{
+    if is_start(stage) && byte == b'-' {
+        return Some(State::Whole(Stage::Na));
+    }
+    next(stage, u16::from(byte)).map(State::Whole)
+}
+
+fn after_percent(stage: Stage) -> Option<State>
+    ensures { result ≡ after_percent stage }
+{
+    if takes_character(stage) || takes_special(stage) {
+        Some(State::Percent(stage))
+    } else {
+        None
+    }
+}
+
+fn after_digit(stage: Stage, digit: u8) -> Option<State>
+    ensures { result ≡ after_digit stage digit }
+{
+    if takes_digit(stage, digit) {
+        Some(State::Half(stage, digit))
+    } else {
+        None
+    }
+}
+
+fn has_percent_form(code: u16) -> bool
+    ensures { result ≡ has_percent_form code }
+{
+    match code {
+        1 | 2 => true,
+        33..=47 | 58..=64 | 91..=94 | 96 | 123..=126 => true,
+        _ => false,
+    }
+}
+
+fn after_code(stage: Stage, code: u16) -> Option<State>
+    ensures { result ≡ after_code stage code }
+{
+    if has_percent_form(code) {
+        next(stage, code).map(State::Whole)
+    } else {
+        None
+    }
+}
+
+fn is_hex_byte(byte: u8) -> bool
+    ensures { result ≡ is_hex byte }
+{
+    matches!(byte, b'0'..=b'9' | b'A'..=b'F' | b'a'..=b'f')
+}
+
+fn hex_value(byte: u8) -> u8
+    requires { is_hex byte ≡ true }
+    ensures { result ≡ hex_value byte }
+{
+    match byte {
+        b'0'..=b'9' => byte - b'0',
+        b'A'..=b'F' => byte - 55,
+        _ => byte - 87,
+    }
+}
+
+/// One byte more, in a packed field or not.
+fn step(packed: bool, state: State, byte: u8) -> Option<State>
+    ensures { result ≡ step packed state byte }
+{
+    match state {
+        State::Whole(stage) => match byte {
+            b'%' => after_percent(stage),
+            _ if stands_bare(packed, byte) => after_bare(stage, byte),
+            _ => None,
+        },
+        State::Percent(stage) if is_hex_byte(byte) => after_digit(stage, hex_value(byte)),
+        State::Half(stage, high) if is_hex_byte(byte) => {
+            after_code(stage, 16 * u16::from(high) + u16::from(hex_value(byte)))
+        }
+        _ => None,
+    }
+}
+
+fn may_end(state: State) -> bool
+    ensures { result ≡ may_end state }
+{
+    match state {
+        State::Whole(stage) => is_over(stage),
+        _ => false,
+    }
+}
+
+fn finish(state: State, rest: &[u8]) -> Result<&[u8], usize>
+    ensures { Tells (λ rest. rest.now) result (finished state rest.now) }
+{
+    if may_end(state) {
+        Ok(rest)
+    } else {
+        Err(rest.len())
+    }
+}
+
+/// What is left behind the bare characters that lead from a body to a body.
+#[inline(always)]
+fn skip_from(state: State, bytes: &[u8]) -> &[u8]
+    ensures same { (packed : Bool) → read_from packed state result.now ≡ read_from packed state bytes.now }
+    ensures within { length result.now ≤ length bytes.now }
+{
+    match state {
+        State::Whole(Stage::Body) => skip_bare(bytes),
+        _ => bytes,
+    }
+}
+
+/// What is left behind a component of ANY, NA or a text, or how many bytes are left where none goes on.
+#[tactic(auto, unfolding(crate::specs::Reading::text_end))]
+pub(crate) fn scan_text(packed: bool, bytes: &[u8]) -> Result<&[u8], usize>
+    ensures { Tells (λ rest. rest.now) result (text_end packed bytes.now) }
+{
+    let mut state = State::Whole(Stage::Start);
+    let mut rest = bytes;
+    while let [byte, tail @ ..] = rest {
+        let Some(next) = step(packed, state, *byte) else {
+            return finish(state, rest);
+        };
+        state = next;
+        rest = skip_from(next, tail);
+    }
+    finish(state, rest)
+}
