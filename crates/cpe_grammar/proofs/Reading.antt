@@ -27,6 +27,24 @@ module _ {S : Type 0} (step : S → ℕ → Option S) (ends : S → Bool) where
   pub ends_there : (q : S) → ends q ≡ true → machine step ends q [] ≡ Ok []
   ends_there q h = rw h refl
 
+  -- what is taken whole begins with a step
+  pub went_in : (q : S) (c : ℕ) (s : List ℕ) → machine step ends q (c ∷ s) ≡ Ok [] → (t : S) × (step q c ≡ Some t) × (machine step ends t s ≡ Ok [])
+  went_in q c s e =
+      elim (stepped (step q c)) [
+        | inl go ↦ (go.0, go.1, sym (goes q go.0 c s go.1) ∙ e)
+        | inr none ↦ elim (cases_Bool (ends q)) [
+          | inl h ↦ let all : c ∷ s ≡ [] = ok_is (c ∷ s) [] (sym (ends_here q c s none h) ∙ e) in absurd cc
+          | inr h ↦ absurd (ok≢err [] _ (sym e ∙ halts q c s none h))
+        ]
+      ]
+
+  -- and ends where it may
+  pub went_out : (q : S) → machine step ends q [] ≡ Ok [] → ends q ≡ true
+  went_out q e = elim (cases_Bool (ends q)) [
+    | inl h ↦ h
+    | inr h ↦ absurd (ok≢err [] 0 (sym e ∙ rw h refl))
+  ]
+
   -- the texts that it takes whole from a state on
   abbrev pub Taken : S → List ℕ → Type 0
   Taken q s = machine step ends q s ≡ Ok []
