@@ -1,22 +1,24 @@
 -- Components byte by byte: the machine takes those of ANY, NA and the texts, and each of its states can be completed.
-use Rattle.std.proofs.Common.{◌≡◌, ◌≢◌, ◌⊎◌, ℕ, zero, suc, ◌+◌, ◌*◌, ◌/◌, ◌<◌, ◌≤◌, ◌&&◌, ◌||◌, not, ltb, leb, Bool, true, false, eqb, cond, List, [], ◌∷◌, ◌++◌, length, map, Option, Some, None, Ok, Err, refl, sym, ap, subst, ◌∙◌, inl, inr, append_assoc, arith, IsTrue}
+use Rattle.std.proofs.Common.{◌≡◌, ◌≢◌, ◌⊎◌, ℕ, zero, suc, ◌+◌, ◌*◌, ◌/◌, ◌<◌, ◌≤◌, ◌&&◌, ◌||◌, not, ltb, leb, Bool, true, false, eqb, cond, List, [], ◌∷◌, ◌++◌, length, map, take, drop, ◌-◌, slice_index, Option, Some, None, Ok, Err, refl, sym, ap, subst, ◌∙◌, inl, inr, append_assoc, arith, IsTrue}
 use Rattle.std.specs.Option.{option_map}
 use Rattle.std.specs.List.{list_all}
 use Rattle.std.specs.Char.{to_ascii_lowercase}
 use Rattle.std.proofs.lemmas.Bool.{cases_Bool, eqb-true, eq-eqb, and_parts, and_from, or_cases, or_left, or_right, or_from, or_parts, both_ways}
 use Rattle.std.proofs.lemmas.Bool.Decides.{nat_tests}
+use Rattle.std.proofs.lemmas.List.{take_all}
 use Rattle.cpe_grammar.specs.Machines.{machine}
 use Rattle.cpe_grammar.proofs.Reading.{goes, ends_here, went_in, went_out}
 use Rattle.cpe_values.specs.declared.spelling.Style.TheVariants as style
 use Rattle.cpe_values.specs.Parts.{is_character}
 use Rattle.cpe_values.specs.Skipping.{skip_while}
 use Rattle.cpe_values.specs.Spelling.{is_bare, is_word}
+use Rattle.cpe_fs.proofs.Bodies.{length-skip_while}
 use Rattle.cpe_uri.specs.Spelling.{is_hex, hex_value, has_percent_form, spells, Spelled}
 use Rattle.cpe_uri.specs.declared.text.Stage.{Stage}
 use Rattle.cpe_uri.specs.declared.text.Stage.TheVariants.{Start, Na, Hyphen, LeadStar, LeadMarks, Body, TrailMarks, TrailStar}
 use Rattle.cpe_uri.specs.declared.text.State.{State}
 use Rattle.cpe_uri.specs.declared.text.State.TheVariants.{Whole, Percent, Half}
-use Rattle.cpe_uri.specs.Reading.{after_mark, after_star, after_character, takes_character, takes_special, takes_digit, is_start, next, is_over, stands_bare, after_bare, after_percent, after_digit, after_code, step, may_end, finished, read_from}
+use Rattle.cpe_uri.specs.Reading.{after_mark, after_star, after_character, takes_character, takes_special, takes_digit, is_start, next, is_over, stands_bare, after_bare, after_percent, after_digit, after_code, step, may_end, is_in_body, finished, read_from}
 use Rattle.cpe_uri.proofs.Stages.{some_stage, no_stage, stage_is, no_stage_is, run, run_then, NextCase, mark, star, plain, next_case}
 
 -- ---- which way a test goes
@@ -43,6 +45,9 @@ bare_no_mark b h = grind (arith, nat_tests)
 bare_no_star : (b : ℕ) → is_bare style.Formatted b ≡ true → eqb b 2 ≡ false
 bare_no_star b h = grind (arith, nat_tests)
 
+pub skip_within : (s : List ℕ) → length (skip_while (is_bare style.Formatted) s) ≤ length s
+skip_within s = length-skip_while (is_bare style.Formatted) s
+
 module _ (packed : Bool) where
   body_stays : (c : ℕ) → is_bare style.Formatted c ≡ true → step packed (Whole Body) c ≡ Some (Whole Body)
   body_stays c h = rw (bare_no_percent c h, h, bare_no_mark c h, bare_no_star c h, bare_character c h) refl
@@ -55,9 +60,25 @@ module _ (packed : Bool) where
     | inr h ↦ ap (read_from packed (Whole Body)) (when_false _ (skip_while (is_bare style.Formatted) s) (c ∷ s) h)
   ]
 
+  pub skip_in_body : (q : State) (s : List ℕ) → is_in_body q ≡ true → read_from packed q (skip_while (is_bare style.Formatted) s) ≡ read_from packed q s
+  skip_in_body (Whole Start) s h = absurd cc
+  skip_in_body (Whole Na) s h = absurd cc
+  skip_in_body (Whole Hyphen) s h = absurd cc
+  skip_in_body (Whole LeadStar) s h = absurd cc
+  skip_in_body (Whole (LeadMarks n)) s h = absurd cc
+  skip_in_body (Whole Body) s h = skip_same s
+  skip_in_body (Whole (TrailMarks n)) s h = absurd cc
+  skip_in_body (Whole TrailStar) s h = absurd cc
+  skip_in_body (Percent q) s h = absurd cc
+  skip_in_body (Half q n) s h = absurd cc
+
   -- a step is taken
   pub went : (q t : State) (c : ℕ) (s : List ℕ) → step packed q c ≡ Some t → read_from packed q (c ∷ s) ≡ read_from packed t s
   went q t c s e = goes (step packed) may_end q t c s e
+
+  pub went_at : (q t : State) (s : List ℕ) → 1 ≤ length s → step packed q (slice_index s 0) ≡ Some t → read_from packed t (take (length s - 1) (drop 1 s)) ≡ read_from packed q s
+  went_at q t [] some e = absurd (omega (arith, some))
+  went_at q t (c ∷ s) some e = let n : length (c ∷ s) - 1 ≡ length s = omega arith in ap (read_from packed t) (take_all (length (c ∷ s) - 1) s (omega (arith, n))) ∙ sym (went q t c s e)
 
   -- no step is there
   pub stayed : (q : State) (c : ℕ) (s : List ℕ) → step packed q c ≡ None → read_from packed q (c ∷ s) ≡ finished q (c ∷ s)
@@ -89,8 +110,8 @@ chose true o t e = (refl, e)
 chose false o t e = absurd (no_state_is t e)
 
 -- no stage is the first again
-not_start : (q t : Stage) (c : ℕ) → next q c ≡ Some t → is_start t ≡ false
-not_start q t c e = go q c t (next_case q t c e) where
+pub later_next : (q t : Stage) (c : ℕ) → next q c ≡ Some t → is_start t ≡ false
+later_next q t c e = go q c t (next_case q t c e) where
   is_not : (p t : Stage) → is_start p ≡ false → some_stage p ≡ some_stage t → is_start t ≡ false
   is_not p t h e = subst (λ (x : Stage). is_start x ≡ false) (stage_is p t e) h
 
@@ -204,7 +225,7 @@ module _ (packed : Bool) where
             subst (λ (d : ℕ). Outcome q (d ∷ s)) (sym (eqb-true b 45 p.1)) (hyphen_read q s p.0 rest)
         | inr later ↦
             let so = mapped (next q b) t (sym (when_false (is_start q && eqb b 45) (some_state (Whole Na)) (option_map Whole (next q b)) later) ∙ bare.1) in
-            let rest = not_lone so.0 s (not_start q so.0 b so.1) (again so.0 (ap (λ (x : State). read_from packed x s) (sym so.2) ∙ e)) in
+            let rest = not_lone so.0 s (later_next q so.0 b so.1) (again so.0 (ap (λ (x : State). read_from packed x s) (sym so.2) ∙ e)) in
             inl (read_more q so.0 (to_ascii_lowercase b) (b ∷ []) s (next_lower q b ∙ so.1) (bare_unit b bare.0) (lower_lower b) rest)
       ]
 
@@ -223,7 +244,7 @@ module _ (packed : Bool) where
       let three = chose (is_hex l) (after_code q code) low.0 low.1 in
       let form = chose (has_percent_form code) (option_map Whole (next q code)) low.0 three.1 in
       let so = mapped (next q code) low.0 form.1 in
-      let rest = not_lone so.0 s (not_start q so.0 code so.1) (again so.0 (ap (λ (x : State). read_from packed x s) (sym so.2) ∙ low.2)) in
+      let rest = not_lone so.0 s (later_next q so.0 code so.1) (again so.0 (ap (λ (x : State). read_from packed x s) (sym so.2) ∙ low.2)) in
       let good : spells code (37 ∷ h ∷ l ∷ []) ≡ true = rw (hex.0, three.0, eq-eqb code code refl) form.0 in
       read_more q so.0 code (37 ∷ h ∷ l ∷ []) s so.1 good (coded_lower code form.0) rest
 

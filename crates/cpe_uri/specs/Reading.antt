@@ -113,6 +113,19 @@ may_end (Whole q) = is_over q
 may_end (Percent q) = false
 may_end (Half q h) = false
 
+-- between two characters of a body
+abbrev pub is_in_body : State → Bool
+is_in_body (Whole Start) = false
+is_in_body (Whole Na) = false
+is_in_body (Whole Hyphen) = false
+is_in_body (Whole LeadStar) = false
+is_in_body (Whole (LeadMarks n)) = false
+is_in_body (Whole Body) = true
+is_in_body (Whole (TrailMarks n)) = false
+is_in_body (Whole TrailStar) = false
+is_in_body (Percent q) = false
+is_in_body (Half q h) = false
+
 -- what is left, where the component may end, or how much was left where it may not
 abbrev pub finished : State → List ℕ → Result (List ℕ) ℕ
 finished q s = if may_end q then Ok s else Err (length s)

@@ -3,7 +3,7 @@ ghost use Rattle.std.specs.Prelude.{◌≡◌, ◌≤◌, ◌<◌, ℕ, Bool, tr
 ghost use Rattle.cpe_grammar.specs.Scanners.{Tells};
 ghost use Rattle.cpe_values.specs.Parts.{is_character};
 ghost use Rattle.cpe_uri.specs.Spelling.{is_hex, hex_value, has_percent_form};
-ghost use Rattle.cpe_uri.specs.Reading.{after_mark, after_star, takes_character, is_start, after_character, next, is_over, stands_bare, takes_special, takes_digit, after_bare, after_percent, after_digit, after_code, step, may_end, finished, read_from, text_end};
+ghost use Rattle.cpe_uri.specs.Reading.{after_mark, after_star, takes_character, is_start, after_character, next, is_over, stands_bare, takes_special, takes_digit, after_bare, after_percent, after_digit, after_code, step, may_end, is_in_body, finished, read_from, text_end};
 
 use cpe_values::{Style, is_bare_byte, skip_bare};
 
@@ -237,15 +237,23 @@ fn finish(state: State, rest: &[u8]) -> Result<&[u8], usize>
     }
 }
 
+fn is_in_body(state: State) -> bool
+    ensures { result ≡ is_in_body state }
+{
+    matches!(state, State::Whole(Stage::Body))
+}
+
 /// What is left behind the bare characters that lead from a body to a body.
 #[inline(always)]
+#[tactic(auto, using(crate::proofs::Components::skip_in_body, crate::proofs::Components::skip_within))]
 fn skip_from(state: State, bytes: &[u8]) -> &[u8]
     ensures same { (packed : Bool) → read_from packed state result.now ≡ read_from packed state bytes.now }
     ensures within { length result.now ≤ length bytes.now }
 {
-    match state {
-        State::Whole(Stage::Body) => skip_bare(bytes),
-        _ => bytes,
+    if is_in_body(state) {
+        skip_bare(bytes)
+    } else {
+        bytes
     }
 }
 

@@ -1,0 +1,11 @@
+use Rattle.std.proofs.Common.{◌≡◌, length}
+use Rattle.cpe_uri.specs.Reading.{read_from}
+use Rattle.cpe_uri.specs.declared.text.Stage.TheVariants.{Start}
+use Rattle.cpe_uri.specs.declared.text.State.TheVariants.{Whole}
+use Rattle.cpe_uri.proofs.text.scan_text.Given as goal
+
+abbrev pub invariant-loop-rest : goal.invariant-loop-rest
+invariant-loop-rest l = read_from l.packed l.state l.rest ≡ read_from l.packed (Whole Start) l.bytes
+
+abbrev pub decreases-loop-rest : goal.decreases-loop-rest
+decreases-loop-rest l = length l.rest
