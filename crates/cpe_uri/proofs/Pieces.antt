@@ -15,7 +15,7 @@ use Rattle.cpe_values.specs.Values.{IsValue}
 use Rattle.cpe_name.specs.declared.name.Values.{Values}
 use Rattle.cpe_name.specs.declared.attribute.Attribute.{Attribute}
 use Rattle.cpe_name.specs.declared.attribute.Attribute.TheVariants.{Edition}
-use Rattle.cpe_name.specs.Names.{attributes, value_of, Suits}
+use Rattle.cpe_name.specs.Names.{attributes, value_of, Suits, IsName}
 use Rattle.cpe_name.specs.Equal.{named}
 use Rattle.cpe_name.specs.Scanning.{slot}
 use Rattle.cpe_fs.proofs.Whole.{good_of}
@@ -119,7 +119,8 @@ all_seven P (x ∷ y ∷ z ∷ u ∷ v ∷ q ∷ r ∷ s ∷ cs) few a b c d e f
 
 -- ---- the components of a URI
 
-prefix_length : (prefix : List ℕ) → str_to_ascii_lowercase prefix ≡ codes "cpe:/" → length prefix ≡ 5
+-- a prefix has five bytes
+pub prefix_length : (prefix : List ℕ) → str_to_ascii_lowercase prefix ≡ codes "cpe:/" → length prefix ≡ 5
 prefix_length prefix e = sym (length-map prefix _) ∙ ap length e
 
 -- a URI is cut into its components
@@ -195,9 +196,13 @@ same_values one v w us (a ∷ rest) g h i j =
     ap (λ (x : Value). x ∷ map (value_of v) rest) (one (value_of v a) (value_of w a) (slot us a) (good_of a _ g.0) (good_of a _ h.0) i.0 j.0)
     ∙ ap (λ (xs : List Value). value_of w a ∷ xs) (same_values one v w us rest g.1 h.1 i.1 j.1)
 
+-- no pieces are those of two names
+pub one_name_of : OneValue → (v w : Values) (us : List (List ℕ)) → IsName v → IsName w → StandEach v us attributes → StandEach w us attributes → v ≡ w
+one_name_of one v w us g h i j = ap named (same_values one v w us attributes g h i j)
+
 -- no text is the URI of two names
 pub one_uri_name : OneValue → (v w : Values) (s : List ℕ) → Uri v s → Uri w s → v ≡ w
-one_uri_name one v w s a b = ap named (same_values one v w (pieces s) attributes a.name b.name (pieces_stand v s a) (pieces_stand w s b))
+one_uri_name one v w s a b = one_name_of one v w (pieces s) a.name b.name (pieces_stand v s a) (pieces_stand w s b)
 
 -- what reads a value where it stands
 module _ (value_at : List ℕ → Value) (value_back : (v : Value) (s : List ℕ) → IsValue v → Stands v s → value_at s ≡ v) where
@@ -207,7 +212,15 @@ module _ (value_at : List ℕ → Value) (value_back : (v : Value) (s : List ℕ
       ap (λ (x : Value). x ∷ map (λ b. value_at (slot us b)) rest) (value_back (value_of w a) (slot us a) (good_of a _ g.0) i.0)
       ∙ ap (λ (xs : List Value). value_of w a ∷ xs) (values_back w us rest g.1 i.1)
 
-  -- reads the name of a URI
+  -- finds one value in a component
+  pub one_value_of : OneValue
+  one_value_of v w s g h i j = sym (value_back v s g i) ∙ value_back w s h j
+
+  -- reads a name from the pieces in which its values stand
+  pub name_of : (w : Values) (us : List (List ℕ)) → IsName w → StandEach w us attributes → named (map (λ a. value_at (slot us a)) attributes) ≡ w
+  name_of w us g i = ap named (values_back w us attributes g i)
+
+  -- reads it from its URI
   pub named_back : (w : Values) (s : List ℕ) → Uri w s → named (map value_at (pieces s)) ≡ w
   unfolding pieces
-  named_back w s uri = ap named (values_back w (pieces s) attributes uri.name (pieces_stand w s uri))
+  named_back w s uri = name_of w (pieces s) uri.name (pieces_stand w s uri)

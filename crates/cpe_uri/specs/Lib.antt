@@ -3,3 +3,5 @@ pub mod Canon
 pub mod Grammar
 pub mod Spans
 pub mod Pieces
+pub mod Unbound
+pub mod Both
