@@ -6,7 +6,7 @@ use Rattle.cpe_uri.specs.Grammar.{is_tilde, begins_with_tilde}
 abbrev pub is_colon : ℕ → Bool
 is_colon c = c == 58
 
--- what stands between the tildes, the first of which nothing stands before; an edition that isn't packed stands second, too
+-- nothing, the edition, and what is packed with it, if it is packed
 abbrev pub edition_fields : List ℕ → List (List ℕ)
 edition_fields e = if begins_with_tilde e then slice_split is_tilde e else [] ∷ e ∷ []
 
