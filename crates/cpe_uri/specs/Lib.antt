@@ -3,3 +3,6 @@ pub mod Canon
 pub mod Grammar
 pub mod Spans
 pub mod Reading
+pub mod Pieces
+pub mod Unbound
+pub mod Both

@@ -1,0 +1,42 @@
+-- Texts in either binding (NIST IR 7695, 6): one that begins as a URI does is read as a URI, and any other as a formatted string.
+use Rattle.std.specs.Prelude.{◌≡◌, ℕ, Bool, if◌then◌else◌, List, ◌++◌, take, Result, codes}
+use Rattle.std.specs.Bool.{MatchBool}
+use Rattle.std.specs.Str.{str_eq_ignore_ascii_case}
+use Rattle.cpe_name.specs.declared.name.Values.{Values}
+use Rattle.cpe_name.specs.Text.{output_text}
+use Rattle.cpe_fs.specs.Grammar.{Fs, LeavesAt}
+use Rattle.cpe_fs.specs.Unbound.{unbound}
+use Rattle.cpe_uri.specs.Grammar.{Uri, LeavesUri}
+
+-- the first five bytes are `cpe:/` in any letter case
+abbrev pub begins_as_uri : List ℕ → Bool
+begins_as_uri s = str_eq_ignore_ascii_case (take 5 s) (codes "cpe:/")
+
+-- the name has this text: as its URI where it begins as one, else as its formatted string
+abbrev pub Bound : Values → List ℕ → Type 0
+Bound w s = MatchBool (begins_as_uri s) (Uri w s) (Fs w s)
+
+-- some name has it
+abbrev pub IsBound : List ℕ → Type 0
+IsBound s = (w : Values) × Bound w s
+
+-- no name has this text, and this is its place in that grammar
+abbrev pub LeavesBound : List ℕ → ℕ → Type 0
+LeavesBound s place = MatchBool (begins_as_uri s) (LeavesUri s place) (LeavesAt s place)
+
+-- the name that has this text has this output text
+pub record SaysAny (s text : List ℕ) : Type 0 where
+  pub name : Values
+  pub has : Bound name s
+  pub is : text ≡ output_text name
+
+-- the same text behind what stood before
+pub record WritesAny (s old new : List ℕ) : Type 0 where
+  pub name : Values
+  pub has : Bound name s
+  pub written : new ≡ old ++ output_text name
+
+module _ (unbound_uri : List ℕ → Result (List ℕ) ℕ) where
+  -- what the text says as the one or the other; `unbound_any_is` fixes it
+  unfoldable pub unbound_any : List ℕ → Result (List ℕ) ℕ
+  unbound_any s = if begins_as_uri s then unbound_uri s else unbound s
