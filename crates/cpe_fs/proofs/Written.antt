@@ -17,6 +17,7 @@ use Rattle.cpe_name.specs.declared.name.Values.{Values}
 use Rattle.cpe_name.specs.declared.attribute.Attribute.TheVariants.{Part, Vendor, Product, Version, Update, Edition, Language, SwEdition, TargetSw, TargetHw, Other}
 use Rattle.cpe_name.specs.Names.{attributes, value_of, IsName}
 use Rattle.cpe_name.specs.Text.{value_text, attribute_text, output_text}
+use Rattle.cpe_name.proofs.OutputTexts.{output_keyed}
 use Rattle.cpe_fs.specs.Grammar.{component}
 use Rattle.cpe_fs.specs.Spans.{is_only, AreComponents, spans}
 use Rattle.cpe_fs.specs.SpanValues.{value_at}
@@ -89,15 +90,6 @@ spelled (value.Text t) good =
 
 -- ---- names
 
-regroup : (k1 k2 k3 k4 k5 k6 k7 k8 k9 k10 k11 a1 a2 a3 a4 a5 a6 a7 a8 a9 a10 a11 z : List ℕ) → (k1 ++ a1) ++ (k2 ++ a2) ++ (k3 ++ a3) ++ (k4 ++ a4) ++ (k5 ++ a5) ++ (k6 ++ a6) ++ (k7 ++ a7) ++ (k8 ++ a8) ++ (k9 ++ a9) ++ (k10 ++ a10) ++ (k11 ++ a11) ++ z ≡ k1 ++ (a1 ++ (k2 ++ (a2 ++ (k3 ++ (a3 ++ (k4 ++ (a4 ++ (k5 ++ (a5 ++ (k6 ++ (a6 ++ (k7 ++ (a7 ++ (k8 ++ (a8 ++ (k9 ++ (a9 ++ (k10 ++ (a10 ++ (k11 ++ (a11 ++ z)))))))))))))))))))))
-regroup k1 k2 k3 k4 k5 k6 k7 k8 k9 k10 k11 a1 a2 a3 a4 a5 a6 a7 a8 a9 a10 a11 z = simp append_assoc
-
-over : (x r z q : List ℕ) → r ++ z ≡ q → (x ++ (44 ∷ r)) ++ z ≡ x ++ (44 ∷ q)
-over x r z q h = append_assoc x (44 ∷ r) z ∙ ap (λ (u : List ℕ). x ++ (44 ∷ u)) h
-
-output_is : (v : Values) → output_text v ≡ codes "wfn:[" ++ (attribute_text v Part ++ (44 ∷ (attribute_text v Vendor ++ (44 ∷ (attribute_text v Product ++ (44 ∷ (attribute_text v Version ++ (44 ∷ (attribute_text v Update ++ (44 ∷ (attribute_text v Edition ++ (44 ∷ (attribute_text v Language ++ (44 ∷ (attribute_text v SwEdition ++ (44 ∷ (attribute_text v TargetSw ++ (44 ∷ (attribute_text v TargetHw ++ (44 ∷ (attribute_text v Other ++ codes "]")))))))))))))))))))))
-output_is v = ap (λ (u : List ℕ). codes "wfn:[" ++ u) (over (attribute_text v Part) _ _ _ (over (attribute_text v Vendor) _ _ _ (over (attribute_text v Product) _ _ _ (over (attribute_text v Version) _ _ _ (over (attribute_text v Update) _ _ _ (over (attribute_text v Edition) _ _ _ (over (attribute_text v Language) _ _ _ (over (attribute_text v SwEdition) _ _ _ (over (attribute_text v TargetSw) _ _ _ (over (attribute_text v TargetHw) _ _ _ (refl)))))))))))
-
 span_at : (n : ℕ) (us vs : List (List ℕ)) → us ≡ vs → get_or us n [] ≡ get_or vs n []
 span_at n us vs e = ap (λ (l : List (List ℕ)). get_or l n []) e
 
@@ -117,8 +109,7 @@ name_text w c good e =
       ap span_text (span_at 8 _ _ e) ∙ spelled w.target_sw good.1.1.1.1.1.1.1.1.0,
       ap span_text (span_at 9 _ _ e) ∙ spelled w.target_hw good.1.1.1.1.1.1.1.1.1.0,
       ap span_text (span_at 10 _ _ e) ∙ spelled w.other good.1.1.1.1.1.1.1.1.1.1.0,
-    ) (regroup (codes "wfn:[part=") (codes ",vendor=") (codes ",product=") (codes ",version=") (codes ",update=") (codes ",edition=") (codes ",language=") (codes ",sw_edition=") (codes ",target_sw=") (codes ",target_hw=") (codes ",other=") (value_text w.part) (value_text w.vendor) (value_text w.product) (value_text w.version) (value_text w.update) (value_text w.edition) (value_text w.language) (value_text w.sw_edition) (value_text w.target_sw) (value_text w.target_hw) (value_text w.other) (codes "]")
-    ∙ sym (output_is w))
+    ) (output_keyed w)
 
 -- what is written of the components is the output text of the name
 pub components_say : (s : List ℕ) (c : Components) (are : AreComponents s c) → components_text c ≡ output_text are.name

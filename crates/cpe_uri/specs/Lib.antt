@@ -6,3 +6,5 @@ pub mod Reading
 pub mod Pieces
 pub mod Unbound
 pub mod Both
+pub mod Rewriting
+pub mod SpanValues

@@ -2,8 +2,14 @@
 #![tactic(auto)]
 
 mod text;
+mod values;
+mod write;
 
 use thiserror::Error;
+
+/// The bytes that an output text has beside its values: the names of the attributes, the brackets, the commas,
+/// and `ANY` where nothing stands in the URI.
+pub const FRAME: usize = 138;
 
 /// Why a text has no name.
 #[derive(Clone, Copy, Debug, PartialEq, Eq, Error)]

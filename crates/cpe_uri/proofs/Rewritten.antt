@@ -1,0 +1,169 @@
+-- What stands in a URI, rewritten, is the spelling of its text in a well-formed name.
+use Rattle.std.specs.Prelude.{if◌then◌else◌, ◌==◌}
+use Rattle.std.proofs.Common.{◌≡◌, ◌≢◌, ℕ, zero, suc, ◌+◌, ◌-◌, ◌*◌, ◌<◌, ◌≤◌, ◌%◌, Bool, true, false, not, ◌&&◌, ◌||◌, eqb, List, [], ◌∷◌, ◌++◌, length, take, drop, get_or, replicate, refl, sym, ap, subst, ◌∙◌, inl, inr, append_assoc, arith, IsTrue}
+use Rattle.std.specs.Char.{to_ascii_lowercase}
+use Rattle.std.specs.List.{flat_map, list_all}
+use Rattle.std.proofs.lemmas.List.{append-nil, take_all}
+use Rattle.std.proofs.lemmas.List.Concat.{flat_map-append}
+use Rattle.std.proofs.lemmas.Bool.{cases_Bool, eqb-true, and_parts, or_cases, both_ways, not-true}
+use Rattle.std.proofs.lemmas.Bool.Decides.{nat_tests}
+use Rattle.cpe_values.specs.declared.value.Edge.{Edge}
+use Rattle.cpe_values.specs.declared.value.Edge.TheVariants as edge
+use Rattle.cpe_values.specs.declared.spelling.Style.TheVariants as style
+use Rattle.cpe_values.specs.Parts.{Parts, is_character, IsText}
+use Rattle.cpe_values.specs.Spelling.{is_word, is_bare, character, edge_text, spelling}
+use Rattle.cpe_uri.specs.Spelling.{edge_codes, text_codes, is_hex, hex_value, has_percent_form, spells, Spelled}
+use Rattle.cpe_uri.specs.Rewriting.{code_of, code_text, is_requoted, bare_text, rewritten}
+
+-- ---- one form
+
+-- a bare byte is rewritten by itself
+pub bare_rewritten : (b : ℕ) (s : List ℕ) → eqb b 37 ≡ false → rewritten (b ∷ s) ≡ bare_text b ++ rewritten s
+unfolding rewritten
+bare_rewritten b [] h = sym (append-nil (bare_text b))
+bare_rewritten b (d ∷ []) h = refl
+bare_rewritten b (d ∷ e ∷ s) h = rw h refl
+
+-- and so is a percent sign without two bytes behind it
+pub cut_rewritten : (s : List ℕ) → length s < 2 → rewritten (37 ∷ s) ≡ bare_text 37 ++ rewritten s
+unfolding rewritten
+cut_rewritten [] h = refl
+cut_rewritten (d ∷ []) h = refl
+cut_rewritten (d ∷ e ∷ s) h = absurd (omega (arith, h))
+
+percent_rewritten : (h l : ℕ) (s : List ℕ) → rewritten (37 ∷ h ∷ l ∷ s) ≡ code_text (code_of h l) ++ rewritten s
+unfolding rewritten
+percent_rewritten h l s = refl
+
+-- a percent form is rewritten by itself
+pub digits_rewritten : (s : List ℕ) → 2 ≤ length s → rewritten (37 ∷ s) ≡ code_text (code_of (get_or s 0 0) (get_or s 1 0)) ++ rewritten (take (length s - 2) (drop 2 s))
+digits_rewritten [] h = absurd (omega (arith, h))
+digits_rewritten (d ∷ []) h = absurd (omega (arith, h))
+digits_rewritten (d ∷ e ∷ s) h =
+    let all : take (length (d ∷ e ∷ s) - 2) s ≡ s = take_all (length (d ∷ e ∷ s) - 2) s (omega arith) in
+    percent_rewritten d e s ∙ ap (λ (u : List ℕ). code_text (code_of d e) ++ rewritten u) (sym all)
+
+-- what is put of the front of a text, before what is left of it
+pub put_front : (now old front left text : List ℕ) → now ≡ old ++ front → text ≡ front ++ left → now ++ left ≡ old ++ text
+put_front now old front left text put is = ap (λ (u : List ℕ). u ++ left) put ∙ append_assoc old front left ∙ ap (λ (u : List ℕ). old ++ u) (sym is)
+
+pub rewritten_none : (s : List ℕ) → length s ≡ 0 → rewritten s ≡ []
+unfolding rewritten
+rewritten_none [] h = refl
+rewritten_none (c ∷ s) h = absurd (omega (arith, h))
+
+-- ---- one code
+
+-- what has the code: a special, or a character as it is spelled in a name
+abbrev named_code : ℕ → List ℕ
+named_code c = if c == 1 then 63 ∷ [] else (if c == 2 then 42 ∷ [] else character style.Wfn c)
+
+word_alone : (b : ℕ) → is_word b ≡ true → is_requoted b ≡ false
+word_alone b h = grind (arith, nat_tests)
+
+word_lower : (b : ℕ) → is_word b ≡ true → is_word (to_ascii_lowercase b) ≡ true
+word_lower b h = grind (arith, nat_tests)
+
+word_code : (c : ℕ) → is_word c ≡ true → named_code c ≡ c ∷ []
+word_code c h =
+    let one : eqb c 1 ≡ false = grind (arith, nat_tests) in
+    let two : eqb c 2 ≡ false = grind (arith, nat_tests) in
+    rw (one, two, h) refl
+
+requoted_code : (b : ℕ) → is_requoted b ≡ true → bare_text b ≡ named_code (to_ascii_lowercase b)
+requoted_code b h = elim (or_cases (eqb b 46 || eqb b 45) (eqb b 126) h) [
+  | inl k ↦ elim (or_cases (eqb b 46) (eqb b 45) k) [
+    | inl dot ↦ subst (λ (c : ℕ). bare_text c ≡ named_code (to_ascii_lowercase c)) (sym (eqb-true b 46 dot)) refl
+    | inr hyphen ↦ subst (λ (c : ℕ). bare_text c ≡ named_code (to_ascii_lowercase c)) (sym (eqb-true b 45 hyphen)) refl
+  ]
+  | inr tilde ↦ subst (λ (c : ℕ). bare_text c ≡ named_code (to_ascii_lowercase c)) (sym (eqb-true b 126 tilde)) refl
+]
+
+-- what stands bare is a word's byte, or gets a backslash
+bare_is : (b : ℕ) → (is_bare style.Formatted b || eqb b 126) ≡ true → is_word b ≡ false → is_requoted b ≡ true
+bare_is b h word = grind (arith, nat_tests)
+
+bare_code : (b : ℕ) → (is_bare style.Formatted b || eqb b 126) ≡ true → bare_text b ≡ named_code (to_ascii_lowercase b)
+bare_code b h =
+    elim (cases_Bool (is_word b)) [
+      | inl word ↦ rw (word_alone b word) (sym (word_code (to_ascii_lowercase b) (word_lower b word)))
+      | inr other ↦ requoted_code b (bare_is b h other)
+    ]
+
+bare_no_percent : (b : ℕ) → (is_bare style.Formatted b || eqb b 126) ≡ true → eqb b 37 ≡ false
+bare_no_percent b h = grind (arith, nat_tests)
+
+percent_code : (c : ℕ) → has_percent_form c ≡ true → (code_text c ≡ named_code c) × (c % 256 ≡ c)
+percent_code c h = elim (or_cases (eqb c 1 || eqb c 2) (is_character c && not (is_word c)) h) [
+  | inl k ↦ elim (or_cases (eqb c 1) (eqb c 2) k) [
+    | inl one ↦ subst (λ (d : ℕ). (code_text d ≡ named_code d) × (d % 256 ≡ d)) (sym (eqb-true c 1 one)) (refl, refl)
+    | inr two ↦ subst (λ (d : ℕ). (code_text d ≡ named_code d) × (d % 256 ≡ d)) (sym (eqb-true c 2 two)) (refl, refl)
+  ]
+  | inr k ↦
+      let p = and_parts (is_character c) (not (is_word c)) k in
+      let word : is_word c ≡ false = not-true (is_word c) p.1 in
+      let small : c < 256 = character_small c p.0 in
+      (rw word refl, omega (arith, small))
+]
+  where
+    character_small : (c : ℕ) → is_character c ≡ true → c < 256
+    character_small c h = grind (arith, nat_tests)
+
+-- a code is rewritten by itself, in whichever spelling
+code_rewritten : (c : ℕ) (u v : List ℕ) → spells c u ≡ true → rewritten (u ++ v) ≡ named_code c ++ rewritten v
+code_rewritten c [] v h = absurd cc
+code_rewritten c (b ∷ []) v h =
+    let p = and_parts (is_bare style.Formatted b || eqb b 126) (eqb (to_ascii_lowercase b) c) h in
+    bare_rewritten b v (bare_no_percent b p.0)
+    ∙ ap (λ (w : List ℕ). w ++ rewritten v) (bare_code b p.0 ∙ ap named_code (eqb-true (to_ascii_lowercase b) c p.1))
+code_rewritten c (b ∷ d ∷ []) v h = absurd cc
+code_rewritten c (p ∷ h ∷ l ∷ []) v e =
+    let a = and_parts (eqb p 37 && is_hex h && is_hex l && eqb (16 * hex_value h + hex_value l) c) (has_percent_form c) e in
+    let b = and_parts (eqb p 37 && is_hex h && is_hex l) (eqb (16 * hex_value h + hex_value l) c) a.0 in
+    let d = and_parts (eqb p 37 && is_hex h) (is_hex l) b.0 in
+    let f = and_parts (eqb p 37) (is_hex h) d.0 in
+    let code : code_of h l ≡ c = ap (λ (n : ℕ). n % 256) (eqb-true (16 * hex_value h + hex_value l) c b.1) ∙ (percent_code c a.1).1 in
+    ap (λ (q : ℕ). rewritten (q ∷ h ∷ l ∷ v)) (eqb-true p 37 f.0)
+    ∙ percent_rewritten h l v
+    ∙ ap (λ (w : List ℕ). w ++ rewritten v) (ap code_text code ∙ (percent_code c a.1).0)
+code_rewritten c (p ∷ h ∷ l ∷ d ∷ u) v e = absurd cc
+
+-- ---- texts
+
+codes_rewritten : (cs s : List ℕ) → Spelled cs s → rewritten s ≡ flat_map named_code cs
+unfolding rewritten
+codes_rewritten [] s h = ap rewritten h
+codes_rewritten (c ∷ cs) s h =
+    ap rewritten h.2
+    ∙ code_rewritten c h.0 h.1 h.3
+    ∙ ap (λ (w : List ℕ). named_code c ++ w) (codes_rewritten cs h.1 h.4)
+
+named_marks : (n : ℕ) → flat_map named_code (replicate n 1) ≡ replicate n 63
+named_marks zero = refl
+named_marks (suc n) = ap (λ (u : List ℕ). 63 ∷ u) (named_marks n)
+
+named_edge : (e : Edge) → flat_map named_code (edge_codes e) ≡ edge_text e
+named_edge edge.None = refl
+named_edge edge.Star = refl
+named_edge (edge.Marks n) = named_marks n
+
+named_character : (c : ℕ) → is_character c ≡ true → named_code c ≡ character style.Wfn c
+named_character c h =
+    let one : eqb c 1 ≡ false = grind (arith, nat_tests) in
+    let two : eqb c 2 ≡ false = grind (arith, nat_tests) in
+    rw (one, two) refl
+
+named_body : (b : List ℕ) → list_all is_character b ≡ true → flat_map named_code b ≡ flat_map (character style.Wfn) b
+named_body [] h = refl
+named_body (c ∷ b) h =
+    let p = and_parts (is_character c) (list_all is_character b) h in
+    ap (λ (u : List ℕ). u ++ flat_map named_code b) (named_character c p.0)
+    ∙ ap (λ (u : List ℕ). character style.Wfn c ++ u) (named_body b p.1)
+
+-- the spellings of a text, rewritten, are its spelling in a name
+pub text_rewritten : (t : Parts) (s : List ℕ) → IsText t → Spelled (text_codes t) s → rewritten s ≡ spelling style.Wfn t
+text_rewritten t s good h =
+    codes_rewritten (text_codes t) s h
+    ∙ flat_map-append named_code (edge_codes t.lead ++ t.body) (edge_codes t.trail)
+    ∙ ap (λ (u : List ℕ). u ++ flat_map named_code (edge_codes t.trail)) (flat_map-append named_code (edge_codes t.lead) t.body)
+    ∙ rw (named_edge t.lead, named_body t.body good.characters, named_edge t.trail) refl
