@@ -6,3 +6,4 @@ pub mod Items
 pub mod Lists
 pub mod WholeTexts
 pub mod OutputTexts
+pub mod LowerNames

@@ -5,6 +5,7 @@
 mod attribute;
 mod copy;
 mod equal;
+mod lower;
 mod name;
 mod quoted;
 mod read;

@@ -202,3 +202,45 @@ fn a_text_of_no_name_is_refused(rt: HostRuntime) {
         );
     }
 }
+
+// Texts of names, each with that of the name in lower case.
+const LOWER: [(&[u8], &[u8]); 3] = [
+    (b"wfn:[]", b"wfn:[]"),
+    (
+        b"wfn:[part=\"a\",vendor=\"Foo\\\\Bar\",language=\"EN\\-US\",other=\"A*\"]",
+        b"wfn:[part=\"a\",vendor=\"foo\\\\bar\",language=\"en\\-us\",other=\"a*\"]",
+    ),
+    (
+        b"wfn:[part=NA,product=\"??\\@A\\[Z\\`\",update=\"_0\\{\",target_hw=\"X64\"]",
+        b"wfn:[part=NA,product=\"??\\@a\\[z\\`\",update=\"_0\\{\",target_hw=\"x64\"]",
+    ),
+];
+
+// Texts of names that differ, whatever the case of letters.
+const OTHERS: [(&[u8], &[u8]); 6] = [
+    (b"wfn:[]", b"wfn:[other=NA]"),
+    (b"wfn:[part=\"a\"]", b"wfn:[part=\"h\"]"),
+    (b"wfn:[vendor=\"a\"]", b"wfn:[product=\"a\"]"),
+    (b"wfn:[vendor=\"a\"]", b"wfn:[vendor=\"a*\"]"),
+    (b"wfn:[vendor=\"\\[\"]", b"wfn:[vendor=\"\\{\"]"),
+    (b"wfn:[other=\"na\"]", b"wfn:[other=NA]"),
+];
+
+#[test]
+fn names_are_compared_without_regard_to_case(rt: HostRuntime) -> Result<(), Fail> {
+    let alloc = rt.alloc();
+    for (text, lower_text) in LOWER {
+        let name = read_wfn(alloc, text)?;
+        let lower = read_wfn(alloc, lower_text)?;
+        assert!(rt; name.lower(alloc)? == lower);
+        assert!(rt; name.same(&lower) && lower.same(&name));
+        assert!(rt; lower.is_lower());
+        assert_eq!(rt; name.is_lower(), name == lower);
+    }
+    for (text, other) in OTHERS {
+        let name = read_wfn(alloc, text)?;
+        let other = read_wfn(alloc, other)?;
+        assert!(rt; !name.same(&other) && !other.same(&name));
+    }
+    Ok(())
+}

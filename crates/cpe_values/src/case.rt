@@ -14,6 +14,12 @@ fn lower_body(alloc: Global, body: &[u8]) -> Result<Vec<u8>, AllocError>
         .collect(alloc)
 }
 
+fn is_lower_body(body: &[u8]) -> bool
+    ensures { IsTrue result ↔ (str_to_ascii_lowercase body.now ≡ body.now) }
+{
+    body.iter().all(|byte| !byte.is_ascii_uppercase())
+}
+
 impl Pattern {
     /// The text with every letter in lower case.
     ///
@@ -37,6 +43,13 @@ impl Pattern {
         self.lead() == other.lead()
             && self.trail() == other.trail()
             && self.stem().eq_ignore_ascii_case(other.stem())
+    }
+
+    /// Whether the text has no letter in upper case. It takes no memory.
+    pub fn is_lower(&self) -> bool
+        ensures { IsTrue result ↔ (lower_parts self.now ≡ self.now) }
+    {
+        is_lower_body(self.stem())
     }
 }
 
@@ -64,6 +77,16 @@ impl Value {
             (Value::Na, Value::Na) => true,
             (Value::Text(text), Value::Text(other)) => text.same(other),
             _ => false,
+        }
+    }
+
+    /// Whether the value has no letter in upper case. It takes no memory.
+    pub fn is_lower(&self) -> bool
+        ensures { IsTrue result ↔ (lower_value self.now ≡ self.now) }
+    {
+        match self {
+            Value::Any | Value::Na => true,
+            Value::Text(text) => text.is_lower(),
         }
     }
 }

@@ -72,6 +72,8 @@ fn case_is_kept_and_can_be_passed_over(rt: HostRuntime) -> Result<(), Fail> {
     assert!(rt; !upper.same(&other) && !upper.same(&Value::Any));
     assert!(rt; Value::Na.same(&Value::Na) && Value::Na != Value::Any);
     assert!(rt; upper.lower(alloc)? == lower);
+    assert!(rt; lower.is_lower() && !upper.is_lower());
+    assert!(rt; Value::Any.is_lower() && Value::Na.is_lower());
     assert!(rt; upper.copy(alloc)? == upper);
     Ok(())
 }
