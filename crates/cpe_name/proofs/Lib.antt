@@ -5,3 +5,4 @@ pub mod Shapes
 pub mod Items
 pub mod Lists
 pub mod WholeTexts
+pub mod Bindings
