@@ -1,8 +1,7 @@
 -- What is written of the texts of values is the formatted string of their name.
-use Rattle.std.proofs.Common.{◌≡◌, ℕ, zero, suc, ◌-◌, true, false, ◌||◌, eqb, List, [], ◌∷◌, ◌++◌, length, take, map, replicate, Option, Some, None, refl, sym, ap, ◌∙◌, inl, inr, append_assoc, arith, length-append}
+use Rattle.std.proofs.Common.{◌≡◌, ℕ, zero, suc, ◌-◌, true, false, ◌||◌, eqb, List, [], ◌∷◌, ◌++◌, length, take, replicate, refl, sym, ap, ◌∙◌, inl, inr, append_assoc, arith, length-append}
 use Rattle.std.specs.Prelude.{codes}
 use Rattle.std.specs.List.{flat_map}
-use Rattle.std.specs.Option.{option_map}
 use Rattle.std.proofs.lemmas.List.{append-nil, take_at}
 use Rattle.std.proofs.lemmas.Bool.{cases_Bool, or_left, or_right, or_from}
 use Rattle.std.proofs.lemmas.Bool.Decides.{nat_tests}
@@ -18,16 +17,12 @@ use Rattle.cpe_name.specs.declared.name.Values.{Values}
 use Rattle.cpe_name.specs.declared.attribute.Attribute.{Attribute}
 use Rattle.cpe_name.specs.declared.attribute.Attribute.TheVariants.{Part, Vendor, Product, Version, Update, Edition, Language, SwEdition, TargetSw, TargetHw, Other}
 use Rattle.cpe_name.specs.declared.scan.Written.{Written}
-use Rattle.cpe_name.specs.Equal.{named}
 use Rattle.cpe_name.specs.Names.{value_of}
 use Rattle.cpe_name.specs.Text.{value_text}
-use Rattle.cpe_name.specs.WfnText.{WfnText, IsWfnText}
-use Rattle.cpe_name.specs.Scanning.{slot, all_at}
+use Rattle.cpe_name.specs.Scanning.{slot}
 use Rattle.cpe_name.specs.Spans.{texts, or_any, AreWritten}
-use Rattle.cpe_name.specs.Unwriting.{value_from}
-use Rattle.cpe_name.proofs.WholeTexts.{all_reads, all_again, value_found, good_value, name_back, each_text}
+use Rattle.cpe_name.proofs.WholeTexts.{value_found, good_value, each_text}
 use Rattle.cpe_fs.specs.Grammar.{component, fs_text}
-use Rattle.cpe_fs.specs.Bound.{bound, Binds}
 use Rattle.cpe_fs.specs.Unquoting.{begins_bare, unquoted, component_from, keyed, written_string}
 
 -- ---- characters
@@ -179,57 +174,3 @@ written_is s t are =
     sym (string_of t)
     ∙ strings_alike (λ a. component_from (slot (texts t) a)) (λ a. component (value_of are.name a)) (λ a. component_is (slot (texts t) a) (value_of are.name a) (good_value are.name a are.has.name) (each_text are.name (texts t) are.are a))
     ∙ fs_by are.name
-
--- ---- what a text says
-
-abbrev text_said : List ℕ → Option (List ℕ)
-text_said t = Some t
-
-abbrev nothing_said : Option (List ℕ)
-nothing_said = None
-
-text_is : (s t : List ℕ) → text_said s ≡ text_said t → s ≡ t
-text_is s t e = cc
-
-not_both : (s : List ℕ) → text_said s ≡ nothing_said → ⊥
-not_both s e = cc
-
--- the text of a name says its formatted string
-pub says_string : (name : Values) (s : List ℕ) → WfnText name s → bound s ≡ Some (fs_text name)
-unfolding bound
-says_string name s has =
-    let x = all_again name s has in
-    let back : named (map value_from x.given) ≡ name = ap (λ (m : List (List ℕ)). named (map value_from m)) (sym x.whole) ∙ name_back name x.given has.name x.are in
-    rw x.at (ap (λ (w : Values). text_said (fs_text w)) back)
-
-no_string : (s : List ℕ) → all_at s ≡ None → bound s ≡ None
-unfolding bound
-no_string s e = rw e refl
-
--- what is said is the formatted string of a name that has the text
-pub says_name : (s text : List ℕ) → bound s ≡ Some text → Binds s text
-says_name s text is = go (all_at s) refl where
-  go : (r : Option (List (List ℕ))) → all_at s ≡ r → Binds s text
-  go (Some m) e = let so = all_reads s m e in record { name = so.name; has = so.has; is = text_is text (fs_text so.name) (sym is ∙ says_string so.name s so.has) }
-  go None e = absurd (not_both text (sym is ∙ no_string s e))
-
--- where nothing is said no name has the text
-pub says_nothing : (s : List ℕ) → bound s ≡ None → IsWfnText s → ⊥
-says_nothing s none is = not_both (fs_text is.0) (sym (says_string is.0 s is.1) ∙ none)
-
--- nothing is said of a text that no name has
-pub nothing_is_said : (s : List ℕ) → (IsWfnText s → ⊥) → bound s ≡ None
-nothing_is_said s never = go (bound s) refl where
-  go : (r : Option (List ℕ)) → bound s ≡ r → bound s ≡ None
-  go (Some text) e = let so = says_name s text e in absurd (never (so.name, so.has))
-  go None e = e
-
--- ---- behind what stood before
-
--- what was written is what is said
-pub said_is : (s : List ℕ) (name : Values) (old new : List ℕ) → WfnText name s → new ≡ old ++ fs_text name → text_said new ≡ option_map (λ said. old ++ said) (bound s)
-said_is s name old new has is = ap text_said is ∙ ap (option_map (λ said. old ++ said)) (sym (says_string name s has))
-
--- nothing is written of a text that no name has
-pub unsaid_is : (s old : List ℕ) → (IsWfnText s → ⊥) → nothing_said ≡ option_map (λ said. old ++ said) (bound s)
-unsaid_is s old never = ap (option_map (λ said. old ++ said)) (sym (nothing_is_said s never))

@@ -7,3 +7,4 @@ pub mod Lists
 pub mod WholeTexts
 pub mod OutputTexts
 pub mod LowerNames
+pub mod Bindings

@@ -166,7 +166,7 @@ pub record ListRead (l m : List (List ℕ)) (s : List ℕ) : Type 0 where
   pub slots : AreSlots m (first ∷ names rest)
   pub kept : (b : Attribute) → is_listed b (first ∷ names rest) ≡ false → slot m b ≡ slot l b
   pub text : s ≡ list_by (slot m) ((first, 0) ∷ rest) ++ 93 ∷ []
-  pub long : given_length m ≤ given_length l + length s
+  pub long : given_length m + 1 ≤ given_length l + length s
 
 item_is : (m : List (List ℕ)) (a : Attribute) (u : List ℕ) → slot m a ≡ u → item_text a u ≡ item_text a (slot m a)
 item_is m a u e = ap (item_text a) (sym e)

@@ -1,5 +1,5 @@
 -- The whole text of a name is read exactly.
-use Rattle.std.proofs.Common.{◌≡◌, ℕ, ◌-◌, ◌≤◌, Bool, true, false, cond, List, [], ◌∷◌, ◌++◌, length, take, map, Option, Some, None, IfSome, refl, sym, ap, subst, ◌∙◌, inl, inr, append_assoc, arith, length-append}
+use Rattle.std.proofs.Common.{◌≡◌, ℕ, ◌+◌, ◌-◌, ◌≤◌, Bool, true, false, cond, List, [], ◌∷◌, ◌++◌, length, take, map, Option, Some, None, IfSome, refl, sym, ap, subst, ◌∙◌, inl, inr, append_assoc, arith, length-append}
 use Rattle.std.specs.Prelude.{codes}
 use Rattle.std.specs.List.{flat_map, AllByRecursion, IsDistinct}
 use Rattle.std.proofs.lemmas.List.{append-nil, take_at}
@@ -123,7 +123,7 @@ pub record Read (s : List ℕ) (m : List (List ℕ)) : Type 0 where
   pub name : Values
   pub has : WfnText name s
   pub are : map or_any (by (slot m)) ≡ map (λ a. value_text (value_of name a)) attributes
-  pub within : given_length m ≤ length s
+  pub within : given_length m + 6 ≤ length s
 
 module _ (m : List (List ℕ)) (has : (a : Attribute) → Has a (slot m a)) where
   name_of : Values
@@ -157,7 +157,7 @@ none_slot : (a : Attribute) → slot none_given a ≡ []
 none_slot a = slot_by (λ _. []) a
 
 read_items : (s r : List ℕ) (m : List (List ℕ)) (items : List (Attribute × ℕ)) → IsDistinct same_attribute (names items) → AreSlots m (names items) → ((b : Attribute) → is_listed b (names items) ≡ false → slot m b ≡ [])
-    → s ≡ codes "wfn:[" ++ r → r ≡ list_by (slot m) items ++ 93 ∷ [] → given_length m ≤ length r → Read s m
+    → s ≡ codes "wfn:[" ++ r → r ≡ list_by (slot m) items ++ 93 ∷ [] → given_length m + 1 ≤ length r → Read s m
 read_items s r m items once slots kept is text long =
     let has = has_any m (names items) slots kept in record {
       name = name_of m has;
@@ -176,7 +176,7 @@ read_behind : (s r : List ℕ) (m : List (List ℕ)) → s ≡ codes "wfn:[" ++ 
 unfolding IsDistinct
 read_behind s r m is e =
     elim (chosen (is_end r) (found none_given) (list_at 11 none_given r) (found m) e) [
-      | inl h ↦ subst (Read s) (some_is none_given m h.1) (read_items s r none_given [] tt tt (λ b none. none_slot b) is (end_is r h.0) (omega arith))
+      | inl h ↦ subst (Read s) (some_is none_given m h.1) (read_items s r none_given [] tt tt (λ b none. none_slot b) is (end_is r h.0) (omega (arith, ap length (end_is r h.0))))
       | inr h ↦
           let so = list_reads 11 none_given m r h.1 in
           read_items s r m ((so.first, 0) ∷ so.rest) so.once so.slots (λ b none. so.kept b none ∙ none_slot b) is so.text (omega (arith, so.long))

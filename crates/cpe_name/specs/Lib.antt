@@ -9,3 +9,4 @@ pub mod WfnText
 pub mod Scanning
 pub mod Spans
 pub mod Unwriting
+pub mod Binding

@@ -20,9 +20,9 @@ abbrev pub total_length : List (List ℕ) → ℕ
 total_length [] = 0
 total_length (u ∷ us) = length u + total_length us
 
--- some name has the text, and these are the texts of its values
+-- some name has the text, and these are the texts of its values; beside them stand `wfn:[` and `]` at least
 pub record AreWritten (s : List ℕ) (t : Written) : Type 0 where
   pub name : Values
   pub has : WfnText name s
   pub are : map or_any (texts t) ≡ map (λ a. value_text (value_of name a)) attributes
-  pub within : total_length (texts t) ≤ length s
+  pub within : total_length (texts t) + 6 ≤ length s

@@ -8,3 +8,5 @@ pub mod Unbound
 pub mod Both
 pub mod Rewriting
 pub mod SpanValues
+pub mod Bound
+pub mod Requoting

@@ -5,6 +5,20 @@ mod text;
 mod values;
 mod write;
 
+ghost use Rattle.std.specs.Prelude.{◌≡◌, ℕ, List, ◌+◌, ◌*◌, ◌++◌, ◌≤◌, length, take, Some, None, IfSome, MatchOption};
+ghost use Rattle.std.specs.Option.{option_map};
+ghost use Rattle.cpe_name.specs.declared.name.Values.{Values};
+ghost use Rattle.cpe_name.specs.WfnText.{WfnText, IsWfnText};
+ghost use Rattle.cpe_uri.specs.Canon.{canon};
+ghost use Rattle.cpe_uri.specs.Bound.{bound_uri, BindsUri, WritesUri};
+
+mod bind;
+mod bound;
+mod spelling;
+
+use crate::bound::put_uri;
+pub use bind::bind_uri;
+use cpe_name::scan_wfn;
 use thiserror::Error;
 
 /// The bytes that an output text has beside its values: the names of the attributes, the brackets, the commas,
@@ -22,3 +36,37 @@ pub enum UriFault {
     #[error("out of memory")]
     Memory,
 }
+
+/// Writes the canonical URI of the name that has this text (NIST IR 7695, 5 and 6.1.2) into `room`, from `at` on,
+/// and makes no name. It answers the place behind what was written; what stands from there on is not told.
+/// It takes no memory. There is no answer exactly where no name has the text; the room is then as it was.
+///
+/// A byte of the text gives three bytes of the URI at most, and what stands beside the values in the text is enough for
+/// what stands beside them in the URI.
+pub fn write_bound_uri(room: &mut [u8], at: usize, text: &[u8]) -> Option<usize>
+    requires { at + 3 * length text.now ≤ length room.old }
+    // What was written is the canonical URI of a name that has this text.
+    ensures found { IfSome result (λ end. WritesUri text.now (take at room.old) (take end room.new)) }
+    // The canonical URI of a name that has this text is written.
+    ensures only { (name : Values) → WfnText name text.now → MatchOption result ⊥ (λ end. take end room.new ≡ take at room.old ++ canon name) }
+    ensures none { result ≡ None → ¬ (IsWfnText text.now) }
+
+    // The same by a function.
+    ensures said { option_map (λ end. take end room.new) result ≡ option_map (λ said. take at room.old ++ said) (bound_uri text.now) }
+
+    ensures within { IfSome result (λ end. end ≤ at + 3 * length text.now) }
+    ensures length { length room.new ≡ length room.old }
+    ensures unchanged { result ≡ None → room.new ≡ room.old }
+{
+    let Some(written) = scan_wfn(text) else {
+        return None;
+    };
+    Some(put_uri(room, at, &written))
+}
+
+/// What `bound_uri` says of a text: the canonical URI of the name that has it, and nothing exactly where no name has it.
+pub fn bound_uri_is()
+    ensures named { (name : Values) (s : List ℕ) → WfnText name s → bound_uri s ≡ Some (canon name) }
+    ensures found { (s text : List ℕ) → bound_uri s ≡ Some text → BindsUri s text }
+    ensures none { (s : List ℕ) → bound_uri s ≡ None → ¬ (IsWfnText s) }
+{}

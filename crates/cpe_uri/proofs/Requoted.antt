@@ -1,0 +1,209 @@
+-- What is written of the texts of values is the canonical URI of their name.
+use Rattle.std.proofs.Common.{◌≡◌, ℕ, zero, suc, ◌+◌, ◌-◌, ◌<◌, ◌≤◌, Bool, true, false, cond, eqb, nat_eq, List, [], ◌∷◌, ◌++◌, length, take, drop, get_or, replicate, add-one, drop-cons, refl, sym, ap, ◌∙◌, inl, inr, append_assoc, arith, length-append, length-drop}
+use Rattle.std.specs.Prelude.{codes}
+use Rattle.std.specs.List.{flat_map, list_all}
+use Rattle.std.proofs.lemmas.List.{append-nil, nil_from_length, take_at}
+use Rattle.std.proofs.lemmas.Bool.{cases_Bool}
+use Rattle.std.proofs.lemmas.Bool.Decides.{nat_tests}
+use Rattle.cpe_values.specs.declared.value.Edge.{Edge}
+use Rattle.cpe_values.specs.declared.value.Edge.TheVariants as edge
+use Rattle.cpe_values.specs.declared.value.Value.{Value}
+use Rattle.cpe_values.specs.declared.value.Value.TheVariants as value
+use Rattle.cpe_values.specs.declared.spelling.Style.TheVariants as style
+use Rattle.cpe_values.specs.Parts.{Parts}
+use Rattle.cpe_values.specs.Values.{IsValue}
+use Rattle.cpe_values.specs.Spelling.{edge_text, is_word, spelling}
+use Rattle.cpe_values.specs.Spelling as wfn
+use Rattle.cpe_name.specs.declared.name.Values.{Values}
+use Rattle.cpe_name.specs.declared.attribute.Attribute.{Attribute}
+use Rattle.cpe_name.specs.declared.attribute.Attribute.TheVariants.{Part, Vendor, Product, Version, Update, Edition, Language, SwEdition, TargetSw, TargetHw, Other}
+use Rattle.cpe_name.specs.declared.scan.Written.{Written}
+use Rattle.cpe_name.specs.Names.{value_of}
+use Rattle.cpe_name.specs.Text.{value_text}
+use Rattle.cpe_name.specs.Scanning.{slot}
+use Rattle.cpe_name.specs.Spans.{texts, or_any, AreWritten}
+use Rattle.cpe_name.proofs.WholeTexts.{value_found, good_value, each_text}
+use Rattle.cpe_uri.specs.Spelling.{edge_codes, text_codes, character, component}
+use Rattle.cpe_uri.specs.Canon.{is_any, extended, trimmed, canon}
+use Rattle.cpe_uri.specs.Requoting.{quotes, spelled, requoted, component_from, says_any, keyed, packed_from, edition_from, untrimmed_from, uri_from}
+
+-- ---- characters
+
+word_no_slash : (c : ℕ) → is_word c ≡ true → eqb c 92 ≡ false
+word_no_slash c h = grind (arith, nat_tests)
+
+word_no_mark : (c : ℕ) → is_word c ≡ true → eqb c 63 ≡ false
+word_no_mark c h = grind (arith, nat_tests)
+
+word_no_star : (c : ℕ) → is_word c ≡ true → eqb c 42 ≡ false
+word_no_star c h = grind (arith, nat_tests)
+
+-- a character in a name gives that in a URI
+bare_character : (c : ℕ) (s : List ℕ) → is_word c ≡ true → requoted false (c ∷ s) ≡ character c ++ requoted false s
+unfolding requoted
+bare_character c s h = rw (word_no_slash c h, word_no_mark c h, word_no_star c h) refl
+
+quoted_character : (c : ℕ) (s : List ℕ) → requoted false (92 ∷ c ∷ s) ≡ character c ++ requoted false s
+unfolding requoted
+quoted_character c s = refl
+
+requoted_character : (c : ℕ) (s : List ℕ) → requoted false (wfn.character style.Wfn c ++ s) ≡ character c ++ requoted false s
+requoted_character c s =
+    elim (cases_Bool (is_word c)) [
+      | inl h ↦ let bare : wfn.character style.Wfn c ≡ c ∷ [] = rw h refl in ap (λ (u : List ℕ). requoted false (u ++ s)) bare ∙ bare_character c s h
+      | inr h ↦ let quoted : wfn.character style.Wfn c ≡ 92 ∷ c ∷ [] = rw h refl in ap (λ (u : List ℕ). requoted false (u ++ s)) quoted ∙ quoted_character c s
+    ]
+
+-- ---- bodies and edges
+
+requoted_body : (b s : List ℕ) → requoted false (flat_map (wfn.character style.Wfn) b ++ s) ≡ flat_map character b ++ requoted false s
+requoted_body [] s = refl
+requoted_body (c ∷ b) s =
+    ap (requoted false) (append_assoc (wfn.character style.Wfn c) (flat_map (wfn.character style.Wfn) b) s)
+    ∙ requoted_character c (flat_map (wfn.character style.Wfn) b ++ s)
+    ∙ ap (λ (u : List ℕ). character c ++ u) (requoted_body b s)
+    ∙ sym (append_assoc (character c) (flat_map character b) (requoted false s))
+
+requoted_mark : (s : List ℕ) → requoted false (63 ∷ s) ≡ character 1 ++ requoted false s
+unfolding requoted
+requoted_mark s = refl
+
+requoted_star : (s : List ℕ) → requoted false (42 ∷ s) ≡ character 2 ++ requoted false s
+unfolding requoted
+requoted_star s = refl
+
+requoted_marks : (n : ℕ) (s : List ℕ) → requoted false (replicate n 63 ++ s) ≡ flat_map character (replicate n 1) ++ requoted false s
+requoted_marks zero s = refl
+requoted_marks (suc n) s = requoted_mark (replicate n 63 ++ s) ∙ ap (λ (u : List ℕ). character 1 ++ u) (requoted_marks n s)
+
+requoted_edge : (e : Edge) (s : List ℕ) → requoted false (edge_text e ++ s) ≡ flat_map character (edge_codes e) ++ requoted false s
+requoted_edge edge.None s = refl
+requoted_edge edge.Star s = requoted_star s
+requoted_edge (edge.Marks n) s = requoted_marks n s
+
+-- one byte more
+pub requoted_on : (s : List ℕ) (i : ℕ) (quoted : Bool) (old new : List ℕ) → i < length s → new ≡ old ++ spelled quoted (get_or s i 0) → new ++ requoted (quotes quoted (get_or s i 0)) (drop (i + 1) s) ≡ old ++ requoted quoted (drop i s)
+unfolding requoted
+requoted_on s i quoted old new here h =
+    let c = get_or s i 0 in
+    let more : drop i s ≡ c ∷ drop (i + 1) s = rw add-one (drop-cons s i 0 here) in
+    ap (λ (u : List ℕ). u ++ requoted (quotes quoted c) (drop (i + 1) s)) h ∙ append_assoc old (spelled quoted c) (requoted (quotes quoted c) (drop (i + 1) s)) ∙ ap (λ (u : List ℕ). old ++ requoted quoted u) (sym more)
+
+nothing_requoted : (quoted : Bool) → requoted quoted [] ≡ []
+unfolding requoted
+nothing_requoted quoted = refl
+
+-- nothing is left behind the last byte
+pub requoted_done : (s : List ℕ) (i : ℕ) (quoted : Bool) (new : List ℕ) → length s ≤ i → new ++ requoted quoted (drop i s) ≡ new
+requoted_done s i quoted new past =
+    let none : drop i s ≡ [] = nil_from_length (drop i s) (omega (arith, length-drop i s)) in
+    ap (λ (u : List ℕ). new ++ requoted quoted u) none ∙ ap (λ (u : List ℕ). new ++ u) (nothing_requoted quoted) ∙ append-nil new
+
+requoted_end : (e : Edge) → requoted false (edge_text e) ≡ flat_map character (edge_codes e)
+requoted_end e =
+    ap (requoted false) (sym (append-nil (edge_text e))) ∙ requoted_edge e [] ∙ ap (λ (u : List ℕ). flat_map character (edge_codes e) ++ u) (nothing_requoted false) ∙ append-nil (flat_map character (edge_codes e))
+
+spelled_both : (a b : List ℕ) → flat_map character (a ++ b) ≡ flat_map character a ++ flat_map character b
+spelled_both [] b = refl
+spelled_both (c ∷ a) b = ap (λ (u : List ℕ). character c ++ u) (spelled_both a b) ∙ sym (append_assoc (character c) (flat_map character a) (flat_map character b))
+
+codes_spelled : (t : Parts) → flat_map character (text_codes t) ≡ flat_map character (edge_codes t.lead) ++ (flat_map character t.body ++ flat_map character (edge_codes t.trail))
+codes_spelled t =
+    spelled_both (edge_codes t.lead ++ t.body) (edge_codes t.trail)
+    ∙ ap (λ (u : List ℕ). u ++ flat_map character (edge_codes t.trail)) (spelled_both (edge_codes t.lead) t.body)
+    ∙ append_assoc (flat_map character (edge_codes t.lead)) (flat_map character t.body) (flat_map character (edge_codes t.trail))
+
+-- the spelling in a name gives that in a URI
+requoted_spelling : (t : Parts) → requoted false (spelling style.Wfn t) ≡ flat_map character (text_codes t)
+requoted_spelling t =
+    ap (requoted false) (append_assoc (edge_text t.lead) (flat_map (wfn.character style.Wfn) t.body) (edge_text t.trail))
+    ∙ requoted_edge t.lead (flat_map (wfn.character style.Wfn) t.body ++ edge_text t.trail)
+    ∙ ap (λ (u : List ℕ). flat_map character (edge_codes t.lead) ++ u) (requoted_body t.body (edge_text t.trail) ∙ ap (λ (u : List ℕ). flat_map character t.body ++ u) (requoted_end t.trail))
+    ∙ sym (codes_spelled t)
+
+-- ---- components
+
+front_is : (x : List ℕ) → take (length (x ++ 34 ∷ []) - 1) (x ++ 34 ∷ []) ≡ x
+front_is x =
+    let long : length (x ++ 34 ∷ []) - 1 ≡ length x = omega (arith, length-append x (34 ∷ [])) in
+    ap (λ (n : ℕ). take n (x ++ 34 ∷ [])) long ∙ take_at x (34 ∷ []) (length x) refl
+
+text_component : (v : Value) → component_from (value_text v) ≡ component v
+unfolding component_from
+text_component value.Any = refl
+text_component value.Na = refl
+text_component (value.Text t) = ap (requoted false) (front_is (spelling style.Wfn t)) ∙ requoted_spelling t
+
+none_component : component_from [] ≡ component value.Any
+unfolding component_from
+none_component = refl
+
+component_is : (u : List ℕ) (v : Value) → IsValue v → or_any u ≡ value_text v → component_from u ≡ component v
+component_is [] v good is = none_component ∙ ap component (value_found v [] good is)
+component_is (c ∷ u) v good is = ap component_from is ∙ text_component v
+
+text_says_any : (v : Value) → says_any (value_text v) ≡ is_any v
+text_says_any value.Any = refl
+text_says_any value.Na = refl
+text_says_any (value.Text t) = refl
+
+any_is : (u : List ℕ) (v : Value) → IsValue v → or_any u ≡ value_text v → says_any u ≡ is_any v
+any_is [] v good is = ap is_any (value_found v [] good is)
+any_is (c ∷ u) v good is = ap says_any is ∙ text_says_any v
+
+-- ---- names
+
+packed_by : (Attribute → List ℕ) → List ℕ
+packed_by f = (126 ∷ f Edition) ++ (126 ∷ f SwEdition) ++ (126 ∷ f TargetSw) ++ (126 ∷ f TargetHw) ++ (126 ∷ f Other)
+
+edition_by : (Attribute → List ℕ) → (Attribute → Bool) → List ℕ
+edition_by f g = cond (list_all g extended) (f Edition) (packed_by f)
+
+untrimmed_by : (Attribute → List ℕ) → (Attribute → Bool) → List ℕ
+untrimmed_by f g = (codes "cpe:/" ++ f Part) ++ (58 ∷ f Vendor) ++ (58 ∷ f Product) ++ (58 ∷ f Version) ++ (58 ∷ f Update) ++ (58 ∷ []) ++ edition_by f g ++ (58 ∷ f Language)
+
+alike : (f h : Attribute → List ℕ) (g k : Attribute → Bool) → ((a : Attribute) → f a ≡ h a) → ((a : Attribute) → g a ≡ k a) → untrimmed_by f g ≡ untrimmed_by h k
+unfolding untrimmed_by edition_by packed_by
+alike f h g k e d = rw (d SwEdition, d TargetSw, d TargetHw, d Other, e Part, e Vendor, e Product, e Version, e Update, e Edition, e Language, e SwEdition, e TargetSw, e TargetHw, e Other) refl
+
+regroup : (p a b c d e f : List ℕ) → p ++ a ++ b ++ c ++ d ++ (58 ∷ []) ++ e ++ f ≡ p ++ (a ++ (b ++ (c ++ (d ++ (58 ∷ (e ++ f))))))
+regroup p a b c d e f = simp append_assoc
+
+regroup_packed : (a b c d e : List ℕ) → a ++ b ++ c ++ d ++ e ≡ a ++ (b ++ (c ++ (d ++ (e ++ []))))
+regroup_packed a b c d e = simp (append_assoc, append-nil)
+
+canon_by : (w : Values) → trimmed 58 (untrimmed_by (λ a. component (value_of w a)) (λ a. is_any (value_of w a))) ≡ canon w
+unfolding untrimmed_by edition_by packed_by
+canon_by w =
+    let packed = regroup_packed (126 ∷ component w.edition) (126 ∷ component w.sw_edition) (126 ∷ component w.target_sw) (126 ∷ component w.target_hw) (126 ∷ component w.other) in
+    ap (trimmed 58)
+      (ap
+        (λ (u : List ℕ). (codes "cpe:/" ++ component w.part) ++ (58 ∷ component w.vendor) ++ (58 ∷ component w.product) ++ (58 ∷ component w.version) ++ (58 ∷ component w.update) ++ (58 ∷ []) ++ cond (list_all (λ a. is_any (value_of w a)) extended) (component w.edition) u ++ (58 ∷ component w.language))
+        packed
+      ∙ regroup (codes "cpe:/" ++ component w.part) (58 ∷ component w.vendor) (58 ∷ component w.product) (58 ∷ component w.version) (58 ∷ component w.update) _ (58 ∷ component w.language))
+
+untrimmed_of : (t : Written) → untrimmed_by (λ a. component_from (slot (texts t) a)) (λ a. says_any (slot (texts t) a)) ≡ untrimmed_from t
+unfolding untrimmed_by edition_by packed_by untrimmed_from edition_from packed_from keyed
+untrimmed_of t = refl
+
+-- not all of it is colons
+pub some_other : (t : Written) → list_all (nat_eq 58) (untrimmed_from t) ≡ false
+unfolding untrimmed_from keyed
+some_other t = refl
+
+-- what is written of the texts of a name is its canonical URI
+pub written_is : (s : List ℕ) (t : Written) (are : AreWritten s t) → uri_from t ≡ canon are.name
+unfolding uri_from
+written_is s t are =
+    let each = each_text are.name (texts t) are.are in
+    let good = λ (a : Attribute). good_value are.name a are.has.name in
+    ap (trimmed 58)
+      (sym (untrimmed_of t)
+      ∙ alike
+        (λ a. component_from (slot (texts t) a))
+        (λ a. component (value_of are.name a))
+        (λ a. says_any (slot (texts t) a))
+        (λ a. is_any (value_of are.name a))
+        (λ a. component_is (slot (texts t) a) (value_of are.name a) (good a) (each a))
+        (λ a. any_is (slot (texts t) a) (value_of are.name a) (good a) (each a)))
+    ∙ canon_by are.name

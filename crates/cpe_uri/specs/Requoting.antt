@@ -1,0 +1,70 @@
+-- The canonical URI of a name, made from the texts of its values byte by byte: a backslash is dropped, and the byte behind it has its
+-- spelling; an unquoted `?` or `*` is a special. No public clause rests on it.
+use Rattle.std.specs.Prelude.{ℕ, ◌-◌, Bool, true, false, not, ◌&&◌, ◌||◌, ◌==◌, if◌then◌else◌, List, [], ◌∷◌, ◌++◌, length, take, codes}
+use Rattle.std.specs.List.{list_all}
+use Rattle.cpe_name.specs.declared.scan.Written.{Written}
+use Rattle.cpe_uri.specs.Spelling.{character}
+use Rattle.cpe_uri.specs.Canon.{trimmed}
+
+-- ---- texts of values
+
+-- a backslash that quotes the byte behind it
+abbrev pub quotes : Bool → ℕ → Bool
+quotes quoted c = not quoted && c == 92
+
+-- the code of a byte; a special has one of its own
+abbrev pub code_from : Bool → ℕ → ℕ
+code_from true c = c
+code_from false c = if c == 63 then 1 else (if c == 42 then 2 else c)
+
+-- the spelling of a byte, and nothing of a backslash that quotes
+abbrev pub spelled : Bool → ℕ → List ℕ
+spelled quoted c = if quotes quoted c then [] else character (code_from quoted c)
+
+-- the spellings of bytes, the first of which is quoted or not
+unfoldable pub requoted : Bool → List ℕ → List ℕ
+requoted quoted [] = []
+requoted quoted (c ∷ s) = spelled quoted c ++ requoted (quotes quoted c) s
+
+-- the component of the value that has this text; nothing is ANY
+unfoldable pub component_from : List ℕ → List ℕ
+component_from [] = []
+component_from (c ∷ s) = if c == 34 then requoted false (take (length s - 1) s) else (if c == 78 then 45 ∷ [] else [])
+
+-- the text of ANY, or nothing
+abbrev pub says_any : List ℕ → Bool
+says_any [] = true
+says_any (c ∷ s) = not (c == 34 || c == 78)
+
+-- a key, and the component of a value
+unfoldable pub keyed : List ℕ → List ℕ → List ℕ
+keyed key u = key ++ component_from u
+
+-- ---- the whole
+
+-- the texts of the attributes that names of CPE 2.2 don't have
+abbrev pub extended_texts : Written → List (List ℕ)
+extended_texts w = w.sw_edition.now ∷ w.target_sw.now ∷ w.target_hw.now ∷ w.other.now ∷ []
+
+-- the edition and those four, a tilde before each
+unfoldable pub packed_from : Written → List ℕ
+packed_from w = keyed (codes "~") w.edition.now ++ keyed (codes "~") w.sw_edition.now ++ keyed (codes "~") w.target_sw.now ++ keyed (codes "~") w.target_hw.now ++ keyed (codes "~") w.other.now
+
+-- the edition alone where the four are ANY
+unfoldable pub edition_from : Written → List ℕ
+edition_from w = if list_all says_any (extended_texts w) then component_from w.edition.now else packed_from w
+
+-- with the colons at its end
+unfoldable pub untrimmed_from : Written → List ℕ
+untrimmed_from w = keyed (codes "cpe:/") w.part.now ++ keyed (codes ":") w.vendor.now ++ keyed (codes ":") w.product.now ++ keyed (codes ":") w.version.now ++ keyed (codes ":") w.update.now ++ codes ":" ++ edition_from w ++ keyed (codes ":") w.language.now
+
+unfoldable pub uri_from : Written → List ℕ
+uri_from w = trimmed 58 (untrimmed_from w)
+
+-- ---- the end
+
+-- the last byte is a colon
+abbrev pub ends_in_colon : List ℕ → Bool
+ends_in_colon [] = false
+ends_in_colon (c ∷ []) = c == 58
+ends_in_colon (c ∷ d ∷ s) = ends_in_colon (d ∷ s)

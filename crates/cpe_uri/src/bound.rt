@@ -1,0 +1,172 @@
+// The canonical URI of a name, written from where its values lie in one of its texts (NIST IR 7695, 6.1.2).
+// The room is the caller's: nothing here takes memory.
+ghost use Rattle.std.specs.Prelude.{◌≡◌, ◌≤◌, ◌+◌, ◌*◌, ◌-◌, ◌++◌, ◌∷◌, [], length, take, false, if◌then◌else◌};
+ghost use Rattle.std.specs.List.{list_all};
+ghost use Rattle.cpe_name.specs.Spans.{texts, total_length};
+ghost use Rattle.cpe_uri.specs.Requoting.{quotes, code_from, spelled, requoted, component_from, says_any, keyed, extended_texts, packed_from, edition_from, untrimmed_from, uri_from};
+
+use crate::spelling::{percent_form, without_colons};
+use cpe_name::Written;
+use cpe_room::{put, put_byte};
+use cpe_values::{Style, is_bare_byte};
+
+fn quotes(quoted: bool, byte: u8) -> bool
+    ensures { result ≡ quotes quoted byte }
+{
+    !quoted && byte == b'\\'
+}
+
+fn code_from(quoted: bool, byte: u8) -> u8
+    ensures { result ≡ code_from quoted byte }
+{
+    match byte {
+        b'?' if !quoted => 1,
+        b'*' if !quoted => 2,
+        _ => byte,
+    }
+}
+
+/// Puts a byte that stands bare, or nothing of one that is dropped. It is always written: no branch depends on which it is.
+fn put_bare(room: &mut [u8], at: usize, byte: u8, is_dropped: bool) -> usize
+    requires { at + 1 ≤ length room.old }
+    ensures at { result ≤ at + 1 }
+    ensures room { length room.new ≡ length room.old }
+    ensures written { take result room.new ≡ take at room.old ++ (if is_dropped then [] else byte ∷ []) }
+{
+    room[at] = byte;
+    at + usize::from(!is_dropped)
+}
+
+/// Puts the spelling of a byte, or nothing of a backslash that quotes.
+fn put_spelled(room: &mut [u8], at: usize, quoted: bool, byte: u8) -> usize
+    requires { at + 3 ≤ length room.old }
+    ensures at { result ≤ at + 3 }
+    ensures room { length room.new ≡ length room.old }
+    ensures written { take result room.new ≡ take at room.old ++ spelled quoted byte }
+{
+    let is_dropped = quotes(quoted, byte);
+    if is_dropped || is_bare_byte(Style::Formatted, byte) {
+        return put_bare(room, at, byte, is_dropped);
+    }
+    put(room, at, &percent_form(code_from(quoted, byte)))
+}
+
+fn put_requoted(room: &mut [u8], start: usize, bytes: &[u8]) -> usize
+    requires { start + 3 * length bytes.now ≤ length room.old }
+    ensures at { result ≤ start + 3 * length bytes.now }
+    ensures room { length room.new ≡ length room.old }
+    ensures written { take result room.new ≡ take start room.old ++ requoted false bytes.now }
+{
+    let mut at = start;
+    let mut quoted = false;
+    for byte in bytes {
+        at = put_spelled(room, at, quoted, *byte);
+        quoted = quotes(quoted, *byte);
+    }
+    at
+}
+
+fn but_last(bytes: &[u8]) -> &[u8]
+    ensures front { result.now ≡ take (length bytes.now - 1) bytes.now }
+    ensures within { length result.now ≤ length bytes.now }
+{
+    &bytes[..bytes.len().saturating_sub(1)]
+}
+
+/// Puts the component of the value that has this text.
+#[tactic(auto, unfolding(crate::specs::Requoting::component_from))]
+fn put_component(room: &mut [u8], at: usize, text: &[u8]) -> usize
+    requires { at + 3 * length text.now ≤ length room.old }
+    ensures at { result ≤ at + 3 * length text.now }
+    ensures room { length room.new ≡ length room.old }
+    ensures written { take result room.new ≡ take at room.old ++ component_from text.now }
+{
+    match text {
+        [b'"', rest @ ..] => put_requoted(room, at, but_last(rest)),
+        [b'N', ..] => put_byte(room, at, b'-'),
+        _ => at,
+    }
+}
+
+/// Puts a key and the component of a value.
+#[tactic(auto, unfolding(crate::specs::Requoting::keyed))]
+fn put_keyed(room: &mut [u8], at: usize, key: &[u8], text: &[u8]) -> usize
+    requires { at + length key.now + 3 * length text.now ≤ length room.old }
+    ensures at { result ≤ at + length key.now + 3 * length text.now }
+    ensures room { length room.new ≡ length room.old }
+    ensures written { take result room.new ≡ take at room.old ++ keyed key.now text.now }
+{
+    let at = put(room, at, key);
+    put_component(room, at, text)
+}
+
+fn says_any(text: &[u8]) -> bool
+    ensures { result ≡ says_any text.now }
+{
+    !matches!(text, [b'"' | b'N', ..])
+}
+
+fn is_edition_alone(written: &Written) -> bool
+    ensures { result ≡ list_all says_any (extended_texts written.now) }
+{
+    says_any(written.sw_edition)
+        && says_any(written.target_sw)
+        && says_any(written.target_hw)
+        && says_any(written.other)
+}
+
+/// Puts the edition and the attributes that names of CPE 2.2 don't have, a tilde before each.
+fn put_packed(room: &mut [u8], at: usize, written: &Written) -> usize
+    requires { at + 3 * (length written.now.edition.now + total_length (extended_texts written.now)) + 5 ≤ length room.old }
+    ensures at { result ≤ at + 3 * (length written.now.edition.now + total_length (extended_texts written.now)) + 5 }
+    ensures room { length room.new ≡ length room.old }
+    ensures written { take result room.new ≡ take at room.old ++ packed_from written.now }
+{
+    let at = put_keyed(room, at, b"~", written.edition);
+    let at = put_keyed(room, at, b"~", written.sw_edition);
+    let at = put_keyed(room, at, b"~", written.target_sw);
+    let at = put_keyed(room, at, b"~", written.target_hw);
+    put_keyed(room, at, b"~", written.other)
+}
+
+/// Puts the component of the edition.
+#[tactic(auto, unfolding(crate::specs::Requoting::edition_from))]
+fn put_edition(room: &mut [u8], at: usize, written: &Written) -> usize
+    requires { at + 3 * (length written.now.edition.now + total_length (extended_texts written.now)) + 5 ≤ length room.old }
+    ensures at { result ≤ at + 3 * (length written.now.edition.now + total_length (extended_texts written.now)) + 5 }
+    ensures room { length room.new ≡ length room.old }
+    ensures written { take result room.new ≡ take at room.old ++ edition_from written.now }
+{
+    if is_edition_alone(written) {
+        return put_component(room, at, written.edition);
+    }
+    put_packed(room, at, written)
+}
+
+/// Puts the URI with the colons at its end: `cpe:/`, six colons and five tildes at most stand beside the values.
+fn put_components(room: &mut [u8], at: usize, written: &Written) -> usize
+    requires { at + 3 * total_length (texts written.now) + 16 ≤ length room.old }
+    ensures at { result ≤ at + 3 * total_length (texts written.now) + 16 }
+    ensures room { length room.new ≡ length room.old }
+    ensures written { take result room.new ≡ take at room.old ++ untrimmed_from written.now }
+{
+    let at = put_keyed(room, at, b"cpe:/", written.part);
+    let at = put_keyed(room, at, b":", written.vendor);
+    let at = put_keyed(room, at, b":", written.product);
+    let at = put_keyed(room, at, b":", written.version);
+    let at = put_keyed(room, at, b":", written.update);
+    let at = put(room, at, b":");
+    let at = put_edition(room, at, written);
+    put_keyed(room, at, b":", written.language)
+}
+
+/// Puts the canonical URI of the name whose values have these texts.
+pub(crate) fn put_uri(room: &mut [u8], at: usize, written: &Written) -> usize
+    requires { at + 3 * total_length (texts written.now) + 16 ≤ length room.old }
+    ensures at { result ≤ at + 3 * total_length (texts written.now) + 16 }
+    ensures room { length room.new ≡ length room.old }
+    ensures written { take result room.new ≡ take at room.old ++ uri_from written.now }
+{
+    let end = put_components(room, at, written);
+    without_colons(room, end)
+}
