@@ -3,12 +3,13 @@
 use Rattle.std.specs.Prelude.{ℕ, suc, List, [], ◌∷◌, length, codes, Bool, false, not, ◌&&◌, ◌||◌, ◌==◌, Ok, Err, if◌then◌else◌}
 use Rattle.cpe_values.specs.declared.spelling.Style.TheVariants as style
 use Rattle.cpe_values.specs.Parts.{is_character}
-use Rattle.cpe_values.specs.Spelling.{is_bare, is_letter, is_digit}
+use Rattle.cpe_values.specs.Spelling.{is_bare}
 use Rattle.cpe_name.specs.declared.attribute.Attribute.{Attribute}
 use Rattle.cpe_name.specs.declared.attribute.Attribute.TheVariants.{Part, Vendor, Product, Version, Update, Edition, Language, SwEdition, TargetSw, TargetHw, Other}
 use Rattle.cpe_name.specs.Names.{attributes}
 use Rattle.cpe_name.specs.Shapes.{is_part_letter}
-use Rattle.cpe_grammar.specs.Scanners.{Scanner, ◌>>=◌, both, choose, nothing, ending, one, up_to, run, literal}
+use Rattle.cpe_name.specs.Tags.{letters_end, code_end, third_end}
+use Rattle.cpe_grammar.specs.Scanners.{Scanner, ◌>>=◌, both, choose, nothing, ending, one, up_to, literal}
 
 -- ---- bytes
 
@@ -87,25 +88,9 @@ is_part_byte c = c == 42 || c == 45 || is_part_letter c
 unfoldable pub part_end : Scanner
 part_end s = one is_part_byte s
 
--- two letters
-unfoldable pub letters_end : Scanner
-letters_end s = run 2 is_letter s
-
--- three digits
-unfoldable pub digits_end : Scanner
-digits_end s = run 3 is_digit s
-
--- a code of a region
-unfoldable pub code_end : Scanner
-code_end s = choose is_digit digits_end letters_end s
-
 -- a hyphen and a code, or nothing
 unfoldable pub region_end : Scanner
 region_end s = choose is_hyphen (both (one is_hyphen) code_end) nothing s
-
--- one more letter, or nothing
-unfoldable pub third_end : Scanner
-third_end s = choose is_letter (one is_letter) nothing s
 
 -- two letters or three, and a region
 unfoldable pub tag_end : Scanner

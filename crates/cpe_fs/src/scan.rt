@@ -3,14 +3,16 @@
 // Each function takes a front of a text. It answers what is left behind it, or how many bytes are
 // left where no formatted string goes on.
 ghost use Rattle.std.specs.Prelude.{◌≡◌, ◌==◌, ◌≤◌, ◌-◌, ◌+◌, [], take, length, Ok, Err, IfOk, IfErr};
-ghost use Rattle.cpe_grammar.specs.Scanners.{Tells, one, literal};
-ghost use Rattle.cpe_values.specs.Spelling.{is_bare, is_letter, is_digit};
+ghost use Rattle.cpe_grammar.specs.Scanners.{Tells, one};
+ghost use Rattle.cpe_values.specs.Spelling.{is_bare};
 ghost use Rattle.cpe_values.specs.declared.spelling.Style.TheVariants as style;
 ghost use Rattle.cpe_name.specs.Names.{attributes};
-ghost use Rattle.cpe_fs.specs.Scanning.{is_quoted, starts_body, begins_with_backslash, marks_end, edge_end, character_end, body_end, stem_end, led_end, text_end, part_end, letters_end, digits_end, code_end, region_end, third_end, tag_end, language_end, field_end, fields_end, whole_end};
+ghost use Rattle.cpe_fs.specs.Scanning.{is_quoted, starts_body, begins_with_backslash, marks_end, edge_end, character_end, body_end, stem_end, led_end, text_end, part_end, region_end, tag_end, language_end, field_end, fields_end, whole_end};
 ghost use Rattle.cpe_fs.specs.Spans.{AreComponents, Leaves, spans, behind_field, component_at, components_at};
 
-use cpe_values::{Style, is_digit_byte, is_letter_byte, is_printable_byte, skip_bare};
+use cpe_grammar::{scan_byte, scan_literal};
+use cpe_name::{scan_language_letters, scan_region_code, scan_third_letter};
+use cpe_values::{Style, is_printable_byte, skip_bare};
 
 fn is_bare_byte(byte: u8) -> bool
     ensures { result ≡ is_bare style.Formatted byte }
@@ -28,15 +30,6 @@ fn starts_a_body(byte: u8) -> bool
     ensures { result ≡ starts_body byte }
 {
     is_bare_byte(byte) || byte == b'\\'
-}
-
-fn scan_byte(expected: u8, bytes: &[u8]) -> Result<&[u8], usize>
-    ensures { Tells (λ rest. rest.now) result (one (λ d. d == expected) bytes.now) }
-{
-    match bytes {
-        [byte, rest @ ..] if *byte == expected => Ok(rest),
-        _ => Err(bytes.len()),
-    }
 }
 
 #[tactic(auto, unfolding(crate::specs::Scanning::marks_end, cpe_grammar::specs::Scanners::up_to))]
@@ -147,72 +140,13 @@ fn scan_part(bytes: &[u8]) -> Result<&[u8], usize>
     }
 }
 
-fn scan_letter(bytes: &[u8]) -> Result<&[u8], usize>
-    ensures { Tells (λ rest. rest.now) result (one is_letter bytes.now) }
-{
-    match bytes {
-        [letter, rest @ ..] if is_letter_byte(*letter) => Ok(rest),
-        _ => Err(bytes.len()),
-    }
-}
-
-fn scan_digit(bytes: &[u8]) -> Result<&[u8], usize>
-    ensures { Tells (λ rest. rest.now) result (one is_digit bytes.now) }
-{
-    match bytes {
-        [digit, rest @ ..] if is_digit_byte(*digit) => Ok(rest),
-        _ => Err(bytes.len()),
-    }
-}
-
-/// Two letters.
-#[tactic(auto, unfolding(crate::specs::Scanning::letters_end))]
-fn scan_letters(bytes: &[u8]) -> Result<&[u8], usize>
-    ensures { Tells (λ rest. rest.now) result (letters_end bytes.now) }
-{
-    let rest = scan_letter(bytes)?;
-    scan_letter(rest)
-}
-
-/// Three digits.
-#[tactic(auto, unfolding(crate::specs::Scanning::digits_end))]
-fn scan_digits(bytes: &[u8]) -> Result<&[u8], usize>
-    ensures { Tells (λ rest. rest.now) result (digits_end bytes.now) }
-{
-    let rest = scan_digit(bytes)?;
-    let rest = scan_digit(rest)?;
-    scan_digit(rest)
-}
-
-/// The code of a region: two letters or three digits.
-#[tactic(auto, unfolding(crate::specs::Scanning::code_end))]
-fn scan_code(bytes: &[u8]) -> Result<&[u8], usize>
-    ensures { Tells (λ rest. rest.now) result (code_end bytes.now) }
-{
-    match bytes {
-        [first, ..] if is_digit_byte(*first) => scan_digits(bytes),
-        _ => scan_letters(bytes),
-    }
-}
-
 /// A hyphen and a code, or nothing.
 #[tactic(auto, unfolding(crate::specs::Scanning::region_end))]
 fn scan_region(bytes: &[u8]) -> Result<&[u8], usize>
     ensures { Tells (λ rest. rest.now) result (region_end bytes.now) }
 {
     match bytes {
-        [b'-', rest @ ..] => scan_code(rest),
-        _ => Ok(bytes),
-    }
-}
-
-/// A third letter, or nothing.
-#[tactic(auto, unfolding(crate::specs::Scanning::third_end))]
-fn scan_third(bytes: &[u8]) -> Result<&[u8], usize>
-    ensures { Tells (λ rest. rest.now) result (third_end bytes.now) }
-{
-    match bytes {
-        [letter, rest @ ..] if is_letter_byte(*letter) => Ok(rest),
+        [b'-', rest @ ..] => scan_region_code(rest),
         _ => Ok(bytes),
     }
 }
@@ -222,8 +156,8 @@ fn scan_third(bytes: &[u8]) -> Result<&[u8], usize>
 fn scan_tag(bytes: &[u8]) -> Result<&[u8], usize>
     ensures { Tells (λ rest. rest.now) result (tag_end bytes.now) }
 {
-    let rest = scan_letters(bytes)?;
-    let rest = scan_third(rest)?;
+    let rest = scan_language_letters(bytes)?;
+    let rest = scan_third_letter(rest)?;
     scan_region(rest)
 }
 
@@ -278,17 +212,6 @@ fn language_field(bytes: &[u8]) -> Result<(&[u8], &[u8]), usize>
     let start = scan_byte(b':', bytes)?;
     let rest = scan_language(start)?;
     Ok((front_of(start, rest), rest))
-}
-
-#[tactic(auto, unfolding(cpe_grammar::specs::Scanners::literal))]
-fn scan_literal<'a>(expected: &[u8], bytes: &'a [u8]) -> Result<&'a [u8], usize>
-    ensures { Tells (λ rest. rest.now) result (literal expected.now bytes.now) }
-{
-    let mut rest = bytes;
-    for byte in expected {
-        rest = scan_byte(*byte, rest)?;
-    }
-    Ok(rest)
 }
 
 /// The eleven components of a formatted string, as they stand.

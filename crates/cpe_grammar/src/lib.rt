@@ -1,4 +1,8 @@
-//! What the bindings of names share: where a text leaves a grammar, and how scanners are put together.
+//! What the bindings of names share: where a text leaves a grammar, how scanners are put together, and scanners of given bytes.
 //!
-//! The crate has no code. Its definitions serve the clauses of the bindings, and its lemmas their proofs.
+//! The definitions serve the clauses of the bindings, and the lemmas their proofs.
 #![tactic(auto)]
+
+mod scan;
+
+pub use scan::{scan_byte, scan_literal};

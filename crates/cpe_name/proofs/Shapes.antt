@@ -18,7 +18,8 @@ use Rattle.cpe_name.proofs.QuotedTexts.{body_text, bare_character}
 
 -- ---- texts without specials
 
-abbrev plain : List ℕ → Value
+-- the value of a body alone
+abbrev pub plain : List ℕ → Value
 plain b = value.Text (parts edge.None b edge.None)
 
 -- the body of some text, and what its text is
@@ -28,7 +29,8 @@ record Plain (passes : List ℕ → Bool) (u : List ℕ) : Type 0 where
   good : passes body ≡ true
   is : u ≡ body_text body ++ 34 ∷ []
 
-plain_text : (passes : List ℕ → Bool) (b : List ℕ) → passes [] ≡ false → passes (45 ∷ []) ≡ false → list_all is_character b ≡ true → passes b ≡ true → IsText (parts edge.None b edge.None)
+-- a body that a test passes, which neither nothing nor one hyphen pass
+pub plain_text : (passes : List ℕ → Bool) (b : List ℕ) → passes [] ≡ false → passes (45 ∷ []) ≡ false → list_all is_character b ≡ true → passes b ≡ true → IsText (parts edge.None b edge.None)
 plain_text passes b none hyphen characters h = record {
   lead = tt;
   characters = characters;
@@ -38,7 +40,7 @@ plain_text passes b none hyphen characters h = record {
 }
 
 -- a text without specials is its body
-plain_parts : (t : Parts) (b : Bool) → is_nothing t.lead && is_nothing t.trail && b ≡ true → (t ≡ parts edge.None t.body edge.None) × (b ≡ true)
+pub plain_parts : (t : Parts) (b : Bool) → is_nothing t.lead && is_nothing t.trail && b ≡ true → (t ≡ parts edge.None t.body edge.None) × (b ≡ true)
 plain_parts t b h =
     let p = and_parts (is_nothing t.lead && is_nothing t.trail) b h in
     let q = and_parts (is_nothing t.lead) (is_nothing t.trail) p.0 in

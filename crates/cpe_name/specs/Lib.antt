@@ -6,6 +6,7 @@ pub mod Equal
 pub mod Lower
 pub mod Put
 pub mod WfnText
+pub mod Tags
 pub mod Scanning
 pub mod Spans
 pub mod Unwriting

@@ -11,6 +11,7 @@ mod quoted;
 mod read;
 mod scan;
 mod shape;
+mod tag;
 #[cfg(test)]
 mod tests;
 mod write;
@@ -19,4 +20,5 @@ pub use attribute::{ATTRIBUTES, Attribute};
 pub use name::{NameFault, Values, Wfn};
 pub use read::{WfnFault, read_wfn, wfn_texts};
 pub use scan::{Written, scan_wfn};
+pub use tag::{scan_language_letters, scan_region_code, scan_third_letter};
 pub use write::write_wfn;

@@ -2,31 +2,12 @@
 //
 // Each function takes a front of a text. It answers what is left behind it, or how many bytes are
 // left where no value goes on.
-ghost use Rattle.std.specs.Prelude.{◌≡◌, ◌==◌, Ok, Err};
-ghost use Rattle.cpe_grammar.specs.Scanners.{Tells, one, literal};
+ghost use Rattle.std.specs.Prelude.{◌≡◌};
+ghost use Rattle.cpe_grammar.specs.Scanners.{Tells, one};
 ghost use Rattle.cpe_name.specs.Scanning.{is_bare_here, is_quoted, begins_body, marks_end, edge_end, character_end, body_end, stem_end, quoted_end, value_end};
 
+use cpe_grammar::{scan_byte, scan_literal};
 use cpe_values::{Style, is_bare_byte, is_printable_byte};
-
-fn scan_byte(expected: u8, bytes: &[u8]) -> Result<&[u8], usize>
-    ensures { Tells (λ rest. rest.now) result (one (λ d. d == expected) bytes.now) }
-{
-    match bytes {
-        [byte, rest @ ..] if *byte == expected => Ok(rest),
-        _ => Err(bytes.len()),
-    }
-}
-
-#[tactic(auto, unfolding(cpe_grammar::specs::Scanners::literal))]
-fn scan_literal<'a>(expected: &[u8], bytes: &'a [u8]) -> Result<&'a [u8], usize>
-    ensures { Tells (λ rest. rest.now) result (literal expected.now bytes.now) }
-{
-    let mut rest = bytes;
-    for byte in expected {
-        rest = scan_byte(*byte, rest)?;
-    }
-    Ok(rest)
-}
 
 #[tactic(auto, unfolding(crate::specs::Scanning::marks_end, cpe_grammar::specs::Scanners::up_to))]
 fn scan_marks(bytes: &[u8]) -> Result<&[u8], usize>

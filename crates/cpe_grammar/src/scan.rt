@@ -1,0 +1,25 @@
+// Scanners of given bytes. Nothing here takes memory.
+ghost use Rattle.std.specs.Prelude.{◌≡◌, ◌==◌, Ok, Err};
+ghost use Rattle.cpe_grammar.specs.Scanners.{Tells, one, literal};
+
+/// Takes the byte that is expected: tells what is left behind it, or at another byte or the end how many bytes are left.
+pub fn scan_byte(expected: u8, bytes: &[u8]) -> Result<&[u8], usize>
+    ensures { Tells (λ rest. rest.now) result (one (λ d. d == expected) bytes.now) }
+{
+    match bytes {
+        [byte, rest @ ..] if *byte == expected => Ok(rest),
+        _ => Err(bytes.len()),
+    }
+}
+
+/// Takes the bytes that are expected: tells what is left behind them, or how many bytes are left where the text goes another way.
+#[tactic(auto, unfolding(crate::specs::Scanners::literal))]
+pub fn scan_literal<'a>(expected: &[u8], bytes: &'a [u8]) -> Result<&'a [u8], usize>
+    ensures { Tells (λ rest. rest.now) result (literal expected.now bytes.now) }
+{
+    let mut rest = bytes;
+    for byte in expected {
+        rest = scan_byte(*byte, rest)?;
+    }
+    Ok(rest)
+}
