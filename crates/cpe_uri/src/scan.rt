@@ -1,0 +1,241 @@
+// Where the values of a name lie in its URI (NIST IR 7695, 6.1). Nothing here takes memory.
+ghost use Rattle.std.specs.Prelude.{◌≡◌, ◌-◌, ◌==◌, List, ℕ, false, true, length, take, [], codes, Ok, Err, IfOk, IfErr};
+ghost use Rattle.std.specs.Char.{to_ascii_lowercase};
+ghost use Rattle.cpe_grammar.specs.Scanners.{Tells, one};
+ghost use Rattle.cpe_name.specs.declared.attribute.Attribute.TheVariants.{Part, Vendor, Edition, Language};
+ghost use Rattle.cpe_uri.specs.Grammar.{begins_with_tilde};
+ghost use Rattle.cpe_uri.specs.Languages.{part_end, language_end};
+ghost use Rattle.cpe_uri.specs.Reading.{text_end};
+ghost use Rattle.cpe_uri.specs.Scanning.{field_end, packed_end, edition_end, later_end, prefix_end, all_end, whole_end};
+ghost use Rattle.cpe_uri.specs.Spans.{IsComponent, AreComponents, LeavesWith};
+ghost use Rattle.cpe_uri.specs.Found.{IsTextComponent, Piece, FieldPiece, begins_with_colon, Later, EditionFound, EditionLater, Middle};
+
+use crate::language::{scan_language, scan_part};
+use crate::text::scan_text;
+use cpe_grammar::scan_byte;
+use cpe_name::Written;
+
+/// Where the values of a packed edition lie, or the edition alone and nothing for the others.
+#[derive(Clone, Copy)]
+pub(crate) struct Editions<'a> {
+    pub edition: &'a [u8],
+    pub sw_edition: &'a [u8],
+    pub target_sw: &'a [u8],
+    pub target_hw: &'a [u8],
+    pub other: &'a [u8],
+}
+
+/// The front of a slice before a rest of it.
+fn front_of<'a>(all: &'a [u8], rest: &[u8]) -> &'a [u8]
+    ensures { result.now ≡ take (length all.now - length rest.now) all.now }
+{
+    &all[..all.len().saturating_sub(rest.len())]
+}
+
+fn is_at_colon(bytes: &[u8]) -> bool
+    ensures { result ≡ begins_with_colon bytes.now }
+{
+    matches!(bytes, [b':', ..])
+}
+
+fn is_at_tilde(bytes: &[u8]) -> bool
+    ensures { result ≡ begins_with_tilde bytes.now }
+{
+    matches!(bytes, [b'~', ..])
+}
+
+/// A part, and what is left behind it.
+fn part_piece(bytes: &[u8]) -> Result<(&[u8], &[u8]), usize>
+    ensures told { Tells (λ x. x.1.now) result (part_end bytes.now) }
+    ensures found { IfOk result (λ x. Piece (IsComponent Part) bytes.now x.0.now x.1.now) }
+{
+    let rest = scan_part(bytes)?;
+    Ok((front_of(bytes, rest), rest))
+}
+
+/// A component of ANY, NA or a text, and what is left behind it.
+fn text_piece(packed: bool, bytes: &[u8]) -> Result<(&[u8], &[u8]), usize>
+    ensures told { Tells (λ x. x.1.now) result (text_end packed bytes.now) }
+    ensures found { IfOk result (λ x. Piece (IsTextComponent packed) bytes.now x.0.now x.1.now) }
+{
+    let rest = scan_text(packed, bytes)?;
+    Ok((front_of(bytes, rest), rest))
+}
+
+/// A language, and what is left behind it.
+fn language_piece(bytes: &[u8]) -> Result<(&[u8], &[u8]), usize>
+    ensures told { Tells (λ x. x.1.now) result (language_end bytes.now) }
+    ensures found { IfOk result (λ x. Piece (IsComponent Language) bytes.now x.0.now x.1.now) }
+{
+    let rest = scan_language(bytes)?;
+    Ok((front_of(bytes, rest), rest))
+}
+
+/// A tilde and a packed field: the field, and what is left behind it.
+#[tactic(auto, unfolding(crate::specs::Scanning::field_end))]
+fn field_piece(bytes: &[u8]) -> Result<(&[u8], &[u8]), usize>
+    ensures told { Tells (λ x. x.1.now) result (field_end bytes.now) }
+    ensures found { IfOk result (λ x. FieldPiece bytes.now x.0.now x.1.now) }
+{
+    let start = scan_byte(b'~', bytes)?;
+    text_piece(true, start)
+}
+
+/// Five packed fields, and what is left behind them.
+#[tactic(auto, unfolding(crate::specs::Scanning::packed_end))]
+fn packed_pieces(bytes: &[u8]) -> Result<(Editions, &[u8]), usize>
+    ensures told { Tells (λ x. x.1.now) result (packed_end bytes.now) }
+    ensures found { IfOk result (λ x. EditionFound bytes.now x.0 x.1.now) }
+{
+    let (edition, rest) = field_piece(bytes)?;
+    let (sw_edition, rest) = field_piece(rest)?;
+    let (target_sw, rest) = field_piece(rest)?;
+    let (target_hw, rest) = field_piece(rest)?;
+    let (other, rest) = field_piece(rest)?;
+    let editions = Editions {
+        edition,
+        sw_edition,
+        target_sw,
+        target_hw,
+        other,
+    };
+    Ok((editions, rest))
+}
+
+/// The edition alone.
+fn alone(edition: &[u8]) -> Editions
+    ensures edition { result.edition.now ≡ edition.now }
+    ensures others { (result.sw_edition.now ≡ []) × (result.target_sw.now ≡ []) × (result.target_hw.now ≡ []) × (result.other.now ≡ []) }
+{
+    Editions {
+        edition,
+        sw_edition: b"",
+        target_sw: b"",
+        target_hw: b"",
+        other: b"",
+    }
+}
+
+/// An edition alone, and what is left behind it.
+fn lone_edition(bytes: &[u8]) -> Result<(Editions, &[u8]), usize>
+    requires { begins_with_tilde bytes.now ≡ false }
+    ensures told { Tells (λ x. x.1.now) result (text_end false bytes.now) }
+    ensures found { IfOk result (λ x. EditionFound bytes.now x.0 x.1.now) }
+{
+    let (edition, rest) = text_piece(false, bytes)?;
+    Ok((alone(edition), rest))
+}
+
+/// The component of the edition, and what is left behind it.
+#[tactic(auto, unfolding(crate::specs::Scanning::edition_end))]
+fn edition_pieces(bytes: &[u8]) -> Result<(Editions, &[u8]), usize>
+    ensures told { Tells (λ x. x.1.now) result (edition_end bytes.now) }
+    ensures found { IfOk result (λ x. EditionFound bytes.now x.0 x.1.now) }
+{
+    if is_at_tilde(bytes) {
+        packed_pieces(bytes)
+    } else {
+        lone_edition(bytes)
+    }
+}
+
+/// A colon and a component, or nothing: the component, and what is left behind it.
+#[tactic(auto, unfolding(crate::specs::Scanning::later_end))]
+fn later_text(bytes: &[u8]) -> Result<(&[u8], &[u8]), usize>
+    ensures told { Tells (λ x. x.1.now) result (later_end Vendor bytes.now) }
+    ensures found { IfOk result (λ x. Later (IsTextComponent false) bytes.now x.0.now x.1.now) }
+{
+    if !is_at_colon(bytes) {
+        return Ok((b"", bytes));
+    }
+    let start = scan_byte(b':', bytes)?;
+    text_piece(false, start)
+}
+
+/// A colon and the component of the edition, or nothing.
+#[tactic(auto, unfolding(crate::specs::Scanning::later_end))]
+fn later_edition(bytes: &[u8]) -> Result<(Editions, &[u8]), usize>
+    ensures told { Tells (λ x. x.1.now) result (later_end Edition bytes.now) }
+    ensures found { IfOk result (λ x. EditionLater bytes.now x.0 x.1.now) }
+{
+    if !is_at_colon(bytes) {
+        return Ok((alone(b""), bytes));
+    }
+    let start = scan_byte(b':', bytes)?;
+    edition_pieces(start)
+}
+
+/// A colon and a language, or nothing: the language, and what is left behind it.
+#[tactic(auto, unfolding(crate::specs::Scanning::later_end))]
+fn later_language(bytes: &[u8]) -> Result<(&[u8], &[u8]), usize>
+    ensures told { Tells (λ x. x.1.now) result (later_end Language bytes.now) }
+    ensures found { IfOk result (λ x. Later (IsComponent Language) bytes.now x.0.now x.1.now) }
+{
+    if !is_at_colon(bytes) {
+        return Ok((b"", bytes));
+    }
+    let start = scan_byte(b':', bytes)?;
+    language_piece(start)
+}
+
+/// All components, and what is left behind them.
+#[tactic(auto, unfolding(crate::specs::Scanning::all_end))]
+fn all_pieces(bytes: &[u8]) -> Result<(Written, &[u8]), usize>
+    ensures told { Tells (λ x. x.1.now) result (all_end bytes.now) }
+    ensures found { IfOk result (λ x. Middle bytes.now x.0 x.1.now) }
+{
+    let (part, rest) = part_piece(bytes)?;
+    let (vendor, rest) = later_text(rest)?;
+    let (product, rest) = later_text(rest)?;
+    let (version, rest) = later_text(rest)?;
+    let (update, rest) = later_text(rest)?;
+    let (editions, rest) = later_edition(rest)?;
+    let (language, rest) = later_language(rest)?;
+    let written = Written {
+        part,
+        vendor,
+        product,
+        version,
+        update,
+        edition: editions.edition,
+        language,
+        sw_edition: editions.sw_edition,
+        target_sw: editions.target_sw,
+        target_hw: editions.target_hw,
+        other: editions.other,
+    };
+    Ok((written, rest))
+}
+
+fn scan_in_either_case(expected: u8, bytes: &[u8]) -> Result<&[u8], usize>
+    ensures { Tells (λ rest. rest.now) result (one (λ d. to_ascii_lowercase d == expected) bytes.now) }
+{
+    match bytes {
+        [byte, rest @ ..] if byte.to_ascii_lowercase() == expected => Ok(rest),
+        _ => Err(bytes.len()),
+    }
+}
+
+/// Behind the bytes that are expected, letters in either case.
+fn scan_prefix<'a>(expected: &[u8], bytes: &'a [u8]) -> Result<&'a [u8], usize>
+    ensures { Tells (λ rest. rest.now) result (prefix_end expected.now bytes.now) }
+{
+    let mut rest = bytes;
+    for byte in expected {
+        rest = scan_in_either_case(*byte, rest)?;
+    }
+    Ok(rest)
+}
+
+/// Where the values of a name lie in its URI, or how many bytes are left where the text leaves the grammar.
+pub(crate) fn scan_uri(text: &[u8]) -> Result<Written, usize>
+    ensures found { IfOk result (AreComponents text.now) }
+    ensures refused { IfErr result (LeavesWith text.now) }
+{
+    let rest = scan_prefix(b"cpe:/", text)?;
+    let (written, behind) = all_pieces(rest)?;
+    if !behind.is_empty() {
+        return Err(behind.len());
+    }
+    Ok(written)
+}
