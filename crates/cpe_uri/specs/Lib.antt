@@ -2,3 +2,4 @@ pub mod Spelling
 pub mod Canon
 pub mod Grammar
 pub mod Spans
+pub mod Languages

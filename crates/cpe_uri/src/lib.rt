@@ -1,6 +1,8 @@
 //! URIs, the binding of well-formed names that CPE 2.2 had (NIST IR 7695, 6.1).
 #![tactic(auto)]
 
+mod language;
+
 use thiserror::Error;
 
 /// Why a text has no name.
