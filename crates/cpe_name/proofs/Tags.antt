@@ -51,7 +51,7 @@ pub data TagCase : List ℕ → Type 0 where
   two : (a b : ℕ) (v : List ℕ) → is_letter a ≡ true → is_letter b ≡ true → RegionCase v → TagCase (a ∷ b ∷ v)
   three : (a b c : ℕ) (v : List ℕ) → is_letter a ≡ true → is_letter b ≡ true → is_letter c ≡ true → RegionCase v → TagCase (a ∷ b ∷ c ∷ v)
 
-pub region_case : (v : List ℕ) → is_region v ≡ true → RegionCase v
+region_case : (v : List ℕ) → is_region v ≡ true → RegionCase v
 region_case [] h = none
 region_case (h ∷ []) e = absurd cc
 region_case (h ∷ x ∷ []) e = absurd cc
@@ -66,6 +66,7 @@ region_case (h ∷ x ∷ y ∷ z ∷ []) e =
     subst (λ (d : ℕ). RegionCase (d ∷ x ∷ y ∷ z ∷ [])) (sym (eqb-true h 45 o.0)) (behind (x ∷ y ∷ z ∷ []) (digits x y z o.1 q.1 p.1))
 region_case (h ∷ x ∷ y ∷ z ∷ w ∷ v) e = absurd cc
 
+-- the body of a language is a tag
 pub tag_case : (t : List ℕ) → is_language_body t ≡ true → TagCase t
 tag_case [] h = absurd cc
 tag_case (a ∷ []) h = absurd cc
@@ -92,7 +93,8 @@ tag_lawful _ (two a b [] ha hb region) = and_from _ _ ha hb
 tag_lawful _ (two a b (c ∷ v) ha hb region) = and_from _ _ (and_from _ _ ha hb) (or_left _ _ (region_lawful (c ∷ v) region))
 tag_lawful _ (three a b c v ha hb hc region) = and_from _ _ (and_from _ _ ha hb) (or_right _ _ (and_from _ _ hc (region_lawful v region)))
 
-code_bare : (u : List ℕ) → CodeCase u → all_bare u ≡ true
+-- the bytes of a code stand bare
+pub code_bare : (u : List ℕ) → CodeCase u → all_bare u ≡ true
 code_bare _ (letters x y hx hy) = and_from _ _ (letter_is_bare x hx) (and_from _ _ (letter_is_bare y hy) refl)
 code_bare _ (digits x y z hx hy hz) = and_from _ _ (digit_is_bare x hx) (and_from _ _ (digit_is_bare y hy) (and_from _ _ (digit_is_bare z hz) refl))
 
@@ -100,12 +102,14 @@ region_bare : (v : List ℕ) → RegionCase v → all_bare v ≡ true
 region_bare _ none = refl
 region_bare _ (behind u code) = code_bare u code
 
+-- the bytes of a tag stand bare
 pub tag_bare : (t : List ℕ) → TagCase t → all_bare t ≡ true
 tag_bare _ (two a b v ha hb region) = and_from _ _ (letter_is_bare a ha) (and_from _ _ (letter_is_bare b hb) (region_bare v region))
 tag_bare _ (three a b c v ha hb hc region) = and_from _ _ (letter_is_bare a ha) (and_from _ _ (letter_is_bare b hb) (and_from _ _ (letter_is_bare c hc) (region_bare v region)))
 
 -- ---- their pieces are taken
 
+-- two letters are taken
 pub letters_taken : (a b : ℕ) (s : List ℕ) → is_letter a ≡ true → is_letter b ≡ true → letters_end (a ∷ b ∷ s) ≡ Ok s
 unfolding letters_end
 letters_taken a b s ha hb = rw (ha, hb) refl
@@ -116,10 +120,12 @@ unfolding third_end
 third_none [] h = refl
 third_none (c ∷ s) h = rw h refl
 
+-- a third letter is taken
 pub third_some : (c : ℕ) (s : List ℕ) → is_letter c ≡ true → third_end (c ∷ s) ≡ Ok s
 unfolding third_end
 third_some c s h = rw h refl
 
+-- a code is taken
 pub code_taken : (u r : List ℕ) → CodeCase u → code_end (u ++ r) ≡ Ok r
 unfolding code_end letters_end digits_end
 code_taken _ r (letters x y hx hy) = rw (letter_no_digit x hx, hx, hy) refl
@@ -135,6 +141,7 @@ Code = Either (Run 3 is_digit) (Run 2 is_letter)
 abbrev pub Third : List ℕ → Type 0
 Third = Either (OneOf is_letter) Empty
 
+-- such a text is one of those cases
 pub code_case : (u : List ℕ) → Code u → CodeCase u
 code_case [] code = absurd (elim code [ inl all ↦ omega (arith, all.count) | inr all ↦ omega (arith, all.count) ])
 code_case (x ∷ []) code = absurd (elim code [ inl all ↦ omega (arith, all.count) | inr all ↦ omega (arith, all.count) ])
@@ -165,6 +172,7 @@ tag_of (a ∷ b ∷ []) w v all third region =
       | inr empty ↦ subst (λ (x : List ℕ). TagCase (a ∷ b ∷ (x ++ v))) (sym empty) (two a b v p.0 q.0 region)
     ]
 
+-- two letters are scanned
 pub letters_scans : Scans (Run 2 is_letter) letters_end
 unfolding letters_end
 letters_scans = run_scans 2 is_letter 97 refl
@@ -173,10 +181,12 @@ digits_scans : Scans (Run 3 is_digit) digits_end
 unfolding digits_end
 digits_scans = run_scans 3 is_digit 48 refl
 
+-- a third letter, or nothing, is scanned
 pub third_scans : Scans Third third_end
 unfolding third_end
 third_scans = choose_scans is_letter (OneOf is_letter) Empty (one is_letter) nothing (one_scans is_letter 97 refl) nothing_scans
 
+-- a code is scanned
 pub code_scans : Scans Code code_end
 unfolding code_end
 code_scans = choose_scans is_digit (Run 3 is_digit) (Run 2 is_letter) digits_end letters_end digits_scans letters_scans

@@ -10,3 +10,4 @@ pub mod Rewriting
 pub mod SpanValues
 pub mod Bound
 pub mod Requoting
+pub mod Languages

@@ -19,6 +19,8 @@ mod spelling;
 use crate::bound::put_uri;
 pub use bind::bind_uri;
 use cpe_name::scan_wfn;
+mod language;
+
 use thiserror::Error;
 
 /// The bytes that an output text has beside its values: the names of the attributes, the brackets, the commas,

@@ -1,0 +1,425 @@
+-- Parts and languages in a URI: what their scanners take, and that they take each of them.
+use Rattle.std.proofs.Common.{◌≡◌, ℕ, Bool, true, false, ◌+◌, ◌*◌, ◌≤◌, ◌&&◌, ◌||◌, eqb, List, [], ◌∷◌, ◌++◌, codes, Ok, refl, sym, ap, subst, ◌∙◌, inl, inr, arith, append_assoc}
+use Rattle.std.specs.Char.{to_ascii_lowercase}
+use Rattle.std.specs.Str.{str_to_ascii_lowercase}
+use Rattle.std.proofs.lemmas.List.{append-nil, map-append}
+use Rattle.std.proofs.lemmas.Bool.{eqb-true, eq-eqb, and_parts, and_from, or_cases, or_left, or_right}
+use Rattle.std.proofs.lemmas.Bool.Decides.{nat_tests}
+use Rattle.std.proofs.lemmas.Str.Ascii.{lowercase-lowercase}
+use Rattle.cpe_values.specs.declared.value.Value.{Value}
+use Rattle.cpe_values.specs.declared.value.Value.TheVariants as value
+use Rattle.cpe_values.specs.declared.spelling.Style.TheVariants as style
+use Rattle.cpe_values.specs.Parts.{Parts}
+use Rattle.cpe_values.specs.Spelling.{is_letter, is_digit, is_word, is_bare}
+use Rattle.cpe_grammar.specs.Scanners.{both, nothing, one, literal}
+use Rattle.cpe_grammar.proofs.Scans.{Scans, wider, Empty, nothing_scans, OneOf, one_scans, Joined, both_scans, Either, choose_scans, HeadFails, Run, Only, literal_scans}
+use Rattle.cpe_name.specs.declared.attribute.Attribute.TheVariants.{Part, Language}
+use Rattle.cpe_name.specs.Names.{Suits}
+use Rattle.cpe_name.specs.Shapes.{is_part_letter, is_part_body, is_language_body}
+use Rattle.cpe_name.specs.Tags.{letters_end, code_end, third_end}
+use Rattle.cpe_name.proofs.Shapes.{plain, plain_text, plain_parts}
+use Rattle.cpe_name.proofs.Tags.{all_bare, bare_characters, CodeCase, letters, digits, RegionCase, none, behind, TagCase, two, three, tag_case, tag_lawful, code_bare, tag_bare, letters_taken, third_none, third_some, code_taken, Code, Third, code_case, tag_of, letters_scans, third_scans, code_scans, sample_code}
+use Rattle.cpe_uri.specs.Spelling.{is_hex, hex_value, has_percent_form, spells, Spelled, Stands}
+use Rattle.cpe_uri.specs.Spans.{IsComponent}
+use Rattle.cpe_uri.specs.Languages.{is_part_byte, is_hyphen, begins_hyphen, is_last_digit, part_end, percent_hyphen_end, hyphen_end, region_end, tag_end, tag_or_nothing_end, language_end}
+use Rattle.cpe_uri.proofs.Ends.{Ends}
+
+-- ---- lower case
+
+abbrev lowered : List ℕ → List ℕ
+lowered s = str_to_ascii_lowercase s
+
+lowered_twice : (s : List ℕ) → lowered (lowered s) ≡ lowered s
+lowered_twice [] = refl
+lowered_twice (c ∷ s) = rw lowercase-lowercase (ap (λ (u : List ℕ). to_ascii_lowercase c ∷ u) (lowered_twice s))
+
+lower_letter : (c : ℕ) → is_letter c ≡ true → is_letter (to_ascii_lowercase c) ≡ true
+lower_letter c h = grind (arith, nat_tests)
+
+lower_digit : (c : ℕ) → is_digit c ≡ true → is_digit (to_ascii_lowercase c) ≡ true
+lower_digit c h = grind (arith, nat_tests)
+
+letter_from_lower : (c : ℕ) → is_letter (to_ascii_lowercase c) ≡ true → is_letter c ≡ true
+letter_from_lower c h = grind (arith, nat_tests)
+
+digit_from_lower : (c : ℕ) → is_digit (to_ascii_lowercase c) ≡ true → is_digit c ≡ true
+digit_from_lower c h = grind (arith, nat_tests)
+
+part_letter_bare : (c : ℕ) → is_part_letter (to_ascii_lowercase c) ≡ true → is_bare style.Formatted c ≡ true
+part_letter_bare c h = grind (arith, nat_tests)
+
+part_letter_word : (c : ℕ) → is_part_letter c ≡ true → is_word c ≡ true
+part_letter_word c h = grind (arith, nat_tests)
+
+lower_code : (u : List ℕ) → CodeCase u → CodeCase (lowered u)
+lower_code _ (letters x y hx hy) = letters (to_ascii_lowercase x) (to_ascii_lowercase y) (lower_letter x hx) (lower_letter y hy)
+lower_code _ (digits x y z hx hy hz) = digits (to_ascii_lowercase x) (to_ascii_lowercase y) (to_ascii_lowercase z) (lower_digit x hx) (lower_digit y hy) (lower_digit z hz)
+
+lower_region : (v : List ℕ) → RegionCase v → RegionCase (lowered v)
+lower_region _ none = none
+lower_region _ (behind u code) = behind (lowered u) (lower_code u code)
+
+lower_tag : (t : List ℕ) → TagCase t → TagCase (lowered t)
+lower_tag _ (two a b v ha hb region) = two (to_ascii_lowercase a) (to_ascii_lowercase b) (lowered v) (lower_letter a ha) (lower_letter b hb) (lower_region v region)
+lower_tag _ (three a b c v ha hb hc region) =
+    three (to_ascii_lowercase a) (to_ascii_lowercase b) (to_ascii_lowercase c) (lowered v) (lower_letter a ha) (lower_letter b hb) (lower_letter c hc) (lower_region v region)
+
+-- ---- spellings
+
+bare_spells : (b : ℕ) → is_bare style.Formatted b ≡ true → spells (to_ascii_lowercase b) (b ∷ []) ≡ true
+bare_spells b h = and_from _ _ (or_left _ _ h) (eq-eqb (to_ascii_lowercase b) (to_ascii_lowercase b) refl)
+
+-- what stands bare spells itself in lower case
+bare_spelled : (s : List ℕ) → all_bare s ≡ true → Spelled (lowered s) s
+bare_spelled [] h = refl
+bare_spelled (b ∷ s) h = let p = and_parts (is_bare style.Formatted b) (all_bare s) h in (b ∷ [], s, refl, bare_spells b p.0, bare_spelled s p.1)
+
+spelled_both : (t u x y : List ℕ) → Spelled t x → Spelled u y → Spelled (t ++ u) (x ++ y)
+spelled_both [] u x y first second = subst (λ (w : List ℕ). Spelled u (w ++ y)) (sym first) second
+spelled_both (c ∷ t) u x y first second =
+    (first.0, first.1 ++ y, ap (λ (w : List ℕ). w ++ y) first.2 ∙ append_assoc first.0 first.1 y, first.3, spelled_both t u first.1 y first.4 second)
+
+-- the component of a body alone
+stands_alone : (t s : List ℕ) → Spelled t s → Stands (plain t) s
+stands_alone t s h = subst (λ (u : List ℕ). Spelled u s) (sym (append-nil t)) h
+
+alone_stands : (t s : List ℕ) → Stands (plain t) s → Spelled t s
+alone_stands t s h = subst (λ (u : List ℕ). Spelled u s) (append-nil t) h
+
+no_percent_form : (c : ℕ) → is_word c ≡ true → has_percent_form c ≡ true → ⊥
+no_percent_form c word form = grind (arith, nat_tests)
+
+-- a spelling of one byte
+record Bare (c : ℕ) (u : List ℕ) : Type 0 where
+  byte : ℕ
+  is : u ≡ byte ∷ []
+  code : to_ascii_lowercase byte ≡ c
+
+-- letters, digits and `_` have no other
+word_bare : (c : ℕ) (u : List ℕ) → is_word c ≡ true → spells c u ≡ true → Bare c u
+word_bare c [] word h = absurd cc
+word_bare c (b ∷ []) word h = let p = and_parts (is_bare style.Formatted b || eqb b 126) (eqb (to_ascii_lowercase b) c) h in record { byte = b; is = refl; code = eqb-true _ _ p.1 }
+word_bare c (b ∷ d ∷ []) word h = absurd cc
+word_bare c (p ∷ h ∷ l ∷ []) word e =
+    let q = and_parts (eqb p 37 && is_hex h && is_hex l && eqb (16 * hex_value h + hex_value l) c) (has_percent_form c) e in
+    absurd (no_percent_form c word q.1)
+word_bare c (p ∷ h ∷ l ∷ d ∷ u) word e = absurd cc
+
+-- a byte in either case, and the spellings of what follows
+record Head (passes : ℕ → Bool) (t s : List ℕ) : Type 0 where
+  byte : ℕ
+  rest : List ℕ
+  is : s ≡ byte ∷ rest
+  passed : passes byte ≡ true
+  spelled : Spelled t rest
+
+letter_head : (c : ℕ) (t s : List ℕ) → is_letter c ≡ true → Spelled (c ∷ t) s → Head is_letter t s
+letter_head c t s h spelled =
+    let o = word_bare c spelled.0 (or_left _ _ (or_left _ _ h)) spelled.3 in record {
+      byte = o.byte;
+      rest = spelled.1;
+      is = spelled.2 ∙ ap (λ (u : List ℕ). u ++ spelled.1) o.is;
+      passed = letter_from_lower o.byte (ap is_letter o.code ∙ h);
+      spelled = spelled.4;
+    }
+
+digit_head : (c : ℕ) (t s : List ℕ) → is_digit c ≡ true → Spelled (c ∷ t) s → Head is_digit t s
+digit_head c t s h spelled =
+    let o = word_bare c spelled.0 (or_left _ _ (or_right _ _ h)) spelled.3 in record {
+      byte = o.byte;
+      rest = spelled.1;
+      is = spelled.2 ∙ ap (λ (u : List ℕ). u ++ spelled.1) o.is;
+      passed = digit_from_lower o.byte (ap is_digit o.code ∙ h);
+      spelled = spelled.4;
+    }
+
+-- the spellings of a code of a region are such codes
+code_spelled : (u s : List ℕ) → CodeCase u → Spelled u s → CodeCase s
+code_spelled _ s (letters x y hx hy) spelled =
+    let a = letter_head x (y ∷ []) s hx spelled in
+    let b = letter_head y [] a.rest hy a.spelled in
+    let is : s ≡ a.byte ∷ b.byte ∷ [] = a.is ∙ ap (λ (w : List ℕ). a.byte ∷ w) (b.is ∙ ap (λ (w : List ℕ). b.byte ∷ w) b.spelled) in
+    subst CodeCase (sym is) (letters a.byte b.byte a.passed b.passed)
+code_spelled _ s (digits x y z hx hy hz) spelled =
+    let a = digit_head x (y ∷ z ∷ []) s hx spelled in
+    let b = digit_head y (z ∷ []) a.rest hy a.spelled in
+    let c = digit_head z [] b.rest hz b.spelled in
+    let is : s ≡ a.byte ∷ b.byte ∷ c.byte ∷ [] = a.is ∙ ap (λ (w : List ℕ). a.byte ∷ w) (b.is ∙ ap (λ (w : List ℕ). b.byte ∷ w) (c.is ∙ ap (λ (w : List ℕ). c.byte ∷ w) c.spelled)) in
+    subst CodeCase (sym is) (digits a.byte b.byte c.byte a.passed b.passed c.passed)
+
+-- ---- the spellings of a hyphen
+
+data HyphenCase : List ℕ → Type 0 where
+  bare : HyphenCase (45 ∷ [])
+  percent : (d : ℕ) → is_last_digit d ≡ true → HyphenCase (37 ∷ 50 ∷ d ∷ [])
+
+lower_is_hyphen : (c : ℕ) → to_ascii_lowercase c ≡ 45 → c ≡ 45
+lower_is_hyphen c h = grind (arith, nat_tests)
+
+hex_bound : (c : ℕ) → is_hex c ≡ true → hex_value c ≤ 15
+hex_bound c h = grind (arith, nat_tests)
+
+hex_two : (c : ℕ) → is_hex c ≡ true → hex_value c ≡ 2 → c ≡ 50
+hex_two c h is = grind (arith, nat_tests)
+
+hex_last : (c : ℕ) → is_hex c ≡ true → hex_value c ≡ 13 → is_last_digit c ≡ true
+hex_last c h is = grind (arith, nat_tests)
+
+first_is_two : (m n : ℕ) → n ≤ 15 → 16 * m + n ≡ 45 → m ≡ 2
+first_is_two m n le is = omega (arith, le, is)
+
+last_is : (m n : ℕ) → n ≤ 15 → 16 * m + n ≡ 45 → n ≡ 13
+last_is m n le is = omega (arith, le, is)
+
+hyphen_case : (u : List ℕ) → spells 45 u ≡ true → HyphenCase u
+hyphen_case [] h = absurd cc
+hyphen_case (b ∷ []) h =
+    let p = and_parts (is_bare style.Formatted b || eqb b 126) (eqb (to_ascii_lowercase b) 45) h in
+    subst (λ (c : ℕ). HyphenCase (c ∷ [])) (sym (lower_is_hyphen b (eqb-true _ 45 p.1))) bare
+hyphen_case (b ∷ d ∷ []) h = absurd cc
+hyphen_case (p ∷ h ∷ l ∷ []) e =
+    let q = and_parts (eqb p 37 && is_hex h && is_hex l && eqb (16 * hex_value h + hex_value l) 45) (has_percent_form 45) e in
+    let r = and_parts (eqb p 37 && is_hex h && is_hex l) (eqb (16 * hex_value h + hex_value l) 45) q.0 in
+    let t = and_parts (eqb p 37 && is_hex h) (is_hex l) r.0 in
+    let v = and_parts (eqb p 37) (is_hex h) t.0 in
+    let code : 16 * hex_value h + hex_value l ≡ 45 = eqb-true _ 45 r.1 in
+    let small = hex_bound l t.1 in
+    let first : h ≡ 50 = hex_two h v.1 (first_is_two (hex_value h) (hex_value l) small code) in
+    let last = hex_last l t.1 (last_is (hex_value h) (hex_value l) small code) in
+    subst (λ (c : ℕ). HyphenCase (c ∷ h ∷ l ∷ [])) (sym (eqb-true p 37 v.0)) (subst (λ (c : ℕ). HyphenCase (37 ∷ c ∷ l ∷ [])) (sym first) (percent l last))
+hyphen_case (p ∷ h ∷ l ∷ d ∷ u) e = absurd cc
+
+-- ---- parts
+
+a_part : (u : List ℕ) → Either (OneOf is_part_byte) Empty u → IsComponent Part u
+a_part u h = elim h [
+  | inl o ↦ elim (or_cases (eqb o.byte 45) (is_part_letter (to_ascii_lowercase o.byte)) o.passed) [
+    | inl na ↦ record { value = value.Na; suits = (tt, refl); lower = refl; stands = o.is ∙ ap (λ (d : ℕ). d ∷ []) (eqb-true o.byte 45 na) }
+    | inr letter ↦
+        let bare_byte = part_letter_bare o.byte letter in
+        let c : ℕ = to_ascii_lowercase o.byte in
+        let characters = bare_characters (c ∷ []) (and_from _ _ (part_letter_bare c (ap is_part_letter (lowercase-lowercase o.byte) ∙ letter)) refl) in
+        record {
+          value = plain (c ∷ []);
+          suits = (plain_text is_part_body (c ∷ []) refl refl characters letter, letter);
+          lower = ap plain (lowered_twice (o.byte ∷ []));
+          stands = subst (Spelled (c ∷ [])) (sym o.is) (bare_spelled (o.byte ∷ []) (and_from _ _ bare_byte refl));
+        }
+  ]
+  | inr empty ↦ record { value = value.Any; suits = (tt, refl); lower = refl; stands = empty }
+]
+
+-- the scanner of parts takes components that are parts
+pub part_scans : Scans (IsComponent Part) part_end
+unfolding part_end
+part_scans =
+    wider (Either (OneOf is_part_byte) Empty) (IsComponent Part) part_end a_part
+    (choose_scans is_part_byte (OneOf is_part_byte) Empty (one is_part_byte) nothing (one_scans is_part_byte 45 refl) nothing_scans)
+
+part_byte_taken : (c : ℕ) (r : List ℕ) → is_part_byte c ≡ true → part_end (c ∷ r) ≡ Ok r
+unfolding part_end
+part_byte_taken c r h = rw h refl
+
+no_part_taken : (r : List ℕ) → Ends r → part_end r ≡ Ok r
+unfolding part_end
+no_part_taken [] e = refl
+no_part_taken (c ∷ r) e = rw e refl
+
+part_body_taken : (b s r : List ℕ) → is_part_body b ≡ true → Spelled b s → part_end (s ++ r) ≡ Ok r
+part_body_taken [] s r h spelled = absurd cc
+part_body_taken (c ∷ []) s r h spelled =
+    let o = word_bare c spelled.0 (part_letter_word c h) spelled.3 in
+    let is : s ≡ o.byte ∷ [] = spelled.2 ∙ ap (λ (u : List ℕ). u ++ spelled.1) o.is ∙ ap (λ (u : List ℕ). o.byte ∷ u) spelled.4 in
+    ap (λ (u : List ℕ). part_end (u ++ r)) is ∙ part_byte_taken o.byte r (or_right _ _ (ap is_part_letter o.code ∙ h))
+part_body_taken (c ∷ d ∷ b) s r h spelled = absurd cc
+
+-- it takes each of them, where the component ends
+pub part_taken : (v : Value) (s r : List ℕ) → Suits Part v → Stands v s → Ends r → part_end (s ++ r) ≡ Ok r
+part_taken value.Any s r suits stands e = ap (λ (u : List ℕ). part_end (u ++ r)) stands ∙ no_part_taken r e
+part_taken value.Na s r suits stands e = ap (λ (u : List ℕ). part_end (u ++ r)) stands ∙ part_byte_taken 45 r refl
+part_taken (value.Text t) s r suits stands e =
+    let p = plain_parts t (is_part_body t.body) suits.1 in
+    part_body_taken t.body s r p.1 (alone_stands t.body s (subst (λ (x : Parts). Stands (value.Text x) s) p.0 stands))
+
+-- ---- what the scanners of language tags take
+
+abbrev Hyphen : List ℕ → Type 0
+Hyphen = Either (OneOf is_hyphen) (Joined (Only (codes "%2")) (OneOf is_last_digit))
+
+abbrev Region : List ℕ → Type 0
+Region = Either (Joined Hyphen Code) Empty
+
+abbrev Tag : List ℕ → Type 0
+Tag = Joined (Joined (Run 2 is_letter) Third) Region
+
+last_spells : (d : ℕ) → is_last_digit d ≡ true → spells 45 (37 ∷ 50 ∷ d ∷ []) ≡ true
+last_spells d h = elim (or_cases (eqb d 68) (eqb d 100) h) [
+  | inl is ↦ ap (λ (c : ℕ). spells 45 (37 ∷ 50 ∷ c ∷ [])) (eqb-true d 68 is)
+  | inr is ↦ ap (λ (c : ℕ). spells 45 (37 ∷ 50 ∷ c ∷ [])) (eqb-true d 100 is)
+]
+
+hyphen_spells : (u : List ℕ) → Hyphen u → spells 45 u ≡ true
+hyphen_spells u h = elim h [
+  | inl o ↦ ap (spells 45) (o.is ∙ ap (λ (c : ℕ). c ∷ []) (eqb-true o.byte 45 o.passed))
+  | inr j ↦
+      let is : u ≡ 37 ∷ 50 ∷ j.second.byte ∷ [] = j.is ∙ ap (λ (w : List ℕ). w ++ j.back) j.first ∙ ap (λ (w : List ℕ). 37 ∷ 50 ∷ w) j.second.is in
+      ap (spells 45) is ∙ last_spells j.second.byte j.second.passed
+]
+
+-- a region and how it is spelled
+record IsRegion (s : List ℕ) : Type 0 where
+  region : List ℕ
+  lawful : RegionCase region
+  spelled : Spelled (lowered region) s
+
+a_region : (s : List ℕ) → Region s → IsRegion s
+a_region s h = elim h [
+  | inl j ↦
+      let code = code_case j.back j.second in
+      record { region = 45 ∷ j.back; lawful = behind j.back code; spelled = (j.front, j.back, j.is, hyphen_spells j.front j.first, bare_spelled j.back (code_bare j.back code)) }
+  | inr empty ↦ record { region = []; lawful = none; spelled = empty }
+]
+
+-- a tag and how it is spelled
+record IsTag (s : List ℕ) : Type 0 where
+  tag : List ℕ
+  lawful : TagCase tag
+  spelled : Spelled (lowered tag) s
+
+a_tag : (s : List ℕ) → Tag s → IsTag s
+a_tag s j =
+    let front : List ℕ = j.first.front ++ j.first.back in
+    let front_bare : all_bare front ≡ true = ap all_bare (sym (append-nil front)) ∙ tag_bare (front ++ []) (tag_of j.first.front j.first.back [] j.first.first j.first.second none) in
+    let region = a_region j.back j.second in
+    let together = spelled_both (lowered front) (lowered region.region) front j.back (bare_spelled front front_bare) region.spelled in
+    let codes_are : Spelled (lowered (front ++ region.region)) (front ++ j.back) = subst (λ (t : List ℕ). Spelled t (front ++ j.back)) (sym (map-append to_ascii_lowercase front region.region)) together in
+    record {
+      tag = front ++ region.region;
+      lawful = tag_of j.first.front j.first.back region.region j.first.first j.first.second region.lawful;
+      spelled = subst (Spelled (lowered (front ++ region.region))) (sym (j.is ∙ ap (λ (u : List ℕ). u ++ j.back) j.first.is)) codes_are;
+    }
+
+hyphen_scans : Scans Hyphen hyphen_end
+unfolding hyphen_end percent_hyphen_end
+hyphen_scans =
+    choose_scans is_hyphen (OneOf is_hyphen) (Joined (Only (codes "%2")) (OneOf is_last_digit)) (one is_hyphen) (both (literal (codes "%2")) (one is_last_digit)) (one_scans is_hyphen 45 refl)
+    (both_scans (Only (codes "%2")) (OneOf is_last_digit) (literal (codes "%2")) (one is_last_digit) (literal_scans (codes "%2")) (one_scans is_last_digit 100 refl) (100 ∷ []) (record { byte = 100; is = refl; passed = refl }))
+
+region_scans : Scans Region region_end
+unfolding region_end
+region_scans =
+    choose_scans begins_hyphen (Joined Hyphen Code) Empty (both hyphen_end code_end) nothing
+    (both_scans Hyphen Code hyphen_end code_end hyphen_scans code_scans (97 ∷ 97 ∷ []) sample_code) nothing_scans
+
+tag_scans : Scans Tag tag_end
+unfolding tag_end
+tag_scans =
+    both_scans (Joined (Run 2 is_letter) Third) Region (both letters_end third_end) region_end
+    (both_scans (Run 2 is_letter) Third letters_end third_end letters_scans third_scans [] (inr refl))
+    region_scans [] (inr refl)
+
+-- ---- language tags are taken
+
+region_behind : (u w r : List ℕ) → HyphenCase u → CodeCase w → region_end ((u ++ w) ++ r) ≡ Ok r
+unfolding region_end hyphen_end percent_hyphen_end literal
+region_behind _ w r bare code = code_taken w r code
+region_behind _ w r (percent d h) code = rw h (code_taken w r code)
+
+no_region_taken : (r : List ℕ) → Ends r → region_end r ≡ Ok r
+unfolding region_end
+no_region_taken [] e = refl
+no_region_taken (c ∷ r) e = rw e refl
+
+region_taken : (v s r : List ℕ) → RegionCase v → Spelled v s → Ends r → region_end (s ++ r) ≡ Ok r
+region_taken _ s r none spelled e = ap (λ (u : List ℕ). region_end (u ++ r)) spelled ∙ no_region_taken r e
+region_taken _ s r (behind u code) spelled e =
+    ap (λ (w : List ℕ). region_end (w ++ r)) spelled.2 ∙ region_behind spelled.0 spelled.1 r (hyphen_case spelled.0 spelled.3) (code_spelled u spelled.1 code spelled.4)
+
+no_letter_ends : (r : List ℕ) → Ends r → HeadFails is_letter r
+no_letter_ends [] e = tt
+no_letter_ends (c ∷ r) e = rw e refl
+
+hyphen_no_letter : (u w : List ℕ) → HyphenCase u → HeadFails is_letter (u ++ w)
+hyphen_no_letter _ w bare = refl
+hyphen_no_letter _ w (percent d h) = refl
+
+region_no_letter : (v s r : List ℕ) → RegionCase v → Spelled v s → Ends r → HeadFails is_letter (s ++ r)
+region_no_letter _ s r none spelled e = subst (λ (u : List ℕ). HeadFails is_letter (u ++ r)) (sym spelled) (no_letter_ends r e)
+region_no_letter _ s r (behind u code) spelled e =
+    subst (HeadFails is_letter) (sym (ap (λ (w : List ℕ). w ++ r) spelled.2 ∙ append_assoc spelled.0 spelled.1 r)) (hyphen_no_letter spelled.0 (spelled.1 ++ r) (hyphen_case spelled.0 spelled.3))
+
+tag_step : (a b : ℕ) (s r : List ℕ) → is_letter a ≡ true → is_letter b ≡ true → third_end s ≡ Ok r → tag_end (a ∷ b ∷ s) ≡ region_end r
+unfolding tag_end
+tag_step a b s r ha hb third = rw (letters_taken a b s ha hb, third) refl
+
+begun_tag : (a : ℕ) (s : List ℕ) → is_letter a ≡ true → language_end (a ∷ s) ≡ tag_end (a ∷ s)
+unfolding language_end tag_or_nothing_end
+begun_tag a s h = rw (letter_no_hyphen a h, h) refl where
+  letter_no_hyphen : (c : ℕ) → is_letter c ≡ true → is_hyphen c ≡ false
+  letter_no_hyphen c h = grind (arith, nat_tests)
+
+tag_taken : (t s r : List ℕ) → TagCase t → Spelled t s → Ends r → language_end (s ++ r) ≡ Ok r
+tag_taken _ s r (two a b v ha hb region) spelled e =
+    let x = letter_head a (b ∷ v) s ha spelled in
+    let y = letter_head b v x.rest hb x.spelled in
+    let is : s ≡ x.byte ∷ y.byte ∷ y.rest = x.is ∙ ap (λ (w : List ℕ). x.byte ∷ w) y.is in
+    let third = third_none (y.rest ++ r) (region_no_letter v y.rest r region y.spelled e) in
+    ap (λ (w : List ℕ). language_end (w ++ r)) is
+    ∙ begun_tag x.byte (y.byte ∷ (y.rest ++ r)) x.passed
+    ∙ tag_step x.byte y.byte (y.rest ++ r) (y.rest ++ r) x.passed y.passed third
+    ∙ region_taken v y.rest r region y.spelled e
+tag_taken _ s r (three a b c v ha hb hc region) spelled e =
+    let x = letter_head a (b ∷ c ∷ v) s ha spelled in
+    let y = letter_head b (c ∷ v) x.rest hb x.spelled in
+    let z = letter_head c v y.rest hc y.spelled in
+    let is : s ≡ x.byte ∷ y.byte ∷ z.byte ∷ z.rest = x.is ∙ ap (λ (w : List ℕ). x.byte ∷ w) (y.is ∙ ap (λ (w : List ℕ). y.byte ∷ w) z.is) in
+    ap (λ (w : List ℕ). language_end (w ++ r)) is
+    ∙ begun_tag x.byte (y.byte ∷ z.byte ∷ (z.rest ++ r)) x.passed
+    ∙ tag_step x.byte y.byte (z.byte ∷ (z.rest ++ r)) (z.rest ++ r) x.passed y.passed (third_some z.byte (z.rest ++ r) z.passed)
+    ∙ region_taken v z.rest r region z.spelled e
+
+-- ---- languages
+
+a_language : (u : List ℕ) → Either (OneOf is_hyphen) (Either Tag Empty) u → IsComponent Language u
+a_language u h = elim h [
+  | inl o ↦ record { value = value.Na; suits = (tt, refl); lower = refl; stands = o.is ∙ ap (λ (d : ℕ). d ∷ []) (eqb-true o.byte 45 o.passed) }
+  | inr more ↦ elim more [
+    | inl j ↦
+        let t = a_tag u j in
+        let body : List ℕ = lowered t.tag in
+        let small = lower_tag t.tag t.lawful in
+        let lawful = tag_lawful body small in
+        record {
+          value = plain body;
+          suits = (plain_text is_language_body body refl refl (bare_characters body (tag_bare body small)) lawful, lawful);
+          lower = ap plain (lowered_twice t.tag);
+          stands = stands_alone body u t.spelled;
+        }
+    | inr empty ↦ record { value = value.Any; suits = (tt, refl); lower = refl; stands = empty }
+  ]
+]
+
+-- the scanner of languages takes components that are languages
+pub language_scans : Scans (IsComponent Language) language_end
+unfolding language_end tag_or_nothing_end
+language_scans =
+    wider (Either (OneOf is_hyphen) (Either Tag Empty)) (IsComponent Language) language_end a_language
+    (choose_scans is_hyphen (OneOf is_hyphen) (Either Tag Empty) (one is_hyphen) tag_or_nothing_end (one_scans is_hyphen 45 refl)
+    (choose_scans is_letter Tag Empty tag_end nothing tag_scans nothing_scans))
+
+no_language_taken : (r : List ℕ) → Ends r → language_end r ≡ Ok r
+unfolding language_end tag_or_nothing_end
+no_language_taken [] e = refl
+no_language_taken (c ∷ r) e = rw e refl
+
+hyphen_taken : (r : List ℕ) → language_end (45 ∷ r) ≡ Ok r
+unfolding language_end
+hyphen_taken r = refl
+
+-- it takes each of them, where the component ends
+pub language_taken : (v : Value) (s r : List ℕ) → Suits Language v → Stands v s → Ends r → language_end (s ++ r) ≡ Ok r
+language_taken value.Any s r suits stands e = ap (λ (u : List ℕ). language_end (u ++ r)) stands ∙ no_language_taken r e
+language_taken value.Na s r suits stands e = ap (λ (u : List ℕ). language_end (u ++ r)) stands ∙ hyphen_taken r
+language_taken (value.Text t) s r suits stands e =
+    let p = plain_parts t (is_language_body t.body) suits.1 in
+    tag_taken t.body s r (tag_case t.body p.1) (alone_stands t.body s (subst (λ (x : Parts). Stands (value.Text x) s) p.0 stands)) e
