@@ -7,14 +7,21 @@ valid        formatted strings, drawn from the sample
 refused      formatted strings that are spoilt: one third each is cut off late, is cut off
              early, and has inside it a character that can't stand there unquoted
 long         formatted strings of 65,536 bytes, nearly all of them in the product
+uri          the URIs of the names of the lines of `valid`
+uri-refused  URIs that are spoilt: one third each has late in it a byte that can't stand there
+             bare, is cut off where no URI ends, and has inside it a fault of a percent form
+uri-long     URIs of 65,536 bytes, nearly all of them in the product
 wfn          the texts of the well-formed names of the lines of `valid`, all eleven
              attributes in their order
 wfn-refused  such texts that are spoilt: one third each is cut off, has a fault of quoting
              inside a value, and has an attribute twice or a part that is none
+wfn-long     such texts of 65,536 bytes, nearly all of them in the product
 edges        lines about the greatest length, long ones and odd line ends, and names whose
              attributes stand in other ways (LINES is not read); only for the comparison
              of outputs
+uri-edges    URIs in odd spellings, good and bad (LINES is not read); as `edges`
 """
+import itertools
 import pathlib
 import random
 import re
@@ -26,6 +33,11 @@ LONGEST = 65536
 PREFIX = b"cpe:2.3:"
 # None of these stands in a formatted string without a backslash, or at all.
 SPOILERS = (b"!", b"/", b"(", b"\\.", b" ", b"\x7f", b"\xc3\xa9")
+URI_PREFIX = b"cpe:/"
+# None of these stands bare in a URI.
+URI_SPOILERS = (b"!", b"/", b"*", b"\\", b" ", b"\x7f", b"\xc3\xa9")
+# No character and no special has one of these percent forms.
+FORM_FAULTS = (b"%41", b"%5f", b"%30", b"%00", b"%7f", b"%80", b"%2g", b"%g1", b"%%21")
 ATTRIBUTES = b"part vendor product version update edition language sw_edition target_sw target_hw other".split()
 # None of these stands between the quotes of a value, behind a whole character.
 QUOTE_FAULTS = (b".", b"-", b"!", b'"', b"\\a", b"\\_", b" ", b"\x7f", b"\xc3\xa9")
@@ -107,6 +119,73 @@ def long_lines(count):
         yield named(body_of(draw, products, room))
 
 
+def components_of(name):
+    """The eleven components of a formatted string."""
+    return re.findall(rb"(?:\\.|[^\\:])+", name[len(PREFIX) :])
+
+
+def uri_component(component):
+    """A component of a formatted string as a URI has it."""
+    if component == b"*":
+        return b""
+    return re.sub(rb"\\(.)|[?*]", lambda it: b"%%%02x" % ord(it[1] or {b"?": b"\1", b"*": b"\2"}[it[0]]), component)
+
+
+def uri_of(name):
+    """The canonical URI of the name of this formatted string."""
+    components = [uri_component(it) for it in components_of(name)]
+    extended = components[7:]
+    if any(extended):
+        components[5] = b"".join(b"~" + it for it in (components[5], *extended))
+    return (URI_PREFIX + b":".join(components[:7])).rstrip(b":")
+
+
+def uri_lines(count):
+    uris = {name: uri_of(name) for name in sample()}
+    return map(uris.get, valid_lines(count))
+
+
+def uri_spoilt_late(draw, uri):
+    """The URI with a spoiler somewhere in its second half."""
+    at = draw.between(max(len(uri) // 2, len(URI_PREFIX)), len(uri))
+    return uri[:at] + draw.one_of(URI_SPOILERS) + uri[at:]
+
+
+def uri_cuts(uri):
+    """Where the URI can be cut off so that none is left: inside a percent form, and between the
+    first and the last tilde of a packed edition."""
+    inside = [it.start() + 1 + more for it in re.finditer(rb"%..", uri) for more in (0, 1)]
+    return inside + list(range(uri.find(b"~") + 1, uri.rfind(b"~") + 1))
+
+
+def with_form_fault(draw, uri):
+    """The URI with a fault of a percent form behind its prefix."""
+    at = draw.between(len(URI_PREFIX), len(uri))
+    return uri[:at] + draw.one_of(FORM_FAULTS) + uri[at:]
+
+
+def refused_uri_lines(count):
+    draw, uris = Draw(), [uri_of(name) for name in sample()]
+    cut = [it[:at] for it in uris for at in uri_cuts(it)]
+    for number in range(count):
+        if number % 3 == 1:
+            yield draw.one_of(cut)
+        else:
+            spoil = with_form_fault if number % 3 else uri_spoilt_late
+            yield spoil(draw, draw.one_of(uris))
+
+
+def uri_named(body):
+    """A URI with this product."""
+    return URI_PREFIX + b"a:v:" + body
+
+
+def long_uri_lines(count):
+    draw, products = Draw(), [uri_component(components_of(name)[2]) for name in sample()]
+    for _ in range(count):
+        yield uri_named(body_of(draw, products, LONGEST - len(uri_named(b""))))
+
+
 def value_of(component):
     """The value of a component of a formatted string, as the text of a well-formed name has it."""
     if component in (b"*", b"-"):
@@ -116,8 +195,7 @@ def value_of(component):
 
 def attributes_of(name):
     """The eleven attributes of the name of this formatted string, such as `vendor="foo"`."""
-    components = re.findall(rb"(?:\\.|[^\\:])+", name[len(PREFIX) :])
-    return [key + b"=" + value_of(it) for key, it in zip(ATTRIBUTES, components, strict=True)]
+    return [key + b"=" + value_of(it) for key, it in zip(ATTRIBUTES, components_of(name), strict=True)]
 
 
 def well_formed(attributes, comma=b","):
@@ -162,6 +240,18 @@ def refused_wfn_lines(count):
         yield spoil[number % 3](draw, draw.one_of(names))
 
 
+def wfn_named(body):
+    """The text of a name with this product."""
+    return well_formed([b'part="a"', b'vendor="v"', b'product="' + body + b'"'])
+
+
+def long_wfn_lines(count):
+    draw = Draw()
+    products = [it[1:-1] for it in (value_of(components_of(name)[2]) for name in sample()) if it[:1] == b'"']
+    for _ in range(count):
+        yield wfn_named(body_of(draw, products, LONGEST - len(wfn_named(b""))))
+
+
 def wfn_edges():
     """Texts about the greatest length, and such whose attributes stand in other ways than in `wfn`."""
     room = LONGEST - len(b'wfn:[product=""]')
@@ -177,6 +267,8 @@ def wfn_edges():
         *(well_formed(order, comma) for order in orders for comma in commas),
         *(well_formed([it]) for it in attributes),
         *(well_formed([it, it]) for it in attributes),
+        *(well_formed([key + b"=" + it]) for key in ATTRIBUTES for it in (b"NA", b'"x"', b'"Ab"', b'"??\\~*"')),
+        *(b'wfn:[product="x\\%c"]' % byte for byte in range(256) if byte not in b"\n"),
         b"wfn:[]",
         b"wfn:[ ]",
         b"wfn:[,]",
@@ -194,19 +286,45 @@ def edges():
     fitting = [named(b"x" * (room - short)) for short in (0, 1, 2)]
     too_long = [named(b"x" * (room + more)) for more in (1, 2, LONGEST, 4 * LONGEST)]
     name = sample()[0]
-    odd = (b"", b"\r", name, name + b"\r", b" ", b"CPE:/a:v:p", b"x" * LONGEST)
+    odd = (b"", b"\r", name, name + b"\r", b" ", b"cpe:", b"x" * LONGEST)
     lines = []
     for line in (*fitting, *too_long, *odd, *wfn_edges()):
         lines += [line + b"\n", line + b"\r\n"]
     return b"".join(lines) + b"x" * (4 * LONGEST)
 
 
+def uri_edges():
+    """URIs about the greatest length, each byte and each percent form behind texts in each state,
+    and short ones made of such pieces as decide where a URI goes wrong."""
+    room = LONGEST - len(uri_named(b""))
+    lines = [uri_named(b"x" * (room + more)) for more in (-1, 0, 1, 2, LONGEST)]
+    lines += [uri_named(it * (room // 3)) for it in (b"%2e", b"%01", b"%02")]
+    fields = (b"cpe:/a:v:", b"cpe:/:::::~x~")
+    fronts = (b"", b"%01", b"%02", b"a", b"-", b"%2d", b"a%01", b"a%02", b"%01a", b"%02a%01")
+    for front in (field + it for field in fields for it in fronts):
+        for byte in range(256):
+            lines += [front + b"%%%02x" % byte, front + b"%%%02X~~~~:en" % byte]
+            if byte not in b"\n\r":
+                lines += [front + it % byte for it in (b"%c", b"%%%c", b"%%0%c", b"%%2%c", b"%%7%c")]
+    starts = (b"cpe:/", b"CPE:/A:", b"Cpe:/o:v:p:::", b"cpe:/:::::~", b"cpe:/::::::", b"cpe:/h:v:p:1:u:~-~~x~~:")
+    pieces = (b"e", b"N", b"-", b"~", b":", b"%01", b"%02", b"%2D", b"%", b"1")
+    for start in starts:
+        for count in range(5):
+            lines += [start + b"".join(it) for it in itertools.product(pieces, repeat=count)]
+    return b"".join(line + b"\n" for line in lines)
+
+
+EDGES = {"edges": edges, "uri-edges": uri_edges}
 MODES = {
     "valid": valid_lines,
     "refused": refused_lines,
     "long": long_lines,
+    "uri": uri_lines,
+    "uri-refused": refused_uri_lines,
+    "uri-long": long_uri_lines,
     "wfn": wfn_lines,
     "wfn-refused": refused_wfn_lines,
+    "wfn-long": long_wfn_lines,
 }
 
 
@@ -216,15 +334,15 @@ def write(mode, count, path):
     path.parent.mkdir(parents=True, exist_ok=True)
     half = path.with_name(path.name + ".half")
     with open(half, "wb") as out:
-        if mode == "edges":
-            out.write(edges())
+        if mode in EDGES:
+            out.write(EDGES[mode]())
         else:
             out.writelines(line + b"\n" for line in MODES[mode](count))
     half.replace(path)
 
 
 def main(words):
-    if len(words) != 3 or words[0] not in (*MODES, "edges") or not words[1].isdigit():
+    if len(words) != 3 or words[0] not in (*MODES, *EDGES) or not words[1].isdigit():
         sys.exit(__doc__)
     write(words[0], int(words[1]), words[2])
 

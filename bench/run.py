@@ -1,6 +1,6 @@
 #!/usr/bin/env python3
-"""Measures `cpe unbind` and `cpe bind fs` against unproved Rust programs that write the same,
-on the same input.
+"""Measures `cpe unbind`, `cpe bind fs` and `cpe bind uri` against unproved Rust programs that
+write the same, on the same input.
 
 Prints a table for each command and input: seconds, the ratio to `cpe`, and peak memory.
 README.md beside this file says how to read it.
@@ -24,8 +24,9 @@ HERE = pathlib.Path(__file__).resolve().parent
 TOP = HERE.parent
 BUILD = TOP / "build" / "bench"
 # The commands, each with the twins that answer as it does; and what copies only.
-UNBIND, BIND = "cpe unbind", "cpe bind fs"
-TWINS = {UNBIND: ["unbind_tuned", "unbind_plain"], BIND: ["bind_tuned", "bind_plain"]}
+UNBIND, BIND_FS, BIND_URI = "cpe unbind", "cpe bind fs", "cpe bind uri"
+BIND_TWINS = ["bind_tuned", "bind_plain"]
+TWINS = {UNBIND: ["unbind_tuned", "unbind_plain"], BIND_FS: BIND_TWINS, BIND_URI: BIND_TWINS}
 COPIES = ["lines"]
 USAGE = 2
 PIECE = 1 << 16
@@ -42,7 +43,7 @@ def built_twins():
         return {}
     BUILD.mkdir(parents=True, exist_ok=True)
     found = {}
-    for name in [*TWINS[UNBIND], *TWINS[BIND], *COPIES]:
+    for name in [*TWINS[UNBIND], *BIND_TWINS, *COPIES]:
         source, program = HERE / "twins" / f"{name}.rs", BUILD / name
         if is_older(program, source):
             # (the processor that Rattle builds for, too)
@@ -165,10 +166,39 @@ def knows(words):
     return not (run.returncode == USAGE and run.stdout.startswith(b"usage: "))
 
 
+def reads_uris(words):
+    """Whether the program unbinds URIs; where it doesn't, it refuses each."""
+    run = subprocess.run(words, input=b"cpe:/a\n", stdout=subprocess.PIPE)
+    return run.stdout.startswith(b"wfn:")
+
+
 def side_by_side(program, command, others):
     """The words of our program under this command and of the others that are measured with it, by name."""
-    names = [it for it in [*TWINS[command], *COPIES] if it in others]
-    return {command: [program, *command.split()[1:]], **{name: others[name] for name in names}}
+    first, *binding = command.split()[1:]
+    twins = {name: [*others[name], *binding] for name in TWINS[command] if name in others}
+    copies = {name: others[name] for name in COPIES if name in others}
+    return {command: [program, first, *binding], **twins, **copies}
+
+
+def parts_of(program, others, lines):
+    """What is measured: commands, their programs, and the inputs of each; and what is compared alone."""
+    # (as many lines as make about 60 MB, where the other inputs have 1,000,000)
+    few = max(1, lines * 915 // 1_000_000)
+    edges = [made("edges", 0), made("uri-edges", 0)]
+    unbind = side_by_side(program, UNBIND, others)
+    inputs = [made("valid", lines), made("refused", lines), made("long", few)]
+    if reads_uris(unbind[UNBIND]):
+        inputs += [made("uri", lines), made("uri-refused", lines), made("uri-long", few)]
+        yield UNBIND, unbind, inputs, edges
+    else:
+        print("the program doesn't unbind URIs: these inputs are left out")
+        yield UNBIND, unbind, inputs, edges[:1]
+    for command in (BIND_FS, BIND_URI):
+        bind = side_by_side(program, command, others)
+        if knows(bind[command]):
+            yield command, bind, [made("wfn", lines), made("wfn-refused", lines), made("wfn-long", few)], edges
+        else:
+            print(f"the program has no command {command}: that part is left out")
 
 
 def said():
@@ -186,22 +216,14 @@ def said():
 
 def main():
     given = said()
-    others = built_twins()
-    unbind, bind = (side_by_side(given.program.resolve(), command, others) for command in (UNBIND, BIND))
-    # (as many lines as make about 60 MB, where the other inputs have 1,000,000)
-    long = max(1, given.lines * 915 // 1_000_000)
-    parts = [(UNBIND, unbind, [made("valid", given.lines), made("refused", given.lines), made("long", long)])]
-    if knows(bind[BIND]):
-        parts.append((BIND, bind, [made("wfn", given.lines), made("wfn-refused", given.lines)]))
-    else:
-        print(f"the program has no command {BIND}: that part is left out")
-    for command, programs, paths in parts:
-        check_twins(command, programs, [*paths, made("edges", 0)])
+    parts = list(parts_of(given.program.resolve(), built_twins(), given.lines))
+    for command, programs, paths, edges in parts:
+        check_twins(command, programs, [*paths, *edges])
     print(f"load before: {os.getloadavg()[0]:.1f} on {os.cpu_count()} processors")
-    for command, programs, paths in parts:
+    for command, programs, paths, _ in parts:
         for path in paths:
             measure(command, programs, path, given.rounds)
-    measure_memory(unbind[UNBIND], [given.lines // 100, given.lines // 10, given.lines])
+    measure_memory([given.program.resolve(), "unbind"], [given.lines // 100, given.lines // 10, given.lines])
     print(f"\nload behind: {os.getloadavg()[0]:.1f}")
 
 

@@ -1,6 +1,6 @@
-//! The plain twin of `cpe bind fs`: the same answers from safe Rust with std alone and no
-//! proof, written for its reader first. A line becomes eleven owned values, and these are
-//! printed.
+//! The plain twin of `cpe bind fs` and `cpe bind uri`, under the word `fs` or `uri`: the same
+//! answers from safe Rust with std alone and no proof, written for its reader first. A line
+//! becomes eleven owned values, and these are printed.
 use std::io::{self, BufRead, BufReader, BufWriter, Write};
 use std::process::ExitCode;
 
@@ -169,15 +169,60 @@ fn write_fs(out: &mut impl Write, values: &[Value]) -> io::Result<()> {
     writeln!(out)
 }
 
+/// A value as a URI has it.
+fn component(value: &Value) -> String {
+    match value {
+        Value::Any => String::new(),
+        Value::Na => "-".to_string(),
+        Value::Text(text) => percent_forms(text),
+    }
+}
+
+/// The text with percent forms for its wildcards, and for each character behind a backslash.
+fn percent_forms(text: &str) -> String {
+    let mut out = String::new();
+    let mut chars = text.chars();
+    while let Some(c) = chars.next() {
+        match c {
+            '?' => out.push_str("%01"),
+            '*' => out.push_str("%02"),
+            '\\' => out.extend(chars.next().map(|c| format!("%{:02x}", u32::from(c)))),
+            _ => out.push(c),
+        }
+    }
+    out
+}
+
+/// The edition, packed with the four values that URIs have no component for unless all are ANY.
+fn edition(values: &[Value]) -> String {
+    let (edition, others) = (&values[5], &values[7..]);
+    if others.iter().all(|it| matches!(it, Value::Any)) {
+        return component(edition);
+    }
+    let packed = [edition].into_iter().chain(others);
+    packed.map(|it| format!("~{}", component(it))).collect()
+}
+
+fn write_uri(out: &mut impl Write, values: &[Value]) -> io::Result<()> {
+    let mut components: Vec<String> = values[..7].iter().map(component).collect();
+    components[5] = edition(values);
+    let joined = components.join(":");
+    writeln!(out, "cpe:/{}", joined.trim_end_matches(':'))
+}
+
 /// Answers the line of this number, without its newline; tells whether it was refused.
-fn answer(out: &mut impl Write, number: u64, line: &[u8]) -> io::Result<bool> {
+fn answer(out: &mut impl Write, to_uri: bool, number: u64, line: &[u8]) -> io::Result<bool> {
     let text = line.strip_suffix(b"\r").unwrap_or(line);
     if line.len() > LONGEST {
         writeln!(out, "refused {number} long")?;
     } else if text.is_empty() {
         return Ok(false);
     } else if let Some(values) = (Reader { rest: text }).name() {
-        write_fs(out, &values)?;
+        if to_uri {
+            write_uri(out, &values)?;
+        } else {
+            write_fs(out, &values)?;
+        }
         return Ok(false);
     } else {
         writeln!(out, "refused {number} wfn")?;
@@ -186,13 +231,14 @@ fn answer(out: &mut impl Write, number: u64, line: &[u8]) -> io::Result<bool> {
 }
 
 fn main() -> io::Result<ExitCode> {
+    let to_uri = std::env::args().nth(1).is_some_and(|word| word == "uri");
     let mut input = BufReader::with_capacity(1 << 16, io::stdin().lock());
     let mut output = BufWriter::with_capacity(1 << 16, io::stdout().lock());
     let (mut line, mut number, mut refused) = (Vec::new(), 0, false);
     while input.read_until(b'\n', &mut line)? > 0 {
         number += 1;
         let text = line.strip_suffix(b"\n").unwrap_or(&line);
-        refused |= answer(&mut output, number, text)?;
+        refused |= answer(&mut output, to_uri, number, text)?;
         line.clear();
     }
     output.flush()?;

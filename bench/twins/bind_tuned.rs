@@ -1,7 +1,8 @@
-//! The tuned twin of `cpe bind fs`: the same answers from safe Rust with std alone and no
-//! proof, written for speed. One table of the kinds of bytes, one pass over a line that
-//! finds where the eleven values lie, and these put straight into one block of output: about
-//! what a filter of this kind, written by hand with care, reaches on one core.
+//! The tuned twin of `cpe bind fs` and `cpe bind uri`, under the word `fs` or `uri`: the same
+//! answers from safe Rust with std alone and no proof, written for speed. One table of the
+//! kinds of bytes, one pass over a line that finds where the eleven values lie, and these put
+//! straight into one block of output: about what a filter of this kind, written by hand with
+//! care, reaches on one core.
 use std::io::{self, Read, Write};
 use std::process::ExitCode;
 
@@ -189,19 +190,89 @@ fn put(span: Span, out: &mut Vec<u8>) {
     out.extend_from_slice(rest);
 }
 
-/// Puts the formatted string of the name of this text; tells whether there is one.
-fn bind(s: &[u8], out: &mut Vec<u8>) -> bool {
-    let Some(spans) = spans(s) else {
-        return false;
-    };
+/// How the eleven values are put.
+type Put = fn(&[Span; 11], &mut Vec<u8>);
+
+fn put_fs(spans: &[Span; 11], out: &mut Vec<u8>) {
     out.extend_from_slice(b"cpe:2.3");
     for span in spans {
         match span.text {
             // (most values are ANY)
             &[c] => out.extend_from_slice(&[b':', c]),
-            _ => put(span, out),
+            _ => put(*span, out),
         }
     }
+}
+
+/// Puts a percent sign and the code in two digits.
+fn percent(c: u8, out: &mut Vec<u8>) {
+    let digit = |n: u8| b"0123456789abcdef"[usize::from(n)];
+    out.extend_from_slice(&[b'%', digit(c >> 4), digit(c & 15)]);
+}
+
+/// Puts the value as a URI has it.
+fn put_component(text: &[u8], out: &mut Vec<u8>) {
+    if text == ANY.text {
+        return;
+    }
+    if text == NA.text {
+        out.push(b'-');
+        return;
+    }
+    let mut i = 0;
+    loop {
+        let run = i;
+        while class_at(text, i) == PLAIN {
+            i += 1;
+        }
+        out.extend_from_slice(&text[run..i]);
+        match text[i..] {
+            [b'?', ..] => percent(1, out),
+            [b'*', ..] => percent(2, out),
+            [b'\\', c, ..] => {
+                i += 1;
+                match c {
+                    b'.' | b'-' => out.push(c),
+                    _ => percent(c, out),
+                }
+            }
+            _ => return,
+        }
+        i += 1;
+    }
+}
+
+/// Puts the components and colons between them, of which none stands at the end. The edition is
+/// packed with the last four values unless all of them are ANY.
+fn put_uri(spans: &[Span; 11], out: &mut Vec<u8>) {
+    out.extend_from_slice(b"cpe:/");
+    let is_packed = spans[7..].iter().any(|it| it.text != ANY.text);
+    for (n, span) in spans[..7].iter().enumerate() {
+        if n > 0 {
+            out.push(b':');
+        }
+        if n == 5 && is_packed {
+            out.push(b'~');
+            put_component(span.text, out);
+            for other in &spans[7..] {
+                out.push(b'~');
+                put_component(other.text, out);
+            }
+        } else {
+            put_component(span.text, out);
+        }
+    }
+    while out.last() == Some(&b':') {
+        out.pop();
+    }
+}
+
+/// Puts the other text of the name of this text; tells whether there is one.
+fn bind(s: &[u8], put: Put, out: &mut Vec<u8>) -> bool {
+    let Some(spans) = spans(s) else {
+        return false;
+    };
+    put(&spans, out);
     out.push(b'\n');
     true
 }
@@ -234,9 +305,9 @@ fn newline(s: &[u8]) -> Option<usize> {
 }
 
 /// Answers the line of this number, without its newline; tells whether it was refused.
-fn answer(out: &mut Vec<u8>, number: u64, line: &[u8]) -> bool {
+fn answer(out: &mut Vec<u8>, put: Put, number: u64, line: &[u8]) -> bool {
     let text = line.strip_suffix(b"\r").unwrap_or(line);
-    if text.is_empty() || bind(text, out) {
+    if text.is_empty() || bind(text, put, out) {
         return false;
     }
     refuse(out, number, b" wfn\n");
@@ -244,6 +315,8 @@ fn answer(out: &mut Vec<u8>, number: u64, line: &[u8]) -> bool {
 }
 
 fn main() -> io::Result<ExitCode> {
+    let to_uri = std::env::args().nth(1).is_some_and(|word| word == "uri");
+    let put = if to_uri { put_uri } else { put_fs };
     let (mut input, mut output) = (io::stdin().lock(), io::stdout().lock());
     let mut block = vec![0; 1 << 17];
     let mut out = Vec::with_capacity(1 << 18);
@@ -267,7 +340,7 @@ fn main() -> io::Result<ExitCode> {
                 refused = true;
                 refuse(&mut out, number, b" long\n");
             } else {
-                refused |= answer(&mut out, number, &rest[..len]);
+                refused |= answer(&mut out, put, number, &rest[..len]);
             }
             if out.len() >= 1 << 16 {
                 output.write_all(&out)?;
