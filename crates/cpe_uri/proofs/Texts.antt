@@ -21,6 +21,7 @@ use Rattle.cpe_uri.specs.declared.text.Stage.TheVariants.{Start, Na, Hyphen, Lea
 use Rattle.cpe_uri.specs.declared.text.State.{State}
 use Rattle.cpe_uri.specs.declared.text.State.TheVariants.{Whole, Percent, Half}
 use Rattle.cpe_uri.specs.Reading.{is_start, next, is_over, stands_bare, step, may_end, read_from, text_end}
+use Rattle.cpe_uri.specs.Found.{IsTextComponent}
 use Rattle.cpe_uri.proofs.Stages.{some_stage, stage_is, no_stage_is, TextOf, start_text, run, Over, text_over}
 use Rattle.cpe_uri.proofs.Components.{went, Read, Outcome, was_read, NoTilde, unit_read, Good, stays_good, completed, later_next}
 
@@ -137,14 +138,6 @@ module _ (packed : Bool) where
   text_taken (value.Text t) s r good stands none ends = codes_read (text_codes t) s r (some_codes t good) stands none (text_over t good) ends
 
 -- ---- what is taken
-
--- the component of some value, in lower case
-pub record IsTextComponent (packed : Bool) (s : List ℕ) : Type 0 where
-  pub value : Value
-  pub good : IsValue value
-  pub lower : lower_value value ≡ value
-  pub stands : Stands value s
-  pub none : NoTilde packed s
 
 abbrev some_state : State → Option State
 some_state t = Some t

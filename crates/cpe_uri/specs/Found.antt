@@ -1,5 +1,5 @@
 -- What the code finds of a URI, piece by piece. No public clause rests on it.
-use Rattle.std.specs.Prelude.{◌≡◌, ◌⊎◌, ℕ, Bool, false, true, not, ◌==◌, List, [], ◌∷◌, ◌++◌}
+use Rattle.std.specs.Prelude.{◌≡◌, ◌⊎◌, ℕ, ◌+◌, ◌≤◌, length, Bool, false, true, not, ◌==◌, List, [], ◌∷◌, ◌++◌}
 use Rattle.std.specs.List.{list_all}
 use Rattle.cpe_values.specs.declared.value.Value.{Value}
 use Rattle.cpe_values.specs.Lower.{lower_value}
@@ -51,56 +51,63 @@ pub record Missing (s u r : List ℕ) : Type 0 where
 abbrev pub Later : (List ℕ → Type 0) → List ℕ → List ℕ → List ℕ → Type 0
 Later L s u r = Behind L s u r ⊎ Missing s u r
 
--- the component of the edition, alone or packed, and where its values lie
-pub record EditionPiece (x : Editions) (u : List ℕ) : Type 0 where
+-- the component of the edition, alone or packed, and where the five values lie in it
+pub record EditionPiece (edition sw_edition target_sw target_hw other u : List ℕ) : Type 0 where
   pub of : Values
   pub name : IsName of
   pub lower : IsLower of
   pub stands : EditionStands of u
-  pub edition : Stands of.edition x.edition.now
-  pub sw_edition : Stands of.sw_edition x.sw_edition.now
-  pub target_sw : Stands of.target_sw x.target_sw.now
-  pub target_hw : Stands of.target_hw x.target_hw.now
-  pub other : Stands of.other x.other.now
+  pub edition_at : Stands of.edition edition
+  pub sw_edition_at : Stands of.sw_edition sw_edition
+  pub target_sw_at : Stands of.target_sw target_sw
+  pub target_hw_at : Stands of.target_hw target_hw
+  pub other_at : Stands of.other other
+  pub within : length edition + length sw_edition + length target_sw + length target_hw + length other ≤ length u
 
--- the same, where it stands behind this
+abbrev pub PieceOf : Editions → List ℕ → Type 0
+PieceOf x u = EditionPiece x.edition.now x.sw_edition.now x.target_sw.now x.target_hw.now x.other.now u
+
+-- the same, where it stands in front
 pub record EditionFound (s : List ℕ) (x : Editions) (r : List ℕ) : Type 0 where
   pub taken : List ℕ
   pub cut : s ≡ taken ++ r
-  pub piece : EditionPiece x taken
+  pub piece : PieceOf x taken
 
+-- and behind a colon
 pub record EditionBehind (s : List ℕ) (x : Editions) (r : List ℕ) : Type 0 where
   pub taken : List ℕ
   pub cut : s ≡ 58 ∷ taken ++ r
-  pub piece : EditionPiece x taken
+  pub piece : PieceOf x taken
 
 -- no edition, and empty pieces
 pub record EditionMissing (s : List ℕ) (x : Editions) (r : List ℕ) : Type 0 where
   pub no_colon : begins_with_colon s ≡ false
-  pub edition : x.edition.now ≡ []
-  pub sw_edition : x.sw_edition.now ≡ []
-  pub target_sw : x.target_sw.now ≡ []
-  pub target_hw : x.target_hw.now ≡ []
-  pub other : x.other.now ≡ []
+  pub empty : PieceOf x []
   pub same : r ≡ s
 
 abbrev pub EditionLater : List ℕ → Editions → List ℕ → Type 0
 EditionLater s x r = EditionBehind s x r ⊎ EditionMissing s x r
 
--- the pieces behind the part, and what is left behind each
-pub record Middle (s : List ℕ) (w : Written) (r : List ℕ) : Type 0 where
+abbrev pub edition_texts : Editions → List (List ℕ)
+edition_texts x = x.edition.now ∷ x.sw_edition.now ∷ x.target_sw.now ∷ x.target_hw.now ∷ x.other.now ∷ []
+
+abbrev pub packed_texts : Written → List (List ℕ)
+packed_texts w = w.edition.now ∷ w.sw_edition.now ∷ w.target_sw.now ∷ w.target_hw.now ∷ w.other.now ∷ []
+
+-- all pieces, and what is left behind each
+pub record Pieces (s : List ℕ) (w : Written) (r : List ℕ) : Type 0 where
   pub behind_part : List ℕ
   pub behind_vendor : List ℕ
   pub behind_product : List ℕ
   pub behind_version : List ℕ
   pub behind_update : List ℕ
   pub behind_edition : List ℕ
+  pub editions : Editions
   pub part : Piece (IsComponent Part) s w.part.now behind_part
   pub vendor : Later (IsTextComponent false) behind_part w.vendor.now behind_vendor
   pub product : Later (IsTextComponent false) behind_vendor w.product.now behind_product
   pub version : Later (IsTextComponent false) behind_product w.version.now behind_version
   pub update : Later (IsTextComponent false) behind_version w.update.now behind_update
-  pub editions : Editions
   pub edition : EditionLater behind_update editions behind_edition
   pub language : Later (IsComponent Language) behind_edition w.language.now r
-  pub packed : (w.edition.now ≡ editions.edition.now) × (w.sw_edition.now ≡ editions.sw_edition.now) × (w.target_sw.now ≡ editions.target_sw.now) × (w.target_hw.now ≡ editions.target_hw.now) × (w.other.now ≡ editions.other.now)
+  pub same : packed_texts w ≡ edition_texts editions

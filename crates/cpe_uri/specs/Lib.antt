@@ -11,3 +11,5 @@ pub mod SpanValues
 pub mod Bound
 pub mod Requoting
 pub mod Languages
+pub mod Scanning
+pub mod Found

@@ -44,13 +44,13 @@ abbrev pub later : List Attribute
 later = Vendor ∷ Product ∷ Version ∷ Update ∷ Edition ∷ Language ∷ []
 
 -- a colon and a component, where a colon stands
-unfoldable pub later_end : Attribute → Scanner
-later_end a s = choose is_colon (both (one is_colon) (component_end a)) nothing s
+unfoldable pub later_end : Scanner → Scanner
+later_end component s = choose is_colon (both (one is_colon) component) nothing s
 
 -- the components of these attributes, one behind the other
 abbrev pub components_end : List Attribute → Scanner
 components_end [] s = Ok s
-components_end (a ∷ rest) s = later_end a s >>= components_end rest
+components_end (a ∷ rest) s = later_end (component_end a) s >>= components_end rest
 
 -- ---- the whole
 

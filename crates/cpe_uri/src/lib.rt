@@ -1,10 +1,6 @@
 //! URIs, the binding of well-formed names that CPE 2.2 had (NIST IR 7695, 6.1).
 #![tactic(auto)]
 
-mod text;
-mod values;
-mod write;
-
 ghost use Rattle.std.specs.Prelude.{◌≡◌, ℕ, List, ◌+◌, ◌*◌, ◌++◌, ◌≤◌, length, take, Some, None, IfSome, MatchOption};
 ghost use Rattle.std.specs.Option.{option_map};
 ghost use Rattle.cpe_name.specs.declared.name.Values.{Values};
@@ -14,13 +10,16 @@ ghost use Rattle.cpe_uri.specs.Bound.{bound_uri, BindsUri, WritesUri};
 
 mod bind;
 mod bound;
+mod language;
+mod scan;
 mod spelling;
+mod text;
+mod values;
+mod write;
 
 use crate::bound::put_uri;
 pub use bind::bind_uri;
 use cpe_name::scan_wfn;
-mod language;
-
 use thiserror::Error;
 
 /// The bytes that an output text has beside its values: the names of the attributes, the brackets, the commas,

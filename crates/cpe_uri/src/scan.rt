@@ -2,13 +2,13 @@
 ghost use Rattle.std.specs.Prelude.{◌≡◌, ◌-◌, ◌==◌, List, ℕ, false, true, length, take, [], codes, Ok, Err, IfOk, IfErr};
 ghost use Rattle.std.specs.Char.{to_ascii_lowercase};
 ghost use Rattle.cpe_grammar.specs.Scanners.{Tells, one};
-ghost use Rattle.cpe_name.specs.declared.attribute.Attribute.TheVariants.{Part, Vendor, Edition, Language};
+ghost use Rattle.cpe_name.specs.declared.attribute.Attribute.TheVariants.{Part, Language};
 ghost use Rattle.cpe_uri.specs.Grammar.{begins_with_tilde};
 ghost use Rattle.cpe_uri.specs.Languages.{part_end, language_end};
 ghost use Rattle.cpe_uri.specs.Reading.{text_end};
 ghost use Rattle.cpe_uri.specs.Scanning.{field_end, packed_end, edition_end, later_end, prefix_end, all_end, whole_end};
 ghost use Rattle.cpe_uri.specs.Spans.{IsComponent, AreComponents, LeavesWith};
-ghost use Rattle.cpe_uri.specs.Found.{IsTextComponent, Piece, FieldPiece, begins_with_colon, Later, EditionFound, EditionLater, Middle};
+ghost use Rattle.cpe_uri.specs.Found.{IsTextComponent, Piece, FieldPiece, begins_with_colon, Later, EditionFound, EditionLater, Pieces};
 
 use crate::language::{scan_language, scan_part};
 use crate::text::scan_text;
@@ -142,7 +142,7 @@ fn edition_pieces(bytes: &[u8]) -> Result<(Editions, &[u8]), usize>
 /// A colon and a component, or nothing: the component, and what is left behind it.
 #[tactic(auto, unfolding(crate::specs::Scanning::later_end))]
 fn later_text(bytes: &[u8]) -> Result<(&[u8], &[u8]), usize>
-    ensures told { Tells (λ x. x.1.now) result (later_end Vendor bytes.now) }
+    ensures told { Tells (λ x. x.1.now) result (later_end (text_end false) bytes.now) }
     ensures found { IfOk result (λ x. Later (IsTextComponent false) bytes.now x.0.now x.1.now) }
 {
     if !is_at_colon(bytes) {
@@ -155,7 +155,7 @@ fn later_text(bytes: &[u8]) -> Result<(&[u8], &[u8]), usize>
 /// A colon and the component of the edition, or nothing.
 #[tactic(auto, unfolding(crate::specs::Scanning::later_end))]
 fn later_edition(bytes: &[u8]) -> Result<(Editions, &[u8]), usize>
-    ensures told { Tells (λ x. x.1.now) result (later_end Edition bytes.now) }
+    ensures told { Tells (λ x. x.1.now) result (later_end edition_end bytes.now) }
     ensures found { IfOk result (λ x. EditionLater bytes.now x.0 x.1.now) }
 {
     if !is_at_colon(bytes) {
@@ -168,7 +168,7 @@ fn later_edition(bytes: &[u8]) -> Result<(Editions, &[u8]), usize>
 /// A colon and a language, or nothing: the language, and what is left behind it.
 #[tactic(auto, unfolding(crate::specs::Scanning::later_end))]
 fn later_language(bytes: &[u8]) -> Result<(&[u8], &[u8]), usize>
-    ensures told { Tells (λ x. x.1.now) result (later_end Language bytes.now) }
+    ensures told { Tells (λ x. x.1.now) result (later_end language_end bytes.now) }
     ensures found { IfOk result (λ x. Later (IsComponent Language) bytes.now x.0.now x.1.now) }
 {
     if !is_at_colon(bytes) {
@@ -182,7 +182,7 @@ fn later_language(bytes: &[u8]) -> Result<(&[u8], &[u8]), usize>
 #[tactic(auto, unfolding(crate::specs::Scanning::all_end))]
 fn all_pieces(bytes: &[u8]) -> Result<(Written, &[u8]), usize>
     ensures told { Tells (λ x. x.1.now) result (all_end bytes.now) }
-    ensures found { IfOk result (λ x. Middle bytes.now x.0 x.1.now) }
+    ensures found { IfOk result (λ x. Pieces bytes.now x.0 x.1.now) }
 {
     let (part, rest) = part_piece(bytes)?;
     let (vendor, rest) = later_text(rest)?;
@@ -228,6 +228,7 @@ fn scan_prefix<'a>(expected: &[u8], bytes: &'a [u8]) -> Result<&'a [u8], usize>
 }
 
 /// Where the values of a name lie in its URI, or how many bytes are left where the text leaves the grammar.
+#[tactic(auto, using(crate::proofs::FoundLemmas::start_leaves, crate::proofs::FoundLemmas::pieces_leave))]
 pub(crate) fn scan_uri(text: &[u8]) -> Result<Written, usize>
     ensures found { IfOk result (AreComponents text.now) }
     ensures refused { IfErr result (LeavesWith text.now) }
