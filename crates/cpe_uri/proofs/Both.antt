@@ -17,9 +17,10 @@ use Rattle.cpe_fs.specs.Unbound.{unbound}
 use Rattle.cpe_fs.proofs.Said as fs
 use Rattle.cpe_fs.proofs.ValueLemmas.{one_name}
 use Rattle.cpe_uri.specs.Grammar.{Uri, IsUri, LeavesUri}
-use Rattle.cpe_uri.specs.Unbound.{SaysUri}
+use Rattle.cpe_uri.specs.Unbound.{unbound_uri}
 use Rattle.cpe_uri.specs.Both.{begins_as_uri, Bound, IsBound, LeavesBound, SaysAny, unbound_any}
-use Rattle.cpe_uri.proofs.Pieces.{OneValue, one_uri_name, prefix_length}
+use Rattle.cpe_uri.proofs.Pieces.{one_uri, prefix_length}
+use Rattle.cpe_uri.proofs.Said.{says_text, says_name, says_place}
 
 -- ---- one grammar or the other
 
@@ -64,10 +65,10 @@ bound_refused s place at h =
     ]
 
 -- no text is that of two names
-pub one_bound_name : OneValue → (v w : Values) (s : List ℕ) → Bound v s → Bound w s → v ≡ w
-one_bound_name one v w s g h =
+pub one_bound : (v w : Values) (s : List ℕ) → Bound v s → Bound w s → v ≡ w
+one_bound v w s g h =
     elim (cases_Bool (begins_as_uri s)) [
-      | inl b ↦ one_uri_name one v w s (MatchBool-at_true (Uri v s) (Fs v s) b g) (MatchBool-at_true (Uri w s) (Fs w s) b h)
+      | inl b ↦ one_uri v w s (MatchBool-at_true (Uri v s) (Fs v s) b g) (MatchBool-at_true (Uri w s) (Fs w s) b h)
       | inr b ↦ one_name v w s (MatchBool-at_false (Uri v s) (Fs v s) b g) (MatchBool-at_false (Uri w s) (Fs w s) b h)
     ]
 
@@ -81,55 +82,54 @@ one_bound_place s m n g h =
 
 -- ---- what is said
 
-module _ (unbound_uri : List ℕ → Result (List ℕ) ℕ) (says_text : (name : Values) (s : List ℕ) → Uri name s → unbound_uri s ≡ Ok (output_text name)) (says_name : (s text : List ℕ) → unbound_uri s ≡ Ok text → SaysUri s text) (says_place : (s : List ℕ) (place : ℕ) → unbound_uri s ≡ Err place → LeavesUri s place) where
-  -- what begins as a URI says what it says as one
-  pub any_uri : (s : List ℕ) → begins_as_uri s ≡ true → unbound_any unbound_uri s ≡ unbound_uri s
-  unfolding unbound_any
-  any_uri s b = rw b refl
+-- what begins as a URI says what it says as one
+pub any_uri : (s : List ℕ) → begins_as_uri s ≡ true → unbound_any s ≡ unbound_uri s
+unfolding unbound_any
+any_uri s b = rw b refl
 
-  -- what doesn't, says what it says as a formatted string
-  pub any_fs : (s : List ℕ) → begins_as_uri s ≡ false → unbound_any unbound_uri s ≡ unbound s
-  unfolding unbound_any
-  any_fs s b = rw b refl
+-- what doesn't, says what it says as a formatted string
+pub any_fs : (s : List ℕ) → begins_as_uri s ≡ false → unbound_any s ≡ unbound s
+unfolding unbound_any
+any_fs s b = rw b refl
 
-  -- a text of a name says the output text of the name
-  pub any_text : (name : Values) (s : List ℕ) → Bound name s → unbound_any unbound_uri s ≡ Ok (output_text name)
-  any_text name s h =
-      elim (cases_Bool (begins_as_uri s)) [
-        | inl b ↦ any_uri s b ∙ says_text name s (MatchBool-at_true (Uri name s) (Fs name s) b h)
-        | inr b ↦ any_fs s b ∙ fs.says_text name s (MatchBool-at_false (Uri name s) (Fs name s) b h)
-      ]
+-- a text of a name says the output text of the name
+pub any_text : (name : Values) (s : List ℕ) → Bound name s → unbound_any s ≡ Ok (output_text name)
+any_text name s h =
+    elim (cases_Bool (begins_as_uri s)) [
+      | inl b ↦ any_uri s b ∙ says_text name s (MatchBool-at_true (Uri name s) (Fs name s) b h)
+      | inr b ↦ any_fs s b ∙ fs.says_text name s (MatchBool-at_false (Uri name s) (Fs name s) b h)
+    ]
 
-  -- what is said is the output text of a name that has the text
-  pub any_name : (s text : List ℕ) → unbound_any unbound_uri s ≡ Ok text → SaysAny s text
-  any_name s text is =
-      elim (cases_Bool (begins_as_uri s)) [
-        | inl b ↦ let say = says_name s text (sym (any_uri s b) ∙ is) in record { name = say.name; has = uri_bound say.name s say.uri; is = say.is }
-        | inr b ↦ let say = fs.says_name s text (sym (any_fs s b) ∙ is) in record { name = say.name; has = fs_bound say.name s say.fs; is = say.is }
-      ]
+-- what is said is the output text of a name that has the text
+pub any_name : (s text : List ℕ) → unbound_any s ≡ Ok text → SaysAny s text
+any_name s text is =
+    elim (cases_Bool (begins_as_uri s)) [
+      | inl b ↦ let say = says_name s text (sym (any_uri s b) ∙ is) in record { name = say.name; has = uri_bound say.name s say.uri; is = say.is }
+      | inr b ↦ let say = fs.says_name s text (sym (any_fs s b) ∙ is) in record { name = say.name; has = fs_bound say.name s say.fs; is = say.is }
+    ]
 
-  -- where a place is said no name has the text, and it is its place
-  pub any_place : (s : List ℕ) (place : ℕ) → unbound_any unbound_uri s ≡ Err place → LeavesBound s place
-  any_place s place is =
-      elim (cases_Bool (begins_as_uri s)) [
-        | inl b ↦ at_true (begins_as_uri s) (LeavesUri s place) (LeavesAt s place) b (says_place s place (sym (any_uri s b) ∙ is))
-        | inr b ↦ at_false (begins_as_uri s) (LeavesUri s place) (LeavesAt s place) b (fs.says_place s place (sym (any_fs s b) ∙ is))
-      ]
+-- where a place is said no name has the text, and it is its place
+pub any_place : (s : List ℕ) (place : ℕ) → unbound_any s ≡ Err place → LeavesBound s place
+any_place s place is =
+    elim (cases_Bool (begins_as_uri s)) [
+      | inl b ↦ at_true (begins_as_uri s) (LeavesUri s place) (LeavesAt s place) b (says_place s place (sym (any_uri s b) ∙ is))
+      | inr b ↦ at_false (begins_as_uri s) (LeavesUri s place) (LeavesAt s place) b (fs.says_place s place (sym (any_fs s b) ∙ is))
+    ]
 
-  -- the place of a text that no name has is said
-  pub any_place_said : (s : List ℕ) (place : ℕ) → LeavesBound s place → unbound_any unbound_uri s ≡ Err place
-  any_place_said s place at = go (unbound_any unbound_uri s) refl where
-    go : (r : Result (List ℕ) ℕ) → unbound_any unbound_uri s ≡ r → unbound_any unbound_uri s ≡ Err place
-    go (Ok text) e = let say = any_name s text e in absurd (bound_refused s place at (say.name, say.has))
-    go (Err other) e = e ∙ ap stopped (one_bound_place s other place (any_place s other e) at)
+-- the place of a text that no name has is said
+pub any_place_said : (s : List ℕ) (place : ℕ) → LeavesBound s place → unbound_any s ≡ Err place
+any_place_said s place at = go (unbound_any s) refl where
+  go : (r : Result (List ℕ) ℕ) → unbound_any s ≡ r → unbound_any s ≡ Err place
+  go (Ok text) e = let say = any_name s text e in absurd (bound_refused s place at (say.name, say.has))
+  go (Err other) e = e ∙ ap stopped (one_bound_place s other place (any_place s other e) at)
 
-  -- ---- behind what stood before
+-- ---- behind what stood before
 
-  -- what was written is what is said
-  pub any_said_is : (s : List ℕ) (name : Values) (old new : List ℕ) → Bound name s → new ≡ old ++ output_text name
-      → left_over new ≡ result_map_both (λ said. old ++ said) (λ (place : ℕ). place) (unbound_any unbound_uri s)
-  any_said_is s name old new h is = ap left_over is ∙ ap (result_map_both (λ said. old ++ said) (λ (place : ℕ). place)) (sym (any_text name s h))
+-- what was written is what is said
+pub any_said_is : (s : List ℕ) (name : Values) (old new : List ℕ) → Bound name s → new ≡ old ++ output_text name
+    → left_over new ≡ result_map_both (λ said. old ++ said) (λ (place : ℕ). place) (unbound_any s)
+any_said_is s name old new h is = ap left_over is ∙ ap (result_map_both (λ said. old ++ said) (λ (place : ℕ). place)) (sym (any_text name s h))
 
-  -- where no name has the text its place is said
-  pub any_unsaid_is : (s old : List ℕ) (place : ℕ) → LeavesBound s place → stopped place ≡ result_map_both (λ said. old ++ said) (λ (place : ℕ). place) (unbound_any unbound_uri s)
-  any_unsaid_is s old place at = ap (result_map_both (λ said. old ++ said) (λ (place : ℕ). place)) (sym (any_place_said s place at))
+-- where no name has the text its place is said
+pub any_unsaid_is : (s old : List ℕ) (place : ℕ) → LeavesBound s place → stopped place ≡ result_map_both (λ said. old ++ said) (λ (place : ℕ). place) (unbound_any s)
+any_unsaid_is s old place at = ap (result_map_both (λ said. old ++ said) (λ (place : ℕ). place)) (sym (any_place_said s place at))

@@ -1,17 +1,16 @@
 -- Components byte by byte: the machine takes those of ANY, NA and the texts, and each of its states can be completed.
-use Rattle.std.proofs.Common.{◌≡◌, ◌≢◌, ◌⊎◌, ℕ, zero, suc, ◌+◌, ◌*◌, ◌/◌, ◌<◌, ◌≤◌, ◌&&◌, ◌||◌, not, ltb, leb, Bool, true, false, eqb, cond, List, [], ◌∷◌, ◌++◌, length, map, take, drop, ◌-◌, slice_index, Option, Some, None, Ok, Err, refl, sym, ap, subst, ◌∙◌, inl, inr, append_assoc, arith, IsTrue}
+use Rattle.std.proofs.Common.{◌≡◌, ◌⊎◌, ℕ, ◌+◌, ◌*◌, ◌<◌, ◌≤◌, ◌&&◌, ◌||◌, not, ltb, leb, Bool, true, false, eqb, cond, List, [], ◌∷◌, ◌++◌, length, map, take, drop, ◌-◌, slice_index, Option, Some, None, Ok, refl, sym, ap, subst, ◌∙◌, inl, inr, arith}
 use Rattle.std.specs.Option.{option_map}
 use Rattle.std.specs.List.{list_all}
 use Rattle.std.specs.Char.{to_ascii_lowercase}
-use Rattle.std.proofs.lemmas.Bool.{cases_Bool, eqb-true, eq-eqb, and_parts, and_from, or_cases, or_left, or_right, or_from, or_parts, both_ways}
+use Rattle.std.proofs.lemmas.Bool.{cases_Bool, eqb-true, eq-eqb, and_parts, and_from, or_cases, or_left, or_right, both_ways}
 use Rattle.std.proofs.lemmas.Bool.Decides.{nat_tests}
 use Rattle.std.proofs.lemmas.List.{take_all}
-use Rattle.cpe_grammar.specs.Machines.{machine}
-use Rattle.cpe_grammar.proofs.Reading.{goes, ends_here, went_in, went_out}
+use Rattle.cpe_grammar.proofs.Reading.{goes, went_in, went_out}
 use Rattle.cpe_values.specs.declared.spelling.Style.TheVariants as style
 use Rattle.cpe_values.specs.Parts.{is_character}
 use Rattle.cpe_values.specs.Skipping.{skip_while}
-use Rattle.cpe_values.specs.Spelling.{is_bare, is_word}
+use Rattle.cpe_values.specs.Spelling.{is_bare}
 use Rattle.cpe_fs.proofs.Bodies.{length-skip_while}
 use Rattle.cpe_uri.specs.Spelling.{is_hex, hex_value, has_percent_form, spells, Spelled}
 use Rattle.cpe_uri.specs.declared.text.Stage.{Stage}
@@ -360,10 +359,10 @@ module _ (packed : Bool) where
       ] in
       let there : next q b ≡ Some t = sym (next_lower q b) ∙ ap (next q) is ∙ e in
       went packed (Whole q) (Whole t) b r (
-        when_false (eqb b 37) (after_percent q) (cond (stands_bare packed b) (after_bare q b) no_state) (bare_is_other b p.0)
-        ∙ when_true (stands_bare packed b) (after_bare q b) no_state (bare_stands b p.0 (not_tilde b [] none))
-        ∙ when_false (is_start q && eqb b 45) (some_state (Whole Na)) (option_map Whole (next q b)) first
-        ∙ ap (option_map Whole) there)
+      when_false (eqb b 37) (after_percent q) (cond (stands_bare packed b) (after_bare q b) no_state) (bare_is_other b p.0)
+      ∙ when_true (stands_bare packed b) (after_bare q b) no_state (bare_stands b p.0 (not_tilde b [] none))
+      ∙ when_false (is_start q && eqb b 45) (some_state (Whole Na)) (option_map Whole (next q b)) first
+      ∙ ap (option_map Whole) there)
   unit_read q t c (b ∷ d ∷ []) r good none e other = absurd cc
   unit_read q t c (b ∷ h ∷ l ∷ []) r good none e other =
       let p = and_parts (eqb b 37 && is_hex h && is_hex l && eqb (16 * hex_value h + hex_value l) c) (has_percent_form c) good in

@@ -1,11 +1,11 @@
 -- The component of the edition, alone and packed: its scanner takes each, and stops where none goes on.
-use Rattle.std.proofs.Common.{◌≡◌, ◌⊎◌, ℕ, Bool, true, false, not, eqb, List, [], ◌∷◌, ◌++◌, length, length-append, Result, Ok, refl, sym, ap, subst, ◌∙◌, inl, inr, append_assoc, arith}
+use Rattle.std.proofs.Common.{◌≡◌, ℕ, Bool, true, false, not, eqb, List, [], ◌∷◌, ◌++◌, length, length-append, Result, Ok, refl, sym, ap, subst, ◌∙◌, inl, inr, append_assoc, arith}
 use Rattle.std.specs.List.{list_all}
-use Rattle.std.proofs.lemmas.Bool.{cases_Bool, eqb-true, both_ways}
-use Rattle.cpe_grammar.specs.Scanners.{◌>>=◌, both, choose, one}
+use Rattle.std.proofs.lemmas.Bool.{eqb-true}
+use Rattle.cpe_grammar.specs.Scanners.{◌>>=◌, both, one}
 use Rattle.cpe_grammar.proofs.Results.{left_over}
 use Rattle.cpe_grammar.proofs.Choices.{Unled, unled_scans}
-use Rattle.cpe_grammar.proofs.Scans.{Scans, wider, renamed, OneOf, one_scans, one_taken, Joined, both_scans, Either, HeadFails}
+use Rattle.cpe_grammar.proofs.Scans.{Scans, wider, OneOf, one_scans, Joined, both_scans, Either, HeadFails}
 use Rattle.cpe_values.specs.declared.value.Value.{Value}
 use Rattle.cpe_values.specs.declared.value.Value.TheVariants as value
 use Rattle.cpe_values.specs.Lower.{lower_value}
@@ -17,7 +17,7 @@ use Rattle.cpe_name.specs.Lower.{IsLower}
 use Rattle.cpe_name.specs.Put.{any_values}
 use Rattle.cpe_uri.specs.Spelling.{Stands}
 use Rattle.cpe_uri.specs.Canon.{extended}
-use Rattle.cpe_uri.specs.Grammar.{is_tilde, begins_with_tilde, Fields, Alone, EditionStands}
+use Rattle.cpe_uri.specs.Grammar.{is_tilde, begins_with_tilde, Fields, EditionStands}
 use Rattle.cpe_uri.specs.Found.{IsTextComponent, EditionPiece}
 use Rattle.cpe_uri.specs.Reading.{text_end}
 use Rattle.cpe_uri.specs.Scanning.{field_end, packed_end, edition_end}
@@ -130,7 +130,7 @@ packed_text u j =
     let f3 = f4.first in
     let f2 = f3.first in
     let text : u ≡ (((126 ∷ f2.first.back ++ 126 ∷ f2.second.back) ++ 126 ∷ f3.second.back) ++ 126 ∷ f4.second.back) ++ 126 ∷ j.second.back =
-        j.is ∙ ap (λ (v : List ℕ). v ++ j.back) (f4.is ∙ ap (λ (v : List ℕ). v ++ f4.back) (f3.is ∙ ap (λ (v : List ℕ). v ++ f3.back) (f2.is ∙ ap (λ (v : List ℕ). v ++ f2.back) (field_text f2.front f2.first) ∙ ap (λ (v : List ℕ). (126 ∷ f2.first.back) ++ v) (field_text f2.back f2.second)) ∙ ap (λ (v : List ℕ). (126 ∷ f2.first.back ++ 126 ∷ f2.second.back) ++ v) (field_text f3.back f3.second)) ∙ ap (λ (v : List ℕ). ((126 ∷ f2.first.back ++ 126 ∷ f2.second.back) ++ 126 ∷ f3.second.back) ++ v) (field_text f4.back f4.second)) ∙ ap (λ (v : List ℕ). (((126 ∷ f2.first.back ++ 126 ∷ f2.second.back) ++ 126 ∷ f3.second.back) ++ 126 ∷ f4.second.back) ++ v) (field_text j.back j.second)
+    j.is ∙ ap (λ (v : List ℕ). v ++ j.back) (f4.is ∙ ap (λ (v : List ℕ). v ++ f4.back) (f3.is ∙ ap (λ (v : List ℕ). v ++ f3.back) (f2.is ∙ ap (λ (v : List ℕ). v ++ f2.back) (field_text f2.front f2.first) ∙ ap (λ (v : List ℕ). (126 ∷ f2.first.back) ++ v) (field_text f2.back f2.second)) ∙ ap (λ (v : List ℕ). (126 ∷ f2.first.back ++ 126 ∷ f2.second.back) ++ v) (field_text f3.back f3.second)) ∙ ap (λ (v : List ℕ). ((126 ∷ f2.first.back ++ 126 ∷ f2.second.back) ++ 126 ∷ f3.second.back) ++ v) (field_text f4.back f4.second)) ∙ ap (λ (v : List ℕ). (((126 ∷ f2.first.back ++ 126 ∷ f2.second.back) ++ 126 ∷ f3.second.back) ++ 126 ∷ f4.second.back) ++ v) (field_text j.back j.second)
     in
     record {
       edition = f2.first.back;

@@ -1,22 +1,20 @@
 -- What the code finds of a URI are the components of a name that has it.
-use Rattle.std.proofs.Common.{◌≡◌, ◌⊎◌, ℕ, suc, ◌-◌, ◌≤◌, ◌+◌, Bool, true, false, eqb, List, [], ◌∷◌, ◌++◌, length, map, take, get_or, Ok, Err, refl, sym, ap, subst, ◌∙◌, inl, inr, append_assoc, arith, length-append}
+use Rattle.std.proofs.Common.{◌≡◌, ◌⊎◌, ℕ, suc, ◌-◌, ◌≤◌, ◌+◌, true, false, eqb, List, [], ◌∷◌, ◌++◌, length, take, get_or, Ok, Err, refl, sym, ap, subst, ◌∙◌, inl, inr, append_assoc, arith, length-append}
 use Rattle.std.specs.Prelude.{codes}
-use Rattle.std.proofs.lemmas.List.{append-nil, nil_from_length, take_at}
-use Rattle.std.proofs.lemmas.Bool.{cases_Bool, eqb-true, both_ways}
-use Rattle.cpe_grammar.specs.Scanners.{Scanner, ◌>>=◌, both, choose, nothing, ending, one}
+use Rattle.std.proofs.lemmas.List.{take_at}
+use Rattle.std.proofs.lemmas.Bool.{eqb-true, both_ways}
+use Rattle.cpe_grammar.specs.Scanners.{Scanner, ◌>>=◌, ending, one}
 use Rattle.cpe_grammar.proofs.Results.{left_over, stopped, chosen, ok_is, ok≢err}
 use Rattle.cpe_grammar.proofs.Scans.{Scans, chosen_yes, chosen_no}
-use Rattle.cpe_values.specs.declared.value.Value.{Value}
 use Rattle.cpe_values.specs.declared.value.Value.TheVariants as value
 use Rattle.cpe_name.specs.declared.attribute.Attribute.{Attribute}
-use Rattle.cpe_name.specs.declared.attribute.Attribute.TheVariants.{Part, Vendor, Product, Version, Update, Edition, Language}
+use Rattle.cpe_name.specs.declared.attribute.Attribute.TheVariants.{Vendor, Product, Version, Update, Edition, Language}
 use Rattle.cpe_name.specs.declared.scan.Written.{Written}
 use Rattle.cpe_name.specs.Spans.{texts, total_length}
 use Rattle.cpe_uri.specs.Spelling.{Stands}
 use Rattle.cpe_uri.specs.Grammar.{is_tilde, begins_with_tilde}
-use Rattle.cpe_uri.specs.Pieces.{is_colon}
 use Rattle.cpe_uri.specs.Spans.{IsComponent, AreComponents, LeavesWith}
-use Rattle.cpe_uri.specs.Found.{IsTextComponent, Piece, FieldPiece, begins_with_colon, Behind, Missing, Later, EditionPiece, PieceOf, EditionFound, EditionBehind, EditionMissing, EditionLater, edition_texts, packed_texts, Pieces}
+use Rattle.cpe_uri.specs.Found.{IsTextComponent, Piece, FieldPiece, begins_with_colon, Later, PieceOf, EditionFound, EditionLater, edition_texts, packed_texts, Pieces}
 use Rattle.cpe_uri.specs.Scanning.{packed_end, edition_end, later_end, later, prefix_end, all_end, whole_end}
 use Rattle.cpe_uri.specs.Reading.{text_end}
 use Rattle.cpe_uri.specs.declared.scan.Editions.{Editions}
@@ -224,11 +222,25 @@ found text s r w start over f =
 
     within_all : (p u : List ℕ) → length f.editions.edition.now + length f.editions.sw_edition.now + length f.editions.target_sw.now + length f.editions.target_hw.now + length f.editions.other.now ≤ length u → length u + length f.behind_edition ≤ length f.behind_update → text ≡ p ++ s → total_length (texts w) ≤ length text
     within_all p u five edition cut =
-        omega (arith, five, edition, ap length cut, length-append p s, ap length f.part.cut, length-append w.part.now f.behind_part,
-          later_length (IsTextComponent false) f.behind_part w.vendor.now f.behind_vendor f.vendor, later_length (IsTextComponent false) f.behind_vendor w.product.now f.behind_product f.product,
-          later_length (IsTextComponent false) f.behind_product w.version.now f.behind_version f.version, later_length (IsTextComponent false) f.behind_version w.update.now f.behind_update f.update,
+        omega (
+          arith,
+          five,
+          edition,
+          ap length cut,
+          length-append p s,
+          ap length f.part.cut,
+          length-append w.part.now f.behind_part,
+          later_length (IsTextComponent false) f.behind_part w.vendor.now f.behind_vendor f.vendor,
+          later_length (IsTextComponent false) f.behind_vendor w.product.now f.behind_product f.product,
+          later_length (IsTextComponent false) f.behind_product w.version.now f.behind_version f.version,
+          later_length (IsTextComponent false) f.behind_version w.update.now f.behind_update f.update,
           later_length (IsComponent Language) f.behind_edition w.language.now r f.language,
-          ap (λ (us : List (List ℕ)). length (get_or us 0 [])) f.same, ap (λ (us : List (List ℕ)). length (get_or us 1 [])) f.same, ap (λ (us : List (List ℕ)). length (get_or us 2 [])) f.same, ap (λ (us : List (List ℕ)). length (get_or us 3 [])) f.same, ap (λ (us : List (List ℕ)). length (get_or us 4 [])) f.same)
+          ap (λ (us : List (List ℕ)). length (get_or us 0 [])) f.same,
+          ap (λ (us : List (List ℕ)). length (get_or us 1 [])) f.same,
+          ap (λ (us : List (List ℕ)). length (get_or us 2 [])) f.same,
+          ap (λ (us : List (List ℕ)). length (get_or us 3 [])) f.same,
+          ap (λ (us : List (List ℕ)). length (get_or us 4 [])) f.same,
+        )
 
 -- ---- where the code stops
 

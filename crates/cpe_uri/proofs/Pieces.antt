@@ -11,18 +11,17 @@ use Rattle.cpe_values.specs.declared.value.Value.{Value}
 use Rattle.cpe_values.specs.declared.value.Value.TheVariants as value
 use Rattle.cpe_values.specs.declared.spelling.Style.TheVariants as style
 use Rattle.cpe_values.specs.Spelling.{is_bare}
-use Rattle.cpe_values.specs.Values.{IsValue}
 use Rattle.cpe_name.specs.declared.name.Values.{Values}
 use Rattle.cpe_name.specs.declared.attribute.Attribute.{Attribute}
 use Rattle.cpe_name.specs.declared.attribute.Attribute.TheVariants.{Edition}
-use Rattle.cpe_name.specs.Names.{attributes, value_of, Suits, IsName}
+use Rattle.cpe_name.specs.Names.{attributes, value_of}
 use Rattle.cpe_name.specs.Equal.{named}
-use Rattle.cpe_name.specs.Scanning.{slot}
-use Rattle.cpe_fs.proofs.Whole.{good_of}
 use Rattle.cpe_uri.specs.Spelling.{is_hex, spells, Spelled, text_codes, Stands}
 use Rattle.cpe_uri.specs.Canon.{extended}
 use Rattle.cpe_uri.specs.Grammar.{is_tilde, begins_with_tilde, Fields, EditionStands, Uri}
 use Rattle.cpe_uri.specs.Pieces.{is_colon, edition_fields, pieces_of, pieces}
+use Rattle.cpe_uri.specs.SpanValues.{value_at}
+use Rattle.cpe_uri.proofs.ValueLemmas.{StandIn, named_back, one_name}
 
 -- ---- cutting a text
 
@@ -133,7 +132,7 @@ components_cut w s uri =
     (stands_lacks _ _ uri.part) (stands_lacks _ _ uri.vendor) (stands_lacks _ _ uri.product) (stands_lacks _ _ uri.version) (stands_lacks _ _ uri.update) (edition_lacks w _ uri.edition) (stands_lacks _ _ uri.language))
 
 -- the edition and what may be packed with it stand in these fields
-record StandIn (w : Values) (fs : List (List ℕ)) : Type 0 where
+record FieldsStand (w : Values) (fs : List (List ℕ)) : Type 0 where
   edition : Stands w.edition (get_or fs 1 [])
   sw_edition : Stands w.sw_edition (get_or fs 2 [])
   target_sw : Stands w.target_sw (get_or fs 3 [])
@@ -149,17 +148,17 @@ alone_fields e h = rw h refl
 packed_fields : (e : List ℕ) → begins_with_tilde e ≡ true → edition_fields e ≡ slice_split is_tilde e
 packed_fields e h = rw h refl
 
-edition_stands : (w : Values) (e : List ℕ) → EditionStands w e → StandIn w (edition_fields e)
+edition_stands : (w : Values) (e : List ℕ) → EditionStands w e → FieldsStand w (edition_fields e)
 edition_stands w e h =
     elim h [
-      | inl alone ↦ subst (StandIn w) (sym (alone_fields e alone.bare)) (record {
+      | inl alone ↦ subst (FieldsStand w) (sym (alone_fields e alone.bare)) (record {
         edition = alone.edition;
         sw_edition = any_stands w.sw_edition alone.others.0;
         target_sw = any_stands w.target_sw alone.others.1.0;
         target_hw = any_stands w.target_hw alone.others.1.1.0;
         other = any_stands w.other alone.others.1.1.1.0;
       })
-      | inr fields ↦ subst (StandIn w) (sym (packed_fields e (ap begins_with_tilde fields.2) ∙ split_fields w (Edition ∷ extended) e fields)) (record {
+      | inr fields ↦ subst (FieldsStand w) (sym (packed_fields e (ap begins_with_tilde fields.2) ∙ split_fields w (Edition ∷ extended) e fields)) (record {
         edition = fields.3;
         sw_edition = fields.5.3;
         target_sw = fields.5.5.3;
@@ -168,59 +167,20 @@ edition_stands w e h =
       })
     ]
 
--- each value stands in its piece
-abbrev pub StandEach : Values → List (List ℕ) → List Attribute → Type 0
-StandEach w us which = AllByRecursion (λ a. Stands (value_of w a) (slot us a)) which
-
 -- the values of a name stand in the pieces of its URI
-pub pieces_stand : (w : Values) (s : List ℕ) → Uri w s → StandEach w (pieces s) attributes
+pub pieces_stand : (w : Values) (s : List ℕ) → Uri w s → StandIn w (pieces s) attributes
 unfolding pieces
 pieces_stand w s uri =
     let e = edition_stands w _ uri.edition in
-    subst (λ (cs : List (List ℕ)). StandEach w (pieces_of cs) attributes) (sym (components_cut w s uri))
+    subst (λ (cs : List (List ℕ)). StandIn w (pieces_of cs) attributes) (sym (components_cut w s uri))
     (uri.part, (uri.vendor, (uri.product, (uri.version, (uri.update, (e.edition, (uri.language, (e.sw_edition, (e.target_sw, (e.target_hw, (e.other, tt)))))))))))
 
 -- ---- the name of a URI
 
--- a component stands for one value
-abbrev pub OneValue : Type 0
-OneValue = (v w : Value) (s : List ℕ) → IsValue v → IsValue w → Stands v s → Stands w s → v ≡ w
-
--- each value suits its attribute
-abbrev SuitEach : Values → List Attribute → Type 0
-SuitEach w which = AllByRecursion (λ a. Suits a (value_of w a)) which
-
-same_values : OneValue → (v w : Values) (us : List (List ℕ)) (which : List Attribute) → SuitEach v which → SuitEach w which → StandEach v us which → StandEach w us which → map (value_of v) which ≡ map (value_of w) which
-same_values one v w us [] g h i j = refl
-same_values one v w us (a ∷ rest) g h i j =
-    ap (λ (x : Value). x ∷ map (value_of v) rest) (one (value_of v a) (value_of w a) (slot us a) (good_of a _ g.0) (good_of a _ h.0) i.0 j.0)
-    ∙ ap (λ (xs : List Value). value_of w a ∷ xs) (same_values one v w us rest g.1 h.1 i.1 j.1)
-
--- no pieces are those of two names
-pub one_name_of : OneValue → (v w : Values) (us : List (List ℕ)) → IsName v → IsName w → StandEach v us attributes → StandEach w us attributes → v ≡ w
-one_name_of one v w us g h i j = ap named (same_values one v w us attributes g h i j)
-
 -- no text is the URI of two names
-pub one_uri_name : OneValue → (v w : Values) (s : List ℕ) → Uri v s → Uri w s → v ≡ w
-one_uri_name one v w s a b = one_name_of one v w (pieces s) a.name b.name (pieces_stand v s a) (pieces_stand w s b)
+pub one_uri : (v w : Values) (s : List ℕ) → Uri v s → Uri w s → v ≡ w
+one_uri v w s a b = one_name v w (pieces s) a.name b.name (pieces_stand v s a) (pieces_stand w s b)
 
--- what reads a value where it stands
-module _ (value_at : List ℕ → Value) (value_back : (v : Value) (s : List ℕ) → IsValue v → Stands v s → value_at s ≡ v) where
-  values_back : (w : Values) (us : List (List ℕ)) (which : List Attribute) → SuitEach w which → StandEach w us which → map (λ a. value_at (slot us a)) which ≡ map (value_of w) which
-  values_back w us [] g i = refl
-  values_back w us (a ∷ rest) g i =
-      ap (λ (x : Value). x ∷ map (λ b. value_at (slot us b)) rest) (value_back (value_of w a) (slot us a) (good_of a _ g.0) i.0)
-      ∙ ap (λ (xs : List Value). value_of w a ∷ xs) (values_back w us rest g.1 i.1)
-
-  -- finds one value in a component
-  pub one_value_of : OneValue
-  one_value_of v w s g h i j = sym (value_back v s g i) ∙ value_back w s h j
-
-  -- reads a name from the pieces in which its values stand
-  pub name_of : (w : Values) (us : List (List ℕ)) → IsName w → StandEach w us attributes → named (map (λ a. value_at (slot us a)) attributes) ≡ w
-  name_of w us g i = ap named (values_back w us attributes g i)
-
-  -- reads it from its URI
-  pub named_back : (w : Values) (s : List ℕ) → Uri w s → named (map value_at (pieces s)) ≡ w
-  unfolding pieces
-  named_back w s uri = name_of w (pieces s) uri.name (pieces_stand w s uri)
+-- the name is read from the pieces of its URI
+pub name_of_pieces : (w : Values) (s : List ℕ) → Uri w s → named (map value_at (pieces s)) ≡ w
+name_of_pieces w s uri = named_back w (pieces s) uri.name (pieces_stand w s uri)

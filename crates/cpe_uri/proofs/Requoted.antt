@@ -177,10 +177,10 @@ unfolding untrimmed_by edition_by packed_by
 canon_by w =
     let packed = regroup_packed (126 ∷ component w.edition) (126 ∷ component w.sw_edition) (126 ∷ component w.target_sw) (126 ∷ component w.target_hw) (126 ∷ component w.other) in
     ap (trimmed 58)
-      (ap
-        (λ (u : List ℕ). (codes "cpe:/" ++ component w.part) ++ (58 ∷ component w.vendor) ++ (58 ∷ component w.product) ++ (58 ∷ component w.version) ++ (58 ∷ component w.update) ++ (58 ∷ []) ++ cond (list_all (λ a. is_any (value_of w a)) extended) (component w.edition) u ++ (58 ∷ component w.language))
-        packed
-      ∙ regroup (codes "cpe:/" ++ component w.part) (58 ∷ component w.vendor) (58 ∷ component w.product) (58 ∷ component w.version) (58 ∷ component w.update) _ (58 ∷ component w.language))
+    (ap
+    (λ (u : List ℕ). (codes "cpe:/" ++ component w.part) ++ (58 ∷ component w.vendor) ++ (58 ∷ component w.product) ++ (58 ∷ component w.version) ++ (58 ∷ component w.update) ++ (58 ∷ []) ++ cond (list_all (λ a. is_any (value_of w a)) extended) (component w.edition) u ++ (58 ∷ component w.language))
+    packed
+    ∙ regroup (codes "cpe:/" ++ component w.part) (58 ∷ component w.vendor) (58 ∷ component w.product) (58 ∷ component w.version) (58 ∷ component w.update) _ (58 ∷ component w.language))
 
 untrimmed_of : (t : Written) → untrimmed_by (λ a. component_from (slot (texts t) a)) (λ a. says_any (slot (texts t) a)) ≡ untrimmed_from t
 unfolding untrimmed_by edition_by packed_by untrimmed_from edition_from packed_from keyed
@@ -198,12 +198,12 @@ written_is s t are =
     let each = each_text are.name (texts t) are.are in
     let good = λ (a : Attribute). good_value are.name a are.has.name in
     ap (trimmed 58)
-      (sym (untrimmed_of t)
-      ∙ alike
-        (λ a. component_from (slot (texts t) a))
-        (λ a. component (value_of are.name a))
-        (λ a. says_any (slot (texts t) a))
-        (λ a. is_any (value_of are.name a))
-        (λ a. component_is (slot (texts t) a) (value_of are.name a) (good a) (each a))
-        (λ a. any_is (slot (texts t) a) (value_of are.name a) (good a) (each a)))
+    (sym (untrimmed_of t)
+    ∙ alike
+    (λ a. component_from (slot (texts t) a))
+    (λ a. component (value_of are.name a))
+    (λ a. says_any (slot (texts t) a))
+    (λ a. is_any (value_of are.name a))
+    (λ a. component_is (slot (texts t) a) (value_of are.name a) (good a) (each a))
+    (λ a. any_is (slot (texts t) a) (value_of are.name a) (good a) (each a)))
     ∙ canon_by are.name

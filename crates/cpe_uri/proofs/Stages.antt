@@ -1,17 +1,16 @@
 -- Stages, code by code: from the first on they come to an end over the codes of the texts, and over no others.
-use Rattle.std.proofs.Common.{◌≡◌, ◌≢◌, ◌⊎◌, ℕ, zero, suc, ◌+◌, ◌<◌, ◌≤◌, ◌&&◌, ◌||◌, ltb, Bool, true, false, eqb, cond, List, [], ◌∷◌, ◌++◌, replicate, Option, Some, None, refl, sym, ap, subst, ◌∙◌, inl, inr, append_assoc, arith, IsTrue}
+use Rattle.std.proofs.Common.{◌≡◌, ◌≢◌, ℕ, zero, suc, ◌+◌, ◌<◌, ◌≤◌, ltb, true, false, eqb, cond, List, [], ◌∷◌, ◌++◌, replicate, Option, Some, None, refl, sym, ap, subst, ◌∙◌, inl, inr, append_assoc, arith}
 use Rattle.std.specs.Option.{option_and_then}
 use Rattle.std.specs.List.{list_all}
-use Rattle.std.proofs.lemmas.List.{append-nil}
-use Rattle.std.proofs.lemmas.Bool.{cases_Bool, eqb-true, eq-eqb, ltb-true, lt-ltb, and_parts, and_from, and_right, both_ways}
+use Rattle.std.proofs.lemmas.Bool.{cases_Bool, eqb-true, eq-eqb, ltb-true, lt-ltb, and_parts, and_from, both_ways}
 use Rattle.std.proofs.lemmas.Bool.Decides.{nat_tests}
 use Rattle.cpe_values.specs.declared.value.Edge.{Edge}
 use Rattle.cpe_values.specs.declared.value.Edge.TheVariants as edge
 use Rattle.cpe_values.specs.Parts.{Parts, parts, IsEdge, IsText, is_character}
 use Rattle.cpe_uri.specs.Spelling.{edge_codes, text_codes}
 use Rattle.cpe_uri.specs.declared.text.Stage.{Stage}
-use Rattle.cpe_uri.specs.declared.text.Stage.TheVariants.{Start, Na, Hyphen, LeadStar, LeadMarks, Body, TrailMarks, TrailStar}
-use Rattle.cpe_uri.specs.Reading.{after_mark, after_star, after_character, takes_character, is_start, next, is_over}
+use Rattle.cpe_uri.specs.declared.text.Stage.TheVariants.{Start, Hyphen, LeadStar, LeadMarks, Body, TrailMarks, TrailStar}
+use Rattle.cpe_uri.specs.Reading.{after_mark, after_star, after_character, next, is_over}
 
 -- ---- steps
 

@@ -1,29 +1,27 @@
 -- Components of ANY, NA and texts: the scanner takes them, each in each of its spellings, and stops where none goes on.
-use Rattle.std.proofs.Common.{◌≡◌, ◌≢◌, ◌⊎◌, ℕ, zero, suc, replicate, ◌&&◌, ◌||◌, not, Bool, true, false, eqb, cond, List, [], ◌∷◌, ◌++◌, map, Option, Some, None, Ok, refl, sym, ap, subst, ◌∙◌, inl, inr, append_assoc, arith, IsTrue}
+use Rattle.std.proofs.Common.{◌≡◌, ◌≢◌, ◌⊎◌, ℕ, zero, suc, replicate, not, Bool, true, false, eqb, List, [], ◌∷◌, ◌++◌, map, Option, Some, None, Ok, refl, sym, ap, subst, ◌∙◌, inl, inr, append_assoc}
 use Rattle.std.specs.List.{list_all}
 use Rattle.std.specs.Char.{to_ascii_lowercase}
 use Rattle.std.proofs.lemmas.Bool.{cases_Bool, eqb-true, eq-eqb, and_parts, and_from, both_ways}
-use Rattle.std.proofs.lemmas.Bool.Decides.{nat_tests}
 use Rattle.std.proofs.lemmas.List.{append_cancel_left, append_cancel_right}
 use Rattle.cpe_grammar.proofs.Reading.{went_in, ends_here, ends_there, Taken, machine_scans}
-use Rattle.cpe_grammar.proofs.Scans.{Scans, wider, renamed}
+use Rattle.cpe_grammar.proofs.Scans.{Scans, wider}
 use Rattle.cpe_values.specs.declared.value.Edge.{Edge}
 use Rattle.cpe_values.specs.declared.value.Edge.TheVariants as edge
 use Rattle.cpe_values.specs.declared.value.Value.{Value}
 use Rattle.cpe_values.specs.declared.value.Value.TheVariants as value
-use Rattle.cpe_values.specs.declared.spelling.Style.TheVariants as style
-use Rattle.cpe_values.specs.Lower.{lower_parts, lower_value}
+use Rattle.cpe_values.specs.Lower.{lower_parts}
 use Rattle.cpe_values.specs.Parts.{Parts, parts, IsText}
 use Rattle.cpe_values.specs.Values.{IsValue}
 use Rattle.cpe_uri.specs.Spelling.{edge_codes, text_codes, spells, Spelled, Stands}
 use Rattle.cpe_uri.specs.declared.text.Stage.{Stage}
-use Rattle.cpe_uri.specs.declared.text.Stage.TheVariants.{Start, Na, Hyphen, LeadStar, LeadMarks, Body, TrailMarks, TrailStar}
+use Rattle.cpe_uri.specs.declared.text.Stage.TheVariants.{Start, Na, Hyphen}
 use Rattle.cpe_uri.specs.declared.text.State.{State}
 use Rattle.cpe_uri.specs.declared.text.State.TheVariants.{Whole, Percent, Half}
-use Rattle.cpe_uri.specs.Reading.{is_start, next, is_over, stands_bare, step, may_end, read_from, text_end}
+use Rattle.cpe_uri.specs.Reading.{is_start, next, is_over, step, may_end, read_from, text_end}
 use Rattle.cpe_uri.specs.Found.{IsTextComponent}
-use Rattle.cpe_uri.proofs.Stages.{some_stage, stage_is, no_stage_is, TextOf, start_text, run, Over, text_over}
-use Rattle.cpe_uri.proofs.Components.{went, Read, Outcome, was_read, NoTilde, unit_read, Good, stays_good, completed, later_next}
+use Rattle.cpe_uri.proofs.Stages.{stage_is, no_stage_is, start_text, run, Over, text_over}
+use Rattle.cpe_uri.proofs.Components.{went, was_read, NoTilde, unit_read, Good, stays_good, completed, later_next}
 
 -- ---- where a component ends
 
@@ -182,11 +180,11 @@ map_over (c ∷ a) b = ap (λ (u : List ℕ). to_ascii_lowercase c ∷ u) (map_o
 lower_text_is : (t : Parts) → map to_ascii_lowercase (text_codes t) ≡ text_codes t → lower_parts t ≡ t
 lower_text_is t h =
     let whole : (edge_codes t.lead ++ map to_ascii_lowercase t.body) ++ edge_codes t.trail ≡ (edge_codes t.lead ++ t.body) ++ edge_codes t.trail =
-        ap (λ (u : List ℕ). (edge_codes t.lead ++ map to_ascii_lowercase t.body) ++ u) (sym (edge_lower t.trail))
-        ∙ ap (λ (u : List ℕ). (u ++ map to_ascii_lowercase t.body) ++ map to_ascii_lowercase (edge_codes t.trail)) (sym (edge_lower t.lead))
-        ∙ ap (λ (u : List ℕ). u ++ map to_ascii_lowercase (edge_codes t.trail)) (sym (map_over (edge_codes t.lead) t.body))
-        ∙ sym (map_over (edge_codes t.lead ++ t.body) (edge_codes t.trail))
-        ∙ h
+    ap (λ (u : List ℕ). (edge_codes t.lead ++ map to_ascii_lowercase t.body) ++ u) (sym (edge_lower t.trail))
+    ∙ ap (λ (u : List ℕ). (u ++ map to_ascii_lowercase t.body) ++ map to_ascii_lowercase (edge_codes t.trail)) (sym (edge_lower t.lead))
+    ∙ ap (λ (u : List ℕ). u ++ map to_ascii_lowercase (edge_codes t.trail)) (sym (map_over (edge_codes t.lead) t.body))
+    ∙ sym (map_over (edge_codes t.lead ++ t.body) (edge_codes t.trail))
+    ∙ h
     in
     let front = append_cancel_right (edge_codes t.lead ++ map to_ascii_lowercase t.body) (edge_codes t.lead ++ t.body) (edge_codes t.trail) whole in
     ap (λ (b : List ℕ). parts t.lead b t.trail) (append_cancel_left (edge_codes t.lead) (map to_ascii_lowercase t.body) t.body front)

@@ -1,15 +1,13 @@
 -- The value that stands in a piece of a URI.
-use Rattle.std.proofs.Common.{◌≡◌, ◌≢◌, ℕ, zero, suc, Bool, true, false, eqb, List, [], ◌∷◌, length, map, get_or, refl, sym, ap, subst, ◌∙◌, inl, inr}
+use Rattle.std.proofs.Common.{◌≡◌, ℕ, zero, suc, true, false, eqb, List, [], ◌∷◌, length, map, get_or, refl, sym, ap, ◌∙◌, inl, inr}
 use Rattle.std.specs.List.{AllByRecursion}
 use Rattle.std.proofs.lemmas.List.{nil_from_length}
 use Rattle.std.proofs.lemmas.Bool.{cases_Bool, eqb-true, both_ways}
 use Rattle.cpe_values.specs.declared.value.Edge.TheVariants as edge
 use Rattle.cpe_values.specs.declared.value.Value.{Value}
 use Rattle.cpe_values.specs.declared.value.Value.TheVariants as value
-use Rattle.cpe_values.specs.declared.spelling.Style.{Style}
 use Rattle.cpe_values.specs.declared.spelling.Style.TheVariants as style
 use Rattle.cpe_values.specs.Parts.{Parts, parts, IsText}
-use Rattle.cpe_values.specs.Spelling.{spelling}
 use Rattle.cpe_values.specs.Spelled.{IsSpelling}
 use Rattle.cpe_values.specs.Values.{IsValue}
 use Rattle.cpe_values.specs.Unspelling.{body_at, behind_body, parts_at}

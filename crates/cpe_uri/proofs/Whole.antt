@@ -1,35 +1,30 @@
 -- The whole text: its scanner takes the URIs, and stops at the place of what is none.
-use Rattle.std.proofs.Common.{◌≡◌, ◌⊎◌, ℕ, zero, suc, ◌-◌, ◌≤◌, Bool, true, false, not, eqb, List, [], ◌∷◌, ◌++◌, length, map, get_or, Result, Ok, Err, refl, sym, ap, subst, ◌∙◌, inl, inr, append_assoc, arith, length-append}
+use Rattle.std.proofs.Common.{◌≡◌, ℕ, suc, ◌≤◌, Bool, true, false, not, eqb, List, [], ◌∷◌, ◌++◌, length, map, get_or, Result, Ok, Err, refl, sym, ap, subst, ◌∙◌, inl, inr, arith}
 use Rattle.std.specs.Prelude.{codes}
 use Rattle.std.specs.Char.{to_ascii_lowercase}
 use Rattle.std.specs.List.{flat_map, join_with_byte, list_all}
-use Rattle.std.proofs.lemmas.List.{append-nil, nil_from_length, take_at}
-use Rattle.std.proofs.lemmas.Bool.{eqb-true, eq-eqb, both_ways}
+use Rattle.std.proofs.lemmas.List.{append-nil}
+use Rattle.std.proofs.lemmas.Bool.{eqb-true, eq-eqb}
 use Rattle.cpe_grammar.specs.Scanners.{Scanner, ◌>>=◌, both, choose, nothing, ending, one}
 use Rattle.cpe_grammar.proofs.Places.{not_taken, within_text, place_of}
-use Rattle.cpe_grammar.proofs.Results.{left_over, went_on, ok_is, ok≢err}
+use Rattle.cpe_grammar.proofs.Results.{went_on, ok_is, ok≢err}
 use Rattle.cpe_grammar.proofs.Scans.{Scans, wider, renamed, Empty, nothing_scans, ending_scans, OneOf, one_scans, Joined, both_scans, Either, choose_scans}
 use Rattle.cpe_values.specs.declared.value.Value.{Value}
 use Rattle.cpe_values.specs.declared.value.Value.TheVariants as value
-use Rattle.cpe_values.specs.Lower.{lower_value}
-use Rattle.cpe_values.specs.Values.{IsValue}
 use Rattle.cpe_name.specs.declared.name.Values.{Values}
 use Rattle.cpe_name.specs.declared.attribute.Attribute.{Attribute}
 use Rattle.cpe_name.specs.declared.attribute.Attribute.TheVariants.{Part, Vendor, Product, Version, Update, Edition, Language, SwEdition, TargetSw, TargetHw, Other}
-use Rattle.cpe_name.specs.Names.{attributes, value_of, Suits, IsName}
-use Rattle.cpe_name.specs.Lower.{lower_name, IsLower}
-use Rattle.cpe_name.proofs.Items.{good_of}
+use Rattle.cpe_name.specs.Names.{IsName}
+use Rattle.cpe_name.specs.Lower.{IsLower}
 use Rattle.cpe_uri.specs.Spelling.{Stands}
-use Rattle.cpe_uri.specs.Canon.{extended}
-use Rattle.cpe_uri.specs.Grammar.{EditionStands, Fields, Alone, Uri, IsUri}
+use Rattle.cpe_uri.specs.Grammar.{EditionStands, Uri, IsUri}
 use Rattle.cpe_uri.specs.Pieces.{is_colon}
 use Rattle.cpe_uri.specs.Spans.{IsComponent, LeavesWith}
 use Rattle.cpe_uri.specs.Found.{IsTextComponent, EditionPiece}
-use Rattle.cpe_uri.specs.Languages.{part_end, language_end}
-use Rattle.cpe_uri.specs.Reading.{text_end}
-use Rattle.cpe_uri.specs.Scanning.{edition_end, component_end, later, later_end, components_end, prefix_end, all_end, whole_end}
+use Rattle.cpe_uri.specs.Languages.{part_end}
+use Rattle.cpe_uri.specs.Scanning.{component_end, later, later_end, components_end, prefix_end, all_end, whole_end}
 use Rattle.cpe_uri.proofs.Ends.{Ends}
-use Rattle.cpe_uri.proofs.Texts.{EndsIn, text_taken, text_scans}
+use Rattle.cpe_uri.proofs.Texts.{text_taken, text_scans}
 use Rattle.cpe_uri.proofs.Languages.{part_scans, part_taken, language_scans, language_taken}
 use Rattle.cpe_uri.proofs.Editions.{IsEditionText, edition_scans, edition_taken, empty_text, lone_piece, ends_in}
 

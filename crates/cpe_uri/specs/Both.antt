@@ -6,7 +6,12 @@ use Rattle.cpe_name.specs.declared.name.Values.{Values}
 use Rattle.cpe_name.specs.Text.{output_text}
 use Rattle.cpe_fs.specs.Grammar.{Fs, LeavesAt}
 use Rattle.cpe_fs.specs.Unbound.{unbound}
+use Rattle.cpe_fs.specs.declared.FsFault.{FsFault}
+use Rattle.cpe_fs.specs.declared.FsFault.TheVariants as fs_fault
+use Rattle.cpe_uri.specs.declared.UriFault.{UriFault}
+use Rattle.cpe_uri.specs.declared.UriFault.TheVariants as fault
 use Rattle.cpe_uri.specs.Grammar.{Uri, LeavesUri}
+use Rattle.cpe_uri.specs.Unbound.{unbound_uri}
 
 -- the first five bytes are `cpe:/` in any letter case
 abbrev pub begins_as_uri : List ℕ → Bool
@@ -24,6 +29,16 @@ IsBound s = (w : Values) × Bound w s
 abbrev pub LeavesBound : List ℕ → ℕ → Type 0
 LeavesBound s place = MatchBool (begins_as_uri s) (LeavesUri s place) (LeavesAt s place)
 
+-- what a fault says of a text; want of memory comes only where some name has it
+abbrev pub RefusesBound : UriFault → List ℕ → Type 0
+RefusesBound (fault.At place) s = LeavesBound s place
+RefusesBound fault.Memory s = IsBound s
+
+-- the fault of a formatted string, as that of a text in either binding
+abbrev pub same_fault : FsFault → UriFault
+same_fault (fs_fault.At place) = fault.At place
+same_fault fs_fault.Memory = fault.Memory
+
 -- the name that has this text has this output text
 pub record SaysAny (s text : List ℕ) : Type 0 where
   pub name : Values
@@ -36,7 +51,6 @@ pub record WritesAny (s old new : List ℕ) : Type 0 where
   pub has : Bound name s
   pub written : new ≡ old ++ output_text name
 
-module _ (unbound_uri : List ℕ → Result (List ℕ) ℕ) where
-  -- what the text says as the one or the other; `unbound_any_is` fixes it
-  unfoldable pub unbound_any : List ℕ → Result (List ℕ) ℕ
-  unbound_any s = if begins_as_uri s then unbound_uri s else unbound s
+-- what the text says as the one or the other; `unbound_any_is` fixes it
+unfoldable pub unbound_any : List ℕ → Result (List ℕ) ℕ
+unbound_any s = if begins_as_uri s then unbound_uri s else unbound s

@@ -5,7 +5,7 @@ use Rattle.cpe_values.specs.declared.value.Value.{Value}
 use Rattle.cpe_values.specs.Lower.{lower_value}
 use Rattle.cpe_values.specs.Values.{IsValue}
 use Rattle.cpe_name.specs.declared.name.Values.{Values}
-use Rattle.cpe_name.specs.declared.attribute.Attribute.TheVariants.{Part, Edition, Language, SwEdition, TargetSw, TargetHw, Other}
+use Rattle.cpe_name.specs.declared.attribute.Attribute.TheVariants.{Part, Language}
 use Rattle.cpe_name.specs.declared.scan.Written.{Written}
 use Rattle.cpe_name.specs.Lower.{IsLower}
 use Rattle.cpe_name.specs.Names.{IsName}

@@ -9,6 +9,8 @@ use Rattle.cpe_name.specs.declared.attribute.Attribute.{Attribute}
 use Rattle.cpe_name.specs.declared.attribute.Attribute.TheVariants.{Edition}
 use Rattle.cpe_name.specs.Names.{value_of, IsName}
 use Rattle.cpe_name.specs.Lower.{IsLower}
+use Rattle.cpe_uri.specs.declared.UriFault.{UriFault}
+use Rattle.cpe_uri.specs.declared.UriFault.TheVariants as fault
 use Rattle.cpe_uri.specs.Spelling.{Stands}
 use Rattle.cpe_uri.specs.Canon.{extended}
 
@@ -63,3 +65,8 @@ IsUri s = (w : Values) × Uri w s
 -- no name has this text, and this is its place: as far as some URI begins as it does
 abbrev pub LeavesUri : List ℕ → ℕ → Type 0
 LeavesUri s place = Leaves IsUri s place
+
+-- what a fault says of a text; want of memory comes only where some name has it
+abbrev pub RefusesUri : UriFault → List ℕ → Type 0
+RefusesUri (fault.At place) s = LeavesUri s place
+RefusesUri fault.Memory s = IsUri s

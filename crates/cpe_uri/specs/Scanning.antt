@@ -1,6 +1,6 @@
 -- The scanner of whole URIs, as the code goes over them. Of the public words `unbound_uri` alone rests on it, and `unbound_uri_is` fixes
 -- it by the grammar.
-use Rattle.std.specs.Prelude.{ℕ, List, [], ◌∷◌, Bool, false, true, ◌==◌, codes, Ok}
+use Rattle.std.specs.Prelude.{ℕ, List, [], ◌∷◌, false, true, ◌==◌, codes, Ok}
 use Rattle.std.specs.Char.{to_ascii_lowercase}
 use Rattle.cpe_grammar.specs.Scanners.{Scanner, ◌>>=◌, both, choose, nothing, ending, one}
 use Rattle.cpe_name.specs.declared.attribute.Attribute.{Attribute}

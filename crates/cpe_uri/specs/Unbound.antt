@@ -1,12 +1,12 @@
 -- What a text says as a URI: the output text of the name that has it, or its place where no name has it.
 use Rattle.std.specs.Prelude.{◌≡◌, ℕ, ◌-◌, List, ◌++◌, length, map, Result, Ok, Err}
-use Rattle.cpe_grammar.specs.Scanners.{Scanner}
-use Rattle.cpe_values.specs.declared.value.Value.{Value}
 use Rattle.cpe_name.specs.declared.name.Values.{Values}
 use Rattle.cpe_name.specs.Equal.{named}
 use Rattle.cpe_name.specs.Text.{output_text}
 use Rattle.cpe_uri.specs.Grammar.{Uri}
 use Rattle.cpe_uri.specs.Pieces.{pieces}
+use Rattle.cpe_uri.specs.Scanning.{whole_end}
+use Rattle.cpe_uri.specs.SpanValues.{value_at}
 
 -- the name that has this URI has this output text
 pub record SaysUri (s text : List ℕ) : Type 0 where
@@ -20,11 +20,10 @@ pub record WritesUnbound (s old new : List ℕ) : Type 0 where
   pub uri : Uri name s
   pub written : new ≡ old ++ output_text name
 
-module _ (whole_end : Scanner) (value_at : List ℕ → Value) where
-  abbrev said : List ℕ → Result (List ℕ) ℕ → Result (List ℕ) ℕ
-  said s (Ok rest) = Ok (output_text (named (map value_at (pieces s))))
-  said s (Err left) = Err (length s - left)
+abbrev said : List ℕ → Result (List ℕ) ℕ → Result (List ℕ) ℕ
+said s (Ok rest) = Ok (output_text (named (map value_at (pieces s))))
+said s (Err left) = Err (length s - left)
 
-  -- the text of the name, or the place; `unbound_uri_is` fixes it
-  unfoldable pub unbound_uri : List ℕ → Result (List ℕ) ℕ
-  unbound_uri s = said s (whole_end s)
+-- the text of the name, or the place; `unbound_uri_is` fixes it
+unfoldable pub unbound_uri : List ℕ → Result (List ℕ) ℕ
+unbound_uri s = said s (whole_end s)

@@ -6,6 +6,9 @@ ghost use Rattle.std.specs.Option.{option_map};
 ghost use Rattle.cpe_name.specs.declared.name.Values.{Values};
 ghost use Rattle.cpe_name.specs.WfnText.{WfnText, IsWfnText};
 ghost use Rattle.cpe_uri.specs.Canon.{canon};
+ghost use Rattle.cpe_name.specs.Lower.{lower_name};
+ghost use Rattle.cpe_name.specs.Names.{IsName};
+ghost use Rattle.cpe_uri.specs.Grammar.{Uri};
 ghost use Rattle.cpe_uri.specs.Bound.{bound_uri, BindsUri, WritesUri};
 
 mod bind;
@@ -14,13 +17,18 @@ mod language;
 mod scan;
 mod spelling;
 mod text;
+mod unbind;
 mod values;
 mod write;
 
 use crate::bound::put_uri;
 pub use bind::bind_uri;
 use cpe_name::scan_wfn;
+use cpe_values::Memory;
 use thiserror::Error;
+pub use unbind::{
+    unbind_any, unbind_uri, unbound_any_is, unbound_uri_is, write_unbound_any, write_unbound_uri,
+};
 
 /// The bytes that an output text has beside its values: the names of the attributes, the brackets, the commas,
 /// and `ANY` where nothing stands in the URI.
@@ -36,6 +44,17 @@ pub enum UriFault {
     /// Memory ran out.
     #[error("out of memory")]
     Memory,
+}
+
+impl From<Memory> for UriFault {
+    ghost use Rattle.std.specs.Prelude.{◌≡◌};
+    ghost use Rattle.cpe_uri.specs.declared.UriFault.TheVariants as fault;
+
+    ghost from_gives = { λ _ e. e ≡ fault.Memory };
+
+    fn from(_memory: Memory) -> UriFault {
+        UriFault::Memory
+    }
 }
 
 /// Writes the canonical URI of the name that has this text (NIST IR 7695, 5 and 6.1.2) into `room`, from `at` on,
@@ -70,4 +89,11 @@ pub fn bound_uri_is()
     ensures named { (name : Values) (s : List ℕ) → WfnText name s → bound_uri s ≡ Some (canon name) }
     ensures found { (s text : List ℕ) → bound_uri s ≡ Some text → BindsUri s text }
     ensures none { (s : List ℕ) → bound_uri s ≡ None → ¬ (IsWfnText s) }
+{}
+
+/// The canonical URI of a name is a URI of the name in lower case, and no text is the URI of two names. So
+/// [`unbind_uri`] gives the name in lower case of what [`bind_uri`] wrote.
+pub fn one_name()
+    ensures canonical { (name : Values) → IsName name → Uri (lower_name name) (canon name) }
+    ensures name { (a b : Values) (text : List ℕ) → Uri a text → Uri b text → a ≡ b }
 {}

@@ -106,10 +106,7 @@ fn next(stage: Stage, code: u16) -> Option<Stage>
 fn is_over(stage: Stage) -> bool
     ensures { result ≡ is_over stage }
 {
-    !matches!(
-        stage,
-        Stage::Hyphen | Stage::LeadStar | Stage::LeadMarks(_)
-    )
+    !matches!(stage, Stage::Hyphen | Stage::LeadStar | Stage::LeadMarks(_))
 }
 
 fn stands_bare(packed: bool, byte: u8) -> bool

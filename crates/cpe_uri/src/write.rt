@@ -24,7 +24,9 @@ fn hex_value(byte: u8) -> u8
 fn code_of(high: u8, low: u8) -> u8
     ensures { result ≡ code_of high low }
 {
-    hex_value(high).wrapping_mul(16).wrapping_add(hex_value(low))
+    hex_value(high)
+        .wrapping_mul(16)
+        .wrapping_add(hex_value(low))
 }
 
 /// Puts what has the code: a special, or a character behind a backslash.

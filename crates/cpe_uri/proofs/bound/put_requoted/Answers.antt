@@ -1,4 +1,4 @@
-use Rattle.std.proofs.Common.{rules, sym, ap, ◌∙◌, ◌++◌, ◌+◌, ℕ, Bool, take, drop, arith}
+use Rattle.std.proofs.Common.{rules, sym, ap, ◌∙◌, ◌++◌, ◌+◌, Bool, take, drop, arith}
 use Rattle.cpe_uri.specs.Requoting.{requoted}
 use Rattle.cpe_uri.proofs.Requoted.{requoted_on, requoted_done}
 use Rattle.cpe_uri.proofs.bound.put_requoted.Goals as goal

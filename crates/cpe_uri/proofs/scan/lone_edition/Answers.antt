@@ -1,4 +1,3 @@
-use Rattle.std.proofs.Common.{refl}
 use Rattle.cpe_uri.proofs.FoundLemmas.{lone_found}
 use Rattle.cpe_uri.proofs.scan.lone_edition.Goals as goal
 

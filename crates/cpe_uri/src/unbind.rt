@@ -1,0 +1,152 @@
+// From URIs, and from texts in either binding, to names and to their texts (NIST IR 7695, 6.1.3 and 6.2.3).
+ghost use Rattle.std.specs.Prelude.{◌≡◌, ℕ, List, ◌+◌, ◌*◌, ◌++◌, ◌≤◌, length, take, Ok, Err, IfOk, IfErr, OnErr, MatchResult};
+ghost use Rattle.std.specs.Result.{result_map_both};
+ghost use Rattle.cpe_name.specs.declared.name.Values.{Values};
+ghost use Rattle.cpe_name.specs.Text.{output_text};
+ghost use Rattle.cpe_uri.specs.Grammar.{Uri, LeavesUri, RefusesUri};
+ghost use Rattle.cpe_uri.specs.Unbound.{unbound_uri, SaysUri, WritesUnbound};
+ghost use Rattle.cpe_uri.specs.Both.{begins_as_uri, Bound, LeavesBound, RefusesBound, unbound_any, SaysAny, WritesAny};
+
+use crate::scan::scan_uri;
+use crate::values::values_of;
+use crate::write::put_name;
+use crate::{FRAME, UriFault};
+use cpe_fs::{FsFault, unbind_fs, write_unbound};
+use cpe_name::Wfn;
+use std::alloc::Global;
+
+/// The name that has this URI, in each accepted spelling of it (NIST IR 7695, 6.1.3). The name is in lower case.
+///
+/// # Errors
+///
+/// `At` the place exactly where no name has this text, whatever the memory; else `Memory` where memory runs out.
+pub fn unbind_uri(alloc: Global, text: &[u8]) -> Result<Wfn, UriFault>
+    // What is found has this text.
+    ensures found { IfOk result (λ name. Uri name text.now) }
+    // A name that has this text is found, unless memory runs out.
+    ensures only { (name : Values) → Uri name text.now → MatchResult result (λ found. found ≡ name) (λ fault. fault ≡ UriFault.Memory) }
+    // A text that no name has is refused as such and with its place, whatever the memory.
+    ensures refused { IfErr result (λ fault. RefusesUri fault text.now) }
+{
+    let spans = match scan_uri(text) {
+        Ok(spans) => spans,
+        Err(left) => return Err(UriFault::At(text.len() - left)),
+    };
+    match Wfn::new(values_of(alloc, &spans)?) {
+        Ok(name) => Ok(name),
+        Err(_) => unreachable!(),
+    }
+}
+
+/// Writes the output text of the name that has this URI into `room`, from `at` on, and makes no name. It answers the
+/// place behind what was written; what stands from there on is not told. It takes no memory.
+///
+/// # Errors
+///
+/// The place of the text as in [`UriFault::At`], exactly where no name has it; the room is then as it was.
+pub fn write_unbound_uri(room: &mut [u8], at: usize, text: &[u8]) -> Result<usize, usize>
+    requires { at + 2 * length text.now + FRAME ≤ length room.old }
+    // What was written is the text of a name that has this URI.
+    ensures found { IfOk result (λ end. WritesUnbound text.now (take at room.old) (take end room.new)) }
+    // The text of a name that has this URI is written.
+    ensures only { (name : Values) → Uri name text.now → MatchResult result (λ end. take end room.new ≡ take at room.old ++ output_text name) (λ place. ⊥) }
+    ensures refused { IfErr result (LeavesUri text.now) }
+
+    // The same by a function.
+    ensures said { result_map_both (λ end. take end room.new) (λ place. place) result ≡ result_map_both (λ said. take at room.old ++ said) (λ place. place) (unbound_uri text.now) }
+
+    ensures within { IfOk result (λ end. end ≤ at + 2 * length text.now + FRAME) }
+    ensures length { length room.new ≡ length room.old }
+    ensures unchanged { OnErr result (room.new ≡ room.old) }
+{
+    match scan_uri(text) {
+        Ok(spans) => Ok(put_name(room, at, &spans)),
+        Err(left) => Err(text.len() - left),
+    }
+}
+
+/// What `unbound_uri` says of a text: the output text of the name that has it as its URI, and its place exactly where
+/// no name has it.
+pub fn unbound_uri_is()
+    ensures named { (name : Values) (s : List ℕ) → Uri name s → unbound_uri s ≡ Ok (output_text name) }
+    ensures found { (s text : List ℕ) → unbound_uri s ≡ Ok text → SaysUri s text }
+    ensures refused { (s : List ℕ) (place : ℕ) → unbound_uri s ≡ Err place → LeavesUri s place }
+{}
+
+/// Whether a text begins as a URI does, with `cpe:/` in any letter case.
+fn begins_as_uri(text: &[u8]) -> bool
+    ensures { result ≡ begins_as_uri text.now }
+{
+    matches!(
+        text,
+        [b'c' | b'C', b'p' | b'P', b'e' | b'E', b':', b'/', ..]
+    )
+}
+
+impl From<FsFault> for UriFault {
+    ghost use Rattle.std.specs.Prelude.{◌≡◌};
+    ghost use Rattle.cpe_uri.specs.Both.{same_fault};
+
+    ghost from_gives = { λ fault e. e ≡ same_fault fault };
+
+    fn from(fault: FsFault) -> UriFault {
+        match fault {
+            FsFault::At(place) => UriFault::At(place),
+            FsFault::Memory => UriFault::Memory,
+        }
+    }
+}
+
+/// The name that has this text in one binding or the other: as [`unbind_uri`] where the text begins with `cpe:/` in any
+/// letter case, and as [`unbind_fs`] where it doesn't (NIST IR 7695, 6.1.3 and 6.2.3).
+///
+/// # Errors
+///
+/// `At` the place exactly where no name has this text, whatever the memory; else `Memory` where memory runs out.
+pub fn unbind_any(alloc: Global, text: &[u8]) -> Result<Wfn, UriFault>
+    ensures found { IfOk result (λ name. Bound name text.now) }
+    ensures only { (name : Values) → Bound name text.now → MatchResult result (λ found. found ≡ name) (λ fault. fault ≡ UriFault.Memory) }
+    ensures refused { IfErr result (λ fault. RefusesBound fault text.now) }
+{
+    if begins_as_uri(text) {
+        return unbind_uri(alloc, text);
+    }
+    Ok(unbind_fs(alloc, text)?)
+}
+
+/// Writes the output text of the name that has this text in one binding or the other, as [`unbind_any`] reads it, into
+/// `room`, from `at` on, and makes no name. It answers the place behind what was written; what stands from there on
+/// is not told. It takes no memory.
+///
+/// # Errors
+///
+/// The place of the text as in [`UriFault::At`], exactly where no name has it; the room is then as it was.
+pub fn write_unbound_any(room: &mut [u8], at: usize, text: &[u8]) -> Result<usize, usize>
+    requires { at + 2 * length text.now + FRAME ≤ length room.old }
+    // What was written is the text of a name that has this text.
+    ensures found { IfOk result (λ end. WritesAny text.now (take at room.old) (take end room.new)) }
+    // The text of a name that has this text is written.
+    ensures only { (name : Values) → Bound name text.now → MatchResult result (λ end. take end room.new ≡ take at room.old ++ output_text name) (λ place. ⊥) }
+    ensures refused { IfErr result (LeavesBound text.now) }
+
+    // The same by a function.
+    ensures said { result_map_both (λ end. take end room.new) (λ place. place) result ≡ result_map_both (λ said. take at room.old ++ said) (λ place. place) (unbound_any text.now) }
+
+    ensures within { IfOk result (λ end. end ≤ at + 2 * length text.now + FRAME) }
+    ensures length { length room.new ≡ length room.old }
+    ensures unchanged { OnErr result (room.new ≡ room.old) }
+{
+    if begins_as_uri(text) {
+        write_unbound_uri(room, at, text)
+    } else {
+        write_unbound(room, at, text)
+    }
+}
+
+/// What `unbound_any` says of a text: the output text of the name that has it in one binding or the other, and its place
+/// exactly where no name has it.
+pub fn unbound_any_is()
+    ensures named { (name : Values) (s : List ℕ) → Bound name s → unbound_any s ≡ Ok (output_text name) }
+    ensures found { (s text : List ℕ) → unbound_any s ≡ Ok text → SaysAny s text }
+    ensures refused { (s : List ℕ) (place : ℕ) → unbound_any s ≡ Err place → LeavesBound s place }
+{}
