@@ -1,33 +1,25 @@
 -- What the program writes, line by line, and its status.
-use Rattle.std.specs.Prelude.{ℕ, ◌+◌, Bool, false, ◌||◌, List, [], ◌∷◌, ◌++◌, take, Some, None, Ok, Err, is_err, codes, if◌then◌else◌}
+use Rattle.std.specs.Prelude.{ℕ, ◌+◌, Bool, false, ◌||◌, List, [], ◌∷◌, ◌++◌, Some, None, Ok, Err, is_err, codes, if◌then◌else◌}
 use Rattle.std.specs.declared.option.Option.{Option}
 use Rattle.std.specs.declared.result.Result.{Result}
 use Rattle.std.specs.Fmt.{decimal}
-use Rattle.std.specs.Str.{str_eq_ignore_ascii_case}
-use Rattle.cpe_fs.specs.Unbound.{unbound}
 use Rattle.cpe_fs.specs.Bound.{bound}
+use Rattle.cpe_uri.specs.Bound.{bound_uri}
+use Rattle.cpe_uri.specs.Unbound.{unbound_any}
 use Rattle.cpe_io.specs.Lines.{lines}
 use Rattle.cpe_command.specs.declared.command.Command.{Command}
-use Rattle.cpe_command.specs.declared.command.Command.TheVariants.{Unbind, BindFs}
+use Rattle.cpe_command.specs.declared.command.Command.TheVariants.{Unbind, BindFs, BindUri}
 use Rattle.cpe_command.specs.declared.answer.Reason.{Reason}
-use Rattle.cpe_command.specs.declared.answer.Reason.TheVariants.{Long, Wfn, NotBuilt, Name}
+use Rattle.cpe_command.specs.declared.answer.Reason.TheVariants.{Long, Wfn, Name}
 use Rattle.cpe_command.specs.declared.status.Status.{Status}
 use Rattle.cpe_command.specs.declared.status.Status.TheVariants.{Done, SomeRefused, Usage}
 
--- the first five bytes are `cpe:/` in any letter case
-abbrev pub begins_as_uri : List ℕ → Bool
-begins_as_uri text = str_eq_ignore_ascii_case (take 5 text) (codes "cpe:/")
+-- a line of the name's text, or the place of a text that no name has
+abbrev pub unbound_line : Result (List ℕ) ℕ → Result (List ℕ) Reason
+unbound_line (Ok text) = Ok (text ++ codes "\n")
+unbound_line (Err place) = Err (Name place)
 
--- a line of the text that was said, or the reason with the place
-abbrev pub named : Result (List ℕ) ℕ → Result (List ℕ) Reason
-named (Ok text) = Ok (text ++ codes "\n")
-named (Err place) = Err (Name place)
-
--- what a formatted string says: the text of its name
-abbrev pub unbinds : List ℕ → Result (List ℕ) Reason
-unbinds text = if begins_as_uri text then Err NotBuilt else named (unbound text)
-
--- a line of the text that was said, or that there is none
+-- a line of the name's formatted string or URI, or that no name has the text
 abbrev pub bound_line : Option (List ℕ) → Result (List ℕ) Reason
 bound_line (Some text) = Ok (text ++ codes "\n")
 bound_line None = Err Wfn
@@ -36,13 +28,13 @@ bound_line None = Err Wfn
 abbrev pub says : Command → Option (List ℕ) → Result (List ℕ) Reason
 says command None = Err Long
 says command (Some []) = Ok []
-says Unbind (Some (x ∷ xs)) = unbinds (x ∷ xs)
+says Unbind (Some (x ∷ xs)) = unbound_line (unbound_any (x ∷ xs))
 says BindFs (Some (x ∷ xs)) = bound_line (bound (x ∷ xs))
+says BindUri (Some (x ∷ xs)) = bound_line (bound_uri (x ∷ xs))
 
 abbrev pub reason_text : Reason → List ℕ
 reason_text Long = codes "long"
 reason_text Wfn = codes "wfn"
-reason_text NotBuilt = codes "not-built"
 reason_text (Name place) = codes "name " ++ decimal place
 
 -- what the refused line of this number writes

@@ -3,7 +3,9 @@ ghost use Rattle.std.specs.Prelude.{◌≡◌, ◌+◌, ◌^◌, ◌<◌, ◌++�
 ghost use Rattle.std.specs.Fmt.{decimal};
 ghost use Rattle.cpe_io.specs.Shown.{lent};
 ghost use Rattle.cpe_fs.specs.Bound.{bound};
-ghost use Rattle.cpe_command.specs.Transcript.{answer, step, refusal, reason_text, says, unbinds, bound_line, begins_as_uri};
+ghost use Rattle.cpe_uri.specs.Bound.{bound_uri};
+ghost use Rattle.cpe_uri.specs.Unbound.{unbound_any};
+ghost use Rattle.cpe_command.specs.Transcript.{answer, step, refusal, reason_text, says, unbound_line, bound_line};
 ghost use Rattle.cpe_command.specs.Pages.{standing, Said};
 
 use crate::command::Command;
@@ -20,9 +22,7 @@ pub enum Reason {
     Long,
     /// The line is the text of no well-formed name.
     Wfn,
-    /// The line begins as a URI, which the program can't read yet.
-    NotBuilt,
-    /// No name has this formatted string, and this is its place.
+    /// No name has this text, as its formatted string or as its URI, and this is its place.
     Name(usize),
 }
 
@@ -76,15 +76,13 @@ fn say_text(page: &mut Page, command: Command, text: &[u8]) -> Result<Option<Rea
         (_, []) => Ok(None),
         (Command::Unbind, _) => say_name(page, text),
         (Command::BindFs, _) => say_formatted_string(page, text),
+        (Command::BindUri, _) => say_uri(page, text),
     }
 }
 
 fn say_name(page: &mut Page, text: &[u8]) -> Result<Option<Reason>, AllocError>
-    ensures { IfOk result (Said (unbinds text.now) page.old page.new) }
+    ensures { IfOk result (Said (unbound_line (unbound_any text.now)) page.old page.new) }
 {
-    if begins_as_uri(text) {
-        return Ok(Some(Reason::NotBuilt));
-    }
     if let Some(place) = page.push_unbound(text)? {
         return Ok(Some(Reason::Name(place)));
     }
@@ -102,13 +100,14 @@ fn say_formatted_string(page: &mut Page, text: &[u8]) -> Result<Option<Reason>, 
     Ok(None)
 }
 
-fn begins_as_uri(text: &[u8]) -> bool
-    ensures { result ≡ begins_as_uri text.now }
+fn say_uri(page: &mut Page, text: &[u8]) -> Result<Option<Reason>, AllocError>
+    ensures { IfOk result (Said (bound_line (bound_uri text.now)) page.old page.new) }
 {
-    matches!(
-        text,
-        [b'c' | b'C', b'p' | b'P', b'e' | b'E', b':', b'/', ..]
-    )
+    if !page.push_bound_uri(text)? {
+        return Ok(Some(Reason::Wfn));
+    }
+    page.push(b"\n")?;
+    Ok(None)
 }
 
 // Puts what a refused line writes.
@@ -129,7 +128,6 @@ fn push_reason(page: &mut Page, reason: Reason) -> Result<(), AllocError>
     match reason {
         Reason::Long => page.push(b"long"),
         Reason::Wfn => page.push(b"wfn"),
-        Reason::NotBuilt => page.push(b"not-built"),
         Reason::Name(place) => push_place(page, place),
     }
 }

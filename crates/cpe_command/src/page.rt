@@ -3,13 +3,15 @@ ghost use Rattle.std.specs.Prelude.{◌≡◌, ◌+◌, ◌*◌, ◌≤◌, ◌+
 ghost use Rattle.std.specs.Io.KnownBytes.{Appends};
 ghost use Rattle.cpe_io.specs.Causes.{HasSinkCause};
 ghost use Rattle.cpe_io.specs.Writes.{AppendsFront};
-ghost use Rattle.cpe_fs.specs.Unbound.{unbound};
 ghost use Rattle.cpe_fs.specs.Bound.{bound};
+ghost use Rattle.cpe_uri.specs.Bound.{bound_uri};
+ghost use Rattle.cpe_uri.specs.Unbound.{unbound_any};
 ghost use Rattle.cpe_command.specs.Pages.{Flushes, Gains, GainsText};
 
-use cpe_fs::{BOUND_FRAME, FRAME, write_bound, write_unbound};
+use cpe_fs::{BOUND_FRAME, write_bound};
 use cpe_io::{Sink, SinkFault, write_all};
 use cpe_room::put;
+use cpe_uri::{CANON_FRAME, FRAME, write_bound_uri, write_unbound_any};
 use std::alloc::{AllocError, Global};
 use std::marker::Model;
 
@@ -61,14 +63,14 @@ impl Page {
         Ok(())
     }
 
-    /// Puts the text of the name that has this formatted string behind what is gathered. Where no name has it, it tells
-    /// the place instead.
+    /// Puts the text of the name that has this formatted string or this URI behind what is gathered. Where no name has
+    /// it, it tells the place instead.
     pub fn push_unbound(&mut self, text: &[u8]) -> Result<Option<usize>, AllocError>
-        ensures { IfOk result (Gains (unbound text.now) self.old self.new) }
+        ensures { IfOk result (Gains (unbound_any text.now) self.old self.new) }
     {
         let most = text.len().saturating_mul(2).saturating_add(FRAME);
         make_room(&mut self.room, self.used, most)?;
-        match write_unbound(&mut self.room, self.used, text) {
+        match write_unbound_any(&mut self.room, self.used, text) {
             Ok(end) => {
                 self.used = end;
                 Ok(None)
@@ -84,6 +86,21 @@ impl Page {
         let most = text.len().saturating_add(BOUND_FRAME);
         make_room(&mut self.room, self.used, most)?;
         match write_bound(&mut self.room, self.used, text) {
+            Some(end) => {
+                self.used = end;
+                Ok(true)
+            }
+            None => Ok(false),
+        }
+    }
+
+    /// Puts the URI of the name that has this text behind what is gathered. It tells whether there is one.
+    pub fn push_bound_uri(&mut self, text: &[u8]) -> Result<bool, AllocError>
+        ensures { IfOk result (GainsText (bound_uri text.now) self.old self.new) }
+    {
+        let most = text.len().saturating_mul(3).saturating_add(CANON_FRAME);
+        make_room(&mut self.room, self.used, most)?;
+        match write_bound_uri(&mut self.room, self.used, text) {
             Some(end) => {
                 self.used = end;
                 Ok(true)

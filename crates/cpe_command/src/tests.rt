@@ -54,8 +54,12 @@ const EXPLORER_TEXT: &[u8] =
 const ANY_FROM_PRODUCT: &[u8] =
     b",product=ANY,version=ANY,update=ANY,edition=ANY,language=ANY,sw_edition=ANY,target_sw=ANY,target_hw=ANY,other=ANY]\n";
 
+// The text of the name whose eleven values are ANY.
+const ANY_TEXT: &[u8] =
+    b"wfn:[part=ANY,vendor=ANY,product=ANY,version=ANY,update=ANY,edition=ANY,language=ANY,sw_edition=ANY,target_sw=ANY,target_hw=ANY,other=ANY]\n";
+
 // Inputs of `unbind`, and what comes of each.
-const UNBIND: [(&[u8], Status, &[u8]); 12] = [
+const UNBIND: [(&[u8], Status, &[u8]); 11] = [
     (b"", Status::Done, b""),
     (b"\n\r\n\n", Status::Done, b""),
     (EXPLORER, Status::Done, EXPLORER_TEXT),
@@ -65,11 +69,10 @@ const UNBIND: [(&[u8], Status, &[u8]); 12] = [
         Status::SomeRefused,
         b"refused 1 name 32\n",
     ),
-    (b"CPE:/a:v:p", Status::SomeRefused, b"refused 1 not-built\n"),
     (
-        b"cPe:/\n\r\r\n \n",
+        b"CPE:\n\r\r\n \n",
         Status::SomeRefused,
-        b"refused 1 not-built\nrefused 2 name 0\nrefused 3 name 0\n",
+        b"refused 1 name 0\nrefused 2 name 0\nrefused 3 name 0\n",
     ),
     (
         b"cpe:\ncpe:2",
@@ -111,15 +114,61 @@ fn unbind_answers_each_line_in_any_pieces(rt: HostRuntime) -> Result<(), Fail> {
     Ok(())
 }
 
+// URIs, and what `unbind` makes of each.
+const UNBIND_URI: [(&[u8], Status, &[u8]); 9] = [
+    (
+        b"cpe:/a:microsoft:internet_explorer:8.%02:sp%01",
+        Status::Done,
+        b"wfn:[part=\"a\",vendor=\"microsoft\",product=\"internet_explorer\",version=\"8\\.*\",update=\"sp?\",edition=ANY,language=ANY,sw_edition=ANY,target_sw=ANY,target_hw=ANY,other=ANY]\n",
+    ),
+    (
+        b"CPE:/A:foo~bar:big%7emoney_2010",
+        Status::Done,
+        b"wfn:[part=\"a\",vendor=\"foo\\~bar\",product=\"big\\~money_2010\",version=ANY,update=ANY,edition=ANY,language=ANY,sw_edition=ANY,target_sw=ANY,target_hw=ANY,other=ANY]\n",
+    ),
+    (b"cpe:/", Status::Done, ANY_TEXT),
+    (b"cpe:/::::::", Status::Done, ANY_TEXT),
+    (b"cpe:/:::::::", Status::SomeRefused, b"refused 1 name 11\n"),
+    (
+        b"cpe:/a:foo:bar:12.%02.1234",
+        Status::SomeRefused,
+        b"refused 1 name 21\n",
+    ),
+    (b"cpe:/a:%2d:b", Status::SomeRefused, b"refused 1 name 10\n"),
+    (
+        b"cpe:/a:v:p:1:u:~x",
+        Status::SomeRefused,
+        b"refused 1 name 17\n",
+    ),
+    (
+        b"CPE:2.3:a:v:p:1:u:*:*:*:*:*:*",
+        Status::SomeRefused,
+        b"refused 1 name 0\n",
+    ),
+];
+
+#[test]
+fn unbind_reads_both_bindings(rt: HostRuntime) -> Result<(), Fail> {
+    let words = words_of(rt.alloc(), &["unbind"])?;
+    for (input, status, output) in UNBIND_URI {
+        for piece in [1, 65536] {
+            let (answer, written) = run_in_pieces(rt.alloc(), &words, input, piece)?;
+            assert_eq!(rt; answer, status);
+            assert_eq!(rt; written.as_slice(), output);
+        }
+    }
+    Ok(())
+}
+
 #[test]
 fn names_and_refusals_stand_in_the_order_of_their_lines(rt: HostRuntime) -> Result<(), Fail> {
     let alloc = rt.alloc();
     let words = words_of(alloc, &["unbind"])?;
     let mut input = Vec::from_slice(alloc, EXPLORER)?;
-    input.extend_from_slice(b"\r\n\ncpe:/a\n")?;
+    input.extend_from_slice(b"\r\n\ncpe:/x\n")?;
     input.extend_from_slice(EXPLORER)?;
     let mut output = Vec::from_slice(alloc, EXPLORER_TEXT)?;
-    output.extend_from_slice(b"refused 3 not-built\n")?;
+    output.extend_from_slice(b"refused 3 name 5\n")?;
     output.extend_from_slice(EXPLORER_TEXT)?;
     for piece in [1, 7, 65536] {
         let (answer, written) = run_in_pieces(alloc, &words, &input, piece)?;
@@ -146,13 +195,13 @@ fn a_line_has_at_most_65536_bytes(rt: HostRuntime) -> Result<(), Fail> {
     input.extend_from_slice(&name_of_length(alloc, 65537)?)?;
     input.push(b'\n')?;
     input.extend_from_slice(&name_of_length(alloc, 200_000)?)?;
-    input.extend_from_slice(b"\ncpe:/\n")?;
+    input.extend_from_slice(b"\nx\n")?;
     let mut output = Vec::from_slice(alloc, b"wfn:[part=\"a\",vendor=\"")?;
     let mark = output.len();
     output.resize(mark + 65508, b'v')?;
     output.push(b'"')?;
     output.extend_from_slice(ANY_FROM_PRODUCT)?;
-    output.extend_from_slice(b"refused 2 long\nrefused 3 long\nrefused 4 not-built\n")?;
+    output.extend_from_slice(b"refused 2 long\nrefused 3 long\nrefused 4 name 0\n")?;
     for piece in [1000, 65536, 65537] {
         let (answer, written) = run_in_pieces(alloc, &words, &input, piece)?;
         assert_eq!(rt; answer, Status::SomeRefused);
@@ -165,9 +214,11 @@ fn a_line_has_at_most_65536_bytes(rt: HostRuntime) -> Result<(), Fail> {
 fn other_words_get_the_usage_line(rt: HostRuntime) -> Result<(), Fail> {
     let usage =
         b"usage: cpe bind fs|bind uri|unbind|compare|resolve|evaluate|watch|make N|drill N\n";
-    let rows: [&[&str]; 8] = [
+    let rows: [&[&str]; 10] = [
         &[],
         &["bind"],
+        &["bind", "wfn"],
+        &["unbind", "uri"],
         &["make", "0"],
         &["make", "007"],
         &["unbind", "x"],
@@ -273,6 +324,44 @@ fn bind_fs_answers_each_line_in_any_pieces(rt: HostRuntime) -> Result<(), Fail> 
         (EXPLORER, Status::SomeRefused, b"refused 1 wfn\n"),
     ];
     for (input, status, output) in rows {
+        for piece in [1, 2, 65536] {
+            let (answer, written) = run_in_pieces(rt.alloc(), &words, input, piece)?;
+            assert_eq!(rt; answer, status);
+            assert_eq!(rt; written.as_slice(), output);
+        }
+    }
+    Ok(())
+}
+
+// Inputs of `bind uri`, and what comes of each.
+const BIND_URI: [(&[u8], Status, &[u8]); 5] = [
+    (
+        b"wfn:[part=\"a\",vendor=\"foo\\\\bar\",product=\"big\\$money_2010\",sw_edition=\"special\",target_sw=\"ipod_touch\",target_hw=\"80gb\"]",
+        Status::Done,
+        b"cpe:/a:foo%5cbar:big%24money_2010:::~~special~ipod_touch~80gb~\n",
+    ),
+    (
+        b"wfn:[part=\"a\",vendor=\"hp\",product=\"insight_diagnostics\",version=\"7\\.4\\.0\\.1570\",update=NA,sw_edition=\"online\",target_sw=\"win2003\",target_hw=\"x64\"]",
+        Status::Done,
+        b"cpe:/a:hp:insight_diagnostics:7.4.0.1570:-:~~online~win2003~x64~\n",
+    ),
+    (
+        b"wfn:[part=\"a\",vendor=\"v\",product=\"p\",edition=\"e\"]",
+        Status::Done,
+        b"cpe:/a:v:p:::e\n",
+    ),
+    (
+        b"wfn:[vendor=\"a.b\"]\r\n\nwfn:[]",
+        Status::SomeRefused,
+        b"refused 1 wfn\ncpe:/\n",
+    ),
+    (b"cpe:/a:v:p", Status::SomeRefused, b"refused 1 wfn\n"),
+];
+
+#[test]
+fn bind_uri_answers_each_line_in_any_pieces(rt: HostRuntime) -> Result<(), Fail> {
+    let words = words_of(rt.alloc(), &["bind", "uri"])?;
+    for (input, status, output) in BIND_URI {
         for piece in [1, 2, 65536] {
             let (answer, written) = run_in_pieces(rt.alloc(), &words, input, piece)?;
             assert_eq!(rt; answer, status);

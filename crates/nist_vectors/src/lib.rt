@@ -1,0 +1,7 @@
+//! Examples of NIST IR 7695 as tests, over the public calls of the crates below. It has no code of its own.
+#![tactic(auto)]
+
+#[cfg(test)]
+mod examples;
+#[cfg(test)]
+mod round_trips;
