@@ -5,7 +5,7 @@ use Rattle.std.specs.declared.result.Result.{Result}
 use Rattle.std.specs.Fmt.{decimal}
 use Rattle.cpe_fs.specs.Bound.{bound}
 use Rattle.cpe_uri.specs.Bound.{bound_uri}
-use Rattle.cpe_uri.specs.Unbound.{unbound_any}
+use Rattle.cpe_uri.specs.EitherBinding.{unbound_any}
 use Rattle.cpe_io.specs.Lines.{lines}
 use Rattle.cpe_command.specs.declared.command.Command.{Command}
 use Rattle.cpe_command.specs.declared.command.Command.TheVariants.{Unbind, BindFs, BindUri}

@@ -4,7 +4,7 @@ ghost use Rattle.std.specs.Fmt.{decimal};
 ghost use Rattle.cpe_io.specs.Shown.{lent};
 ghost use Rattle.cpe_fs.specs.Bound.{bound};
 ghost use Rattle.cpe_uri.specs.Bound.{bound_uri};
-ghost use Rattle.cpe_uri.specs.Unbound.{unbound_any};
+ghost use Rattle.cpe_uri.specs.EitherBinding.{unbound_any};
 ghost use Rattle.cpe_command.specs.Transcript.{answer, step, refusal, reason_text, says, unbound_line, bound_line};
 ghost use Rattle.cpe_command.specs.Pages.{standing, Said};
 

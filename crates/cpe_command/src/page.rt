@@ -5,13 +5,13 @@ ghost use Rattle.cpe_io.specs.Causes.{HasSinkCause};
 ghost use Rattle.cpe_io.specs.Writes.{AppendsFront};
 ghost use Rattle.cpe_fs.specs.Bound.{bound};
 ghost use Rattle.cpe_uri.specs.Bound.{bound_uri};
-ghost use Rattle.cpe_uri.specs.Unbound.{unbound_any};
+ghost use Rattle.cpe_uri.specs.EitherBinding.{unbound_any};
 ghost use Rattle.cpe_command.specs.Pages.{Flushes, Gains, GainsText};
 
 use cpe_fs::{BOUND_FRAME, write_bound};
 use cpe_io::{Sink, SinkFault, write_all};
 use cpe_room::put;
-use cpe_uri::{CANON_FRAME, FRAME, write_bound_uri, write_unbound_any};
+use cpe_uri::{FRAME, write_bound_uri, write_unbound_any};
 use std::alloc::{AllocError, Global};
 use std::marker::Model;
 
@@ -98,7 +98,7 @@ impl Page {
     pub fn push_bound_uri(&mut self, text: &[u8]) -> Result<bool, AllocError>
         ensures { IfOk result (GainsText (bound_uri text.now) self.old self.new) }
     {
-        let most = text.len().saturating_mul(3).saturating_add(CANON_FRAME);
+        let most = text.len().saturating_mul(3);
         make_room(&mut self.room, self.used, most)?;
         match write_bound_uri(&mut self.room, self.used, text) {
             Some(end) => {

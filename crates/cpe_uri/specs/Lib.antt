@@ -5,7 +5,7 @@ pub mod Spans
 pub mod Reading
 pub mod Pieces
 pub mod Unbound
-pub mod Both
+pub mod EitherBinding
 pub mod Rewriting
 pub mod SpanValues
 pub mod Bound

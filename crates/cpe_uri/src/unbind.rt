@@ -5,7 +5,7 @@ ghost use Rattle.cpe_name.specs.declared.name.Values.{Values};
 ghost use Rattle.cpe_name.specs.Text.{output_text};
 ghost use Rattle.cpe_uri.specs.Grammar.{Uri, LeavesUri, RefusesUri};
 ghost use Rattle.cpe_uri.specs.Unbound.{unbound_uri, SaysUri, WritesUnbound};
-ghost use Rattle.cpe_uri.specs.Both.{begins_as_uri, Bound, LeavesBound, RefusesBound, unbound_any, SaysAny, WritesAny};
+ghost use Rattle.cpe_uri.specs.EitherBinding.{begins_as_uri, Bound, LeavesBound, RefusesBound, unbound_any, SaysAny, WritesAny};
 
 use crate::scan::scan_uri;
 use crate::values::values_of;
@@ -85,7 +85,7 @@ fn begins_as_uri(text: &[u8]) -> bool
 
 impl From<FsFault> for UriFault {
     ghost use Rattle.std.specs.Prelude.{◌≡◌};
-    ghost use Rattle.cpe_uri.specs.Both.{same_fault};
+    ghost use Rattle.cpe_uri.specs.EitherBinding.{same_fault};
 
     ghost from_gives = { λ fault e. e ≡ same_fault fault };
 

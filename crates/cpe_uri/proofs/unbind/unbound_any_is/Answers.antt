@@ -1,4 +1,4 @@
-use Rattle.cpe_uri.proofs.Both.{any_text, any_name, any_place}
+use Rattle.cpe_uri.proofs.EitherBinding.{any_text, any_name, any_place}
 use Rattle.cpe_uri.proofs.unbind.unbound_any_is.Goals as goal
 
 pub returns-clause-named : goal.returns-clause-named

@@ -1,6 +1,6 @@
 use Rattle.std.proofs.Common.{ℕ, ◌++◌, take, ap, sym, ◌∙◌}
 use Rattle.std.specs.Result.{result_map_both}
-use Rattle.cpe_uri.proofs.Both.{any_uri, any_fs}
+use Rattle.cpe_uri.proofs.EitherBinding.{any_uri, any_fs}
 use Rattle.cpe_uri.proofs.unbind.write_unbound_any.Goals as goal
 
 pub returns-then-begins_as_uri-clause-said : goal.returns-then-begins_as_uri-clause-said

@@ -1,7 +1,7 @@
 use Rattle.std.proofs.Common.{◌≡◌, ap, ◌∙◌, rules, take}
 use Rattle.std.specs.Vec.{with_items}
 use Rattle.std.proofs.lemmas.List.{with_items_is, places}
-use Rattle.cpe_uri.specs.Unbound.{unbound_any}
+use Rattle.cpe_uri.specs.EitherBinding.{unbound_any}
 use Rattle.cpe_command.proofs.Gaining.{gains_place}
 use Rattle.cpe_command.proofs.page.Page.push_unbound.Goals as goal
 

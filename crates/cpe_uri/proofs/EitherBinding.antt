@@ -18,7 +18,7 @@ use Rattle.cpe_fs.proofs.Said as fs
 use Rattle.cpe_fs.proofs.ValueLemmas.{one_name}
 use Rattle.cpe_uri.specs.Grammar.{Uri, IsUri, LeavesUri}
 use Rattle.cpe_uri.specs.Unbound.{unbound_uri}
-use Rattle.cpe_uri.specs.Both.{begins_as_uri, Bound, IsBound, LeavesBound, SaysAny, unbound_any}
+use Rattle.cpe_uri.specs.EitherBinding.{begins_as_uri, Bound, IsBound, LeavesBound, SaysAny, unbound_any}
 use Rattle.cpe_uri.proofs.Pieces.{one_uri, prefix_length}
 use Rattle.cpe_uri.proofs.Said.{says_text, says_name, says_place}
 
