@@ -1,15 +1,13 @@
 -- The value that stands in a piece of a URI.
-use Rattle.std.proofs.Common.{◌≡◌, ◌≢◌, ℕ, zero, suc, Bool, true, false, eqb, List, [], ◌∷◌, length, map, get_or, refl, sym, ap, subst, ◌∙◌, inl, inr}
+use Rattle.std.proofs.Common.{◌≡◌, ℕ, zero, suc, true, false, eqb, List, [], ◌∷◌, length, map, get_or, refl, sym, ap, ◌∙◌, inl, inr}
 use Rattle.std.specs.List.{AllByRecursion}
 use Rattle.std.proofs.lemmas.List.{nil_from_length}
 use Rattle.std.proofs.lemmas.Bool.{cases_Bool, eqb-true, both_ways}
 use Rattle.cpe_values.specs.declared.value.Edge.TheVariants as edge
 use Rattle.cpe_values.specs.declared.value.Value.{Value}
 use Rattle.cpe_values.specs.declared.value.Value.TheVariants as value
-use Rattle.cpe_values.specs.declared.spelling.Style.{Style}
 use Rattle.cpe_values.specs.declared.spelling.Style.TheVariants as style
 use Rattle.cpe_values.specs.Parts.{Parts, parts, IsText}
-use Rattle.cpe_values.specs.Spelling.{spelling}
 use Rattle.cpe_values.specs.Spelled.{IsSpelling}
 use Rattle.cpe_values.specs.Values.{IsValue}
 use Rattle.cpe_values.specs.Unspelling.{body_at, behind_body, parts_at}
@@ -82,10 +80,6 @@ spells_text s is any na = go is.value is.good is.stands where
   go value.Any good stands = absurd (both_ways (eqb (length s) 0) any (ap (λ (u : List ℕ). eqb (length u) 0) stands))
   go value.Na good stands = absurd (both_ways (is_hyphen s) na (ap is_hyphen stands))
   go (value.Text t) good stands = record { spelled_in = style.Wfn; text = t; good = good; spells = sym (text_rewritten t s good stands) }
-
--- and the value is its text
-pub text_value : (s : List ℕ) → eqb (length s) 0 ≡ false → is_hyphen s ≡ false → value.Text (parts_at (rewritten s)) ≡ value_at s
-text_value s any na = rw (any, na) refl
 
 -- ---- the values of a name
 

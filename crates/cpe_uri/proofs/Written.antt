@@ -1,6 +1,5 @@
 -- What is written from where the values of a name lie in its URI is the text of the name.
-use Rattle.std.proofs.Common.{◌≡◌, ℕ, List, [], ◌∷◌, ◌++◌, refl, ap, ◌∙◌}
-use Rattle.std.specs.Prelude.{codes}
+use Rattle.std.proofs.Common.{◌≡◌, ℕ, List, [], ◌∷◌, ◌++◌, ap}
 use Rattle.cpe_values.specs.declared.value.Value.{Value}
 use Rattle.cpe_values.specs.declared.value.Value.TheVariants as value
 use Rattle.cpe_values.specs.Values.{IsValue}

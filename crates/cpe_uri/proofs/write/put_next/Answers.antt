@@ -1,6 +1,4 @@
-use Rattle.std.proofs.Common.{◌≡◌, ap, ◌∙◌}
 use Rattle.std.proofs.lemmas.Bool.{ne_eqb}
-use Rattle.cpe_uri.specs.Rewriting.{rewritten}
 use Rattle.cpe_uri.proofs.Rewritten.{bare_rewritten, put_front}
 use Rattle.cpe_uri.proofs.write.put_next.Goals as goal
 

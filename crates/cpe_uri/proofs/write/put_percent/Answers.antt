@@ -1,4 +1,4 @@
-use Rattle.std.proofs.Common.{◌≡◌, ℕ, ◌++◌, take, ap, ◌∙◌, arith}
+use Rattle.std.proofs.Common.{ℕ, ◌++◌, take, ap, ◌∙◌, arith}
 use Rattle.cpe_uri.specs.Rewriting.{code_text}
 use Rattle.cpe_uri.proofs.Rewritten.{digits_rewritten, cut_rewritten, put_front}
 use Rattle.cpe_uri.proofs.write.put_percent.Goals as goal
