@@ -1,6 +1,5 @@
 -- A component with its bare `.` and `-` quoted is the text of its value.
-use Rattle.std.proofs.Common.{◌≡◌, ◌≢◌, ℕ, zero, suc, true, false, ◌||◌, eqb, List, [], ◌∷◌, ◌++◌, map, replicate, get_or, refl, sym, ap, ◌∙◌, inl, inr, append_assoc, arith}
-use Rattle.std.specs.Prelude.{codes}
+use Rattle.std.proofs.Common.{◌≡◌, ◌≢◌, ℕ, zero, suc, true, false, ◌||◌, eqb, List, [], ◌∷◌, ◌++◌, map, replicate, get_or, refl, sym, ap, ◌∙◌, inl, inr, arith}
 use Rattle.std.specs.List.{flat_map}
 use Rattle.std.proofs.lemmas.List.Concat.{flat_map-append}
 use Rattle.std.proofs.lemmas.Bool.{cases_Bool}
@@ -14,9 +13,8 @@ use Rattle.cpe_values.specs.Parts.{Parts, IsText}
 use Rattle.cpe_values.specs.Values.{IsValue}
 use Rattle.cpe_values.specs.Spelling.{edge_text, is_word, character, spelling}
 use Rattle.cpe_name.specs.declared.name.Values.{Values}
-use Rattle.cpe_name.specs.declared.attribute.Attribute.TheVariants.{Part, Vendor, Product, Version, Update, Edition, Language, SwEdition, TargetSw, TargetHw, Other}
 use Rattle.cpe_name.specs.Names.{attributes, value_of, IsName}
-use Rattle.cpe_name.specs.Text.{value_text, attribute_text, output_text}
+use Rattle.cpe_name.specs.Text.{value_text, output_text}
 use Rattle.cpe_name.proofs.OutputTexts.{output_keyed}
 use Rattle.cpe_fs.specs.Grammar.{component}
 use Rattle.cpe_fs.specs.Spans.{is_only, AreComponents, spans}

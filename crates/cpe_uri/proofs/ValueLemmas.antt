@@ -81,10 +81,6 @@ spells_text s is any na = go is.value is.good is.stands where
   go value.Na good stands = absurd (both_ways (is_hyphen s) na (ap is_hyphen stands))
   go (value.Text t) good stands = record { spelled_in = style.Wfn; text = t; good = good; spells = sym (text_rewritten t s good stands) }
 
--- and the value is its text
-pub text_value : (s : List ℕ) → eqb (length s) 0 ≡ false → is_hyphen s ≡ false → value.Text (parts_at (rewritten s)) ≡ value_at s
-text_value s any na = rw (any, na) refl
-
 -- ---- the values of a name
 
 value_in : (us : List (List ℕ)) (n : ℕ) → get_or (map value_at us) n value.Any ≡ value_at (get_or us n [])

@@ -1,4 +1,5 @@
--- The text of a well-formed name, made from where its values lie in its URI, form by form. No public clause speaks of it.
+-- The text of a well-formed name, made from where its values lie in its URI, form by form. Of the public words `unbound_uri` alone
+-- rests on it.
 use Rattle.std.specs.Prelude.{ℕ, ◌+◌, ◌*◌, ◌%◌, Bool, false, ◌||◌, ◌==◌, if◌then◌else◌, List, [], ◌∷◌, ◌++◌, length, codes}
 use Rattle.std.specs.Char.{to_ascii_lowercase}
 use Rattle.cpe_name.specs.declared.scan.Written.{Written}
@@ -20,7 +21,7 @@ is_requoted b = b == 46 || b == 45 || b == 126
 abbrev pub bare_text : ℕ → List ℕ
 bare_text b = if is_requoted b then 92 ∷ to_ascii_lowercase b ∷ [] else to_ascii_lowercase b ∷ []
 
--- a text
+-- the spelling in a name of the text that stands so
 unfoldable pub rewritten : List ℕ → List ℕ
 rewritten [] = []
 rewritten (b ∷ []) = bare_text b

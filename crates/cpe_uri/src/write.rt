@@ -43,15 +43,14 @@ fn put_code(room: &mut [u8], at: usize, code: u8) -> usize
     }
 }
 
-/// Whether a byte gets a backslash though it stands bare in a URI.
+/// Whether a byte gets a backslash though it stands bare in a URI. `|` and not `||`: no branch depends on the byte.
 fn is_requoted(byte: u8) -> bool
     ensures { result ≡ is_requoted byte }
 {
-    matches!(byte, b'.' | b'-' | b'~')
+    (byte == b'.') | (byte == b'-') | (byte == b'~')
 }
 
-/// Puts a bare byte in lower case, and a backslash before it where it needs one. The backslash is always written:
-/// no branch depends on the byte.
+/// Puts a bare byte in lower case, and a backslash before it where it needs one. The backslash is always written.
 fn put_bare(room: &mut [u8], at: usize, byte: u8) -> usize
     requires { at + 2 ≤ length room.old }
     ensures at { result ≤ at + 2 }
