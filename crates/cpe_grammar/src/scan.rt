@@ -3,6 +3,7 @@ ghost use Rattle.std.specs.Prelude.{◌≡◌, ◌==◌, Ok, Err};
 ghost use Rattle.cpe_grammar.specs.Scanners.{Tells, one, literal};
 
 /// Takes the byte that is expected: tells what is left behind it, or at another byte or the end how many bytes are left.
+#[inline(always)]
 pub fn scan_byte(expected: u8, bytes: &[u8]) -> Result<&[u8], usize>
     ensures { Tells (λ rest. rest.now) result (one (λ d. d == expected) bytes.now) }
 {
@@ -13,6 +14,7 @@ pub fn scan_byte(expected: u8, bytes: &[u8]) -> Result<&[u8], usize>
 }
 
 /// Takes the bytes that are expected: tells what is left behind them, or how many bytes are left where the text goes another way.
+#[inline(always)]
 #[tactic(auto, unfolding(crate::specs::Scanners::literal))]
 pub fn scan_literal<'a>(expected: &[u8], bytes: &'a [u8]) -> Result<&'a [u8], usize>
     ensures { Tells (λ rest. rest.now) result (literal expected.now bytes.now) }
