@@ -3,12 +3,12 @@
 ghost use Rattle.std.specs.Prelude.{◌≡◌, ◌≤◌, ◌+◌, ◌*◌, ◌-◌, ◌++◌, ◌∷◌, [], length, take, false, if◌then◌else◌};
 ghost use Rattle.std.specs.List.{list_all};
 ghost use Rattle.cpe_name.specs.Spans.{texts, total_length};
-ghost use Rattle.cpe_uri.specs.Requoting.{quotes, code_from, spelled, requoted, component_from, says_any, keyed, extended_texts, packed_from, edition_from, untrimmed_from, uri_from};
+ghost use Rattle.cpe_uri.specs.Requoting.{quotes, code_from, spelled, requoted, component_from, says_any, first_from, behind, extended_texts, packed_from, edition_from, untrimmed_from, uri_from};
 
-use crate::spelling::{percent_form, without_colons};
+use crate::spelling::{is_bare, percent_form};
+use crate::trim::without_colons;
 use cpe_name::Written;
 use cpe_room::{put, put_byte};
-use cpe_values::{Style, is_bare_byte};
 
 fn quotes(quoted: bool, byte: u8) -> bool
     ensures { result ≡ quotes quoted byte }
@@ -45,7 +45,7 @@ fn put_spelled(room: &mut [u8], at: usize, quoted: bool, byte: u8) -> usize
     ensures written { take result room.new ≡ take at room.old ++ spelled quoted byte }
 {
     let is_dropped = quotes(quoted, byte);
-    if is_dropped || is_bare_byte(Style::Formatted, byte) {
+    if is_dropped || is_bare(byte) {
         return put_bare(room, at, byte, is_dropped);
     }
     put(room, at, &percent_form(code_from(quoted, byte)))
@@ -88,15 +88,27 @@ fn put_component(room: &mut [u8], at: usize, text: &[u8]) -> usize
     }
 }
 
-/// Puts a key and the component of a value.
-#[tactic(auto, unfolding(crate::specs::Requoting::keyed))]
-fn put_keyed(room: &mut [u8], at: usize, key: &[u8], text: &[u8]) -> usize
-    requires { at + length key.now + 3 * length text.now ≤ length room.old }
-    ensures at { result ≤ at + length key.now + 3 * length text.now }
+/// Puts the prefix and the component of the first value.
+#[tactic(auto, unfolding(crate::specs::Requoting::first_from))]
+fn put_first(room: &mut [u8], at: usize, text: &[u8]) -> usize
+    requires { at + 5 + 3 * length text.now ≤ length room.old }
+    ensures at { result ≤ at + 5 + 3 * length text.now }
     ensures room { length room.new ≡ length room.old }
-    ensures written { take result room.new ≡ take at room.old ++ keyed key.now text.now }
+    ensures written { take result room.new ≡ take at room.old ++ first_from text.now }
 {
-    let at = put(room, at, key);
+    let at = put(room, at, b"cpe:/");
+    put_component(room, at, text)
+}
+
+/// Puts a byte and the component of a value.
+#[tactic(auto, unfolding(crate::specs::Requoting::behind))]
+fn put_behind(room: &mut [u8], at: usize, before: u8, text: &[u8]) -> usize
+    requires { at + 1 + 3 * length text.now ≤ length room.old }
+    ensures at { result ≤ at + 1 + 3 * length text.now }
+    ensures room { length room.new ≡ length room.old }
+    ensures written { take result room.new ≡ take at room.old ++ behind before text.now }
+{
+    let at = put_byte(room, at, before);
     put_component(room, at, text)
 }
 
@@ -122,24 +134,25 @@ fn put_packed(room: &mut [u8], at: usize, written: &Written) -> usize
     ensures room { length room.new ≡ length room.old }
     ensures written { take result room.new ≡ take at room.old ++ packed_from written.now }
 {
-    let at = put_keyed(room, at, b"~", written.edition);
-    let at = put_keyed(room, at, b"~", written.sw_edition);
-    let at = put_keyed(room, at, b"~", written.target_sw);
-    let at = put_keyed(room, at, b"~", written.target_hw);
-    put_keyed(room, at, b"~", written.other)
+    let at = put_behind(room, at, b'~', written.edition);
+    let at = put_behind(room, at, b'~', written.sw_edition);
+    let at = put_behind(room, at, b'~', written.target_sw);
+    let at = put_behind(room, at, b'~', written.target_hw);
+    put_behind(room, at, b'~', written.other)
 }
 
-/// Puts the component of the edition.
+/// Puts a colon and the component of the edition.
 #[tactic(auto, unfolding(crate::specs::Requoting::edition_from))]
 fn put_edition(room: &mut [u8], at: usize, written: &Written) -> usize
-    requires { at + 3 * (length written.now.edition.now + total_length (extended_texts written.now)) + 5 ≤ length room.old }
-    ensures at { result ≤ at + 3 * (length written.now.edition.now + total_length (extended_texts written.now)) + 5 }
+    requires { at + 3 * (length written.now.edition.now + total_length (extended_texts written.now)) + 6 ≤ length room.old }
+    ensures at { result ≤ at + 3 * (length written.now.edition.now + total_length (extended_texts written.now)) + 6 }
     ensures room { length room.new ≡ length room.old }
     ensures written { take result room.new ≡ take at room.old ++ edition_from written.now }
 {
     if is_edition_alone(written) {
-        return put_component(room, at, written.edition);
+        return put_behind(room, at, b':', written.edition);
     }
+    let at = put_byte(room, at, b':');
     put_packed(room, at, written)
 }
 
@@ -150,14 +163,13 @@ fn put_components(room: &mut [u8], at: usize, written: &Written) -> usize
     ensures room { length room.new ≡ length room.old }
     ensures written { take result room.new ≡ take at room.old ++ untrimmed_from written.now }
 {
-    let at = put_keyed(room, at, b"cpe:/", written.part);
-    let at = put_keyed(room, at, b":", written.vendor);
-    let at = put_keyed(room, at, b":", written.product);
-    let at = put_keyed(room, at, b":", written.version);
-    let at = put_keyed(room, at, b":", written.update);
-    let at = put(room, at, b":");
+    let at = put_first(room, at, written.part);
+    let at = put_behind(room, at, b':', written.vendor);
+    let at = put_behind(room, at, b':', written.product);
+    let at = put_behind(room, at, b':', written.version);
+    let at = put_behind(room, at, b':', written.update);
     let at = put_edition(room, at, written);
-    put_keyed(room, at, b":", written.language)
+    put_behind(room, at, b':', written.language)
 }
 
 /// Puts the canonical URI of the name whose values have these texts.

@@ -9,8 +9,11 @@ ghost use Rattle.cpe_uri.specs.Canon.{canon};
 ghost use Rattle.cpe_uri.specs.Bound.{bound_uri, BindsUri, WritesUri};
 
 mod bind;
+#[cfg(test)]
+mod bind_tests;
 mod bound;
 mod spelling;
+mod trim;
 
 use crate::bound::put_uri;
 pub use bind::bind_uri;
