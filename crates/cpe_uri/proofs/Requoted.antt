@@ -202,12 +202,12 @@ written_is s t are =
     let each = each_text are.name (texts t) are.are in
     let good = λ (a : Attribute). good_value are.name a are.has.name in
     ap (trimmed 58)
-      (sym (untrimmed_of t)
-      ∙ alike
-        (λ a. component_from (slot (texts t) a))
-        (λ a. component (value_of are.name a))
-        (λ a. says_any (slot (texts t) a))
-        (λ a. is_any (value_of are.name a))
-        (λ a. component_is (slot (texts t) a) (value_of are.name a) (good a) (each a))
-        (λ a. any_is (slot (texts t) a) (value_of are.name a) (good a) (each a)))
+    (sym (untrimmed_of t)
+    ∙ alike
+    (λ a. component_from (slot (texts t) a))
+    (λ a. component (value_of are.name a))
+    (λ a. says_any (slot (texts t) a))
+    (λ a. is_any (value_of are.name a))
+    (λ a. component_is (slot (texts t) a) (value_of are.name a) (good a) (each a))
+    (λ a. any_is (slot (texts t) a) (value_of are.name a) (good a) (each a)))
     ∙ canon_by are.name

@@ -1,7 +1,9 @@
 -- The canonical URI of a name, made from the texts of its values byte by byte: a backslash is dropped, and the byte behind it has its
 -- spelling; an unquoted `?` or `*` is a special. No public clause rests on it.
-use Rattle.std.specs.Prelude.{ℕ, ◌-◌, Bool, true, false, not, ◌&&◌, ◌||◌, ◌==◌, if◌then◌else◌, List, [], ◌∷◌, ◌++◌, length, take, codes}
+use Rattle.std.specs.Prelude.{ℕ, ◌-◌, Bool, true, false, not, ◌&&◌, ◌||◌, ◌==◌, nat_lt, if◌then◌else◌, List, [], ◌∷◌, ◌++◌, length, take, codes}
 use Rattle.std.specs.List.{list_all}
+use Rattle.cpe_values.specs.declared.spelling.Style.TheVariants as style
+use Rattle.cpe_values.specs.Spelling.{is_bare}
 use Rattle.cpe_name.specs.declared.scan.Written.{Written}
 use Rattle.cpe_uri.specs.Spelling.{character}
 use Rattle.cpe_uri.specs.Canon.{trimmed}
@@ -20,6 +22,14 @@ code_from false c = if c == 63 then 1 else (if c == 42 then 2 else c)
 -- the spelling of a byte, and nothing of a backslash that quotes
 abbrev pub spelled : Bool → ℕ → List ℕ
 spelled quoted c = if quotes quoted c then [] else character (code_from quoted c)
+
+-- how many bytes an unquoted byte gives
+abbrev pub unquoted_length : ℕ → ℕ
+unquoted_length c = if c == 92 then 0 else (if is_bare style.Formatted c then 1 else 3)
+
+-- a byte that doesn't stand bare and isn't dropped
+abbrev pub is_coded : Bool → ℕ → Bool
+is_coded quoted n = nat_lt 1 n || quoted && n == 0
 
 -- the spellings of bytes, the first of which is quoted or not
 unfoldable pub requoted : Bool → List ℕ → List ℕ

@@ -5,10 +5,10 @@ ghost use Rattle.cpe_name.specs.Names.{value_of};
 ghost use Rattle.cpe_uri.specs.Spelling.{edge_codes, character, component};
 ghost use Rattle.cpe_uri.specs.Canon.{is_any, extended, edition_component, components, trimmed, canon};
 
-use crate::spelling::{is_bare, percent_form};
+use crate::spelling::percent_form;
 use crate::trim::without_colons;
 use cpe_name::{Attribute, Wfn};
-use cpe_values::{Edge, Memory, Value};
+use cpe_values::{Edge, Memory, Style, Value, is_bare_byte};
 use std::alloc::Global;
 
 /// The attributes with components of their own between the first and that of the edition.
@@ -30,7 +30,7 @@ const EXTENDED: [Attribute; 4] = [
 fn push_character(out: &mut Vec<u8>, code: u8) -> Result<(), Memory>
     ensures { OnOk result (out.new.items ≡ out.old.items ++ character code) }
 {
-    if is_bare(code) {
+    if is_bare_byte(Style::Formatted, code) {
         out.push(code)?;
         return Ok(());
     }

@@ -1,29 +1,29 @@
 // How the codes of a text are spelled in a URI (NIST IR 7695, 6.1).
 ghost use Rattle.std.specs.Prelude.{◌≡◌, ◌<◌};
-ghost use Rattle.cpe_values.specs.Spelling.{is_bare};
-ghost use Rattle.cpe_values.specs.declared.spelling.Style.TheVariants as style;
 ghost use Rattle.cpe_uri.specs.Spelling.{hex_digit, percent};
+ghost use Rattle.cpe_uri.specs.Requoting.{unquoted_length};
 
-/// For each byte, 32 to a line: `b` where it stands bare.
-const KINDS: &[u8; 256] = b"\
-      --------------------------------\
-      -------------bb-bbbbbbbbbb------\
-      -bbbbbbbbbbbbbbbbbbbbbbbbbb----b\
-      -bbbbbbbbbbbbbbbbbbbbbbbbbb-----\
-      --------------------------------\
-      --------------------------------\
-      --------------------------------\
-      --------------------------------\
-      ";
+/// How many bytes an unquoted byte gives: none for a backslash, one where it stands bare, three of a percent form.
+#[rattlefmt::skip]
+const LENGTHS: [u8; 256] = [
+    3, 3, 3, 3, 3, 3, 3, 3, 3, 3, 3, 3, 3, 3, 3, 3, 3, 3, 3, 3, 3, 3, 3, 3, 3, 3, 3, 3, 3, 3, 3, 3,
+    3, 3, 3, 3, 3, 3, 3, 3, 3, 3, 3, 3, 3, 1, 1, 3, 1, 1, 1, 1, 1, 1, 1, 1, 1, 1, 3, 3, 3, 3, 3, 3,
+    3, 1, 1, 1, 1, 1, 1, 1, 1, 1, 1, 1, 1, 1, 1, 1, 1, 1, 1, 1, 1, 1, 1, 1, 1, 1, 1, 3, 0, 3, 3, 1,
+    3, 1, 1, 1, 1, 1, 1, 1, 1, 1, 1, 1, 1, 1, 1, 1, 1, 1, 1, 1, 1, 1, 1, 1, 1, 1, 1, 3, 3, 3, 3, 3,
+    3, 3, 3, 3, 3, 3, 3, 3, 3, 3, 3, 3, 3, 3, 3, 3, 3, 3, 3, 3, 3, 3, 3, 3, 3, 3, 3, 3, 3, 3, 3, 3,
+    3, 3, 3, 3, 3, 3, 3, 3, 3, 3, 3, 3, 3, 3, 3, 3, 3, 3, 3, 3, 3, 3, 3, 3, 3, 3, 3, 3, 3, 3, 3, 3,
+    3, 3, 3, 3, 3, 3, 3, 3, 3, 3, 3, 3, 3, 3, 3, 3, 3, 3, 3, 3, 3, 3, 3, 3, 3, 3, 3, 3, 3, 3, 3, 3,
+    3, 3, 3, 3, 3, 3, 3, 3, 3, 3, 3, 3, 3, 3, 3, 3, 3, 3, 3, 3, 3, 3, 3, 3, 3, 3, 3, 3, 3, 3, 3, 3,
+];
 
 const DIGITS: &[u8; 16] = b"0123456789abcdef";
 
-/// Whether a code stands bare.
-#[tactic(auto, using(crate::proofs::Tables::kind_is))]
-pub(crate) fn is_bare(code: u8) -> bool
-    ensures { result ≡ is_bare style.Formatted code }
+/// How many bytes an unquoted byte gives.
+#[tactic(auto, using(crate::proofs::Tables::length_at))]
+pub(crate) fn unquoted_length(byte: u8) -> u8
+    ensures { result ≡ unquoted_length byte }
 {
-    KINDS[usize::from(code)] == b'b'
+    LENGTHS[usize::from(byte)]
 }
 
 #[tactic(auto, using(crate::proofs::Tables::digit_is))]

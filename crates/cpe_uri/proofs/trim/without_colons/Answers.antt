@@ -1,4 +1,4 @@
-use Rattle.std.proofs.Common.{sym, ◌∙◌, ◌≤◌, ◌<◌, length, arith}
+use Rattle.std.proofs.Common.{sym, ◌∙◌, arith}
 use Rattle.cpe_uri.proofs.Trims.{trimmed_one, trimmed_stays}
 use Rattle.cpe_uri.proofs.trim.without_colons.Goals as goal
 
