@@ -24,8 +24,8 @@ use Rattle.cpe_name.specs.Scanning.{slot}
 use Rattle.cpe_name.specs.Spans.{texts, or_any, AreWritten}
 use Rattle.cpe_name.proofs.WholeTexts.{value_found, good_value, each_text}
 use Rattle.cpe_uri.specs.Spelling.{edge_codes, text_codes, character, component}
-use Rattle.cpe_uri.specs.Canon.{is_any, extended, trimmed, canon}
-use Rattle.cpe_uri.specs.Requoting.{quotes, spelled, requoted, component_from, says_any, keyed, packed_from, edition_from, untrimmed_from, uri_from}
+use Rattle.cpe_uri.specs.Canon.{is_any, extended, packed, edition_component, trimmed, canon}
+use Rattle.cpe_uri.specs.Requoting.{quotes, spelled, requoted, component_from, says_any, first_from, behind, packed_from, edition_from, untrimmed_from, uri_from}
 
 -- ---- characters
 
@@ -157,38 +157,42 @@ packed_by : (Attribute → List ℕ) → List ℕ
 packed_by f = (126 ∷ f Edition) ++ (126 ∷ f SwEdition) ++ (126 ∷ f TargetSw) ++ (126 ∷ f TargetHw) ++ (126 ∷ f Other)
 
 edition_by : (Attribute → List ℕ) → (Attribute → Bool) → List ℕ
-edition_by f g = cond (list_all g extended) (f Edition) (packed_by f)
+edition_by f g = cond (list_all g extended) (58 ∷ f Edition) (58 ∷ packed_by f)
 
 untrimmed_by : (Attribute → List ℕ) → (Attribute → Bool) → List ℕ
-untrimmed_by f g = (codes "cpe:/" ++ f Part) ++ (58 ∷ f Vendor) ++ (58 ∷ f Product) ++ (58 ∷ f Version) ++ (58 ∷ f Update) ++ (58 ∷ []) ++ edition_by f g ++ (58 ∷ f Language)
+untrimmed_by f g = (codes "cpe:/" ++ f Part) ++ (58 ∷ f Vendor) ++ (58 ∷ f Product) ++ (58 ∷ f Version) ++ (58 ∷ f Update) ++ edition_by f g ++ (58 ∷ f Language)
 
 alike : (f h : Attribute → List ℕ) (g k : Attribute → Bool) → ((a : Attribute) → f a ≡ h a) → ((a : Attribute) → g a ≡ k a) → untrimmed_by f g ≡ untrimmed_by h k
 unfolding untrimmed_by edition_by packed_by
 alike f h g k e d = rw (d SwEdition, d TargetSw, d TargetHw, d Other, e Part, e Vendor, e Product, e Version, e Update, e Edition, e Language, e SwEdition, e TargetSw, e TargetHw, e Other) refl
 
-regroup : (p a b c d e f : List ℕ) → p ++ a ++ b ++ c ++ d ++ (58 ∷ []) ++ e ++ f ≡ p ++ (a ++ (b ++ (c ++ (d ++ (58 ∷ (e ++ f))))))
+regroup : (p a b c d e f : List ℕ) → p ++ a ++ b ++ c ++ d ++ (58 ∷ e) ++ f ≡ p ++ (a ++ (b ++ (c ++ (d ++ (58 ∷ (e ++ f))))))
 regroup p a b c d e f = simp append_assoc
 
 regroup_packed : (a b c d e : List ℕ) → a ++ b ++ c ++ d ++ e ≡ a ++ (b ++ (c ++ (d ++ (e ++ []))))
 regroup_packed a b c d e = simp (append_assoc, append-nil)
 
+edition_is : (w : Values) → edition_by (λ a. component (value_of w a)) (λ a. is_any (value_of w a)) ≡ 58 ∷ edition_component w
+unfolding edition_by packed_by
+edition_is w = go (list_all (λ a. is_any (value_of w a)) extended) where
+  go : (alone : Bool) → cond alone (58 ∷ component w.edition) (58 ∷ packed_by (λ a. component (value_of w a))) ≡ 58 ∷ cond alone (component w.edition) (packed w)
+  go true = refl
+  go false = ap (λ (u : List ℕ). 58 ∷ u) (regroup_packed (126 ∷ component w.edition) (126 ∷ component w.sw_edition) (126 ∷ component w.target_sw) (126 ∷ component w.target_hw) (126 ∷ component w.other))
+
 canon_by : (w : Values) → trimmed 58 (untrimmed_by (λ a. component (value_of w a)) (λ a. is_any (value_of w a))) ≡ canon w
-unfolding untrimmed_by edition_by packed_by
+unfolding untrimmed_by
 canon_by w =
-    let packed = regroup_packed (126 ∷ component w.edition) (126 ∷ component w.sw_edition) (126 ∷ component w.target_sw) (126 ∷ component w.target_hw) (126 ∷ component w.other) in
-    ap (trimmed 58)
-    (ap
-    (λ (u : List ℕ). (codes "cpe:/" ++ component w.part) ++ (58 ∷ component w.vendor) ++ (58 ∷ component w.product) ++ (58 ∷ component w.version) ++ (58 ∷ component w.update) ++ (58 ∷ []) ++ cond (list_all (λ a. is_any (value_of w a)) extended) (component w.edition) u ++ (58 ∷ component w.language))
-    packed
-    ∙ regroup (codes "cpe:/" ++ component w.part) (58 ∷ component w.vendor) (58 ∷ component w.product) (58 ∷ component w.version) (58 ∷ component w.update) _ (58 ∷ component w.language))
+    let front = (codes "cpe:/" ++ component w.part) ++ (58 ∷ component w.vendor) ++ (58 ∷ component w.product) ++ (58 ∷ component w.version) ++ (58 ∷ component w.update) in
+    ap (λ (u : List ℕ). trimmed 58 (front ++ u ++ (58 ∷ component w.language))) (edition_is w)
+    ∙ ap (trimmed 58) (regroup (codes "cpe:/" ++ component w.part) (58 ∷ component w.vendor) (58 ∷ component w.product) (58 ∷ component w.version) (58 ∷ component w.update) (edition_component w) (58 ∷ component w.language))
 
 untrimmed_of : (t : Written) → untrimmed_by (λ a. component_from (slot (texts t) a)) (λ a. says_any (slot (texts t) a)) ≡ untrimmed_from t
-unfolding untrimmed_by edition_by packed_by untrimmed_from edition_from packed_from keyed
+unfolding untrimmed_by edition_by packed_by untrimmed_from edition_from packed_from first_from behind
 untrimmed_of t = refl
 
 -- not all of it is colons
 pub some_other : (t : Written) → list_all (nat_eq 58) (untrimmed_from t) ≡ false
-unfolding untrimmed_from keyed
+unfolding untrimmed_from first_from
 some_other t = refl
 
 -- what is written of the texts of a name is its canonical URI

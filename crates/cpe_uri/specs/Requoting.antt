@@ -1,7 +1,9 @@
 -- The canonical URI of a name, made from the texts of its values byte by byte: a backslash is dropped, and the byte behind it has its
 -- spelling; an unquoted `?` or `*` is a special. No public clause rests on it.
-use Rattle.std.specs.Prelude.{ℕ, ◌-◌, Bool, true, false, not, ◌&&◌, ◌||◌, ◌==◌, if◌then◌else◌, List, [], ◌∷◌, ◌++◌, length, take, codes}
+use Rattle.std.specs.Prelude.{ℕ, ◌-◌, Bool, true, false, not, ◌&&◌, ◌||◌, ◌==◌, nat_lt, if◌then◌else◌, List, [], ◌∷◌, ◌++◌, length, take, codes}
 use Rattle.std.specs.List.{list_all}
+use Rattle.cpe_values.specs.declared.spelling.Style.TheVariants as style
+use Rattle.cpe_values.specs.Spelling.{is_bare}
 use Rattle.cpe_name.specs.declared.scan.Written.{Written}
 use Rattle.cpe_uri.specs.Spelling.{character}
 use Rattle.cpe_uri.specs.Canon.{trimmed}
@@ -21,6 +23,14 @@ code_from false c = if c == 63 then 1 else (if c == 42 then 2 else c)
 abbrev pub spelled : Bool → ℕ → List ℕ
 spelled quoted c = if quotes quoted c then [] else character (code_from quoted c)
 
+-- how many bytes an unquoted byte gives
+abbrev pub unquoted_length : ℕ → ℕ
+unquoted_length c = if c == 92 then 0 else (if is_bare style.Formatted c then 1 else 3)
+
+-- a byte that doesn't stand bare and isn't dropped
+abbrev pub is_coded : Bool → ℕ → Bool
+is_coded quoted n = nat_lt 1 n || quoted && n == 0
+
 -- the spellings of bytes, the first of which is quoted or not
 unfoldable pub requoted : Bool → List ℕ → List ℕ
 requoted quoted [] = []
@@ -36,9 +46,13 @@ abbrev pub says_any : List ℕ → Bool
 says_any [] = true
 says_any (c ∷ s) = not (c == 34 || c == 78)
 
--- a key, and the component of a value
-unfoldable pub keyed : List ℕ → List ℕ → List ℕ
-keyed key u = key ++ component_from u
+-- the prefix and the first component
+unfoldable pub first_from : List ℕ → List ℕ
+first_from u = codes "cpe:/" ++ component_from u
+
+-- the component of a value behind a byte
+unfoldable pub behind : ℕ → List ℕ → List ℕ
+behind before u = before ∷ component_from u
 
 -- ---- the whole
 
@@ -48,15 +62,15 @@ extended_texts w = w.sw_edition.now ∷ w.target_sw.now ∷ w.target_hw.now ∷ 
 
 -- the edition and those four, a tilde before each
 unfoldable pub packed_from : Written → List ℕ
-packed_from w = keyed (codes "~") w.edition.now ++ keyed (codes "~") w.sw_edition.now ++ keyed (codes "~") w.target_sw.now ++ keyed (codes "~") w.target_hw.now ++ keyed (codes "~") w.other.now
+packed_from w = behind 126 w.edition.now ++ behind 126 w.sw_edition.now ++ behind 126 w.target_sw.now ++ behind 126 w.target_hw.now ++ behind 126 w.other.now
 
--- the edition alone where the four are ANY
+-- a colon, and the edition alone where the four are ANY
 unfoldable pub edition_from : Written → List ℕ
-edition_from w = if list_all says_any (extended_texts w) then component_from w.edition.now else packed_from w
+edition_from w = if list_all says_any (extended_texts w) then behind 58 w.edition.now else 58 ∷ packed_from w
 
 -- with the colons at its end
 unfoldable pub untrimmed_from : Written → List ℕ
-untrimmed_from w = keyed (codes "cpe:/") w.part.now ++ keyed (codes ":") w.vendor.now ++ keyed (codes ":") w.product.now ++ keyed (codes ":") w.version.now ++ keyed (codes ":") w.update.now ++ codes ":" ++ edition_from w ++ keyed (codes ":") w.language.now
+untrimmed_from w = first_from w.part.now ++ behind 58 w.vendor.now ++ behind 58 w.product.now ++ behind 58 w.version.now ++ behind 58 w.update.now ++ edition_from w ++ behind 58 w.language.now
 
 unfoldable pub uri_from : Written → List ℕ
 uri_from w = trimmed 58 (untrimmed_from w)

@@ -5,7 +5,8 @@ ghost use Rattle.cpe_name.specs.Names.{value_of};
 ghost use Rattle.cpe_uri.specs.Spelling.{edge_codes, character, component};
 ghost use Rattle.cpe_uri.specs.Canon.{is_any, extended, edition_component, components, trimmed, canon};
 
-use crate::spelling::{percent_form, without_colons};
+use crate::spelling::percent_form;
+use crate::trim::without_colons;
 use cpe_name::{Attribute, Wfn};
 use cpe_values::{Edge, Memory, Style, Value, is_bare_byte};
 use std::alloc::Global;

@@ -3,18 +3,12 @@
 ghost use Rattle.std.specs.Prelude.{◌≡◌, ◌≤◌, ◌+◌, ◌*◌, ◌-◌, ◌++◌, ◌∷◌, [], length, take, false, if◌then◌else◌};
 ghost use Rattle.std.specs.List.{list_all};
 ghost use Rattle.cpe_name.specs.Spans.{texts, total_length};
-ghost use Rattle.cpe_uri.specs.Requoting.{quotes, code_from, spelled, requoted, component_from, says_any, keyed, extended_texts, packed_from, edition_from, untrimmed_from, uri_from};
+ghost use Rattle.cpe_uri.specs.Requoting.{quotes, code_from, spelled, is_coded, requoted, component_from, says_any, first_from, behind, extended_texts, packed_from, edition_from, untrimmed_from, uri_from};
 
-use crate::spelling::{percent_form, without_colons};
+use crate::spelling::{percent_form, unquoted_length};
+use crate::trim::without_colons;
 use cpe_name::Written;
 use cpe_room::{put, put_byte};
-use cpe_values::{Style, is_bare_byte};
-
-fn quotes(quoted: bool, byte: u8) -> bool
-    ensures { result ≡ quotes quoted byte }
-{
-    !quoted && byte == b'\\'
-}
 
 fn code_from(quoted: bool, byte: u8) -> u8
     ensures { result ≡ code_from quoted byte }
@@ -26,29 +20,39 @@ fn code_from(quoted: bool, byte: u8) -> u8
     }
 }
 
-/// Puts a byte that stands bare, or nothing of one that is dropped. It is always written: no branch depends on which it is.
-fn put_bare(room: &mut [u8], at: usize, byte: u8, is_dropped: bool) -> usize
-    requires { at + 1 ≤ length room.old }
-    ensures at { result ≤ at + 1 }
-    ensures room { length room.new ≡ length room.old }
-    ensures written { take result room.new ≡ take at room.old ++ (if is_dropped then [] else byte ∷ []) }
+/// Whether a byte is written in its percent form: one that doesn't stand bare and isn't dropped.
+fn is_coded(quoted: bool, count: u8) -> bool
+    ensures { result ≡ is_coded quoted count }
 {
-    room[at] = byte;
-    at + usize::from(!is_dropped)
+    count < u8::from(quoted) || count > 1
 }
 
-/// Puts the spelling of a byte, or nothing of a backslash that quotes.
-fn put_spelled(room: &mut [u8], at: usize, quoted: bool, byte: u8) -> usize
-    requires { at + 3 ≤ length room.old }
-    ensures at { result ≤ at + 3 }
+/// Puts a byte that stands bare, or none of a backslash that is dropped. It is always written: no branch depends on which it is.
+fn put_kept(room: &mut [u8], at: usize, byte: u8, count: u8) -> usize
+    requires room { at + 1 ≤ length room.old }
+    requires most { count ≤ 1 }
+    ensures at { result ≤ at + 1 }
     ensures room { length room.new ≡ length room.old }
-    ensures written { take result room.new ≡ take at room.old ++ spelled quoted byte }
+    ensures written { take result room.new ≡ take at room.old ++ take count (byte ∷ []) }
 {
-    let is_dropped = quotes(quoted, byte);
-    if is_dropped || is_bare_byte(Style::Formatted, byte) {
-        return put_bare(room, at, byte, is_dropped);
+    room[at] = byte;
+    at + usize::from(count)
+}
+
+/// Puts the spelling of a byte, and tells whether it quotes the byte behind it.
+fn put_spelled(room: &mut [u8], at: usize, quoted: bool, byte: u8) -> (usize, bool)
+    requires { at + 3 ≤ length room.old }
+    ensures at { result.0 ≤ at + 3 }
+    ensures room { length room.new ≡ length room.old }
+    ensures written { take result.0 room.new ≡ take at room.old ++ spelled quoted byte }
+    ensures quotes { result.1 ≡ quotes quoted byte }
+{
+    let count = unquoted_length(byte);
+    if is_coded(quoted, count) {
+        let code = code_from(quoted, byte);
+        return (put(room, at, &percent_form(code)), false);
     }
-    put(room, at, &percent_form(code_from(quoted, byte)))
+    (put_kept(room, at, byte, count), count == 0)
 }
 
 fn put_requoted(room: &mut [u8], start: usize, bytes: &[u8]) -> usize
@@ -60,8 +64,7 @@ fn put_requoted(room: &mut [u8], start: usize, bytes: &[u8]) -> usize
     let mut at = start;
     let mut quoted = false;
     for byte in bytes {
-        at = put_spelled(room, at, quoted, *byte);
-        quoted = quotes(quoted, *byte);
+        (at, quoted) = put_spelled(room, at, quoted, *byte);
     }
     at
 }
@@ -88,15 +91,27 @@ fn put_component(room: &mut [u8], at: usize, text: &[u8]) -> usize
     }
 }
 
-/// Puts a key and the component of a value.
-#[tactic(auto, unfolding(crate::specs::Requoting::keyed))]
-fn put_keyed(room: &mut [u8], at: usize, key: &[u8], text: &[u8]) -> usize
-    requires { at + length key.now + 3 * length text.now ≤ length room.old }
-    ensures at { result ≤ at + length key.now + 3 * length text.now }
+/// Puts the prefix and the component of the first value.
+#[tactic(auto, unfolding(crate::specs::Requoting::first_from))]
+fn put_first(room: &mut [u8], at: usize, text: &[u8]) -> usize
+    requires { at + 5 + 3 * length text.now ≤ length room.old }
+    ensures at { result ≤ at + 5 + 3 * length text.now }
     ensures room { length room.new ≡ length room.old }
-    ensures written { take result room.new ≡ take at room.old ++ keyed key.now text.now }
+    ensures written { take result room.new ≡ take at room.old ++ first_from text.now }
 {
-    let at = put(room, at, key);
+    let at = put(room, at, b"cpe:/");
+    put_component(room, at, text)
+}
+
+/// Puts a byte and the component of a value.
+#[tactic(auto, unfolding(crate::specs::Requoting::behind))]
+fn put_behind(room: &mut [u8], at: usize, before: u8, text: &[u8]) -> usize
+    requires { at + 1 + 3 * length text.now ≤ length room.old }
+    ensures at { result ≤ at + 1 + 3 * length text.now }
+    ensures room { length room.new ≡ length room.old }
+    ensures written { take result room.new ≡ take at room.old ++ behind before text.now }
+{
+    let at = put_byte(room, at, before);
     put_component(room, at, text)
 }
 
@@ -122,24 +137,25 @@ fn put_packed(room: &mut [u8], at: usize, written: &Written) -> usize
     ensures room { length room.new ≡ length room.old }
     ensures written { take result room.new ≡ take at room.old ++ packed_from written.now }
 {
-    let at = put_keyed(room, at, b"~", written.edition);
-    let at = put_keyed(room, at, b"~", written.sw_edition);
-    let at = put_keyed(room, at, b"~", written.target_sw);
-    let at = put_keyed(room, at, b"~", written.target_hw);
-    put_keyed(room, at, b"~", written.other)
+    let at = put_behind(room, at, b'~', written.edition);
+    let at = put_behind(room, at, b'~', written.sw_edition);
+    let at = put_behind(room, at, b'~', written.target_sw);
+    let at = put_behind(room, at, b'~', written.target_hw);
+    put_behind(room, at, b'~', written.other)
 }
 
-/// Puts the component of the edition.
+/// Puts a colon and the component of the edition.
 #[tactic(auto, unfolding(crate::specs::Requoting::edition_from))]
 fn put_edition(room: &mut [u8], at: usize, written: &Written) -> usize
-    requires { at + 3 * (length written.now.edition.now + total_length (extended_texts written.now)) + 5 ≤ length room.old }
-    ensures at { result ≤ at + 3 * (length written.now.edition.now + total_length (extended_texts written.now)) + 5 }
+    requires { at + 3 * (length written.now.edition.now + total_length (extended_texts written.now)) + 6 ≤ length room.old }
+    ensures at { result ≤ at + 3 * (length written.now.edition.now + total_length (extended_texts written.now)) + 6 }
     ensures room { length room.new ≡ length room.old }
     ensures written { take result room.new ≡ take at room.old ++ edition_from written.now }
 {
     if is_edition_alone(written) {
-        return put_component(room, at, written.edition);
+        return put_behind(room, at, b':', written.edition);
     }
+    let at = put_byte(room, at, b':');
     put_packed(room, at, written)
 }
 
@@ -150,14 +166,13 @@ fn put_components(room: &mut [u8], at: usize, written: &Written) -> usize
     ensures room { length room.new ≡ length room.old }
     ensures written { take result room.new ≡ take at room.old ++ untrimmed_from written.now }
 {
-    let at = put_keyed(room, at, b"cpe:/", written.part);
-    let at = put_keyed(room, at, b":", written.vendor);
-    let at = put_keyed(room, at, b":", written.product);
-    let at = put_keyed(room, at, b":", written.version);
-    let at = put_keyed(room, at, b":", written.update);
-    let at = put(room, at, b":");
+    let at = put_first(room, at, written.part);
+    let at = put_behind(room, at, b':', written.vendor);
+    let at = put_behind(room, at, b':', written.product);
+    let at = put_behind(room, at, b':', written.version);
+    let at = put_behind(room, at, b':', written.update);
     let at = put_edition(room, at, written);
-    put_keyed(room, at, b":", written.language)
+    put_behind(room, at, b':', written.language)
 }
 
 /// Puts the canonical URI of the name whose values have these texts.

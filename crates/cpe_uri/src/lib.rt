@@ -12,11 +12,14 @@ ghost use Rattle.cpe_uri.specs.Grammar.{Uri};
 ghost use Rattle.cpe_uri.specs.Bound.{bound_uri, BindsUri, WritesUri};
 
 mod bind;
+#[cfg(test)]
+mod bind_tests;
 mod bound;
 mod language;
 mod scan;
 mod spelling;
 mod text;
+mod trim;
 mod unbind;
 mod values;
 mod write;

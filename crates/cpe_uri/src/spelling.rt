@@ -1,12 +1,32 @@
-// How the codes of a text are spelled in a URI (NIST IR 7695, 6.1), and where its colons at the end begin.
-ghost use Rattle.std.specs.Prelude.{◌≡◌, ◌<◌, ◌≤◌, ◌-◌, length, take, get_or};
+// How the codes of a text are spelled in a URI (NIST IR 7695, 6.1).
+ghost use Rattle.std.specs.Prelude.{◌≡◌, ◌<◌};
 ghost use Rattle.cpe_uri.specs.Spelling.{hex_digit, percent};
-ghost use Rattle.cpe_uri.specs.Canon.{trimmed};
-ghost use Rattle.cpe_uri.specs.Requoting.{ends_in_colon};
+ghost use Rattle.cpe_uri.specs.Requoting.{unquoted_length};
+
+/// How many bytes an unquoted byte gives: none for a backslash, one where it stands bare, three of a percent form.
+#[rattlefmt::skip]
+const LENGTHS: [u8; 256] = [
+    3, 3, 3, 3, 3, 3, 3, 3, 3, 3, 3, 3, 3, 3, 3, 3, 3, 3, 3, 3, 3, 3, 3, 3, 3, 3, 3, 3, 3, 3, 3, 3,
+    3, 3, 3, 3, 3, 3, 3, 3, 3, 3, 3, 3, 3, 1, 1, 3, 1, 1, 1, 1, 1, 1, 1, 1, 1, 1, 3, 3, 3, 3, 3, 3,
+    3, 1, 1, 1, 1, 1, 1, 1, 1, 1, 1, 1, 1, 1, 1, 1, 1, 1, 1, 1, 1, 1, 1, 1, 1, 1, 1, 3, 0, 3, 3, 1,
+    3, 1, 1, 1, 1, 1, 1, 1, 1, 1, 1, 1, 1, 1, 1, 1, 1, 1, 1, 1, 1, 1, 1, 1, 1, 1, 1, 3, 3, 3, 3, 3,
+    3, 3, 3, 3, 3, 3, 3, 3, 3, 3, 3, 3, 3, 3, 3, 3, 3, 3, 3, 3, 3, 3, 3, 3, 3, 3, 3, 3, 3, 3, 3, 3,
+    3, 3, 3, 3, 3, 3, 3, 3, 3, 3, 3, 3, 3, 3, 3, 3, 3, 3, 3, 3, 3, 3, 3, 3, 3, 3, 3, 3, 3, 3, 3, 3,
+    3, 3, 3, 3, 3, 3, 3, 3, 3, 3, 3, 3, 3, 3, 3, 3, 3, 3, 3, 3, 3, 3, 3, 3, 3, 3, 3, 3, 3, 3, 3, 3,
+    3, 3, 3, 3, 3, 3, 3, 3, 3, 3, 3, 3, 3, 3, 3, 3, 3, 3, 3, 3, 3, 3, 3, 3, 3, 3, 3, 3, 3, 3, 3, 3,
+];
 
 const DIGITS: &[u8; 16] = b"0123456789abcdef";
 
-#[tactic(auto, using(crate::proofs::Digits::digit_is))]
+/// How many bytes an unquoted byte gives.
+#[tactic(auto, using(crate::proofs::Tables::length_at))]
+pub(crate) fn unquoted_length(byte: u8) -> u8
+    ensures { result ≡ unquoted_length byte }
+{
+    LENGTHS[usize::from(byte)]
+}
+
+#[tactic(auto, using(crate::proofs::Tables::digit_is))]
 fn hex_digit(number: u8) -> u8
     requires { number < 16 }
     ensures { result ≡ hex_digit number }
@@ -19,24 +39,4 @@ pub(crate) fn percent_form(code: u8) -> [u8; 3]
     ensures { result ≡ percent code }
 {
     [b'%', hex_digit(code / 16), hex_digit(code % 16)]
-}
-
-fn ends_in_colon(text: &[u8], end: usize) -> bool
-    requires { end ≤ length text.now }
-    ensures { result ≡ ends_in_colon (take end text.now) }
-{
-    end > 0 && text[end - 1] == b':'
-}
-
-/// Where the colons begin that stand at the end of these bytes of a text.
-pub(crate) fn without_colons(text: &[u8], end: usize) -> usize
-    requires { end ≤ length text.now }
-    ensures within { result ≤ end }
-    ensures trimmed { take result text.now ≡ trimmed 58 (take end text.now) }
-{
-    let mut end = end;
-    while ends_in_colon(text, end) {
-        end -= 1;
-    }
-    end
 }

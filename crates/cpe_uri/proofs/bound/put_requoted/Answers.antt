@@ -8,8 +8,8 @@ loop-byte-preserved c = record {
   at = omega arith;
   room = search rules;
   written =
-      ap (λ (q : Bool). take c.put_spelled-at.result c.put_spelled-at.new.room ++ requoted q (drop (c.loop-byte.byte-index + 1) c.args.bytes.now)) c.quotes-quoted.ensures
-      ∙ requoted_on c.args.bytes.now c.loop-byte.byte-index c.loop-byte.quoted _ _ c.loop-byte-test.true c.put_spelled-at.ensures.written
+      ap (λ (q : Bool). take c.put_spelled.result.0 c.put_spelled.new.room ++ requoted q (drop (c.loop-byte.byte-index + 1) c.args.bytes.now)) c.put_spelled.ensures.quotes
+      ∙ requoted_on c.args.bytes.now c.loop-byte.byte-index c.loop-byte.quoted _ _ c.loop-byte-test.true c.put_spelled.ensures.written
       ∙ c.loop-byte.invariant.written;
 }
 

@@ -1,6 +1,6 @@
 use Rattle.std.proofs.Common.{◌≡◌, ◌≤◌, take}
 use Rattle.cpe_uri.specs.Canon.{trimmed}
-use Rattle.cpe_uri.proofs.spelling.without_colons.Given as goal
+use Rattle.cpe_uri.proofs.trim.without_colons.Given as goal
 
 abbrev pub invariant-loop-end : goal.invariant-loop-end
 invariant-loop-end l = record {

@@ -1,6 +1,6 @@
 use Rattle.std.proofs.Common.{sym, ◌∙◌, arith}
 use Rattle.cpe_uri.proofs.Trims.{trimmed_one, trimmed_stays}
-use Rattle.cpe_uri.proofs.spelling.without_colons.Goals as goal
+use Rattle.cpe_uri.proofs.trim.without_colons.Goals as goal
 
 pub loop-end-preserved : goal.loop-end-preserved
 loop-end-preserved c = record {

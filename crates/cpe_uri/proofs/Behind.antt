@@ -1,5 +1,0 @@
--- What is put behind what was put.
-use Rattle.std.proofs.Common.{◌≡◌, ℕ, List, ◌++◌, ap, append_assoc, ◌∙◌}
-
-pub behind : (x y z a b : List ℕ) → y ≡ x ++ a → z ≡ y ++ b → z ≡ x ++ (a ++ b)
-behind x y z a b first second = second ∙ ap (λ (u : List ℕ). u ++ b) first ∙ append_assoc x a b
