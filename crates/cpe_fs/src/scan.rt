@@ -10,7 +10,7 @@ ghost use Rattle.cpe_name.specs.Names.{attributes};
 ghost use Rattle.cpe_fs.specs.Scanning.{is_quoted, starts_body, begins_with_backslash, marks_end, edge_end, character_end, body_end, stem_end, led_end, text_end, part_end, region_end, tag_end, language_end, field_end, fields_end, whole_end};
 ghost use Rattle.cpe_fs.specs.Spans.{AreComponents, Leaves, spans, behind_field, component_at, components_at};
 
-use cpe_grammar::{scan_byte, scan_literal};
+use cpe_grammar::{front_of, scan_byte, scan_literal};
 use cpe_name::{scan_language_letters, scan_region_code, scan_third_letter};
 use cpe_values::{Style, is_printable_byte, skip_bare};
 
@@ -169,13 +169,6 @@ fn scan_language(bytes: &[u8]) -> Result<&[u8], usize>
         [b'*' | b'-', rest @ ..] => Ok(rest),
         _ => scan_tag(bytes),
     }
-}
-
-/// The front of a slice before a rest of it.
-fn front_of<'a>(all: &'a [u8], rest: &[u8]) -> &'a [u8]
-    ensures { result.now ≡ take (length all.now - length rest.now) all.now }
-{
-    &all[..all.len().saturating_sub(rest.len())]
 }
 
 /// A colon and a part: the part, and what is left behind it.

@@ -1,5 +1,5 @@
 // Scanners of given bytes. Nothing here takes memory.
-ghost use Rattle.std.specs.Prelude.{◌≡◌, ◌==◌, Ok, Err};
+ghost use Rattle.std.specs.Prelude.{◌≡◌, ◌==◌, ◌-◌, length, take, Ok, Err};
 ghost use Rattle.cpe_grammar.specs.Scanners.{Tells, one, literal};
 
 /// Takes the byte that is expected: tells what is left behind it, or at another byte or the end how many bytes are left.
@@ -24,4 +24,12 @@ pub fn scan_literal<'a>(expected: &[u8], bytes: &'a [u8]) -> Result<&'a [u8], us
         rest = scan_byte(*byte, rest)?;
     }
     Ok(rest)
+}
+
+/// The front of a slice before a rest of it.
+#[inline(always)]
+pub fn front_of<'a>(all: &'a [u8], rest: &[u8]) -> &'a [u8]
+    ensures { result.now ≡ take (length all.now - length rest.now) all.now }
+{
+    &all[..all.len().saturating_sub(rest.len())]
 }

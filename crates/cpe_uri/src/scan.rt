@@ -12,7 +12,7 @@ ghost use Rattle.cpe_uri.specs.Found.{IsTextComponent, Piece, FieldPiece, begins
 
 use crate::language::{scan_language, scan_part};
 use crate::text::scan_text;
-use cpe_grammar::scan_byte;
+use cpe_grammar::{front_of, scan_byte};
 use cpe_name::Written;
 
 /// Where the values of a packed edition lie, or the edition alone and nothing for the others.
@@ -23,13 +23,6 @@ pub(crate) struct Editions<'a> {
     pub target_sw: &'a [u8],
     pub target_hw: &'a [u8],
     pub other: &'a [u8],
-}
-
-/// The front of a slice before a rest of it.
-fn front_of<'a>(all: &'a [u8], rest: &[u8]) -> &'a [u8]
-    ensures { result.now ≡ take (length all.now - length rest.now) all.now }
-{
-    &all[..all.len().saturating_sub(rest.len())]
 }
 
 fn is_at_colon(bytes: &[u8]) -> bool

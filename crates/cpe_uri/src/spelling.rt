@@ -1,6 +1,6 @@
 // How the codes of a text are spelled in a URI (NIST IR 7695, 6.1).
 ghost use Rattle.std.specs.Prelude.{◌≡◌, ◌<◌};
-ghost use Rattle.cpe_uri.specs.Spelling.{hex_digit, percent};
+ghost use Rattle.cpe_uri.specs.Spelling.{hex_digit, hex_value, percent};
 ghost use Rattle.cpe_uri.specs.Requoting.{unquoted_length};
 
 /// How many bytes an unquoted byte gives: none for a backslash, one where it stands bare, three of a percent form.
@@ -39,4 +39,15 @@ pub(crate) fn percent_form(code: u8) -> [u8; 3]
     ensures { result ≡ percent code }
 {
     [b'%', hex_digit(code / 16), hex_digit(code % 16)]
+}
+
+/// The number of a hexadecimal digit, its letters in either case.
+pub(crate) fn hex_value(byte: u8) -> u8
+    ensures { result ≡ hex_value byte }
+{
+    match byte {
+        ..=b'9' => byte.saturating_sub(b'0'),
+        ..=b'F' => byte.saturating_sub(55),
+        _ => byte.saturating_sub(87),
+    }
 }

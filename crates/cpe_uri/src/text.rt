@@ -1,10 +1,11 @@
 // Where a component of a URI ends (NIST IR 7695, 6.1). Nothing here takes memory.
-ghost use Rattle.std.specs.Prelude.{◌≡◌, ◌≤◌, ◌<◌, ℕ, Bool, true, length, ◌||◌};
+ghost use Rattle.std.specs.Prelude.{◌≡◌, ◌≤◌, Bool, length};
 ghost use Rattle.cpe_grammar.specs.Scanners.{Tells};
 ghost use Rattle.cpe_values.specs.Parts.{is_character};
 ghost use Rattle.cpe_uri.specs.Spelling.{is_hex, hex_value, has_percent_form};
 ghost use Rattle.cpe_uri.specs.Reading.{after_mark, after_star, takes_character, is_start, after_character, next, is_over, stands_bare, takes_special, takes_digit, after_bare, after_percent, after_digit, after_code, step, may_end, is_in_body, finished, read_from, text_end};
 
+use crate::spelling::hex_value;
 use cpe_values::{Style, is_bare_byte, skip_bare};
 
 /// How much of a component was read.
@@ -184,17 +185,6 @@ fn is_hex_byte(byte: u8) -> bool
     ensures { result ≡ is_hex byte }
 {
     matches!(byte, b'0'..=b'9' | b'A'..=b'F' | b'a'..=b'f')
-}
-
-fn hex_value(byte: u8) -> u8
-    requires { is_hex byte ≡ true }
-    ensures { result ≡ hex_value byte }
-{
-    match byte {
-        b'0'..=b'9' => byte - b'0',
-        b'A'..=b'F' => byte - 55,
-        _ => byte - 87,
-    }
 }
 
 /// One byte more, in a packed field or not.

@@ -6,19 +6,9 @@ ghost use Rattle.cpe_uri.specs.Spelling.{hex_value};
 ghost use Rattle.cpe_uri.specs.Rewriting.{code_of, code_text, is_requoted, bare_text, rewritten, in_quotes, span_text, attribute_bytes, spans_text};
 
 use crate::FRAME;
+use crate::spelling::hex_value;
 use cpe_name::Written;
 use cpe_room::{put, put_byte};
-
-/// The number of a hexadecimal digit.
-fn hex_value(byte: u8) -> u8
-    ensures { result ≡ hex_value byte }
-{
-    match byte {
-        ..=b'9' => byte.saturating_sub(b'0'),
-        ..=b'F' => byte.saturating_sub(55),
-        _ => byte.saturating_sub(87),
-    }
-}
 
 /// The code of two hexadecimal digits.
 fn code_of(high: u8, low: u8) -> u8
