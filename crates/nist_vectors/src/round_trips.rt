@@ -5,7 +5,8 @@ use std::alloc::Global;
 use std::test::Fail;
 
 // Names of the Official CPE Dictionary, and some with wildcards, with NA and with capital letters.
-const NAMES: &[u8] = b"cpe:2.3:a:acobot_live_chat_\\&_contact_form_project:acobot_live_chat_\\&_contact_form:2.0:*:*:*:*:wordpress:*:*
+const NAMES: &[u8] =
+    b"cpe:2.3:a:acobot_live_chat_\\&_contact_form_project:acobot_live_chat_\\&_contact_form:2.0:*:*:*:*:wordpress:*:*
 cpe:2.3:a:appa-apps:top_roller_coasters_europe_2:\\@7f050001:*:*:*:*:android:*:*
 cpe:2.3:a:autodesk:autocad_lt:2000i:sp2:locked:en:*:*:*:*
 cpe:2.3:a:bayashi:dopvstar\\*:0037:*:*:*:*:*:*:*
