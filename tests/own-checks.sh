@@ -77,12 +77,22 @@ answers_long_lines() {
     answers 'lines about the greatest length' "$room/long.txt" "$room/long.out" 1 unbind
 }
 
-# The texts of names go back to their formatted strings.
+# comes_back WHAT INPUT WORD..: what is bound under these words is unbound to the input again.
+comes_back() {
+    what=$1 input=$2
+    shift 2
+    limited "$program" "$@" < "$input" 2> /dev/null |
+        limited "$program" unbind > "$room/out" 2> "$room/error"
+    judge "$what" $? 0 "$input"
+}
+
+# The texts of names go to both bindings and back. No real name has a capital letter, which a URI would lose.
 answers_bindings() {
     answers 'the texts of names' examples/wfn.txt examples/wfn.out 1 bind fs
-    limited "$program" unbind < examples/names.txt 2> /dev/null |
-        limited "$program" bind fs > "$room/out" 2> "$room/error"
-    judge 'the real names unbound and bound again' $? 0 examples/names.txt
+    answers 'the texts of the real names' examples/names.out examples/names.txt 0 bind fs
+    answers 'the real names as URIs, in any spelling' examples/uris.txt examples/uris.out 0 unbind
+    comes_back 'the real names bound as formatted strings and unbound again' examples/names.out bind fs
+    comes_back 'the real names bound as URIs and unbound again' examples/names.out bind uri
 }
 
 # Words that are no command leave the input unread.
