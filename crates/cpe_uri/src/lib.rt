@@ -18,6 +18,8 @@ mod bound;
 mod language;
 mod scan;
 mod spelling;
+#[cfg(test)]
+mod tests;
 mod text;
 mod trim;
 mod unbind;
