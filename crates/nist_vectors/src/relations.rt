@@ -253,13 +253,27 @@ fn letters_of(alloc: Global, relations: &Relations) -> Result<Vec<u8>, Fail> {
     Ok(letters)
 }
 
+fn relations_of_names(
+    alloc: Global,
+    source: &[u8],
+    target: &[u8],
+) -> Result<(Relation, Relations), Fail> {
+    let source = unbind_fs(alloc, source)?;
+    let target = unbind_fs(alloc, target)?;
+    Ok(compare_names(&source, &target))
+}
+
+fn covers_name(alloc: Global, source: &[u8], target: &[u8]) -> Result<bool, Fail> {
+    let source = unbind_fs(alloc, source)?;
+    let target = unbind_fs(alloc, target)?;
+    Ok(covers(&source, &target))
+}
+
 #[test]
 fn names_are_compared_by_their_attributes(rt: HostRuntime) -> Result<(), Fail> {
     let alloc = rt.alloc();
     for (source, target, relation, letters) in NAMES {
-        let source = unbind_fs(alloc, source)?;
-        let target = unbind_fs(alloc, target)?;
-        let (whole, relations) = compare_names(&source, &target);
+        let (whole, relations) = relations_of_names(alloc, source, target)?;
         assert_eq!(rt; whole, relation);
         assert_eq!(rt; letters_of(alloc, &relations)?.as_slice(), letters);
     }
@@ -268,11 +282,9 @@ fn names_are_compared_by_their_attributes(rt: HostRuntime) -> Result<(), Fail> {
 
 #[test]
 fn a_name_covers_where_it_is_equal_or_a_superset(rt: HostRuntime) -> Result<(), Fail> {
-    let alloc = rt.alloc();
     for (source, target, relation, _) in NAMES {
-        let source = unbind_fs(alloc, source)?;
-        let target = unbind_fs(alloc, target)?;
-        assert_eq!(rt; covers(&source, &target), relation == Equal || relation == Superset);
+        let above = relation == Equal || relation == Superset;
+        assert_eq!(rt; covers_name(rt.alloc(), source, target)?, above);
     }
     Ok(())
 }
