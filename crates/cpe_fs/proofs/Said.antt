@@ -50,9 +50,9 @@ unfolding read_fs
 stops s left e = rw e refl
 
 -- either a name has the string and is read, or none has it and its place is read
-pub record NameRead (s : List ℕ) (r : Result Values ℕ) : Type 0 where
-  pub name : (w : Values) → r ≡ Ok w → Fs w s
-  pub place : (n : ℕ) → r ≡ Err n → LeavesAt s n
+record NameRead (s : List ℕ) (r : Result Values ℕ) : Type 0 where
+  name : (w : Values) → r ≡ Ok w → Fs w s
+  place : (n : ℕ) → r ≡ Err n → LeavesAt s n
 
 reads : (s : List ℕ) → NameRead s (read_fs s)
 reads s = go (whole_end s) refl where
@@ -82,7 +82,7 @@ read_place s place at = go (read_fs s) refl where
 
 -- ---- its output text
 
-abbrev text_of : Result Values ℕ → Result (List ℕ) ℕ
+abbrev pub text_of : Result Values ℕ → Result (List ℕ) ℕ
 text_of r = result_map_both output_text (λ (place : ℕ). place) r
 
 says : (s : List ℕ) (r : Result Values ℕ) → read_fs s ≡ r → unbound s ≡ text_of r
