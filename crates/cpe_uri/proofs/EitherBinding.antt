@@ -3,7 +3,7 @@ use Rattle.std.proofs.Common.{◌≡◌, ◌⊎◌, ℕ, Bool, true, false, List
 use Rattle.std.specs.Bool.{MatchBool}
 use Rattle.std.specs.Prelude.{codes}
 use Rattle.std.specs.List.{join_with_byte}
-use Rattle.std.specs.Result.{result_map_both}
+use Rattle.std.specs.Result.{result_map_both, IfOk, IfErr, MatchResult}
 use Rattle.std.specs.Str.{str_to_ascii_lowercase}
 use Rattle.std.proofs.lemmas.Bool.{cases_Bool, MatchBool-at_true, MatchBool-at_false}
 use Rattle.std.proofs.lemmas.List.{take_at}
@@ -127,10 +127,12 @@ any_left_read s place at =
       | inr b ↦ any_fs s b ∙ fs.read_place s place (MatchBool-at_false (LeavesUri s place) (LeavesAt s place) b at)
     ]
 
--- what a fault says of the text it says of what is read
-pub fault_said : (f : UriFault) (s : List ℕ) → RefusesBound f s → SaysFault f (read_any s)
-fault_said (fault.At place) s at = any_left_read s place at
-fault_said fault.Memory s has = tt
+-- a name that has the text is what is read, and a fault of the text says so of what is read
+pub any_reads : (r : Result Values UriFault) (s : List ℕ) → IfOk r (λ name. Bound name s) → IfErr r (λ f. RefusesBound f s)
+    → MatchResult r (λ name. read_any s ≡ Ok name) (λ f. SaysFault f (read_any s))
+any_reads (Ok name) s has refused = any_read name s has
+any_reads (Err (fault.At place)) s has refused = any_left_read s place refused
+any_reads (Err fault.Memory) s has refused = tt
 
 -- ---- its output text
 

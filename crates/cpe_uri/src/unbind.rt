@@ -118,6 +118,15 @@ pub fn unbind_any(alloc: Global, text: &[u8]) -> Result<Wfn, UriFault>
     // The same by a function.
     ensures read { MatchResult result (λ name. read_any text.now ≡ Ok name) (λ fault. SaysFault fault (read_any text.now)) }
 {
+    read_either(alloc, text)
+}
+
+// The name that has this text in one binding or the other.
+fn read_either(alloc: Global, text: &[u8]) -> Result<Wfn, UriFault>
+    ensures found { IfOk result (λ name. Bound name text.now) }
+    ensures only { (name : Values) → Bound name text.now → MatchResult result (λ found. found ≡ name) (λ fault. fault ≡ UriFault.Memory) }
+    ensures refused { IfErr result (λ fault. RefusesBound fault text.now) }
+{
     if begins_as_uri(text) {
         return unbind_uri(alloc, text);
     }
