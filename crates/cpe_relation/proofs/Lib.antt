@@ -1,0 +1,5 @@
+pub mod Splits
+pub mod Places
+pub mod Tables
+pub mod ValueLaws
+pub mod NameLaws

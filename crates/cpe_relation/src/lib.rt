@@ -1,0 +1,26 @@
+//! The relation of two names (NIST IR 7696): of each attribute, of the names as a whole, and whether one name covers
+//! the other. Letters are compared in lower case. No call takes memory, and each answers for any two values or names.
+//!
+//! [`compare_values`] is the table of the report. A source that is a pattern, a text with `*` or `?` before or after its
+//! body, matches a plain text where that is some characters that the lead allows, the body, and some that the trail
+//! allows: nothing allows none, `*` any number, and so many `?` at most so many. So `sp??` matches `sp`, `sp1` and
+//! `sp12`. Every such split is found: `*ab` matches `abab`.
+//!
+//! Some laws are stated as functions that do nothing: [`one_relation`], [`cover_laws`] and [`relation_laws`].
+//! What does not hold:
+//! - `8.*` against itself is UNDEFINED, as each attribute is whose target has a special; so [`covers`] is not reflexive
+//!   where there are specials.
+//! - With specials, a relation tells nothing of the other way round. `8.*` to `8.0` is SUPERSET, but `8.0` to `8.*`
+//!   UNDEFINED; `sp??` to `sp123` is DISJOINT, and back UNDEFINED; NA to `8.*` is UNDEFINED, and back DISJOINT.
+#![tactic(auto)]
+
+mod laws;
+mod matching;
+mod names;
+mod relation;
+mod table;
+
+pub use laws::{cover_laws, one_relation, relation_laws};
+pub use names::{compare_names, covers};
+pub use relation::{Relation, Relations};
+pub use table::compare_values;
