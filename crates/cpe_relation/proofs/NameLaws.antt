@@ -1,9 +1,8 @@
 -- Laws of the relation of two names.
-use Rattle.std.proofs.Common.{◌≡◌, ◌⊎◌, Bool, true, false, not, ◌&&◌, ◌||◌, cond, List, [], ◌∷◌, map, get_or, refl, sym, ap, ◌∙◌, inl, inr}
+use Rattle.std.proofs.Common.{◌≡◌, ◌⊎◌, Bool, true, false, not, ◌&&◌, ◌||◌, cond, List, [], ◌∷◌, map, refl, sym, ap, ◌∙◌, inl, inr}
 use Rattle.std.specs.List.{list_all, list_any}
 use Rattle.std.proofs.lemmas.Bool.{false≢true, and_parts, and_from, not-true, or_from}
 use Rattle.cpe_values.specs.declared.value.Value.{Value}
-use Rattle.cpe_values.specs.declared.value.Value.TheVariants as value
 use Rattle.cpe_values.specs.Lower.{lower_value, has_specials}
 use Rattle.cpe_name.specs.declared.name.Values.{Values}
 use Rattle.cpe_name.specs.declared.attribute.Attribute.{Attribute}
@@ -79,9 +78,11 @@ from_above false false false false f (inl h) = absurd cc
 from_above false false false false f (inr h) = absurd cc
 
 pub covers_relation : (a b : Values) → covers a b ≡ true → (name_relation a b ≡ Equal) ⊎ (name_relation a b ≡ Superset)
+unfolding covers name_relation
 covers_relation a b h = to_above (list_any is_disjoint (relations a b)) (list_all is_equal (relations a b)) (list_all is_within (relations a b)) (list_all is_above (relations a b)) (none_disjoint (relations a b)) (all_both (relations a b)) h
 
 pub relation_covers : (a b : Values) → (name_relation a b ≡ Equal) ⊎ (name_relation a b ≡ Superset) → covers a b ≡ true
+unfolding covers name_relation
 relation_covers a b h = from_above (list_any is_disjoint (relations a b)) (list_all is_equal (relations a b)) (list_all is_within (relations a b)) (list_all is_above (relations a b)) (all_equal_above (relations a b)) h
 
 -- ---- attribute by attribute
@@ -97,6 +98,7 @@ through a b c (w ∷ ws) h k =
     and_from (is_above (relation (value_of a w) (value_of c w))) (list_all is_above (between a c ws)) (above_through (value_of a w) (value_of b w) (value_of c w) p.0 q.0) (through a b c ws p.1 q.1)
 
 pub covers_through : (a b c : Values) → covers a b ≡ true → covers b c ≡ true → covers a c ≡ true
+unfolding covers
 covers_through a b c h k = through a b c attributes h k
 
 lowered_same : (a b : Values) (ws : List Attribute) → list_all is_above (between a b ws) ≡ true → list_all is_above (between b a ws) ≡ true → map (λ w. lower_value (value_of a w)) ws ≡ map (λ w. lower_value (value_of b w)) ws
@@ -108,6 +110,7 @@ lowered_same a b (w ∷ ws) h k =
     ∙ ap (λ (r : List Value). lower_value (value_of b w) ∷ r) (lowered_same a b ws p.1 q.1)
 
 pub covers_one : (a b : Values) → covers a b ≡ true → covers b a ≡ true → lower_name a ≡ lower_name b
+unfolding covers
 covers_one a b h k = ap named (lowered_same a b attributes h k)
 
 -- ---- letter case
@@ -149,6 +152,7 @@ all_equal_relation false true w a f g h = refl
 all_equal_relation false false w a f g h = absurd cc
 
 pub plain_self : (a : Values) → is_plain_name a ≡ true → name_relation a a ≡ Equal
+unfolding name_relation
 plain_self a h = all_equal_relation (list_any is_disjoint (relations a a)) (list_all is_equal (relations a a)) (list_all is_within (relations a a)) (list_all is_above (relations a a)) (none_disjoint (relations a a)) (all_equal_above (relations a a)) (plain_equal a attributes h)
 
 between_back : (a b : Values) (ws : List Attribute) → list_all (λ w. not (has_specials (value_of a w))) ws ≡ true → list_all (λ w. not (has_specials (value_of b w))) ws ≡ true → between b a ws ≡ map converse (between a b ws)
@@ -217,6 +221,7 @@ of_all_flip rs =
     ∙ summed_flip (list_any is_disjoint rs) (list_all is_equal rs) (list_all is_within rs) (list_all is_above rs) (all_both rs)
 
 pub name_back : (a b : Values) → is_plain_name a ≡ true → is_plain_name b ≡ true → name_relation b a ≡ converse (name_relation a b)
+unfolding name_relation
 name_back a b h k = ap of_all (between_back a b attributes h k) ∙ of_all_flip (relations a b)
 
 -- each relation stands in its place

@@ -67,9 +67,9 @@ of_all rs =
     else if list_all is_above rs then Superset
     else Undefined
 
-abbrev pub name_relation : Values → Values → Relation
+unfoldable pub name_relation : Values → Values → Relation
 name_relation a b = of_all (relations a b)
 
 -- each attribute is SUPERSET or EQUAL
-abbrev pub covers : Values → Values → Bool
+unfoldable pub covers : Values → Values → Bool
 covers a b = list_all is_above (relations a b)

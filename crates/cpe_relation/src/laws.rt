@@ -21,8 +21,8 @@ pub fn one_relation()
     ensures table { (a b : Value) (r : Relation) → Related a b r ↔ (r ≡ relation a b) }
 {}
 
-/// What it is to cover a name. A name covers another exactly where their relation is EQUAL or SUPERSET. What is covered by
-/// a name covers in turn nothing that the name does not cover. Names that cover each other are the same in lower case.
+/// When a name covers another: exactly where their relation is EQUAL or SUPERSET. A name also covers what is covered by a
+/// name that it covers, and names that cover each other are the same in lower case.
 pub fn cover_laws()
     ensures relation { (a b : Values) → IsTrue (covers a b) ↔ ((name_relation a b ≡ Relation.Equal) ⊎ (name_relation a b ≡ Relation.Superset)) }
     ensures transitive { (a b c : Values) → IsTrue (covers a b) → IsTrue (covers b c) → IsTrue (covers a c) }

@@ -44,7 +44,7 @@ fn most_before(lead: Edge, room: usize) -> usize
     }
 }
 
-// Whether a pattern matches a text. The places that both edges allow lie side by side, so one search finds a body there.
+// Whether a pattern matches a text. The places that both edges allow are all those between two, so one search serves.
 pub(crate) fn is_match(pattern: &Pattern, text: &[u8]) -> bool
     ensures { result ≡ matches pattern.now text.now }
 {

@@ -89,6 +89,7 @@ fn each_relation(source: &Wfn, target: &Wfn) -> Relations
 /// The relation of two names, and those of their eleven attributes (NIST IR 7696, 6.2): DISJOINT where an attribute is
 /// DISJOINT; else EQUAL where all are; else SUBSET where all are SUBSET or EQUAL; else SUPERSET where all are SUPERSET or
 /// EQUAL; else UNDEFINED. It takes no memory.
+#[tactic(auto, unfolding(crate::specs::NameRelation::name_relation))]
 pub fn compare_names(source: &Wfn, target: &Wfn) -> (Relation, Relations)
     ensures name { result.0 ≡ name_relation source.now target.now }
     ensures each { (w : Attribute) → relation_of result.1 w ≡ relation (value_of source.now w) (value_of target.now w) }
@@ -115,7 +116,7 @@ fn is_above_each(source: &Wfn, target: &Wfn) -> bool
 
 /// Whether the source covers the target: each attribute is SUPERSET or EQUAL, so the relation of the names is one of the
 /// two (NIST IR 7696, 6.2). It ends at the first attribute that decides, and takes no memory.
-#[tactic(auto, unfolding(crate::specs::Attributes::above_at))]
+#[tactic(auto, unfolding(crate::specs::Attributes::above_at, crate::specs::NameRelation::covers))]
 pub fn covers(source: &Wfn, target: &Wfn) -> bool
     ensures { result ≡ covers source.now target.now }
 {

@@ -4,18 +4,19 @@ ghost use Rattle.cpe_relation.specs.NameRelation.{relation_of, is_disjoint, is_e
 
 use cpe_name::Attribute;
 
-/// How a source relates to a target (NIST IR 7696, 6.1).
+/// How a source relates to a target, as sets of what they stand for (NIST IR 7696, 6.1).
 #[derive(Clone, Copy, Debug, PartialEq, Eq, Hash)]
 pub enum Relation {
-    /// Nothing is of both.
+    /// They have nothing in common.
     Disjoint,
-    /// What is of one is of the other.
+    /// They are the same.
     Equal,
-    /// What is of the source is of the target.
+    /// The source is a subset of the target.
     Subset,
-    /// What is of the target is of the source.
+    /// The source is a superset of the target.
     Superset,
-    /// The report does not say: the target has a special, or the attributes of two names point different ways.
+    /// None of the four is told: the target of an attribute has a special, or the attributes of two names tell no one
+    /// relation of the names.
     Undefined,
 }
 
