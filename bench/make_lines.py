@@ -16,10 +16,19 @@ wfn          the texts of the well-formed names of the lines of `valid`, all ele
 wfn-refused  such texts that are spoilt: one third each is cut off, has a fault of quoting
              inside a value, and has an attribute twice or a part that is none
 wfn-long     such texts of 65,536 bytes, nearly all of them in the product
+pair         pairs of formatted strings and URIs: one third each is two names of the sample, a
+             source with a special and the name that it was made from, and a name with itself
+             in the other binding
+pair-refused pairs that are spoilt: one third each has not exactly one space, a source that is
+             refused, and a target that is
+pair-long    pairs whose lines have nearly 65,536 bytes: a product, and a part of it between asterisks
+pair-equal   the same of bytes that are all equal but the last of the part, which doesn't stand
+             in the product: the worst for a search that tries each place
 edges        lines about the greatest length, long ones and odd line ends, and names whose
              attributes stand in other ways (LINES is not read); only for the comparison
              of outputs
 uri-edges    URIs in odd spellings, good and bad (LINES is not read); as `edges`
+pair-edges   pairs of names with short texts, good and bad (LINES is not read); as `edges`
 """
 import itertools
 import pathlib
@@ -252,6 +261,63 @@ def long_wfn_lines(count):
         yield wfn_named(body_of(draw, products, LONGEST - len(wfn_named(b""))))
 
 
+def widened(draw, name):
+    """The name with a special in place of the end or the front of a text in it, if it has a plain one."""
+    components = components_of(name)
+    plain = [n for n in (1, 2, 3) if components[n] not in (b"*", b"-") and components[n][-1:] not in b"*?"]
+    if plain:
+        at = draw.one_of(plain)
+        characters = re.findall(rb"\\.|.", components[at])
+        cut = draw.between(1, len(characters))
+        front, back = b"".join(characters[:cut]), b"".join(characters[cut - 1 :])
+        special = draw.one_of((b"*", b"?", b"??"))
+        components[at] = front + special if draw.between(0, 1) else special + back
+    return PREFIX + b":".join(components)
+
+
+def pair_lines(count):
+    draw, names = Draw(), sample()
+    uris = {name: uri_of(name) for name in names}
+    for number in range(count):
+        name = draw.one_of(names)
+        if number % 3 == 0:
+            yield name + b" " + draw.one_of(names)
+        elif number % 3 == 1:
+            yield widened(draw, name) + b" " + name
+        else:
+            yield b" ".join((name, uris[name]) if draw.between(0, 1) else (uris[name], name))
+
+
+def refused_pair_lines(count):
+    draw, names = Draw(), sample()
+    for number in range(count):
+        one, two = draw.one_of(names), draw.one_of(names)
+        if number % 3 == 0:
+            yield draw.one_of((b"", b"  ", b"\t")).join((one, two)) + draw.one_of((b"", b" ")) * (number % 2)
+        else:
+            pair = (cut_late(draw, one), two) if number % 3 == 1 else (one, cut_early(draw, two))
+            yield b" ".join(pair)
+
+
+def long_pair(product, start, length, end=b""):
+    """A part of the product between asterisks, with this end, and the product."""
+    return named(b"*" + product[start : start + length] + end + b"*") + b" " + named(product)
+
+
+def long_pair_lines(count):
+    draw, products = Draw(), [it for it in (components_of(name)[2] for name in sample()) if it.isalnum()]
+    room = LONGEST - len(long_pair(b"", 0, 0))
+    for _ in range(count):
+        product = body_of(draw, products, room - room // 4)
+        yield long_pair(product, draw.between(0, len(product) - room // 4), room // 4)
+
+
+def equal_pair_lines(count):
+    room = LONGEST - len(long_pair(b"", 0, 0)) - 1
+    for _ in range(count):
+        yield long_pair(b"a" * (room - room // 4), 0, room // 4, b"b")
+
+
 def wfn_edges():
     """Texts about the greatest length, and such whose attributes stand in other ways than in `wfn`."""
     room = LONGEST - len(b'wfn:[product=""]')
@@ -293,6 +359,20 @@ def edges():
     return b"".join(lines) + b"x" * (4 * LONGEST)
 
 
+def pair_edges():
+    """Pairs of names whose products are all short texts of a few pieces, their lines cut in odd ways."""
+    texts = (b"*", b"-", b"a", b"A", b"ab", b"aab", b"b\\*", b"\\\\", b"-a", b"abab", b"\\?a")
+    edged = [lead + it + trail for it in texts[2:] for lead in (b"", b"*", b"?", b"??") for trail in (b"", b"*", b"?", b"??")]
+    names = [named(it) for it in (*texts[:2], *edged)]
+    lines = [one + b" " + two for one in names for two in names]
+    odd = (b"cpe:/", b"CPE:/A:b", b"cpe:/::a%02", b"cpe:/x", b"", b"x", names[0], names[9])
+    lines += [one + cut + two for one in odd for two in odd for cut in (b"", b" ", b"  ", b" \r", b"\t")]
+    lines += [b" " + it for it in lines[-40:]] + [it + b" " for it in lines[-40:]]
+    room = LONGEST - len(long_pair(b"", 0, 0))
+    lines += [long_pair(b"x" * (room + more), 0, 0, b"y") for more in (-2, -1, 0)]
+    return b"".join(line + b"\n" for line in lines)
+
+
 def uri_edges():
     """URIs about the greatest length, each byte and each percent form behind texts in each state,
     and short ones made of such pieces as decide where a URI goes wrong."""
@@ -314,7 +394,7 @@ def uri_edges():
     return b"".join(line + b"\n" for line in lines)
 
 
-EDGES = {"edges": edges, "uri-edges": uri_edges}
+EDGES = {"edges": edges, "uri-edges": uri_edges, "pair-edges": pair_edges}
 MODES = {
     "valid": valid_lines,
     "refused": refused_lines,
@@ -325,6 +405,10 @@ MODES = {
     "wfn": wfn_lines,
     "wfn-refused": refused_wfn_lines,
     "wfn-long": long_wfn_lines,
+    "pair": pair_lines,
+    "pair-refused": refused_pair_lines,
+    "pair-long": long_pair_lines,
+    "pair-equal": equal_pair_lines,
 }
 
 

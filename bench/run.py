@@ -1,5 +1,5 @@
 #!/usr/bin/env python3
-"""Measures `cpe unbind`, `cpe bind fs` and `cpe bind uri` against unproved Rust programs that
+"""Measures `cpe unbind`, `cpe bind fs`, `cpe bind uri` and `cpe compare` against unproved Rust programs that
 write the same, on the same input.
 
 Prints a table for each command and input: seconds, the ratio to `cpe`, and peak memory.
@@ -24,9 +24,14 @@ HERE = pathlib.Path(__file__).resolve().parent
 TOP = HERE.parent
 BUILD = TOP / "build" / "bench"
 # The commands, each with the twins that answer as it does; and what copies only.
-UNBIND, BIND_FS, BIND_URI = "cpe unbind", "cpe bind fs", "cpe bind uri"
+UNBIND, BIND_FS, BIND_URI, COMPARE = "cpe unbind", "cpe bind fs", "cpe bind uri", "cpe compare"
 BIND_TWINS = ["bind_tuned", "bind_plain"]
-TWINS = {UNBIND: ["unbind_tuned", "unbind_plain"], BIND_FS: BIND_TWINS, BIND_URI: BIND_TWINS}
+TWINS = {
+    UNBIND: ["unbind_tuned", "unbind_plain"],
+    BIND_FS: BIND_TWINS,
+    BIND_URI: BIND_TWINS,
+    COMPARE: ["compare_tuned", "compare_plain"],
+}
 COPIES = ["lines"]
 USAGE = 2
 PIECE = 1 << 16
@@ -43,9 +48,10 @@ def built_twins():
         return {}
     BUILD.mkdir(parents=True, exist_ok=True)
     found = {}
-    for name in [*TWINS[UNBIND], *BIND_TWINS, *COPIES]:
+    readers = list((HERE / "twins").glob("reading_*.rs"))
+    for name in [*TWINS[UNBIND], *BIND_TWINS, *TWINS[COMPARE], *COPIES]:
         source, program = HERE / "twins" / f"{name}.rs", BUILD / name
-        if is_older(program, source):
+        if is_older(program, source, *readers):
             # (the processor that Rattle builds for, too)
             flags = ["--edition", "2021", "-O", "-C", "target-cpu=x86-64-v2"]
             subprocess.run(["rustc", *flags, "-o", program, source], check=True)
@@ -199,6 +205,13 @@ def parts_of(program, others, lines):
             yield command, bind, [made("wfn", lines), made("wfn-refused", lines), made("wfn-long", few)], edges
         else:
             print(f"the program has no command {command}: that part is left out")
+    compare = side_by_side(program, COMPARE, others)
+    if knows(compare[COMPARE]):
+        # (the plain twin tries each place: a hundredth of the lines is enough of them)
+        inputs = [made("pair", lines), made("pair-refused", lines), made("pair-long", few), made("pair-equal", max(1, few // 100))]
+        yield COMPARE, compare, inputs, [*edges, made("pair-edges", 0)]
+    else:
+        print(f"the program has no command {COMPARE}: that part is left out")
 
 
 def said():

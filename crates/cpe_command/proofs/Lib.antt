@@ -2,3 +2,4 @@ mod TranscriptLemmas
 mod Usage
 mod Going
 mod Gaining
+mod Pairs

@@ -8,9 +8,10 @@ use Rattle.cpe_uri.specs.Bound.{bound_uri}
 use Rattle.cpe_uri.specs.EitherBinding.{unbound_any}
 use Rattle.cpe_io.specs.Lines.{lines}
 use Rattle.cpe_command.specs.declared.command.Command.{Command}
-use Rattle.cpe_command.specs.declared.command.Command.TheVariants.{Unbind, BindFs, BindUri}
+use Rattle.cpe_command.specs.declared.command.Command.TheVariants.{Unbind, BindFs, BindUri, Compare}
 use Rattle.cpe_command.specs.declared.answer.Reason.{Reason}
-use Rattle.cpe_command.specs.declared.answer.Reason.TheVariants.{Long, Wfn, Name}
+use Rattle.cpe_command.specs.declared.answer.Reason.TheVariants.{Long, Wfn, Name, Pair, Source, Target}
+use Rattle.cpe_command.specs.Comparing.{halves, compared}
 use Rattle.cpe_command.specs.declared.status.Status.{Status}
 use Rattle.cpe_command.specs.declared.status.Status.TheVariants.{Done, SomeRefused, Usage}
 
@@ -31,11 +32,15 @@ says command (Some []) = Ok []
 says Unbind (Some (x ∷ xs)) = unbound_line (unbound_any (x ∷ xs))
 says BindFs (Some (x ∷ xs)) = bound_line (bound (x ∷ xs))
 says BindUri (Some (x ∷ xs)) = bound_line (bound_uri (x ∷ xs))
+says Compare (Some (x ∷ xs)) = compared (halves (x ∷ xs))
 
 abbrev pub reason_text : Reason → List ℕ
 reason_text Long = codes "long"
 reason_text Wfn = codes "wfn"
 reason_text (Name place) = codes "name " ++ decimal place
+reason_text Pair = codes "pair"
+reason_text (Source place) = codes "source " ++ decimal place
+reason_text (Target place) = codes "target " ++ decimal place
 
 -- what the refused line of this number writes
 abbrev pub refusal : ℕ → Reason → List ℕ

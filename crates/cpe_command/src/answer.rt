@@ -9,11 +9,12 @@ ghost use Rattle.cpe_command.specs.Transcript.{answer, step, refusal, reason_tex
 ghost use Rattle.cpe_command.specs.Pages.{standing, Said};
 
 use crate::command::Command;
+use crate::compare::say_relations;
 use crate::page::Page;
 use crate::progress::Progress;
 use cpe_io::Found;
 use itoa::Buffer;
-use std::alloc::AllocError;
+use std::alloc::{AllocError, Global};
 
 /// Why a line is refused.
 #[derive(Clone, Copy, Debug, PartialEq, Eq)]
@@ -24,6 +25,12 @@ pub enum Reason {
     Wfn,
     /// No name has this text, as its formatted string or as its URI, and this is its place.
     Name(usize),
+    /// The line has not exactly one space.
+    Pair,
+    /// No name has the text before the space, and this is its place.
+    Source(usize),
+    /// A name has the text before the space, but none that behind it, and this is the latter's place, counted in it alone.
+    Target(usize),
 }
 
 /// Whether there is no line any more.
@@ -35,6 +42,7 @@ pub fn is_end(found: Found) -> bool
 
 /// Puts what a line writes behind what is gathered, and counts the line.
 pub fn answer_line(
+    alloc: Global,
     page: &mut Page,
     progress: &mut Progress,
     command: Command,
@@ -46,7 +54,7 @@ pub fn answer_line(
     ensures standing { OnOk result (IfSome (lent found text.now) (λ line. standing progress.new ≡ step command (standing progress.old) line)) }
 {
     progress.number += 1;
-    if let Some(reason) = say_line(page, command, found, text)? {
+    if let Some(reason) = say_line(alloc, page, command, found, text)? {
         progress.refused = true;
         push_refusal(page, progress.number, reason)?;
     }
@@ -55,6 +63,7 @@ pub fn answer_line(
 
 // Puts what a line says, or tells why it is refused.
 fn say_line(
+    alloc: Global,
     page: &mut Page,
     command: Command,
     found: Found,
@@ -63,13 +72,18 @@ fn say_line(
     ensures { IfOk result (λ refused. IfSome (lent found text.now) (λ line. Said (says command line) page.old page.new refused)) }
 {
     match found {
-        Found::Text => say_text(page, command, text),
+        Found::Text => say_text(alloc, page, command, text),
         Found::TooLong => Ok(Some(Reason::Long)),
         Found::End => Ok(None),
     }
 }
 
-fn say_text(page: &mut Page, command: Command, text: &[u8]) -> Result<Option<Reason>, AllocError>
+fn say_text(
+    alloc: Global,
+    page: &mut Page,
+    command: Command,
+    text: &[u8],
+) -> Result<Option<Reason>, AllocError>
     ensures { IfOk result (Said (says command (Some text.now)) page.old page.new) }
 {
     match (command, text) {
@@ -77,6 +91,7 @@ fn say_text(page: &mut Page, command: Command, text: &[u8]) -> Result<Option<Rea
         (Command::Unbind, _) => say_name(page, text),
         (Command::BindFs, _) => say_formatted_string(page, text),
         (Command::BindUri, _) => say_uri(page, text),
+        (Command::Compare, _) => say_relations(alloc, page, text),
     }
 }
 
@@ -128,14 +143,17 @@ fn push_reason(page: &mut Page, reason: Reason) -> Result<(), AllocError>
     match reason {
         Reason::Long => page.push(b"long"),
         Reason::Wfn => page.push(b"wfn"),
-        Reason::Name(place) => push_place(page, place),
+        Reason::Name(place) => push_place(page, b"name ", place),
+        Reason::Pair => page.push(b"pair"),
+        Reason::Source(place) => push_place(page, b"source ", place),
+        Reason::Target(place) => push_place(page, b"target ", place),
     }
 }
 
-fn push_place(page: &mut Page, place: usize) -> Result<(), AllocError>
-    ensures { OnOk result (page.new ≡ page.old ++ (codes "name " ++ decimal place)) }
+fn push_place(page: &mut Page, word: &[u8], place: usize) -> Result<(), AllocError>
+    ensures { OnOk result (page.new ≡ page.old ++ (word.now ++ decimal place)) }
 {
     let mut digits = Buffer::new();
-    page.push(b"name ")?;
+    page.push(word)?;
     page.push(digits.format(place).as_bytes())
 }

@@ -3,6 +3,7 @@
 
 mod answer;
 mod command;
+mod compare;
 mod page;
 mod program;
 mod progress;

@@ -92,7 +92,16 @@ fn answer_lines<S: Source, K: Sink>(
         if is_end(found) {
             return finish(&page, &progress, sink);
         }
-        if answer_line(&mut page, &mut progress, command, found, reader.text()).is_err() {
+        if answer_line(
+            alloc,
+            &mut page,
+            &mut progress,
+            command,
+            found,
+            reader.text(),
+        )
+        .is_err()
+        {
             return Status::Memory;
         }
     }

@@ -1,5 +1,6 @@
--- What a text says as a formatted string: the output text of the name that has it, or its place where no name has it.
+-- What a text says as a formatted string: the name that has it and the output text of that name, or its place where no name has it.
 use Rattle.std.specs.Prelude.{◌≡◌, ℕ, ◌-◌, List, ◌++◌, length, drop, map, Result, Ok, Err}
+use Rattle.std.specs.Result.{result_map_both}
 use Rattle.cpe_name.specs.declared.name.Values.{Values}
 use Rattle.cpe_name.specs.Names.{attributes}
 use Rattle.cpe_name.specs.Text.{output_text}
@@ -21,10 +22,14 @@ pub record Writes (s old new : List ℕ) : Type 0 where
   pub fs : Fs name s
   pub written : new ≡ old ++ output_text name
 
-abbrev said : List ℕ → Result (List ℕ) ℕ → Result (List ℕ) ℕ
-said s (Ok rest) = Ok (output_text (named (map value_at (components_at attributes (drop 7 s)))))
-said s (Err left) = Err (length s - left)
+abbrev name_found : List ℕ → Result (List ℕ) ℕ → Result Values ℕ
+name_found s (Ok rest) = Ok (named (map value_at (components_at attributes (drop 7 s))))
+name_found s (Err left) = Err (length s - left)
 
--- the text of the name, or the place; `unbound_is` fixes it
+-- the name that has this formatted string, or the place; `read_fs_is` fixes it
+unfoldable pub read_fs : List ℕ → Result Values ℕ
+read_fs s = name_found s (whole_end s)
+
+-- the text of that name, or the place; `unbound_is` fixes it
 unfoldable pub unbound : List ℕ → Result (List ℕ) ℕ
-unbound s = said s (whole_end s)
+unbound s = result_map_both output_text (λ (place : ℕ). place) (read_fs s)

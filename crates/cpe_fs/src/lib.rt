@@ -13,7 +13,7 @@ ghost use Rattle.cpe_name.specs.Names.{IsName};
 ghost use Rattle.cpe_name.specs.WfnText.{WfnText, IsWfnText};
 ghost use Rattle.cpe_fs.specs.Grammar.{fs_text, Fs, LeavesAt, Refuses};
 ghost use Rattle.cpe_fs.specs.Bound.{bound, Binds, WritesBound};
-ghost use Rattle.cpe_fs.specs.Unbound.{unbound, Says, Writes};
+ghost use Rattle.cpe_fs.specs.Unbound.{read_fs, unbound, Says, Writes};
 
 mod bind;
 mod bound;
@@ -114,6 +114,13 @@ pub fn write_unbound(room: &mut [u8], at: usize, text: &[u8]) -> Result<usize, u
         Err(left) => Err(text.len() - left),
     }
 }
+
+/// What `read_fs` says of a text: the name that has it, and its place exactly where no name has it.
+pub fn read_fs_is()
+    ensures named { (name : Values) (s : List ℕ) → Fs name s → read_fs s ≡ Ok name }
+    ensures found { (name : Values) (s : List ℕ) → read_fs s ≡ Ok name → Fs name s }
+    ensures refused { (s : List ℕ) (place : ℕ) → read_fs s ≡ Err place → LeavesAt s place }
+{}
 
 /// What `unbound` says of a text: the output text of the name that has it, and its place exactly where no name has it.
 pub fn unbound_is()

@@ -3,24 +3,27 @@ use Rattle.std.proofs.Common.{◌≡◌, ◌⊎◌, ℕ, Bool, true, false, List
 use Rattle.std.specs.Bool.{MatchBool}
 use Rattle.std.specs.Prelude.{codes}
 use Rattle.std.specs.List.{join_with_byte}
-use Rattle.std.specs.Result.{result_map_both}
+use Rattle.std.specs.Result.{result_map_both, IfOk, IfErr, MatchResult}
 use Rattle.std.specs.Str.{str_to_ascii_lowercase}
 use Rattle.std.proofs.lemmas.Bool.{cases_Bool, MatchBool-at_true, MatchBool-at_false}
 use Rattle.std.proofs.lemmas.List.{take_at}
 use Rattle.std.proofs.lemmas.Slice.Eq.{bytes_eq-Decides}
 use Rattle.cpe_grammar.proofs.Places.{one_place}
-use Rattle.cpe_grammar.proofs.Results.{left_over, stopped}
+use Rattle.cpe_grammar.proofs.Results.{left_over, stopped, ok_is, err_is, ok≢err}
 use Rattle.cpe_name.specs.declared.name.Values.{Values}
 use Rattle.cpe_name.specs.Text.{output_text}
 use Rattle.cpe_fs.specs.Grammar.{Fs, IsFs, LeavesAt}
-use Rattle.cpe_fs.specs.Unbound.{unbound}
+use Rattle.cpe_fs.specs.Unbound.{read_fs, unbound}
 use Rattle.cpe_fs.proofs.Said as fs
+use Rattle.cpe_fs.proofs.Said.{text_of}
 use Rattle.cpe_fs.proofs.ValueLemmas.{one_name}
 use Rattle.cpe_uri.specs.Grammar.{Uri, IsUri, LeavesUri}
-use Rattle.cpe_uri.specs.Unbound.{unbound_uri}
-use Rattle.cpe_uri.specs.EitherBinding.{begins_as_uri, Bound, IsBound, LeavesBound, SaysAny, unbound_any}
+use Rattle.cpe_uri.specs.Unbound.{read_uri, unbound_uri}
+use Rattle.cpe_uri.specs.EitherBinding.{begins_as_uri, Bound, IsBound, LeavesBound, RefusesBound, SaysFault, SaysAny, read_any, unbound_any}
 use Rattle.cpe_uri.proofs.Pieces.{one_uri, prefix_length}
-use Rattle.cpe_uri.proofs.Said.{says_text, says_name, says_place}
+use Rattle.cpe_uri.proofs.Said as uri
+use Rattle.cpe_uri.specs.declared.UriFault.{UriFault}
+use Rattle.cpe_uri.specs.declared.UriFault.TheVariants as fault
 
 -- ---- one grammar or the other
 
@@ -80,48 +83,94 @@ one_bound_place s m n g h =
       | inr b ↦ one_place IsFs s m n (MatchBool-at_false (LeavesUri s m) (LeavesAt s m) b g).is_place (MatchBool-at_false (LeavesUri s n) (LeavesAt s n) b h).is_place
     ]
 
--- ---- what is said
+-- ---- the name that is read
 
--- what begins as a URI says what it says as one
-pub any_uri : (s : List ℕ) → begins_as_uri s ≡ true → unbound_any s ≡ unbound_uri s
-unfolding unbound_any
+-- what begins as a URI is read as one
+pub any_uri : (s : List ℕ) → begins_as_uri s ≡ true → read_any s ≡ read_uri s
+unfolding read_any
 any_uri s b = rw b refl
 
--- what doesn't, says what it says as a formatted string
-pub any_fs : (s : List ℕ) → begins_as_uri s ≡ false → unbound_any s ≡ unbound s
-unfolding unbound_any
+-- what doesn't, is read as a formatted string
+pub any_fs : (s : List ℕ) → begins_as_uri s ≡ false → read_any s ≡ read_fs s
+unfolding read_any
 any_fs s b = rw b refl
+
+-- a text of a name is read as the name
+pub any_read : (name : Values) (s : List ℕ) → Bound name s → read_any s ≡ Ok name
+any_read name s h =
+    elim (cases_Bool (begins_as_uri s)) [
+      | inl b ↦ any_uri s b ∙ uri.read_name name s (MatchBool-at_true (Uri name s) (Fs name s) b h)
+      | inr b ↦ any_fs s b ∙ fs.read_name name s (MatchBool-at_false (Uri name s) (Fs name s) b h)
+    ]
+
+-- a name that is read has the text
+pub any_has : (name : Values) (s : List ℕ) → read_any s ≡ Ok name → Bound name s
+any_has name s is =
+    elim (cases_Bool (begins_as_uri s)) [
+      | inl b ↦ uri_bound name s (uri.name_has name s (sym (any_uri s b) ∙ is))
+      | inr b ↦ fs_bound name s (fs.name_has name s (sym (any_fs s b) ∙ is))
+    ]
+
+-- where a place is read no name has the text, and it is its place
+pub any_left : (s : List ℕ) (place : ℕ) → read_any s ≡ Err place → LeavesBound s place
+any_left s place is =
+    elim (cases_Bool (begins_as_uri s)) [
+      | inl b ↦ at_true (begins_as_uri s) (LeavesUri s place) (LeavesAt s place) b (uri.place_is s place (sym (any_uri s b) ∙ is))
+      | inr b ↦ at_false (begins_as_uri s) (LeavesUri s place) (LeavesAt s place) b (fs.place_is s place (sym (any_fs s b) ∙ is))
+    ]
+
+-- the place of a text that no name has is read
+pub any_left_read : (s : List ℕ) (place : ℕ) → LeavesBound s place → read_any s ≡ Err place
+any_left_read s place at =
+    elim (cases_Bool (begins_as_uri s)) [
+      | inl b ↦ any_uri s b ∙ uri.read_place s place (MatchBool-at_true (LeavesUri s place) (LeavesAt s place) b at)
+      | inr b ↦ any_fs s b ∙ fs.read_place s place (MatchBool-at_false (LeavesUri s place) (LeavesAt s place) b at)
+    ]
+
+-- a name that has the text is what is read, and a fault of the text says so of what is read
+pub any_reads : (r : Result Values UriFault) (s : List ℕ) → IfOk r (λ name. Bound name s) → IfErr r (λ f. RefusesBound f s)
+    → MatchResult r (λ name. read_any s ≡ Ok name) (λ f. SaysFault f (read_any s))
+any_reads (Ok name) s has refused = any_read name s has
+any_reads (Err (fault.At place)) s has refused = any_left_read s place refused
+any_reads (Err fault.Memory) s has refused = tt
+
+-- ---- its output text
+
+says : (s : List ℕ) (r : Result Values ℕ) → read_any s ≡ r → unbound_any s ≡ text_of r
+unfolding unbound_any
+says s r e = ap text_of e
+
+-- what begins as a URI says what it says as one
+pub any_says_uri : (s : List ℕ) → begins_as_uri s ≡ true → unbound_any s ≡ unbound_uri s
+unfolding unbound_uri
+any_says_uri s b = says s (read_uri s) (any_uri s b)
+
+-- what doesn't, says what it says as a formatted string
+pub any_says_fs : (s : List ℕ) → begins_as_uri s ≡ false → unbound_any s ≡ unbound s
+unfolding unbound
+any_says_fs s b = says s (read_fs s) (any_fs s b)
 
 -- a text of a name says the output text of the name
 pub any_text : (name : Values) (s : List ℕ) → Bound name s → unbound_any s ≡ Ok (output_text name)
-any_text name s h =
-    elim (cases_Bool (begins_as_uri s)) [
-      | inl b ↦ any_uri s b ∙ says_text name s (MatchBool-at_true (Uri name s) (Fs name s) b h)
-      | inr b ↦ any_fs s b ∙ fs.says_text name s (MatchBool-at_false (Uri name s) (Fs name s) b h)
-    ]
-
--- what is said is the output text of a name that has the text
-pub any_name : (s text : List ℕ) → unbound_any s ≡ Ok text → SaysAny s text
-any_name s text is =
-    elim (cases_Bool (begins_as_uri s)) [
-      | inl b ↦ let say = says_name s text (sym (any_uri s b) ∙ is) in record { name = say.name; has = uri_bound say.name s say.uri; is = say.is }
-      | inr b ↦ let say = fs.says_name s text (sym (any_fs s b) ∙ is) in record { name = say.name; has = fs_bound say.name s say.fs; is = say.is }
-    ]
-
--- where a place is said no name has the text, and it is its place
-pub any_place : (s : List ℕ) (place : ℕ) → unbound_any s ≡ Err place → LeavesBound s place
-any_place s place is =
-    elim (cases_Bool (begins_as_uri s)) [
-      | inl b ↦ at_true (begins_as_uri s) (LeavesUri s place) (LeavesAt s place) b (says_place s place (sym (any_uri s b) ∙ is))
-      | inr b ↦ at_false (begins_as_uri s) (LeavesUri s place) (LeavesAt s place) b (fs.says_place s place (sym (any_fs s b) ∙ is))
-    ]
+any_text name s h = says s (Ok name) (any_read name s h)
 
 -- the place of a text that no name has is said
 pub any_place_said : (s : List ℕ) (place : ℕ) → LeavesBound s place → unbound_any s ≡ Err place
-any_place_said s place at = go (unbound_any s) refl where
-  go : (r : Result (List ℕ) ℕ) → unbound_any s ≡ r → unbound_any s ≡ Err place
-  go (Ok text) e = let say = any_name s text e in absurd (bound_refused s place at (say.name, say.has))
-  go (Err other) e = e ∙ ap stopped (one_bound_place s other place (any_place s other e) at)
+any_place_said s place at = says s (Err place) (any_left_read s place at)
+
+-- what is said is the output text of a name that has the text
+pub any_name : (s text : List ℕ) → unbound_any s ≡ Ok text → SaysAny s text
+any_name s text is = go (read_any s) refl where
+  go : (r : Result Values ℕ) → read_any s ≡ r → SaysAny s text
+  go (Ok name) e = record { name = name; has = any_has name s e; is = ok_is _ _ (sym is ∙ says s (Ok name) e) }
+  go (Err place) e = absurd (ok≢err text place (sym is ∙ says s (Err place) e))
+
+-- where a place is said no name has the text, and it is its place
+pub any_place : (s : List ℕ) (place : ℕ) → unbound_any s ≡ Err place → LeavesBound s place
+any_place s place is = go (read_any s) refl where
+  go : (r : Result Values ℕ) → read_any s ≡ r → LeavesBound s place
+  go (Ok name) e = absurd (ok≢err (output_text name) place (sym (says s (Ok name) e) ∙ is))
+  go (Err other) e = subst (LeavesBound s) (err_is other place (sym (says s (Err other) e) ∙ is)) (any_left s other e)
 
 -- ---- behind what stood before
 

@@ -1,17 +1,18 @@
 -- Texts in either binding (NIST IR 7695, 6): one that begins as a URI does is read as a URI, and any other as a formatted string.
-use Rattle.std.specs.Prelude.{◌≡◌, ℕ, Bool, if◌then◌else◌, List, ◌++◌, take, Result, codes}
+use Rattle.std.specs.Prelude.{◌≡◌, ℕ, Bool, if◌then◌else◌, List, ◌++◌, take, Result, Err, codes}
 use Rattle.std.specs.Bool.{MatchBool}
+use Rattle.std.specs.Result.{result_map_both}
 use Rattle.std.specs.Str.{str_eq_ignore_ascii_case}
 use Rattle.cpe_name.specs.declared.name.Values.{Values}
 use Rattle.cpe_name.specs.Text.{output_text}
 use Rattle.cpe_fs.specs.Grammar.{Fs, LeavesAt}
-use Rattle.cpe_fs.specs.Unbound.{unbound}
+use Rattle.cpe_fs.specs.Unbound.{read_fs}
 use Rattle.cpe_fs.specs.declared.FsFault.{FsFault}
 use Rattle.cpe_fs.specs.declared.FsFault.TheVariants as fs_fault
 use Rattle.cpe_uri.specs.declared.UriFault.{UriFault}
 use Rattle.cpe_uri.specs.declared.UriFault.TheVariants as fault
 use Rattle.cpe_uri.specs.Grammar.{Uri, LeavesUri}
-use Rattle.cpe_uri.specs.Unbound.{unbound_uri}
+use Rattle.cpe_uri.specs.Unbound.{read_uri}
 
 -- the first five bytes are `cpe:/` in any letter case
 abbrev pub begins_as_uri : List ℕ → Bool
@@ -51,6 +52,15 @@ pub record WritesAny (s old new : List ℕ) : Type 0 where
   pub has : Bound name s
   pub written : new ≡ old ++ output_text name
 
--- what the text says as the one or the other; `unbound_any_is` fixes it
+-- the name that has the text as the one or the other, or the place; `read_any_is` fixes it
+unfoldable pub read_any : List ℕ → Result Values ℕ
+read_any s = if begins_as_uri s then read_uri s else read_fs s
+
+-- the text of that name, or the place; `unbound_any_is` fixes it
 unfoldable pub unbound_any : List ℕ → Result (List ℕ) ℕ
-unbound_any s = if begins_as_uri s then unbound_uri s else unbound s
+unbound_any s = result_map_both output_text (λ (place : ℕ). place) (read_any s)
+
+-- what a fault says of what is read; want of memory says nothing
+abbrev pub SaysFault : UriFault → Result Values ℕ → Type 0
+SaysFault (fault.At place) read = read ≡ Err place
+SaysFault fault.Memory read = Unit {0}

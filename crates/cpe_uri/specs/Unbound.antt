@@ -1,5 +1,6 @@
--- What a text says as a URI: the output text of the name that has it, or its place where no name has it.
+-- What a text says as a URI: the name that has it and the output text of that name, or its place where no name has it.
 use Rattle.std.specs.Prelude.{◌≡◌, ℕ, ◌-◌, List, ◌++◌, length, map, Result, Ok, Err}
+use Rattle.std.specs.Result.{result_map_both}
 use Rattle.cpe_name.specs.declared.name.Values.{Values}
 use Rattle.cpe_name.specs.Equal.{named}
 use Rattle.cpe_name.specs.Text.{output_text}
@@ -20,10 +21,14 @@ pub record WritesUnbound (s old new : List ℕ) : Type 0 where
   pub uri : Uri name s
   pub written : new ≡ old ++ output_text name
 
-abbrev said : List ℕ → Result (List ℕ) ℕ → Result (List ℕ) ℕ
-said s (Ok rest) = Ok (output_text (named (map value_at (pieces s))))
-said s (Err left) = Err (length s - left)
+abbrev name_found : List ℕ → Result (List ℕ) ℕ → Result Values ℕ
+name_found s (Ok rest) = Ok (named (map value_at (pieces s)))
+name_found s (Err left) = Err (length s - left)
 
--- the text of the name, or the place; `unbound_uri_is` fixes it
+-- the name that has this URI, or the place; `read_uri_is` fixes it
+unfoldable pub read_uri : List ℕ → Result Values ℕ
+read_uri s = name_found s (whole_end s)
+
+-- the text of that name, or the place; `unbound_uri_is` fixes it
 unfoldable pub unbound_uri : List ℕ → Result (List ℕ) ℕ
-unbound_uri s = said s (whole_end s)
+unbound_uri s = result_map_both output_text (λ (place : ℕ). place) (read_uri s)

@@ -4,8 +4,8 @@ ghost use Rattle.std.specs.Result.{result_map_both};
 ghost use Rattle.cpe_name.specs.declared.name.Values.{Values};
 ghost use Rattle.cpe_name.specs.Text.{output_text};
 ghost use Rattle.cpe_uri.specs.Grammar.{Uri, LeavesUri, RefusesUri};
-ghost use Rattle.cpe_uri.specs.Unbound.{unbound_uri, SaysUri, WritesUnbound};
-ghost use Rattle.cpe_uri.specs.EitherBinding.{begins_as_uri, Bound, LeavesBound, RefusesBound, unbound_any, SaysAny, WritesAny};
+ghost use Rattle.cpe_uri.specs.Unbound.{read_uri, unbound_uri, SaysUri, WritesUnbound};
+ghost use Rattle.cpe_uri.specs.EitherBinding.{begins_as_uri, Bound, LeavesBound, RefusesBound, SaysFault, read_any, unbound_any, SaysAny, WritesAny};
 
 use crate::scan::scan_uri;
 use crate::values::values_of;
@@ -65,6 +65,13 @@ pub fn write_unbound_uri(room: &mut [u8], at: usize, text: &[u8]) -> Result<usiz
     }
 }
 
+/// What `read_uri` says of a text: the name that has it as its URI, and its place exactly where no name has it.
+pub fn read_uri_is()
+    ensures named { (name : Values) (s : List ℕ) → Uri name s → read_uri s ≡ Ok name }
+    ensures found { (name : Values) (s : List ℕ) → read_uri s ≡ Ok name → Uri name s }
+    ensures refused { (s : List ℕ) (place : ℕ) → read_uri s ≡ Err place → LeavesUri s place }
+{}
+
 /// What `unbound_uri` says of a text: the output text of the name that has it as its URI, and its place exactly where
 /// no name has it.
 pub fn unbound_uri_is()
@@ -107,6 +114,18 @@ pub fn unbind_any(alloc: Global, text: &[u8]) -> Result<Wfn, UriFault>
     ensures found { IfOk result (λ name. Bound name text.now) }
     ensures only { (name : Values) → Bound name text.now → MatchResult result (λ found. found ≡ name) (λ fault. fault ≡ UriFault.Memory) }
     ensures refused { IfErr result (λ fault. RefusesBound fault text.now) }
+
+    // The same by a function.
+    ensures read { MatchResult result (λ name. read_any text.now ≡ Ok name) (λ fault. SaysFault fault (read_any text.now)) }
+{
+    read_either(alloc, text)
+}
+
+// The name that has this text in one binding or the other.
+fn read_either(alloc: Global, text: &[u8]) -> Result<Wfn, UriFault>
+    ensures found { IfOk result (λ name. Bound name text.now) }
+    ensures only { (name : Values) → Bound name text.now → MatchResult result (λ found. found ≡ name) (λ fault. fault ≡ UriFault.Memory) }
+    ensures refused { IfErr result (λ fault. RefusesBound fault text.now) }
 {
     if begins_as_uri(text) {
         return unbind_uri(alloc, text);
@@ -142,6 +161,14 @@ pub fn write_unbound_any(room: &mut [u8], at: usize, text: &[u8]) -> Result<usiz
         write_unbound(room, at, text)
     }
 }
+
+/// What `read_any` says of a text: the name that has it in one binding or the other, and its place exactly where no name
+/// has it.
+pub fn read_any_is()
+    ensures named { (name : Values) (s : List ℕ) → Bound name s → read_any s ≡ Ok name }
+    ensures found { (name : Values) (s : List ℕ) → read_any s ≡ Ok name → Bound name s }
+    ensures refused { (s : List ℕ) (place : ℕ) → read_any s ≡ Err place → LeavesBound s place }
+{}
 
 /// What `unbound_any` says of a text: the output text of the name that has it in one binding or the other, and its place
 /// exactly where no name has it.
