@@ -1,11 +1,12 @@
 -- Bodies: characters that stand bare are skipped at once, and the others one by one.
-use Rattle.std.proofs.Common.{◌≡◌, ℕ, suc, ◌≤◌, ◌<◌, Bool, true, false, eqb, List, [], ◌∷◌, length, Result, Ok, Err, refl, sym, ap, subst, ◌∙◌, inl, inr, arith}
+use Rattle.std.proofs.Common.{◌≡◌, ℕ, suc, ◌<◌, true, false, eqb, List, [], ◌∷◌, length, Result, Ok, Err, refl, sym, ap, subst, ◌∙◌, inl, inr, arith}
 use Rattle.std.proofs.lemmas.Bool.{cases_Bool, eqb-true}
 use Rattle.std.proofs.lemmas.Bool.Decides.{nat_tests}
 use Rattle.cpe_grammar.specs.Scanners.{◌>>=◌, both, choose, nothing, one}
 use Rattle.cpe_grammar.proofs.Results.{ok_is, ok≢err, left_over, stopped}
 use Rattle.cpe_fs.specs.Scanning.{is_bare_here, is_quoted, starts_body, begins_with_backslash, character_end, body_end}
 use Rattle.cpe_values.specs.Skipping.{skip_while}
+use Rattle.cpe_values.proofs.SkippingLemmas.{skip_stops}
 
 -- a backslash doesn't stand bare
 pub backslash_not_bare : is_bare_here 92 ≡ false
@@ -39,26 +40,6 @@ body_empty = refl
 pub skip_same : (s : List ℕ) → body_end (skip_while is_bare_here s) ≡ body_end s
 skip_same [] = refl
 skip_same (c ∷ s) = elim (cases_Bool (is_bare_here c)) [ inl h ↦ rw h (skip_same s ∙ sym (body_bare c s h)) | inr h ↦ rw h refl ]
-
--- what was skipped is not there again
-pub skip_again : (p : ℕ → Bool) (s : List ℕ) → skip_while p (skip_while p s) ≡ skip_while p s
-skip_again p [] = refl
-skip_again p (c ∷ s) = elim (cases_Bool (p c)) [ inl h ↦ rw h (skip_again p s) | inr h ↦ rw (h, h) refl ]
-
--- what is left is no longer
-pub length-skip_while : (p : ℕ → Bool) (s : List ℕ) → length (skip_while p s) ≤ length s
-length-skip_while p [] = omega arith
-length-skip_while p (c ∷ s) = elim (cases_Bool (p c)) [ inl h ↦ rw h (omega (arith, length-skip_while p s)) | inr h ↦ rw h (omega arith) ]
-
--- where nothing is skipped, the first byte doesn't stand bare
-skip_stops : (p : ℕ → Bool) (c : ℕ) (s : List ℕ) → skip_while p (c ∷ s) ≡ c ∷ s → p c ≡ false
-skip_stops p c s e =
-    elim (cases_Bool (p c)) [
-      | inl h ↦
-          let is : skip_while p s ≡ c ∷ s = rw h at e in
-          absurd (omega (arith, ap length is, length-skip_while p s))
-      | inr h ↦ h
-    ]
 
 -- ---- behind a backslash
 

@@ -1,10 +1,12 @@
--- Bodies, character by character.
+-- Bodies: characters that stand bare are skipped at once, and the others one by one.
 use Rattle.std.proofs.Common.{◌≡◌, ℕ, suc, ◌<◌, true, false, eqb, List, [], ◌∷◌, length, Result, Ok, Err, refl, sym, ap, subst, ◌∙◌, inl, inr, arith}
-use Rattle.std.proofs.lemmas.Bool.{cases_Bool, eqb-true, or_parts}
+use Rattle.std.proofs.lemmas.Bool.{cases_Bool, eqb-true}
 use Rattle.std.proofs.lemmas.Bool.Decides.{nat_tests}
 use Rattle.cpe_grammar.specs.Scanners.{◌>>=◌, both, choose, nothing, one}
 use Rattle.cpe_grammar.proofs.Results.{ok_is, ok≢err, left_over, stopped}
-use Rattle.cpe_name.specs.Scanning.{is_bare_here, is_quoted, starts_body, begins_body, character_end, body_end}
+use Rattle.cpe_name.specs.Scanning.{is_bare_here, is_quoted, starts_body, begins_with_backslash, character_end, body_end}
+use Rattle.cpe_values.specs.Skipping.{skip_while}
+use Rattle.cpe_values.proofs.SkippingLemmas.{skip_stops}
 
 -- a character that stands bare is taken
 pub body_bare : (c : ℕ) (s : List ℕ) → is_bare_here c ≡ true → body_end (c ∷ s) ≡ body_end s
@@ -28,10 +30,12 @@ pub body_empty : body_end [] ≡ Ok []
 unfolding body_end
 body_empty = refl
 
--- what begins no character ends a body
-pub body_ends : (s : List ℕ) → begins_body s ≡ false → body_end s ≡ Ok s
-body_ends [] h = body_empty
-body_ends (c ∷ s) h = let p = or_parts (is_bare_here c) (eqb c 92) h in body_halts c s p.0 p.1
+-- ---- skipping
+
+-- skipping what stands bare changes nothing
+pub skip_same : (s : List ℕ) → body_end (skip_while is_bare_here s) ≡ body_end s
+skip_same [] = refl
+skip_same (c ∷ s) = elim (cases_Bool (is_bare_here c)) [ inl h ↦ rw h (skip_same s ∙ sym (body_bare c s h)) | inr h ↦ rw h refl ]
 
 -- ---- behind a backslash
 
@@ -62,6 +66,11 @@ shorter_quoted (c ∷ s) t e =
       | inl h ↦ let is : left_over s ≡ Ok t = rw h at e in omega (arith, ap length (ok_is s t is))
       | inr h ↦ let is : stopped (suc (length s)) ≡ Ok t = rw h at e in absurd (ok≢err t _ (sym is))
     ]
+
+-- what neither stands bare nor is a backslash ends a body
+pub body_over : (s : List ℕ) → skip_while is_bare_here s ≡ s → begins_with_backslash s ≡ false → body_end s ≡ Ok s
+body_over [] e other = body_empty
+body_over (c ∷ s) e other = body_halts c s (skip_stops is_bare_here c s e) other
 
 -- ---- one character, and then a body
 
@@ -103,10 +112,14 @@ character_step (c ∷ s) t e =
       ]
     ]
 
--- where a character begins and none ends the body stops
-pub character_stop : (s : List ℕ) (n : ℕ) → begins_body s ≡ true → character_end s ≡ Err n → body_end s ≡ Err n
+-- where a backslash quotes nothing the body stops
+pub character_stop : (s : List ℕ) (n : ℕ) → begins_with_backslash s ≡ true → character_end s ≡ Err n → body_end s ≡ Err n
+unfolding character_end
 character_stop [] n h e = absurd cc
-character_stop (c ∷ s) n h e = body_is (c ∷ s) ∙ rw (h, e) refl
+character_stop (c ∷ s) n h e =
+    let is : c ≡ 92 = eqb-true c 92 h in
+    let quoted : one is_quoted s ≡ Err n = rw h at e in
+    ap (λ (d : ℕ). body_end (d ∷ s)) is ∙ quoted_stop s n quoted
 
 -- what is left behind a character is shorter
 pub shorter_character : (s t : List ℕ) → character_end s ≡ Ok t → length t < length s

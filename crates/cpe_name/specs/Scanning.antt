@@ -37,9 +37,9 @@ is_quoted c = is_character c && not (is_bare_here c)
 abbrev pub starts_body : ℕ → Bool
 starts_body c = is_bare_here c || is_backslash c
 
-abbrev pub begins_body : List ℕ → Bool
-begins_body [] = false
-begins_body (c ∷ s) = starts_body c
+abbrev pub begins_with_backslash : List ℕ → Bool
+begins_with_backslash [] = false
+begins_with_backslash (c ∷ s) = is_backslash c
 
 -- ---- texts between double quotes
 

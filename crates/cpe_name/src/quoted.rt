@@ -4,10 +4,10 @@
 // left where no value goes on.
 ghost use Rattle.std.specs.Prelude.{◌≡◌};
 ghost use Rattle.cpe_grammar.specs.Scanners.{Tells, one};
-ghost use Rattle.cpe_name.specs.Scanning.{is_bare_here, is_quoted, begins_body, marks_end, edge_end, character_end, body_end, stem_end, quoted_end, value_end};
+ghost use Rattle.cpe_name.specs.Scanning.{is_bare_here, is_quoted, begins_with_backslash, marks_end, edge_end, character_end, body_end, stem_end, quoted_end, value_end};
 
 use cpe_grammar::{scan_byte, scan_literal};
-use cpe_values::{Style, is_bare_byte, is_printable_byte};
+use cpe_values::{Style, is_bare_byte, is_printable_byte, skip_word};
 
 #[tactic(auto, unfolding(crate::specs::Scanning::marks_end, cpe_grammar::specs::Scanners::up_to))]
 fn scan_marks(bytes: &[u8]) -> Result<&[u8], usize>
@@ -67,22 +67,19 @@ fn scan_character(bytes: &[u8]) -> Result<&[u8], usize>
     }
 }
 
-fn begins_a_body(bytes: &[u8]) -> bool
-    ensures { result ≡ begins_body bytes.now }
+fn is_at_backslash(bytes: &[u8]) -> bool
+    ensures { result ≡ begins_with_backslash bytes.now }
 {
-    match bytes {
-        [byte, ..] => is_bare(*byte) || *byte == b'\\',
-        _ => false,
-    }
+    matches!(bytes, [b'\\', ..])
 }
 
 #[tactic(auto, using(crate::proofs::Bodies::character_stop))]
 fn scan_body(bytes: &[u8]) -> Result<&[u8], usize>
     ensures { Tells (λ rest. rest.now) result (body_end bytes.now) }
 {
-    let mut rest = bytes;
-    while begins_a_body(rest) {
-        rest = scan_character(rest)?;
+    let mut rest = skip_word(bytes);
+    while is_at_backslash(rest) {
+        rest = skip_word(scan_character(rest)?);
     }
     Ok(rest)
 }

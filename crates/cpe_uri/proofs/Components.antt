@@ -11,7 +11,7 @@ use Rattle.cpe_values.specs.declared.spelling.Style.TheVariants as style
 use Rattle.cpe_values.specs.Parts.{is_character}
 use Rattle.cpe_values.specs.Skipping.{skip_while}
 use Rattle.cpe_values.specs.Spelling.{is_bare}
-use Rattle.cpe_fs.proofs.Bodies.{length-skip_while}
+use Rattle.cpe_values.proofs.SkippingLemmas.{length-skip_while}
 use Rattle.cpe_uri.specs.Spelling.{is_hex, hex_value, has_percent_form, spells, Spelled}
 use Rattle.cpe_uri.specs.declared.text.Stage.{Stage}
 use Rattle.cpe_uri.specs.declared.text.Stage.TheVariants.{Start, Na, Hyphen, LeadStar, LeadMarks, Body, TrailMarks, TrailStar}

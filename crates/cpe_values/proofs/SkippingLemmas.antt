@@ -1,5 +1,5 @@
 -- What a front of a list says of the elements that are skipped.
-use Rattle.std.proofs.Common.{◌≡◌, ℕ, zero, suc, ◌<◌, ◌≤◌, Bool, List, [], ◌∷◌, length, take, drop, refl, one-add, inl, inr, arith}
+use Rattle.std.proofs.Common.{◌≡◌, ℕ, zero, suc, ◌<◌, ◌≤◌, Bool, false, List, [], ◌∷◌, length, take, drop, refl, ap, one-add, inl, inr, arith}
 use Rattle.std.specs.List.{prefix_len}
 use Rattle.std.proofs.lemmas.Bool.{cases_Bool}
 use Rattle.cpe_values.specs.Skipping.{skip_while}
@@ -24,4 +24,24 @@ skip_while_within p (suc k) (c ∷ s) lt le =
           let step : prefix_len p (take (suc k) (c ∷ s)) ≡ suc (prefix_len p (take k s)) = rw (passes, one-add (prefix_len p (take k s))) refl in
           simp (passes, one-add (prefix_len p (take k s))) (skip_while_within p k s (omega arith) (omega arith))
       | inr fails ↦ simp fails refl
+    ]
+
+-- what was skipped is not there again
+pub skip_again : (p : ℕ → Bool) (s : List ℕ) → skip_while p (skip_while p s) ≡ skip_while p s
+skip_again p [] = refl
+skip_again p (c ∷ s) = elim (cases_Bool (p c)) [ inl h ↦ rw h (skip_again p s) | inr h ↦ rw (h, h) refl ]
+
+-- what is left is no longer
+pub length-skip_while : (p : ℕ → Bool) (s : List ℕ) → length (skip_while p s) ≤ length s
+length-skip_while p [] = omega arith
+length-skip_while p (c ∷ s) = elim (cases_Bool (p c)) [ inl h ↦ rw h (omega (arith, length-skip_while p s)) | inr h ↦ rw h (omega arith) ]
+
+-- where nothing is skipped, the first element fails
+pub skip_stops : (p : ℕ → Bool) (c : ℕ) (s : List ℕ) → skip_while p (c ∷ s) ≡ c ∷ s → p c ≡ false
+skip_stops p c s e =
+    elim (cases_Bool (p c)) [
+      | inl h ↦
+          let is : skip_while p s ≡ c ∷ s = rw h at e in
+          absurd (omega (arith, ap length is, length-skip_while p s))
+      | inr h ↦ h
     ]

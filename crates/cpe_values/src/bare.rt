@@ -87,6 +87,29 @@ fn skip<C: Class>(bytes: &[u8]) -> &[u8]
     skip_by_one::<C>(rest)
 }
 
+// The characters that stand bare in a well-formed name.
+struct Word;
+
+impl Class for Word {
+    ghost contains = { is_bare style.Wfn };
+
+    fn has(byte: u8) -> bool {
+        is_bare_byte(Style::Wfn, byte)
+    }
+
+    fn lanes(block: u8x16) -> u8x16 {
+        letters(block) | between(block, b'0', b'9') | between(block, b'_', b'_')
+    }
+}
+
+/// What is left behind the characters that stand bare in a well-formed name: letters, digits and `_`
+/// (NIST IR 7695, 5.3).
+pub fn skip_word(bytes: &[u8]) -> &[u8]
+    ensures { result.now ≡ skip_while (is_bare style.Wfn) bytes.now }
+{
+    skip::<Word>(bytes)
+}
+
 // The characters that stand bare in a formatted string.
 struct Bare;
 
@@ -116,7 +139,18 @@ pub fn skip_bare(bytes: &[u8]) -> &[u8]
 mod tests {
     use super::*;
 
+    const WORD: &[u8] = b"0123456789ABCDEFGHIJKLMNOPQRSTUVWXYZ_abcdefghijklmnopqrstuvwxyz";
     const BARE: &[u8] = b"-.0123456789ABCDEFGHIJKLMNOPQRSTUVWXYZ_abcdefghijklmnopqrstuvwxyz";
+
+    #[test]
+    fn knows_each_byte_of_a_word(rt: HostRuntime) {
+        for byte in 0..=255u8 {
+            let text = [byte; 17];
+            let left = if WORD.contains(&byte) { 0 } else { 17 };
+            assert_eq!(rt; skip_word(&text).len(), left, "block of {byte}");
+            assert_eq!(rt; skip_word(&text[..1]).len(), left.min(1), "byte {byte}");
+        }
+    }
 
     #[test]
     fn knows_each_byte(rt: HostRuntime) {

@@ -14,7 +14,7 @@ mod tests;
 mod unspell;
 mod value;
 
-pub use bare::skip_bare;
+pub use bare::{skip_bare, skip_word};
 pub use memory::Memory;
 pub use spelling::{
     Style, is_bare_byte, is_digit_byte, is_letter_byte, is_printable_byte, push_spelling,

@@ -1,6 +1,7 @@
 use Rattle.std.proofs.Common.{◌∙◌, sym, ap, arith}
 use Rattle.cpe_fs.specs.Scanning.{is_bare_here, body_end}
-use Rattle.cpe_fs.proofs.Bodies.{skip_same, skip_again, body_over, length-skip_while, shorter_character, character_step}
+use Rattle.cpe_values.proofs.SkippingLemmas.{skip_again, length-skip_while}
+use Rattle.cpe_fs.proofs.Bodies.{skip_same, body_over, shorter_character, character_step}
 use Rattle.cpe_fs.proofs.scan.scan_body.Goals as goal
 
 pub loop-rest-init : goal.loop-rest-init
