@@ -71,15 +71,15 @@ fn has_a_form(code: u8) -> bool {
     b"!\"#$%&'()*+,-./:;<=>?@[\\]^`{|}~".contains(&code)
 }
 
-/// How many of the two digits behind the percent sign a URI may begin with, where a character stands before it.
-/// `%0` begins the two specials, and `%2` to `%7` a character each: no other digit begins a form. Behind the first digit the second has to
-/// make one of the forms.
-fn digits_taken(code: u8) -> usize {
+/// The place of a percent form that ends a text of eleven bytes, where a character stands before it, or none where it is one.
+/// The first digit stands behind nine bytes. `%0` begins the two specials, and `%2` to `%7` a character each: no other digit begins a
+/// form. Behind the first digit the second has to make one of the forms.
+fn place_of_form(code: u8) -> Option<usize> {
     match code {
-        1 | 2 => 2,
-        _ if has_a_form(code) => 2,
-        0..=15 | 32..=127 => 1,
-        _ => 0,
+        1 | 2 => None,
+        _ if has_a_form(code) => None,
+        0..=15 | 32..=127 => Some(10),
+        _ => Some(9),
     }
 }
 
@@ -96,10 +96,11 @@ fn takes_these_percent_forms_alone(rt: HostRuntime) -> Result<(), Fail> {
             let text = [
                 b'c', b'p', b'e', b':', b'/', b'a', b':', b'x', b'%', high, low,
             ];
-            // nine bytes stand before the digits
-            let taken = digits_taken(code);
-            let want = if taken == 2 { None } else { Some(9 + taken) };
-            assert_eq!(rt; place_of(&rt, rt.alloc(), &text)?, want, "{text:?}");
+            assert_eq!(rt;
+                place_of(&rt, rt.alloc(), &text)?,
+                place_of_form(code),
+                "{text:?}"
+            );
         }
     }
     Ok(())
