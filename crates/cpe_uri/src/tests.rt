@@ -27,26 +27,22 @@ fn place_of_uri(alloc: Global, text: &[u8]) -> Result<Option<usize>, UriFault> {
 }
 
 /// The same without a name, behind three bytes that stay, in the least room.
-fn at_once(rt: &impl Abort, text: &[u8]) -> Result<([u8; 512], usize), usize> {
-    let mut room = [b'#'; 512];
-    assert!(rt; text.len() <= 180);
+fn at_once<'a>(rt: &impl Abort, room: &'a mut [u8], text: &[u8]) -> Result<&'a [u8], usize> {
+    room.fill(b'#');
+    assert!(rt; text.len() <= 180 && room.len() == 512);
     let end = write_unbound_any(&mut room[..3 + 2 * text.len() + FRAME], 3, text)?;
-    Ok((room, end))
+    assert!(rt; room.starts_with(b"###"));
+    Ok(room.get(3..end).unwrap_or(&[]))
 }
 
 /// What both say of a text, which is the same.
 fn said(rt: &impl Abort, alloc: Global, text: &[u8]) -> Result<Said, UriFault> {
+    let mut room = [b'#'; 512];
     let said = by_name(alloc, text)?;
-    match at_once(rt, text) {
-        Ok((room, end)) => {
-            let written = room.get(..end).unwrap_or(&[]);
-            assert!(rt; written.starts_with(b"###"));
-            assert!(rt; said.is_ok());
-            if let Ok(said) = &said {
-                assert_eq!(rt; written.get(3..).unwrap_or(&[]), said.as_slice());
-            }
-        }
-        Err(place) => assert_eq!(rt; said.as_ref().err(), Some(&place)),
+    match (&said, at_once(rt, &mut room, text)) {
+        (Ok(said), Ok(written)) => assert_eq!(rt; said.as_slice(), written),
+        (Err(place), Err(other)) => assert_eq!(rt; *place, other),
+        _ => assert!(rt; false, "one of them refuses"),
     }
     Ok(said)
 }
@@ -75,15 +71,15 @@ fn has_a_form(code: u8) -> bool {
     b"!\"#$%&'()*+,-./:;<=>?@[\\]^`{|}~".contains(&code)
 }
 
-/// How many of the two digits behind the percent sign a URI may begin with, where a character stands before it.
-/// `%0` begins the two specials, and `%2` to `%7` a character each: no other digit begins a form. Behind the first digit the second has to
-/// make one of the forms.
-fn digits_taken(code: u8) -> usize {
+/// The place of a percent form that ends a text of eleven bytes, where a character stands before it, or none where it is one.
+/// The first digit stands behind nine bytes. `%0` begins the two specials, and `%2` to `%7` a character each: no other digit begins a
+/// form. Behind the first digit the second has to make one of the forms.
+fn place_of_form(code: u8) -> Option<usize> {
     match code {
-        1 | 2 => 2,
-        _ if has_a_form(code) => 2,
-        0..=15 | 32..=127 => 1,
-        _ => 0,
+        1 | 2 => None,
+        _ if has_a_form(code) => None,
+        0..=15 | 32..=127 => Some(10),
+        _ => Some(9),
     }
 }
 
@@ -100,10 +96,11 @@ fn takes_these_percent_forms_alone(rt: HostRuntime) -> Result<(), Fail> {
             let text = [
                 b'c', b'p', b'e', b':', b'/', b'a', b':', b'x', b'%', high, low,
             ];
-            // nine bytes stand before the digits
-            let taken = digits_taken(code);
-            let want = if taken == 2 { None } else { Some(9 + taken) };
-            assert_eq!(rt; place_of(&rt, rt.alloc(), &text)?, want, "{text:?}");
+            assert_eq!(rt;
+                place_of(&rt, rt.alloc(), &text)?,
+                place_of_form(code),
+                "{text:?}"
+            );
         }
     }
     Ok(())
