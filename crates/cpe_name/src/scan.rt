@@ -188,6 +188,7 @@ fn has_shape(which: Attribute, text: &[u8]) -> bool
 }
 
 // What stands behind this byte, if it stands first.
+#[inline(always)]
 #[tactic(auto, unfolding(crate::specs::Scanning::after_at))]
 fn after_byte(expected: u8, bytes: &[u8]) -> Option<&[u8]>
     ensures { MatchOption result ((more : List ℕ) → after_at (expected ∷ more) bytes.now ≡ None) (λ r. (more : List ℕ) → after_at (expected ∷ more) bytes.now ≡ after_at more r.now) }
@@ -199,6 +200,7 @@ fn after_byte(expected: u8, bytes: &[u8]) -> Option<&[u8]>
 }
 
 // What stands behind these bytes, if the text begins with them.
+#[inline(always)]
 #[tactic(auto, unfolding(crate::specs::Scanning::after_at))]
 fn after<'a>(expected: &[u8], bytes: &'a [u8]) -> Option<&'a [u8]>
     ensures { option_map (λ r. r.now) result ≡ after_at expected.now bytes.now }
@@ -215,6 +217,7 @@ fn after<'a>(expected: &[u8], bytes: &'a [u8]) -> Option<&'a [u8]>
 
 // What stands behind the name of this attribute and `=`. Each key is a constant where it is compared, so its length
 // is known there.
+#[inline(always)]
 fn after_key(which: Attribute, bytes: &[u8]) -> Option<&[u8]>
     ensures { option_map (λ r. r.now) result ≡ after_at (key_text which) bytes.now }
 {
@@ -234,7 +237,7 @@ fn after_key(which: Attribute, bytes: &[u8]) -> Option<&[u8]>
 }
 
 // Which of these attributes stands there, and what is left behind its key.
-#[inline(never)]
+#[inline(always)]
 #[tactic(auto, unfolding(crate::specs::Scanning::name_at))]
 fn name_among<'a>(which: &[Attribute], bytes: &'a [u8]) -> Option<(Attribute, &'a [u8])>
     ensures { Finds (λ x. (x.0, x.1.now)) result (name_at which.now bytes.now) }
@@ -248,6 +251,7 @@ fn name_among<'a>(which: &[Attribute], bytes: &'a [u8]) -> Option<(Attribute, &'
 }
 
 // Which attribute stands there, and what is left behind its key. The likely one is tried first.
+#[inline(always)]
 #[tactic(auto, using(crate::proofs::Items::name_found))]
 fn scan_name(likely: Attribute, bytes: &[u8]) -> Option<(Attribute, &[u8])>
     ensures { Finds (λ x. (x.0, x.1.now)) result (name_at attributes bytes.now) }
