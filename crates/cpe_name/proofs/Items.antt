@@ -85,6 +85,10 @@ name_again TargetSw r = refl
 name_again TargetHw r = refl
 name_again Other r = refl
 
+-- where the key of an attribute stands, no other does
+pub name_found : (a : Attribute) (s r : List ℕ) → after_at (key_text a) s ≡ Some r → name_at attributes s ≡ Some (a, r)
+name_found a s r e = ap (name_at attributes) (after_reads (key_text a) s r e) ∙ name_again a r
+
 -- ---- values
 
 -- the text of a value that the attribute may have

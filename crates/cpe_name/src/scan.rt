@@ -64,25 +64,23 @@ impl<'a> Written<'a> {
         }
     }
 
-    // The same with another text at one attribute.
-    fn with(&self, which: Attribute, text: &'a [u8]) -> Written<'a>
-        ensures { texts result ≡ put_text (texts self.now) which text.now }
+    // Sets the text at one attribute.
+    fn set(&mut self, which: Attribute, text: &'a [u8])
+        ensures { texts self.new ≡ put_text (texts self.old) which text.now }
     {
-        let mut written = *self;
         match which {
-            Attribute::Part => written.part = text,
-            Attribute::Vendor => written.vendor = text,
-            Attribute::Product => written.product = text,
-            Attribute::Version => written.version = text,
-            Attribute::Update => written.update = text,
-            Attribute::Edition => written.edition = text,
-            Attribute::Language => written.language = text,
-            Attribute::SwEdition => written.sw_edition = text,
-            Attribute::TargetSw => written.target_sw = text,
-            Attribute::TargetHw => written.target_hw = text,
-            Attribute::Other => written.other = text,
+            Attribute::Part => self.part = text,
+            Attribute::Vendor => self.vendor = text,
+            Attribute::Product => self.product = text,
+            Attribute::Version => self.version = text,
+            Attribute::Update => self.update = text,
+            Attribute::Edition => self.edition = text,
+            Attribute::Language => self.language = text,
+            Attribute::SwEdition => self.sw_edition = text,
+            Attribute::TargetSw => self.target_sw = text,
+            Attribute::TargetHw => self.target_hw = text,
+            Attribute::Other => self.other = text,
         }
-        written
     }
 }
 
@@ -94,6 +92,7 @@ fn front_of<'a>(all: &'a [u8], rest: &[u8]) -> &'a [u8]
 }
 
 // The text of a value, and what is left behind it.
+#[inline(never)]
 #[tactic(auto, unfolding(crate::specs::Scanning::value_at))]
 fn split_value(bytes: &[u8]) -> Option<(&[u8], &[u8])>
     ensures { Finds (λ x. (x.0.now, x.1.now)) result (value_at bytes.now) }
@@ -189,6 +188,7 @@ fn has_shape(which: Attribute, text: &[u8]) -> bool
 }
 
 // What stands behind this byte, if it stands first.
+#[inline(always)]
 #[tactic(auto, unfolding(crate::specs::Scanning::after_at))]
 fn after_byte(expected: u8, bytes: &[u8]) -> Option<&[u8]>
     ensures { MatchOption result ((more : List ℕ) → after_at (expected ∷ more) bytes.now ≡ None) (λ r. (more : List ℕ) → after_at (expected ∷ more) bytes.now ≡ after_at more r.now) }
@@ -200,6 +200,7 @@ fn after_byte(expected: u8, bytes: &[u8]) -> Option<&[u8]>
 }
 
 // What stands behind these bytes, if the text begins with them.
+#[inline(always)]
 #[tactic(auto, unfolding(crate::specs::Scanning::after_at))]
 fn after<'a>(expected: &[u8], bytes: &'a [u8]) -> Option<&'a [u8]>
     ensures { option_map (λ r. r.now) result ≡ after_at expected.now bytes.now }
@@ -214,44 +215,76 @@ fn after<'a>(expected: &[u8], bytes: &'a [u8]) -> Option<&'a [u8]>
     Some(rest)
 }
 
-// The name of an attribute and `=`.
-fn key_of(which: Attribute) -> &'static [u8]
-    ensures { result.now ≡ key_text which }
+// What stands behind the name of this attribute and `=`. Each key is a constant where it is compared, so its length
+// is known there.
+#[inline(always)]
+fn after_key(which: Attribute, bytes: &[u8]) -> Option<&[u8]>
+    ensures { option_map (λ r. r.now) result ≡ after_at (key_text which) bytes.now }
 {
     match which {
-        Attribute::Part => b"part=",
-        Attribute::Vendor => b"vendor=",
-        Attribute::Product => b"product=",
-        Attribute::Version => b"version=",
-        Attribute::Update => b"update=",
-        Attribute::Edition => b"edition=",
-        Attribute::Language => b"language=",
-        Attribute::SwEdition => b"sw_edition=",
-        Attribute::TargetSw => b"target_sw=",
-        Attribute::TargetHw => b"target_hw=",
-        Attribute::Other => b"other=",
+        Attribute::Part => after(b"part=", bytes),
+        Attribute::Vendor => after(b"vendor=", bytes),
+        Attribute::Product => after(b"product=", bytes),
+        Attribute::Version => after(b"version=", bytes),
+        Attribute::Update => after(b"update=", bytes),
+        Attribute::Edition => after(b"edition=", bytes),
+        Attribute::Language => after(b"language=", bytes),
+        Attribute::SwEdition => after(b"sw_edition=", bytes),
+        Attribute::TargetSw => after(b"target_sw=", bytes),
+        Attribute::TargetHw => after(b"target_hw=", bytes),
+        Attribute::Other => after(b"other=", bytes),
     }
 }
 
 // Which of these attributes stands there, and what is left behind its key.
+#[inline(always)]
 #[tactic(auto, unfolding(crate::specs::Scanning::name_at))]
 fn name_among<'a>(which: &[Attribute], bytes: &'a [u8]) -> Option<(Attribute, &'a [u8])>
     ensures { Finds (λ x. (x.0, x.1.now)) result (name_at which.now bytes.now) }
 {
     for attribute in which {
-        if let Some(rest) = after(key_of(*attribute), bytes) {
+        if let Some(rest) = after_key(*attribute, bytes) {
             return Some((*attribute, rest));
         }
     }
     None
 }
 
+// Which attribute stands there, and what is left behind its key. The likely one is tried first.
+#[inline(always)]
+#[tactic(auto, using(crate::proofs::Items::name_found))]
+fn scan_name(likely: Attribute, bytes: &[u8]) -> Option<(Attribute, &[u8])>
+    ensures { Finds (λ x. (x.0, x.1.now)) result (name_at attributes bytes.now) }
+{
+    if let Some(rest) = after_key(likely, bytes) {
+        return Some((likely, rest));
+    }
+    name_among(&ATTRIBUTES, bytes)
+}
+
+// The attribute that mostly stands behind this one. No answer depends on it.
+fn following(which: Attribute) -> Attribute {
+    match which {
+        Attribute::Part => Attribute::Vendor,
+        Attribute::Vendor => Attribute::Product,
+        Attribute::Product => Attribute::Version,
+        Attribute::Version => Attribute::Update,
+        Attribute::Update => Attribute::Edition,
+        Attribute::Edition => Attribute::Language,
+        Attribute::Language => Attribute::SwEdition,
+        Attribute::SwEdition => Attribute::TargetSw,
+        Attribute::TargetSw => Attribute::TargetHw,
+        Attribute::TargetHw => Attribute::Other,
+        Attribute::Other => Attribute::Part,
+    }
+}
+
 // An attribute, the text of its value, and what is left behind them.
 #[tactic(auto, unfolding(crate::specs::Scanning::item_at))]
-fn scan_item(bytes: &[u8]) -> Option<(Attribute, &[u8], &[u8])>
+fn scan_item(likely: Attribute, bytes: &[u8]) -> Option<(Attribute, &[u8], &[u8])>
     ensures { Finds (λ x. ((x.0, x.1.now), x.2.now)) result (item_at bytes.now) }
 {
-    let (which, rest) = name_among(&ATTRIBUTES, bytes)?;
+    let (which, rest) = scan_name(likely, bytes)?;
     let (text, rest) = split_value(rest)?;
     if is_lone(text) || !has_shape(which, text) {
         return None;
@@ -290,15 +323,20 @@ fn is_some_text(text: &[u8]) -> bool
 
 // One attribute that was not given before, and what follows it.
 #[tactic(auto, unfolding(crate::specs::Scanning::step_at))]
-fn scan_step<'a>(written: &Written<'a>, bytes: &'a [u8]) -> Option<(Written<'a>, Option<&'a [u8]>)>
-    ensures { Finds (λ x. (texts x.0, option_map (λ r. r.now) x.1)) result (step_at (texts written.now) bytes.now) }
+fn scan_step<'a>(
+    written: &mut Written<'a>,
+    likely: Attribute,
+    bytes: &'a [u8],
+) -> Option<(Attribute, Option<&'a [u8]>)>
+    ensures { Finds (λ x. (texts written.new, option_map (λ r. r.now) x.1)) result (step_at (texts written.old) bytes.now) }
 {
-    let (which, text, rest) = scan_item(bytes)?;
+    let (which, text, rest) = scan_item(likely, bytes)?;
     if is_some_text(written.get(which)) {
         return None;
     }
     let next = scan_next(rest)?;
-    Some((written.with(which, text), next))
+    written.set(which, text);
+    Some((which, next))
 }
 
 // The attributes up to the end. There are eleven, so a twelfth would be given twice.
@@ -307,12 +345,13 @@ fn scan_list(bytes: &[u8]) -> Option<Written>
     ensures { Finds texts result (list_at 11 none_given bytes.now) }
 {
     let mut written = Written::none();
+    let mut likely = Attribute::Part;
     let mut rest = bytes;
     for _ in 0..11u8 {
-        let Some((more, next)) = scan_step(&written, rest) else {
+        let Some((which, next)) = scan_step(&mut written, likely, rest) else {
             return None;
         };
-        written = more;
+        likely = following(which);
         match next {
             Some(tail) => rest = tail,
             None => return Some(written),

@@ -9,9 +9,9 @@ returns-in_default c = stopped c.loop.counter (texts c.loop.written) c.loop.rest
 pub returns-in-None : goal.returns-in-None
 returns-in-None c =
     let step = rw c.in-None.is at c.in-Some.ensures in
-    ended c.loop.counter (texts c.loop.written) (texts c.in-Some.more) c.loop.rest.now _ (search rules) c.loop.invariant step
+    ended c.loop.counter (texts c.loop.written) (texts c.scan_step.new.written) c.loop.rest.now _ (search rules) c.loop.invariant step
 
 pub loop-preserved : goal.loop-preserved
 loop-preserved c =
     let step = rw c.in-Some-next.is at c.in-Some.ensures in
-    kept c.loop.counter (texts c.loop.written) (texts c.in-Some.more) c.loop.rest.now c.in-Some-next.tail.now _ (search rules) c.loop.invariant step
+    kept c.loop.counter (texts c.loop.written) (texts c.scan_step.new.written) c.loop.rest.now c.in-Some-next.tail.now _ (search rules) c.loop.invariant step
