@@ -41,8 +41,8 @@ fn stands_between(text: &[u8], body: &[u8], low: usize, high: usize) -> bool
 }
 
 /// Whether the body stands in the text at one of the places from `low` to `high`, both among them, letters without
-/// regard to case. Places where the body would reach past the end of the text are none. It takes no memory, and time in
-/// the order of the two lengths together.
+/// regard to case. Places where the body would reach past the end of the text are none. It takes no memory; how long it
+/// takes is told at the head of the crate.
 pub fn stands_within(text: &[u8], body: &[u8], low: usize, high: usize) -> bool
     ensures { IsTrue result ↔ StandsWithin text.now body.now low high }
 {

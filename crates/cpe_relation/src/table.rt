@@ -59,8 +59,7 @@ pub(crate) fn relation_to(source: &Value, target: &Value) -> Relation
     }
 }
 
-/// The relation of two values of one attribute, by the table of the report (NIST IR 7696, 6.1). It takes no memory, and
-/// time in the order of the two lengths together.
+/// The relation of two values of one attribute, by the table of the report (NIST IR 7696, 6.1). It takes no memory.
 pub fn compare_values(source: &Value, target: &Value) -> Relation
     // By a function.
     ensures value { result ≡ relation source.now target.now }
