@@ -142,6 +142,7 @@ for tool in cmp diff head tr cut; do
 done
 answers 'the real names' examples/names.txt examples/names.out 0 unbind
 answers 'the mixed lines' examples/mixed.txt examples/mixed.out 1 unbind
+answers 'the pairs of names' examples/pairs.txt examples/pairs.out 1 compare
 answers 'an empty input' /dev/null /dev/null 0 unbind
 answers_in_pieces
 answers_long_lines
