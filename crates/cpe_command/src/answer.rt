@@ -27,9 +27,9 @@ pub enum Reason {
     Name(usize),
     /// The line has not exactly one space.
     Pair,
-    /// No name has the text before the space, and this is its place.
+    /// No name has the text before the only space, and this is its place.
     Source(usize),
-    /// A name has the text before the space, but none that behind it, and this is the latter's place, counted in it alone.
+    /// A name has the text before the space, but none has the text behind it; this is its place, counted in that text alone.
     Target(usize),
 }
 

@@ -1,5 +1,5 @@
--- The scanners of a formatted string, as the code goes over it. Of the public words `unbound` alone rests on them, and
--- `unbound_is` fixes it by the grammar.
+-- The scanners of a formatted string, as the code goes over it. Of the public words `read_fs` alone rests on them, and
+-- `read_fs_is` fixes it by the grammar.
 use Rattle.std.specs.Prelude.{ℕ, suc, List, [], ◌∷◌, length, codes, Bool, false, not, ◌&&◌, ◌||◌, ◌==◌, Ok, Err, if◌then◌else◌}
 use Rattle.cpe_values.specs.declared.spelling.Style.TheVariants as style
 use Rattle.cpe_values.specs.Parts.{is_character}

@@ -1,4 +1,4 @@
--- The value of which a component is the text: a component is the text of one value at most. Of the public words `unbound` alone
+-- The value of which a component is the text: a component is the text of one value at most. Of the public words `read_fs` alone
 -- rests on it.
 use Rattle.std.specs.Prelude.{ℕ, List, if◌then◌else◌}
 use Rattle.cpe_values.specs.declared.value.Value.{Value}

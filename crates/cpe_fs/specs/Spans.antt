@@ -1,4 +1,4 @@
--- Where the components of a formatted string lie, as the code finds them. Of the public words `unbound` alone rests on it.
+-- Where the components of a formatted string lie, as the code finds them. Of the public words `read_fs` alone rests on it.
 use Rattle.std.specs.Prelude.{◌≡◌, ℕ, ◌+◌, ◌-◌, ◌≤◌, Bool, false, List, [], ◌∷◌, length, take, map, Result, Ok, Err, ◌==◌}
 use Rattle.cpe_grammar.specs.Scanners.{Scanner}
 use Rattle.cpe_values.specs.declared.value.Value.{Value}

@@ -1,4 +1,4 @@
--- The pieces of a URI in which the values of its name stand. Of the public words `unbound_uri` alone rests on it.
+-- The pieces of a URI in which the values of its name stand. Of the public words `read_uri` alone rests on it.
 use Rattle.std.specs.Prelude.{ℕ, Bool, ◌==◌, if◌then◌else◌, List, [], ◌∷◌, drop, get_or}
 use Rattle.std.specs.List.{slice_split}
 use Rattle.cpe_uri.specs.Grammar.{is_tilde, begins_with_tilde}

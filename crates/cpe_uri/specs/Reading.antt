@@ -1,4 +1,4 @@
--- How a component of a URI is read byte by byte: a machine, as the code goes over it. Of the public words `unbound_uri` alone rests on it.
+-- How a component of a URI is read byte by byte: a machine, as the code goes over it. Of the public words `read_uri` alone rests on it.
 use Rattle.std.specs.Prelude.{ℕ, ◌+◌, ◌*◌, Bool, true, false, not, ◌&&◌, ◌||◌, ◌==◌, nat_le, nat_lt, if◌then◌else◌, Option, Some, None, is_some, List, length, Result, Ok, Err}
 use Rattle.std.specs.Option.{option_map}
 use Rattle.cpe_grammar.specs.Scanners.{Scanner}

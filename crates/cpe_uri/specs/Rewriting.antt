@@ -1,4 +1,4 @@
--- The text of a well-formed name, made from where its values lie in its URI, form by form. Of the public words `unbound_uri` alone
+-- The text of a well-formed name, made from where its values lie in its URI, form by form. Of the public words `read_uri` alone
 -- rests on it.
 use Rattle.std.specs.Prelude.{ℕ, ◌+◌, ◌*◌, ◌%◌, Bool, false, ◌||◌, ◌==◌, if◌then◌else◌, List, [], ◌∷◌, ◌++◌, length, codes}
 use Rattle.std.specs.Char.{to_ascii_lowercase}

@@ -1,4 +1,4 @@
--- The scanner of whole URIs, as the code goes over them. Of the public words `unbound_uri` alone rests on it, and `unbound_uri_is` fixes
+-- The scanner of whole URIs, as the code goes over them. Of the public words `read_uri` alone rests on it, and `read_uri_is` fixes
 -- it by the grammar.
 use Rattle.std.specs.Prelude.{ℕ, List, [], ◌∷◌, false, true, ◌==◌, codes, Ok}
 use Rattle.std.specs.Char.{to_ascii_lowercase}

@@ -1,4 +1,4 @@
--- The value that stands in a piece of a URI: one value at most does. Of the public words `unbound_uri` alone rests on it.
+-- The value that stands in a piece of a URI: one value at most does. Of the public words `read_uri` alone rests on it.
 use Rattle.std.specs.Prelude.{ℕ, ◌==◌, List, [], ◌∷◌, length, if◌then◌else◌}
 use Rattle.cpe_values.specs.declared.value.Value.{Value}
 use Rattle.cpe_values.specs.declared.value.Value.TheVariants as value
