@@ -226,21 +226,38 @@ const OTHERS: [(&[u8], &[u8]); 6] = [
     (b"wfn:[other=\"na\"]", b"wfn:[other=NA]"),
 ];
 
+fn is_lowered_to(alloc: Global, text: &[u8], lower: &[u8]) -> Result<bool, Fail> {
+    let name = read_wfn(alloc, text)?;
+    let lowered = name.lower(alloc)?;
+    Ok(lowered == read_wfn(alloc, lower)?)
+}
+
+fn is_in_lower_case(alloc: Global, text: &[u8]) -> Result<bool, Fail> {
+    let name = read_wfn(alloc, text)?;
+    Ok(name.is_lower())
+}
+
+fn are_same(alloc: Global, text: &[u8], other: &[u8]) -> Result<bool, Fail> {
+    let name = read_wfn(alloc, text)?;
+    let other = read_wfn(alloc, other)?;
+    Ok(name.same(&other))
+}
+
 #[test]
-fn names_are_compared_without_regard_to_case(rt: HostRuntime) -> Result<(), Fail> {
-    let alloc = rt.alloc();
-    for (text, lower_text) in LOWER {
-        let name = read_wfn(alloc, text)?;
-        let lower = read_wfn(alloc, lower_text)?;
-        assert!(rt; name.lower(alloc)? == lower);
-        assert!(rt; name.same(&lower) && lower.same(&name));
-        assert!(rt; lower.is_lower());
-        assert_eq!(rt; name.is_lower(), name == lower);
+fn a_name_in_lower_case_is_the_same(rt: HostRuntime) -> Result<(), Fail> {
+    for (text, lower) in LOWER {
+        assert!(rt; is_lowered_to(rt.alloc(), text, lower)?);
+        assert!(rt; are_same(rt.alloc(), text, lower)?);
+        assert!(rt; is_in_lower_case(rt.alloc(), lower)?);
+        assert_eq!(rt; is_in_lower_case(rt.alloc(), text)?, text == lower);
     }
+    Ok(())
+}
+
+#[test]
+fn other_names_are_not_the_same(rt: HostRuntime) -> Result<(), Fail> {
     for (text, other) in OTHERS {
-        let name = read_wfn(alloc, text)?;
-        let other = read_wfn(alloc, other)?;
-        assert!(rt; !name.same(&other) && !other.same(&name));
+        assert!(rt; !are_same(rt.alloc(), text, other)?);
     }
     Ok(())
 }
