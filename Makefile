@@ -11,7 +11,7 @@ take_program = mkdir -p build && { cmp -s crates/cpe/out/cpe build/cpe || \
 help:
 	@echo 'make build    proves the program, and builds it into build/cpe'
 	@echo 'make demo     builds it, and reads examples/names.txt with it'
-	@echo 'make test     the gate: rt ci, then checks of the program as rt ci built it'
+	@echo 'make test     the gate: rt ci, what each crate took, then checks of the program as rt ci built it'
 	@echo 'make install  builds it, and puts it into PREFIX/bin (PREFIX=$(PREFIX))'
 	@echo 'make bench    builds it, and measures it against unproved Rust'
 	@echo 'make clean    removes all that was built'
@@ -26,7 +26,7 @@ demo: build
 	build/cpe unbind < examples/names.txt
 
 test: need_rt
-	rt ci
+	sh tests/gate.sh
 	@$(take_program)
 	sh tests/own-checks.sh build/cpe
 
