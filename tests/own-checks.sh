@@ -112,6 +112,18 @@ answers_bindings() {
     comes_back 'the real names bound as URIs and unbound again' examples/names.out bind uri
 }
 
+# The vectors of a command, each with its answers: answers_vectors FOLDER WORD..
+answers_vectors() {
+    folder=tests/vectors/$1
+    shift
+    for vectors in "$folder"/*.in; do
+        wanted_output=${vectors%.in}.out
+        wanted_status=0
+        if grep -q '^refused ' "$wanted_output"; then wanted_status=1; fi
+        answers "vectors: $*, $(basename "$vectors" .in)" "$vectors" "$wanted_output" "$wanted_status" "$@"
+    done
+}
+
 # Words that are no command leave the input unread.
 answers_usage() {
     echo "$usage" > "$room/usage.out"
@@ -274,7 +286,7 @@ each() {
     "$1" examples/pairs.txt examples/pairs.out compare
 }
 
-for tool in cmp diff head tr cut; do
+for tool in cmp diff head tr cut grep basename; do
     has "$tool" || { echo "OWN CHECKS SKIPPED, all of them: there is no $tool"; exit 0; }
 done
 answers 'the real names' examples/names.txt examples/names.out 0 unbind
@@ -284,6 +296,10 @@ answers 'an empty input' /dev/null /dev/null 0 unbind
 answers_in_pieces
 answers_long_lines
 answers_bindings
+answers_vectors unbind unbind
+answers_vectors bind-fs bind fs
+answers_vectors bind-uri bind uri
+answers_vectors compare compare
 answers_usage
 answers_at_once
 each answers_at_volume

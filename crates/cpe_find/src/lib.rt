@@ -13,7 +13,5 @@ mod cut;
 mod folded;
 mod search;
 mod standing;
-#[cfg(test)]
-mod tests;
 
 pub use standing::stands_within;

@@ -1,6 +1,7 @@
 -- The value of which a component is the text.
 use Rattle.std.proofs.Common.{◌≡◌, ◌≢◌, ℕ, true, false, List, [], ◌∷◌, map, refl, sym, ap, subst, ◌∙◌, inl, inr}
 use Rattle.std.proofs.lemmas.Bool.{cases_Bool, eqb-true, both_ways}
+use Rattle.std.specs.List.{AllByRecursion}
 use Rattle.cpe_values.specs.declared.value.Edge.TheVariants as edge
 use Rattle.cpe_values.specs.declared.value.Value.{Value}
 use Rattle.cpe_values.specs.declared.value.Value.TheVariants as value
@@ -10,19 +11,18 @@ use Rattle.cpe_values.specs.Spelling.{spelling}
 use Rattle.cpe_values.specs.Values.{IsValue}
 use Rattle.cpe_name.specs.declared.name.Values.{Values}
 use Rattle.cpe_name.specs.declared.attribute.Attribute.{Attribute}
-use Rattle.cpe_name.specs.declared.name.NameFault.{NameFault}
-use Rattle.cpe_name.specs.declared.name.NameFault.TheVariants.{BadPart, BadLanguage}
-use Rattle.cpe_name.specs.Names.{attributes, value_of, IsName, IsFault}
+use Rattle.cpe_name.specs.Names.{attributes, value_of, IsName, named}
 use Rattle.cpe_fs.specs.Grammar.{component, Fs}
-use Rattle.cpe_fs.specs.Spans.{is_only, IsSpan, AreSpans, spans, AreComponents}
+use Rattle.cpe_fs.specs.Spans.{is_only, IsSpan, AreComponents}
+use Rattle.cpe_name.specs.Spans.{texts}
 use Rattle.cpe_values.specs.declared.spelling.Style.{Style}
 use Rattle.cpe_values.specs.Spelled.{IsSpelling}
 use Rattle.cpe_values.specs.Unspelling.{body_at, behind_body, parts_at}
 use Rattle.cpe_values.proofs.Unspelled.{parts_back, parts_are}
-use Rattle.cpe_name.specs.Equal.{named}
 use Rattle.cpe_fs.specs.SpanValues.{value_at}
-use Rattle.cpe_fs.specs.declared.scan.Components.{Components}
-use Rattle.cpe_fs.proofs.Whole.{AllSuit, good_of, values_of, named_values, suit_values, components_of}
+use Rattle.cpe_name.specs.declared.written.Written.{Written}
+use Rattle.cpe_name.proofs.Items.{good_of}
+use Rattle.cpe_fs.proofs.Whole.{AllSuit, values_of, named_values, suit_values, components_of}
 
 -- ---- values
 
@@ -69,7 +69,7 @@ text_read s read is any na told =
 
 -- ---- the values of a name
 
-are_spans : (which : List Attribute) (vs : List Value) → AllSuit which vs → AreSpans (map component vs)
+are_spans : (which : List Attribute) (vs : List Value) → AllSuit which vs → AllByRecursion IsSpan (map component vs)
 are_spans [] [] h = tt
 are_spans [] (v ∷ vs) h = absurd h
 are_spans (a ∷ rest) [] h = absurd h
@@ -82,21 +82,16 @@ values_back (a ∷ rest) [] h = absurd h
 values_back (a ∷ rest) (v ∷ vs) h = ap (λ (u : Value). u ∷ map value_at (map component vs)) (value_back v (good_of a v h.0)) ∙ ap (λ (us : List Value). v ∷ us) (values_back rest vs h.1)
 
 -- the components of a name are texts of values
-pub spans_are : (s : List ℕ) (c : Components) → AreComponents s c → AreSpans (spans c)
-spans_are s c are = subst AreSpans (sym are.are) (are_spans attributes (values_of are.name) (suit_values are.name are.fs.0))
+pub spans_are : (s : List ℕ) (c : Written) → AreComponents s c → AllByRecursion IsSpan (texts c)
+spans_are s c are = subst (AllByRecursion IsSpan) (sym are.are) (are_spans attributes (values_of are.name) (suit_values are.name are.fs.0))
 
 -- the values of the components of a name are its values
 pub named_back : (w : Values) → IsName w → named (map value_at (map (λ a. component (value_of w a)) attributes)) ≡ w
 named_back w good = ap named (values_back attributes (values_of w) (suit_values w good)) ∙ named_values w
 
 -- the values of the components that were found are those of the name
-pub name_back : (s : List ℕ) (c : Components) (are : AreComponents s c) → named (map value_at (spans c)) ≡ are.name
+pub name_back : (s : List ℕ) (c : Written) (are : AreComponents s c) → named (map value_at (texts c)) ≡ are.name
 name_back s c are = ap (λ (us : List (List ℕ)). named (map value_at us)) are.are ∙ named_back are.name are.fs.0
-
--- a name has no fault
-pub no_fault : (f : NameFault) (w : Values) → IsName w → IsFault f w → ⊥
-no_fault BadPart w good h = both_ways _ h good.0.1
-no_fault BadLanguage w good h = both_ways _ h.1 good.1.1.1.1.1.1.0.1
 
 -- a text is that of one name
 pub one_name : (v w : Values) (s : List ℕ) → Fs v s → Fs w s → v ≡ w

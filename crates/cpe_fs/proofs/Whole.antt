@@ -6,20 +6,19 @@ use Rattle.std.proofs.lemmas.List.{append-nil, nil_from_length, take_at}
 use Rattle.std.proofs.lemmas.Bool.{eqb-true}
 use Rattle.cpe_values.specs.declared.value.Value.{Value}
 use Rattle.cpe_values.specs.declared.value.Value.TheVariants as value
-use Rattle.cpe_values.specs.Values.{IsValue}
 use Rattle.cpe_name.specs.declared.name.Values.{Values}
 use Rattle.cpe_name.specs.declared.attribute.Attribute.{Attribute}
 use Rattle.cpe_name.specs.declared.attribute.Attribute.TheVariants.{Part, Vendor, Product, Version, Update, Edition, Language, SwEdition, TargetSw, TargetHw, Other}
-use Rattle.cpe_name.specs.Names.{attributes, value_of, Suits, IsName}
+use Rattle.cpe_name.specs.Names.{attributes, value_of, Suits, IsName, named}
 use Rattle.cpe_grammar.specs.Scanners.{◌>>=◌, both, ending, one, literal}
 use Rattle.cpe_grammar.proofs.Scans.{Scans, wider, Empty, nothing_scans, ending_scans, OneOf, one_scans, Joined, both_scans, Only, literal_scans, literal_taken}
 use Rattle.cpe_grammar.proofs.Results.{went_on, ok_is, ok≢err}
 use Rattle.cpe_grammar.proofs.Places.{not_taken, within_text, place_of}
 use Rattle.cpe_fs.specs.Grammar.{component, fs_text, Fs, IsFs}
 use Rattle.cpe_fs.specs.Scanning.{is_colon, part_end, language_end, text_end, component_end, field_end, fields_end, whole_end}
-use Rattle.cpe_fs.specs.Spans.{IsSpan, spans, total_length, AreComponents, Leaves, behind_field, between, component_at, components_at}
-use Rattle.cpe_name.specs.Equal.{named}
-use Rattle.cpe_fs.specs.declared.scan.Components.{Components}
+use Rattle.cpe_fs.specs.Spans.{IsSpan, AreComponents, Leaves, behind_field, between, component_at, components_at}
+use Rattle.cpe_name.specs.Spans.{texts, total_length}
+use Rattle.cpe_name.specs.declared.written.Written.{Written}
 use Rattle.cpe_fs.proofs.Texts.{Ends, text_scans, text_taken}
 use Rattle.cpe_fs.proofs.Languages.{IsPart, part_scans, part_taken, IsLanguage, language_scans, language_taken}
 
@@ -69,20 +68,6 @@ any_suits SwEdition = tt
 any_suits TargetSw = tt
 any_suits TargetHw = tt
 any_suits Other = tt
-
--- what suits an attribute is a value
-pub good_of : (a : Attribute) (v : Value) → Suits a v → IsValue v
-good_of Part v h = h.0
-good_of Language v h = h.0
-good_of Vendor v h = h
-good_of Product v h = h
-good_of Version v h = h
-good_of Update v h = h
-good_of Edition v h = h
-good_of SwEdition v h = h
-good_of TargetSw v h = h
-good_of TargetHw v h = h
-good_of Other v h = h
 
 -- ---- fields
 
@@ -281,7 +266,7 @@ map_values : (w : Values) → map component (values_of w) ≡ map (λ a. compone
 map_values w = refl
 
 -- what the code finds are the components of the name
-pub found : (s fields rest : List ℕ) (c : Components) → literal prefix s ≡ Ok fields → fields_end attributes fields ≡ Ok rest → eqb (length rest) 0 ≡ true → spans c ≡ components_at attributes fields → AreComponents s c
+pub found : (s fields rest : List ℕ) (c : Written) → literal prefix s ≡ Ok fields → fields_end attributes fields ≡ Ok rest → eqb (length rest) 0 ≡ true → texts c ≡ components_at attributes fields → AreComponents s c
 found s fields rest c start taken over are =
     let empty : rest ≡ [] = nil_from_length rest (eqb-true (length rest) 0 over) in
     let front = (literal_scans prefix).takes s fields start in
@@ -289,7 +274,7 @@ found s fields rest c start taken over are =
     let vs = back.lawful.values in
     let text : fields ≡ fields_text vs = back.cut ∙ ap (λ (w : List ℕ). w ++ rest) back.lawful.is ∙ ap (λ (w : List ℕ). fields_text vs ++ w) empty ∙ append-nil (fields_text vs) in
     let whole : s ≡ prefix ++ fields_text vs = front.cut ∙ ap (λ (w : List ℕ). w ++ fields) front.lawful ∙ ap (λ (w : List ℕ). prefix ++ w) text in
-    let there : spans c ≡ map component vs = are ∙ ap (components_at attributes) (text ∙ sym (append-nil (fields_text vs))) ∙ components_there attributes vs [] back.lawful.suit tt in
+    let there : texts c ≡ map component vs = are ∙ ap (components_at attributes) (text ∙ sym (append-nil (fields_text vs))) ∙ components_there attributes vs [] back.lawful.suit tt in
     record {
       name = named vs;
       fs = whole_fs vs s back.lawful.suit whole;

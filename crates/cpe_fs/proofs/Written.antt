@@ -1,5 +1,5 @@
 -- A component with its bare `.` and `-` quoted is the text of its value.
-use Rattle.std.proofs.Common.{◌≡◌, ◌≢◌, ℕ, zero, suc, true, false, ◌||◌, eqb, List, [], ◌∷◌, ◌++◌, map, replicate, get_or, refl, sym, ap, ◌∙◌, inl, inr, arith}
+use Rattle.std.proofs.Common.{◌≡◌, ◌≢◌, ℕ, zero, suc, true, false, ◌||◌, eqb, List, [], ◌∷◌, ◌++◌, replicate, refl, sym, ap, ◌∙◌, inl, inr, arith}
 use Rattle.std.specs.List.{flat_map}
 use Rattle.std.proofs.lemmas.List.Concat.{flat_map-append}
 use Rattle.std.proofs.lemmas.Bool.{cases_Bool}
@@ -12,15 +12,20 @@ use Rattle.cpe_values.specs.declared.spelling.Style.TheVariants as style
 use Rattle.cpe_values.specs.Parts.{Parts, IsText}
 use Rattle.cpe_values.specs.Values.{IsValue}
 use Rattle.cpe_values.specs.Spelling.{edge_text, is_word, character, spelling}
-use Rattle.cpe_name.specs.declared.name.Values.{Values}
-use Rattle.cpe_name.specs.Names.{attributes, value_of, IsName}
+use Rattle.cpe_name.specs.Names.{value_of}
 use Rattle.cpe_name.specs.Text.{value_text, output_text}
-use Rattle.cpe_name.proofs.OutputTexts.{output_keyed}
+use Rattle.cpe_name.specs.declared.attribute.Attribute.{Attribute}
+use Rattle.cpe_name.specs.OutputFrom.{output_from}
+use Rattle.cpe_name.specs.Scanning.{slot}
+use Rattle.cpe_name.proofs.Lists.{slot_by}
+use Rattle.cpe_name.proofs.OutputTexts.{output_from_is}
+use Rattle.cpe_name.proofs.WholeTexts.{good_value}
 use Rattle.cpe_fs.specs.Grammar.{component}
-use Rattle.cpe_fs.specs.Spans.{is_only, AreComponents, spans}
+use Rattle.cpe_fs.specs.Spans.{is_only, AreComponents}
+use Rattle.cpe_name.specs.Spans.{texts}
 use Rattle.cpe_fs.specs.SpanValues.{value_at}
-use Rattle.cpe_fs.specs.Rewriting.{requoted, span_text, attribute_bytes, components_text}
-use Rattle.cpe_fs.specs.declared.scan.Components.{Components}
+use Rattle.cpe_fs.specs.Rewriting.{requoted, span_text}
+use Rattle.cpe_name.specs.declared.written.Written.{Written}
 use Rattle.cpe_fs.proofs.ValueLemmas.{value_back, only_is}
 
 word_is_kept : (c : ℕ) → is_word c ≡ true → (eqb c 46 || eqb c 45) ≡ false
@@ -88,27 +93,9 @@ spelled (value.Text t) good =
 
 -- ---- names
 
-span_at : (n : ℕ) (us vs : List (List ℕ)) → us ≡ vs → get_or us n [] ≡ get_or vs n []
-span_at n us vs e = ap (λ (l : List (List ℕ)). get_or l n []) e
-
--- the components of a name make its output text
-pub name_text : (w : Values) (c : Components) → IsName w → spans c ≡ map (λ a. component (value_of w a)) attributes → components_text c ≡ output_text w
-unfolding attribute_bytes
-name_text w c good e =
-    rw (
-      ap span_text (span_at 0 _ _ e) ∙ spelled w.part good.0.0,
-      ap span_text (span_at 1 _ _ e) ∙ spelled w.vendor good.1.0,
-      ap span_text (span_at 2 _ _ e) ∙ spelled w.product good.1.1.0,
-      ap span_text (span_at 3 _ _ e) ∙ spelled w.version good.1.1.1.0,
-      ap span_text (span_at 4 _ _ e) ∙ spelled w.update good.1.1.1.1.0,
-      ap span_text (span_at 5 _ _ e) ∙ spelled w.edition good.1.1.1.1.1.0,
-      ap span_text (span_at 6 _ _ e) ∙ spelled w.language good.1.1.1.1.1.1.0.0,
-      ap span_text (span_at 7 _ _ e) ∙ spelled w.sw_edition good.1.1.1.1.1.1.1.0,
-      ap span_text (span_at 8 _ _ e) ∙ spelled w.target_sw good.1.1.1.1.1.1.1.1.0,
-      ap span_text (span_at 9 _ _ e) ∙ spelled w.target_hw good.1.1.1.1.1.1.1.1.1.0,
-      ap span_text (span_at 10 _ _ e) ∙ spelled w.other good.1.1.1.1.1.1.1.1.1.1.0,
-    ) (output_keyed w)
-
 -- what is written of the components is the output text of the name
-pub components_say : (s : List ℕ) (c : Components) (are : AreComponents s c) → components_text c ≡ output_text are.name
-components_say s c are = name_text are.name c are.fs.0 are.are
+pub components_say : (s : List ℕ) (c : Written) (are : AreComponents s c) → output_from span_text c ≡ output_text are.name
+components_say s c are = output_from_is span_text are.name c each where
+  each : (a : Attribute) → span_text (slot (texts c) a) ≡ value_text (value_of are.name a)
+  each a =
+      ap (λ (us : List (List ℕ)). span_text (slot us a)) are.are ∙ ap span_text (slot_by (λ b. component (value_of are.name b)) a) ∙ spelled (value_of are.name a) (good_value are.name a are.fs.0)

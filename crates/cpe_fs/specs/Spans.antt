@@ -1,5 +1,5 @@
 -- Where the components of a formatted string lie, as the code finds them. Of the public words `read_fs` alone rests on it.
-use Rattle.std.specs.Prelude.{◌≡◌, ℕ, ◌+◌, ◌-◌, ◌≤◌, Bool, false, List, [], ◌∷◌, length, take, map, Result, Ok, Err, ◌==◌}
+use Rattle.std.specs.Prelude.{◌≡◌, ℕ, ◌-◌, ◌≤◌, Bool, false, List, [], ◌∷◌, length, take, map, Result, Ok, Err, ◌==◌}
 use Rattle.cpe_grammar.specs.Scanners.{Scanner}
 use Rattle.cpe_values.specs.declared.value.Value.{Value}
 use Rattle.cpe_values.specs.Values.{IsValue}
@@ -8,7 +8,8 @@ use Rattle.cpe_name.specs.declared.name.Values.{Values}
 use Rattle.cpe_name.specs.Names.{attributes, value_of}
 use Rattle.cpe_fs.specs.Grammar.{component, Fs, LeavesAt}
 use Rattle.cpe_fs.specs.Scanning.{component_end, field_end}
-use Rattle.cpe_fs.specs.declared.scan.Components.{Components}
+use Rattle.cpe_name.specs.declared.written.Written.{Written}
+use Rattle.cpe_name.specs.Spans.{texts, total_length}
 
 -- this byte alone
 abbrev pub is_only : ℕ → List ℕ → Bool
@@ -22,26 +23,12 @@ pub record IsSpan (s : List ℕ) : Type 0 where
   pub good : IsValue value
   pub spells : component value ≡ s
 
--- the components in their order
-abbrev pub spans : Components → List (List ℕ)
-spans c = c.part.now ∷ c.vendor.now ∷ c.product.now ∷ c.version.now ∷ c.update.now ∷ c.edition.now ∷ c.language.now ∷ c.sw_edition.now ∷ c.target_sw.now ∷ c.target_hw.now ∷ c.other.now ∷ []
-
--- each of them is the text of some value
-abbrev pub AreSpans : List (List ℕ) → Type 0
-AreSpans [] = Unit {0}
-AreSpans (u ∷ us) = IsSpan u × AreSpans us
-
--- how many bytes they have
-abbrev pub total_length : List (List ℕ) → ℕ
-total_length [] = 0
-total_length (u ∷ us) = length u + total_length us
-
 -- the components are those of a name that has this formatted string
-pub record AreComponents (text : List ℕ) (c : Components) : Type 0 where
+pub record AreComponents (text : List ℕ) (c : Written) : Type 0 where
   pub name : Values
   pub fs : Fs name text
-  pub are : spans c ≡ map (λ a. component (value_of name a)) attributes
-  pub within : total_length (spans c) ≤ length text
+  pub are : texts c ≡ map (λ a. component (value_of name a)) attributes
+  pub within : total_length (texts c) ≤ length text
 
 -- no name has this text, and it leaves the grammar with so many bytes left
 pub record Leaves (text : List ℕ) (left : ℕ) : Type 0 where

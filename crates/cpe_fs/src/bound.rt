@@ -14,14 +14,14 @@ fn begins_bare(bytes: &[u8]) -> bool
     matches!(bytes, [b'.' | b'-', ..])
 }
 
-/// Whether a byte is a backslash that a formatted string doesn't have.
+// Before `.` and `-` a formatted string has no backslash.
 fn is_dropped(byte: u8, behind: &[u8]) -> bool
     ensures { result ≡ (byte == 92 && begins_bare behind.now) }
 {
     byte == b'\\' && begins_bare(behind)
 }
 
-/// Puts a byte, or nothing where it is dropped. It is always written: no branch depends on the byte.
+// The byte is always written, and kept where it isn't dropped: no branch depends on the byte.
 #[tactic(auto, unfolding(crate::specs::Unquoting::unquoted))]
 fn put_kept(room: &mut [u8], at: usize, byte: u8, behind: &[u8]) -> usize
     requires { at + 1 ≤ length room.old }
@@ -55,7 +55,6 @@ fn but_last(bytes: &[u8]) -> &[u8]
     &bytes[..bytes.len().saturating_sub(1)]
 }
 
-/// Puts the component of the value that has this text.
 #[tactic(auto, unfolding(crate::specs::Unquoting::component_from))]
 fn put_component(room: &mut [u8], at: usize, text: &[u8]) -> usize
     requires { at + length text.now + 1 ≤ length room.old }
@@ -70,7 +69,6 @@ fn put_component(room: &mut [u8], at: usize, text: &[u8]) -> usize
     }
 }
 
-/// Puts a key and the component of a value.
 #[tactic(auto, unfolding(crate::specs::Unquoting::keyed))]
 fn put_keyed(room: &mut [u8], at: usize, key: &[u8], text: &[u8]) -> usize
     requires { at + length key.now + length text.now + 1 ≤ length room.old }
@@ -82,7 +80,6 @@ fn put_keyed(room: &mut [u8], at: usize, key: &[u8], text: &[u8]) -> usize
     put_component(room, at, text)
 }
 
-/// Puts the formatted string of the name whose values have these texts.
 pub(crate) fn put_string(room: &mut [u8], at: usize, written: &Written) -> usize
     requires { at + total_length (texts written.now) + BOUND_FRAME ≤ length room.old }
     ensures at { result ≤ at + total_length (texts written.now) + BOUND_FRAME }

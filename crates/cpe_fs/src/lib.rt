@@ -17,25 +17,25 @@ ghost use Rattle.cpe_fs.specs.Unbound.{read_fs, unbound, Says, Writes};
 
 mod bind;
 mod bound;
+mod lend;
 mod scan;
-#[cfg(test)]
-mod tests;
 mod values;
 mod write;
 
 use crate::bound::put_string;
 use crate::scan::scan_fs;
-use crate::values::values_of;
-use crate::write::put_name;
+use crate::values::Components;
+use crate::write::FromComponents;
 pub use bind::{bind_fs, fs_len};
-use cpe_name::{Wfn, scan_wfn};
+use cpe_name::{Wfn, put_output, read_values, scan_wfn};
 use cpe_values::Memory;
+pub use lend::lend_fs;
 use std::alloc::Global;
 use thiserror::Error;
 
 /// The bytes that an output text has beside its values: the names of the attributes, the brackets,
 /// the commas and the quotes.
-pub const FRAME: usize = 127;
+pub const UNBOUND_FRAME: usize = 127;
 
 /// The bytes that a formatted string has beside the values of the text that it is made from: `cpe:2.3`, eleven colons,
 /// and eleven values that the text may leave out.
@@ -81,7 +81,7 @@ pub fn unbind_fs(alloc: Global, text: &[u8]) -> Result<Wfn, FsFault>
         Ok(components) => components,
         Err(left) => return Err(FsFault::At(text.len() - left)),
     };
-    match Wfn::new(values_of(alloc, &components)?) {
+    match Wfn::new(read_values(&mut Components { alloc }, &components)?) {
         Ok(name) => Ok(name),
         Err(_) => unreachable!(),
     }
@@ -95,7 +95,7 @@ pub fn unbind_fs(alloc: Global, text: &[u8]) -> Result<Wfn, FsFault>
 ///
 /// The place of the text as in [`FsFault::At`], exactly where no name has it; the room is then as it was.
 pub fn write_unbound(room: &mut [u8], at: usize, text: &[u8]) -> Result<usize, usize>
-    requires { at + 2 * length text.now + FRAME ≤ length room.old }
+    requires { at + 2 * length text.now + UNBOUND_FRAME ≤ length room.old }
     // What was written is the text of a name that has this formatted string.
     ensures found { IfOk result (λ end. Writes text.now (take at room.old) (take end room.new)) }
     // The text of a name that has this formatted string is written.
@@ -105,12 +105,12 @@ pub fn write_unbound(room: &mut [u8], at: usize, text: &[u8]) -> Result<usize, u
     // The same by a function.
     ensures said { result_map_both (λ end. take end room.new) (λ place. place) result ≡ result_map_both (λ said. take at room.old ++ said) (λ place. place) (unbound text.now) }
 
-    ensures within { IfOk result (λ end. end ≤ at + 2 * length text.now + FRAME) }
+    ensures within { IfOk result (λ end. end ≤ at + 2 * length text.now + UNBOUND_FRAME) }
     ensures length { length room.new ≡ length room.old }
     ensures unchanged { OnErr result (room.new ≡ room.old) }
 {
     match scan_fs(text) {
-        Ok(components) => Ok(put_name(room, at, &components)),
+        Ok(components) => Ok(put_output::<FromComponents>(room, at, &components)),
         Err(left) => Err(text.len() - left),
     }
 }

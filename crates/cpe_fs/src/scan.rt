@@ -3,116 +3,24 @@
 // Each function takes a front of a text. It answers what is left behind it, or how many bytes are
 // left where no formatted string goes on.
 ghost use Rattle.std.specs.Prelude.{◌≡◌, ◌==◌, ◌≤◌, ◌-◌, ◌+◌, [], take, length, Ok, Err, IfOk, IfErr};
-ghost use Rattle.cpe_grammar.specs.Scanners.{Tells, one};
-ghost use Rattle.cpe_values.specs.Spelling.{is_bare};
-ghost use Rattle.cpe_values.specs.declared.spelling.Style.TheVariants as style;
+ghost use Rattle.cpe_grammar.specs.Scanners.{Scanner, Tells, one};
 ghost use Rattle.cpe_name.specs.Names.{attributes};
-ghost use Rattle.cpe_fs.specs.Scanning.{is_quoted, starts_body, begins_with_backslash, marks_end, edge_end, character_end, body_end, stem_end, led_end, text_end, part_end, region_end, tag_end, language_end, field_end, fields_end, whole_end};
-ghost use Rattle.cpe_fs.specs.Spans.{AreComponents, Leaves, spans, behind_field, component_at, components_at};
+ghost use Rattle.cpe_name.specs.Spans.{texts};
+ghost use Rattle.cpe_fs.specs.Scanning.{is_hyphen, led_end, text_end, part_end, language_end, field_end, fields_end};
+ghost use Rattle.cpe_fs.specs.Spans.{AreComponents, Leaves, behind_field, component_at, components_at};
 
 use cpe_grammar::{front_of, scan_byte, scan_literal};
-use cpe_name::{scan_language_letters, scan_region_code, scan_third_letter};
-use cpe_values::{Style, is_printable_byte, skip_bare};
+use cpe_name::{Hyphen, Written, scan_language_tag};
+use cpe_text::{scan_edge, scan_stem, starts_body};
+use cpe_values::Style;
 
-fn is_bare_byte(byte: u8) -> bool
-    ensures { result ≡ is_bare style.Formatted byte }
-{
-    cpe_values::is_bare_byte(Style::Formatted, byte)
-}
-
-fn is_quoted_byte(byte: u8) -> bool
-    ensures { result ≡ is_quoted byte }
-{
-    is_printable_byte(byte) && !is_bare_byte(byte)
-}
-
-fn starts_a_body(byte: u8) -> bool
-    ensures { result ≡ starts_body byte }
-{
-    is_bare_byte(byte) || byte == b'\\'
-}
-
-#[tactic(auto, unfolding(crate::specs::Scanning::marks_end, cpe_grammar::specs::Scanners::up_to))]
-fn scan_marks(bytes: &[u8]) -> Result<&[u8], usize>
-    ensures { Tells (λ rest. rest.now) result (marks_end bytes.now) }
-{
-    let mut more = u32::MAX;
-    let mut rest = bytes;
-    while let [b'?', tail @ ..] = rest {
-        if more == 0 {
-            return Err(rest.len());
-        }
-        more -= 1;
-        rest = tail;
-    }
-    Ok(rest)
-}
-
-#[tactic(auto, unfolding(crate::specs::Scanning::edge_end))]
-fn scan_edge(bytes: &[u8]) -> Result<&[u8], usize>
-    ensures { Tells (λ rest. rest.now) result (edge_end bytes.now) }
-{
-    match bytes {
-        [b'*', rest @ ..] => Ok(rest),
-        _ => scan_marks(bytes),
-    }
-}
-
-fn scan_quoted(bytes: &[u8]) -> Result<&[u8], usize>
-    ensures { Tells (λ rest. rest.now) result (one is_quoted bytes.now) }
-{
-    match bytes {
-        [quoted, rest @ ..] if is_quoted_byte(*quoted) => Ok(rest),
-        _ => Err(bytes.len()),
-    }
-}
-
-#[tactic(auto, unfolding(crate::specs::Scanning::character_end))]
-fn scan_character(bytes: &[u8]) -> Result<&[u8], usize>
-    ensures { Tells (λ rest. rest.now) result (character_end bytes.now) }
-{
-    match bytes {
-        [b'\\', rest @ ..] => scan_quoted(rest),
-        [bare, rest @ ..] if is_bare_byte(*bare) => Ok(rest),
-        _ => Err(bytes.len()),
-    }
-}
-
-fn is_at_backslash(bytes: &[u8]) -> bool
-    ensures { result ≡ begins_with_backslash bytes.now }
-{
-    matches!(bytes, [b'\\', ..])
-}
-
-#[tactic(auto, using(crate::proofs::Bodies::character_stop))]
-fn scan_body(bytes: &[u8]) -> Result<&[u8], usize>
-    ensures { Tells (λ rest. rest.now) result (body_end bytes.now) }
-{
-    let mut rest = skip_bare(bytes);
-    while is_at_backslash(rest) {
-        rest = skip_bare(scan_character(rest)?);
-    }
-    Ok(rest)
-}
-
-/// A body and a trail.
-#[inline(always)]
-#[tactic(auto, unfolding(crate::specs::Scanning::stem_end))]
-fn scan_stem(bytes: &[u8]) -> Result<&[u8], usize>
-    ensures { Tells (λ rest. rest.now) result (stem_end bytes.now) }
-{
-    let rest = scan_character(bytes)?;
-    let rest = scan_body(rest)?;
-    scan_edge(rest)
-}
-
-/// Behind an asterisk: the end of the component, or what the asterisk leads.
+// Behind an asterisk: the end of the component, or what the asterisk leads.
 #[tactic(auto, unfolding(crate::specs::Scanning::led_end))]
 fn scan_led(bytes: &[u8]) -> Result<&[u8], usize>
     ensures { Tells (λ rest. rest.now) result (led_end bytes.now) }
 {
     match bytes {
-        [byte, ..] if starts_a_body(*byte) => scan_stem(bytes),
+        [byte, ..] if starts_body(Style::Formatted, *byte) => scan_stem(Style::Formatted, bytes),
         _ => Ok(bytes),
     }
 }
@@ -124,8 +32,8 @@ fn scan_text(bytes: &[u8]) -> Result<&[u8], usize>
     match bytes {
         [b'*', rest @ ..] => scan_led(rest),
         _ => {
-            let rest = scan_marks(bytes)?;
-            scan_stem(rest)
+            let rest = scan_edge(bytes)?;
+            scan_stem(Style::Formatted, rest)
         }
     }
 }
@@ -140,25 +48,23 @@ fn scan_part(bytes: &[u8]) -> Result<&[u8], usize>
     }
 }
 
-/// A hyphen and a code, or nothing.
-#[tactic(auto, unfolding(crate::specs::Scanning::region_end))]
-fn scan_region(bytes: &[u8]) -> Result<&[u8], usize>
-    ensures { Tells (λ rest. rest.now) result (region_end bytes.now) }
-{
-    match bytes {
-        [b'-', rest @ ..] => scan_region_code(rest),
-        _ => Ok(bytes),
-    }
-}
+// A hyphen stands bare in a formatted string.
+struct BareHyphen;
 
-/// A language tag.
-#[tactic(auto, unfolding(crate::specs::Scanning::tag_end))]
-fn scan_tag(bytes: &[u8]) -> Result<&[u8], usize>
-    ensures { Tells (λ rest. rest.now) result (tag_end bytes.now) }
-{
-    let rest = scan_language_letters(bytes)?;
-    let rest = scan_third_letter(rest)?;
-    scan_region(rest)
+impl Hyphen for BareHyphen {
+    ghost begins = { is_hyphen };
+
+    ghost end = { one is_hyphen };
+
+    #[inline(always)]
+    fn begins_with(byte: u8) -> bool {
+        byte == b'-'
+    }
+
+    #[inline(always)]
+    fn scan(bytes: &[u8]) -> Result<&[u8], usize> {
+        scan_byte(b'-', bytes)
+    }
 }
 
 #[tactic(auto, unfolding(crate::specs::Scanning::language_end))]
@@ -167,78 +73,79 @@ fn scan_language(bytes: &[u8]) -> Result<&[u8], usize>
 {
     match bytes {
         [b'*' | b'-', rest @ ..] => Ok(rest),
-        _ => scan_tag(bytes),
+        _ => scan_language_tag::<BareHyphen>(bytes),
     }
 }
 
-/// A colon and a part: the part, and what is left behind it.
+// What a component may be.
+trait Component {
+    ghost end: { Scanner };
+
+    fn scan(bytes: &[u8]) -> Result<&[u8], usize>
+        ensures { Tells (λ rest. rest.now) result (end bytes.now) };
+}
+
+struct Part;
+
+impl Component for Part {
+    ghost end = { part_end };
+
+    #[inline(always)]
+    fn scan(bytes: &[u8]) -> Result<&[u8], usize> {
+        scan_part(bytes)
+    }
+}
+
+struct Text;
+
+impl Component for Text {
+    ghost end = { text_end };
+
+    #[inline(always)]
+    fn scan(bytes: &[u8]) -> Result<&[u8], usize> {
+        scan_text(bytes)
+    }
+}
+
+struct Language;
+
+impl Component for Language {
+    ghost end = { language_end };
+
+    #[inline(always)]
+    fn scan(bytes: &[u8]) -> Result<&[u8], usize> {
+        scan_language(bytes)
+    }
+}
+
+// A colon and a component: the component, and what is left behind it.
 #[tactic(auto, unfolding(crate::specs::Scanning::field_end, crate::specs::Spans::behind_field, crate::specs::Spans::component_at))]
-fn part_field(bytes: &[u8]) -> Result<(&[u8], &[u8]), usize>
-    ensures told { Tells (λ x. x.1.now) result (field_end part_end bytes.now) }
-    ensures component { IfOk result (λ x. x.0.now ≡ component_at part_end bytes.now) }
-    ensures rest { IfOk result (λ x. x.1.now ≡ behind_field part_end bytes.now) }
+fn scan_field<C: Component>(bytes: &[u8]) -> Result<(&[u8], &[u8]), usize>
+    ensures told { Tells (λ x. x.1.now) result (field_end C.end bytes.now) }
+    ensures component { IfOk result (λ x. x.0.now ≡ component_at C.end bytes.now) }
+    ensures rest { IfOk result (λ x. x.1.now ≡ behind_field C.end bytes.now) }
 {
     let start = scan_byte(b':', bytes)?;
-    let rest = scan_part(start)?;
+    let rest = C::scan(start)?;
     Ok((front_of(start, rest), rest))
 }
 
-/// A colon and a text: the text, and what is left behind it.
-#[tactic(auto, unfolding(crate::specs::Scanning::field_end, crate::specs::Spans::behind_field, crate::specs::Spans::component_at))]
-fn text_field(bytes: &[u8]) -> Result<(&[u8], &[u8]), usize>
-    ensures told { Tells (λ x. x.1.now) result (field_end text_end bytes.now) }
-    ensures component { IfOk result (λ x. x.0.now ≡ component_at text_end bytes.now) }
-    ensures rest { IfOk result (λ x. x.1.now ≡ behind_field text_end bytes.now) }
-{
-    let start = scan_byte(b':', bytes)?;
-    let rest = scan_text(start)?;
-    Ok((front_of(start, rest), rest))
-}
-
-/// A colon and a language: the language, and what is left behind it.
-#[tactic(auto, unfolding(crate::specs::Scanning::field_end, crate::specs::Spans::behind_field, crate::specs::Spans::component_at))]
-fn language_field(bytes: &[u8]) -> Result<(&[u8], &[u8]), usize>
-    ensures told { Tells (λ x. x.1.now) result (field_end language_end bytes.now) }
-    ensures component { IfOk result (λ x. x.0.now ≡ component_at language_end bytes.now) }
-    ensures rest { IfOk result (λ x. x.1.now ≡ behind_field language_end bytes.now) }
-{
-    let start = scan_byte(b':', bytes)?;
-    let rest = scan_language(start)?;
-    Ok((front_of(start, rest), rest))
-}
-
-/// The eleven components of a formatted string, as they stand.
-#[derive(Clone, Copy)]
-pub(crate) struct Components<'a> {
-    pub part: &'a [u8],
-    pub vendor: &'a [u8],
-    pub product: &'a [u8],
-    pub version: &'a [u8],
-    pub update: &'a [u8],
-    pub edition: &'a [u8],
-    pub language: &'a [u8],
-    pub sw_edition: &'a [u8],
-    pub target_sw: &'a [u8],
-    pub target_hw: &'a [u8],
-    pub other: &'a [u8],
-}
-
-fn scan_fields(bytes: &[u8]) -> Result<(Components, &[u8]), usize>
+fn scan_fields(bytes: &[u8]) -> Result<(Written, &[u8]), usize>
     ensures told { Tells (λ x. x.1.now) result (fields_end attributes bytes.now) }
-    ensures spans { IfOk result (λ x. spans x.0 ≡ components_at attributes bytes.now) }
+    ensures texts { IfOk result (λ x. texts x.0 ≡ components_at attributes bytes.now) }
 {
-    let (part, rest) = part_field(bytes)?;
-    let (vendor, rest) = text_field(rest)?;
-    let (product, rest) = text_field(rest)?;
-    let (version, rest) = text_field(rest)?;
-    let (update, rest) = text_field(rest)?;
-    let (edition, rest) = text_field(rest)?;
-    let (language, rest) = language_field(rest)?;
-    let (sw_edition, rest) = text_field(rest)?;
-    let (target_sw, rest) = text_field(rest)?;
-    let (target_hw, rest) = text_field(rest)?;
-    let (other, rest) = text_field(rest)?;
-    let components = Components {
+    let (part, rest) = scan_field::<Part>(bytes)?;
+    let (vendor, rest) = scan_field::<Text>(rest)?;
+    let (product, rest) = scan_field::<Text>(rest)?;
+    let (version, rest) = scan_field::<Text>(rest)?;
+    let (update, rest) = scan_field::<Text>(rest)?;
+    let (edition, rest) = scan_field::<Text>(rest)?;
+    let (language, rest) = scan_field::<Language>(rest)?;
+    let (sw_edition, rest) = scan_field::<Text>(rest)?;
+    let (target_sw, rest) = scan_field::<Text>(rest)?;
+    let (target_hw, rest) = scan_field::<Text>(rest)?;
+    let (other, rest) = scan_field::<Text>(rest)?;
+    let components = Written {
         part,
         vendor,
         product,
@@ -254,10 +161,10 @@ fn scan_fields(bytes: &[u8]) -> Result<(Components, &[u8]), usize>
     Ok((components, rest))
 }
 
-/// The components of a formatted string, or how many bytes are left where the text leaves the
-/// grammar.
+// The components of a formatted string, or how many bytes are left where the text leaves the
+// grammar.
 #[tactic(auto, using(crate::proofs::Whole::start_leaves, crate::proofs::Whole::fields_leave))]
-pub(crate) fn scan_fs(text: &[u8]) -> Result<Components, usize>
+pub(crate) fn scan_fs(text: &[u8]) -> Result<Written, usize>
     ensures found { IfOk result (AreComponents text.now) }
     ensures refused { IfErr result (Leaves text.now) }
 {

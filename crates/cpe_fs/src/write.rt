@@ -2,15 +2,13 @@
 // (NIST IR 7695, 6.2.3). The room is the caller's: nothing here takes memory.
 ghost use Rattle.std.specs.Prelude.{◌≡◌, ◌≤◌, ◌+◌, ◌*◌, ◌++◌, ◌∷◌, [], length, take, codes, ◌||◌, ◌==◌};
 ghost use Rattle.std.specs.List.{flat_map};
-ghost use Rattle.cpe_fs.specs.Spans.{spans, total_length};
-ghost use Rattle.cpe_fs.specs.Rewriting.{requoted, in_quotes, span_text, attribute_bytes, components_text};
+ghost use Rattle.cpe_fs.specs.Rewriting.{requoted, in_quotes, span_text};
 
-use crate::FRAME;
-use crate::scan::Components;
+use cpe_name::PutValue;
 use cpe_room::{put, put_byte};
 
-/// Puts a character, and a backslash before it where it stands bare in a formatted string alone.
-/// The backslash is always written: no branch depends on the byte.
+// The backslash is always written, and kept where the character stands bare in a formatted string alone: no branch depends on the
+// byte.
 fn put_character(room: &mut [u8], at: usize, byte: u8) -> usize
     requires { at + 2 ≤ length room.old }
     ensures at { result ≤ at + 2 }
@@ -61,36 +59,16 @@ fn put_span(room: &mut [u8], at: usize, span: &[u8]) -> usize
     }
 }
 
-/// Puts a key and the text of a component.
-#[inline(always)]
-#[tactic(auto, unfolding(crate::specs::Rewriting::attribute_bytes))]
-fn put_attribute(room: &mut [u8], at: usize, key: &[u8], span: &[u8]) -> usize
-    requires { at + length key.now + 2 * length span.now + 2 ≤ length room.old }
-    ensures at { result ≤ at + length key.now + 2 * length span.now + 2 }
-    ensures room { length room.new ≡ length room.old }
-    ensures written { take result room.new ≡ take at room.old ++ attribute_bytes key.now span.now }
-{
-    let at = put(room, at, key);
-    put_span(room, at, span)
-}
+// The texts of values from their components.
+pub(crate) struct FromComponents;
 
-/// Puts the text of the name that has these components.
-pub(crate) fn put_name(room: &mut [u8], at: usize, components: &Components) -> usize
-    requires { at + 2 * total_length (spans components.now) + FRAME ≤ length room.old }
-    ensures at { result ≤ at + 2 * total_length (spans components.now) + FRAME }
-    ensures room { length room.new ≡ length room.old }
-    ensures written { take result room.new ≡ take at room.old ++ components_text components.now }
-{
-    let at = put_attribute(room, at, b"wfn:[part=", components.part);
-    let at = put_attribute(room, at, b",vendor=", components.vendor);
-    let at = put_attribute(room, at, b",product=", components.product);
-    let at = put_attribute(room, at, b",version=", components.version);
-    let at = put_attribute(room, at, b",update=", components.update);
-    let at = put_attribute(room, at, b",edition=", components.edition);
-    let at = put_attribute(room, at, b",language=", components.language);
-    let at = put_attribute(room, at, b",sw_edition=", components.sw_edition);
-    let at = put_attribute(room, at, b",target_sw=", components.target_sw);
-    let at = put_attribute(room, at, b",target_hw=", components.target_hw);
-    let at = put_attribute(room, at, b",other=", components.other);
-    put_byte(room, at, b']')
+impl PutValue for FromComponents {
+    ghost text = { span_text };
+
+    ghost spare = { 2 };
+
+    #[inline(always)]
+    fn put_value(room: &mut [u8], at: usize, span: &[u8]) -> usize {
+        put_span(room, at, span)
+    }
 }

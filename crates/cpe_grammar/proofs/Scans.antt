@@ -4,29 +4,8 @@ use Rattle.std.proofs.lemmas.List.{append_cancel_right}
 use Rattle.std.specs.List.{list_all}
 use Rattle.std.proofs.lemmas.Bool.{cases_Bool, eqb-true, eq-eqb, and_from}
 use Rattle.cpe_grammar.specs.Scanners.{Scanner, both, choose, nothing, ending, one, up_to, run, literal}
+pub use Rattle.cpe_grammar.specs.Scanned.{Takes, Stops, Scans, Empty, OneOf, Joined, Either, FewOf, Run, Only, HeadFails}
 use Rattle.cpe_grammar.proofs.Results.{left_over, stopped, went_on, stopped_at, chosen, ok_is, err_is, ok≢err}
-
--- what was taken is a text of the language
-pub record Takes (L : List ℕ → Type 0) (s r : List ℕ) : Type 0 where
-  pub taken : List ℕ
-  pub cut : s ≡ taken ++ r
-  pub lawful : L taken
-
--- The bytes before the place begin a text of the language, and with the byte there nothing is taken, whatever follows.
-pub record Stops (L : List ℕ → Type 0) (p : Scanner) (s : List ℕ) (left : ℕ) : Type 0 where
-  pub front : List ℕ
-  pub rest : List ℕ
-  pub cut : s ≡ front ++ rest
-  pub left_is : left ≡ length rest
-  pub more : List ℕ
-  pub goes_on : L (front ++ more)
-  pub refused : (d : ℕ) (r t : List ℕ) → rest ≡ d ∷ r → p (front ++ d ∷ t) ≡ Err (suc (length t))
-
--- A scanner of a language. Behind what it takes it looks at one byte at most.
-pub record Scans (L : List ℕ → Type 0) (p : Scanner) : Type 0 where
-  pub takes : (s r : List ℕ) → p s ≡ Ok r → Takes L s r
-  pub stops : (s : List ℕ) (left : ℕ) → p s ≡ Err left → Stops L p s left
-  pub looks_at_one : (c : List ℕ) (d : ℕ) (r t : List ℕ) → p (c ++ d ∷ r) ≡ Ok (d ∷ r) → p (c ++ d ∷ t) ≡ Ok (d ∷ t)
 
 -- what follows a byte behind what was taken doesn't matter, wherever that byte stands
 pub looks_no_further : (p : Scanner) → ((c : List ℕ) (d : ℕ) (r t : List ℕ) → p (c ++ d ∷ r) ≡ Ok (d ∷ r) → p (c ++ d ∷ t) ≡ Ok (d ∷ t))
@@ -70,10 +49,6 @@ renamed L p q same P = record {
 
 -- ---- nothing, the end, and a byte that must not stand there
 
--- the empty text alone
-abbrev pub Empty : List ℕ → Type 0
-Empty c = c ≡ []
-
 -- taking nothing
 pub nothing_scans : Scans Empty nothing
 nothing_scans = record {
@@ -99,12 +74,6 @@ pub ending_scans : Scans Empty ending
 ending_scans = record { takes = ending_takes; stops = ending_stops; looks_at_one = ending_looks }
 
 -- ---- one byte
-
--- one byte that passes
-pub record OneOf (passes : ℕ → Bool) (c : List ℕ) : Type 0 where
-  pub byte : ℕ
-  pub is : c ≡ byte ∷ []
-  pub passed : passes byte ≡ true
 
 -- a byte that passes is taken
 pub one_taken : (passes : ℕ → Bool) (c : ℕ) (s : List ℕ) → passes c ≡ true → one passes (c ∷ s) ≡ Ok s
@@ -163,14 +132,6 @@ pub one_scans : (passes : ℕ → Bool) (sample : ℕ) → passes sample ≡ tru
 one_scans passes sample good = record { takes = one_takes passes; stops = one_stops passes sample good; looks_at_one = one_looks passes }
 
 -- ---- one scanner behind another
-
--- a text of the one language, and behind it one of the other
-pub record Joined (L M : List ℕ → Type 0) (c : List ℕ) : Type 0 where
-  pub front : List ℕ
-  pub back : List ℕ
-  pub is : c ≡ front ++ back
-  pub first : L front
-  pub second : M back
 
 -- two cuts make one
 pub cut_twice : (s u m v r : List ℕ) → s ≡ u ++ m → m ≡ v ++ r → s ≡ (u ++ v) ++ r
@@ -233,10 +194,6 @@ module _ (L M : List ℕ → Type 0) (p q : Scanner) (P : Scans L p) (Q : Scans 
   both_scans = record { takes = both_takes; stops = both_stops; looks_at_one = both_looks }
 
 -- ---- a choice by the first byte
-
--- a text of either language
-abbrev pub Either : (L M : List ℕ → Type 0) → List ℕ → Type 0
-Either L M c = L c ⊎ M c
 
 -- the first byte passes
 pub chosen_yes : (passes : ℕ → Bool) (p q : Scanner) (c : ℕ) (s : List ℕ) → passes c ≡ true → choose passes p q (c ∷ s) ≡ p (c ∷ s)
@@ -316,11 +273,6 @@ module _ (passes : ℕ → Bool) (L M : List ℕ → Type 0) (p q : Scanner) (P 
 
 -- ---- no more than so many bytes
 
--- no more than n bytes, which pass
-pub record FewOf (n : ℕ) (passes : ℕ → Bool) (c : List ℕ) : Type 0 where
-  pub few : length c ≤ n
-  pub passed : IsTrue (list_all passes c)
-
 abbrev refuse : Scanner
 refuse s = Err (length s)
 
@@ -364,11 +316,6 @@ pub up_to_step : (n : ℕ) (passes : ℕ → Bool) (c : ℕ) (s : List ℕ) → 
 unfolding up_to
 up_to_step n passes c s h = rw h refl
 
--- the first of these bytes, if there is one, fails the test
-abbrev pub HeadFails : (ℕ → Bool) → List ℕ → Type 0
-HeadFails passes [] = Unit {0}
-HeadFails passes (c ∷ s) = passes c ≡ false
-
 up_to_halts : (n : ℕ) (passes : ℕ → Bool) (r : List ℕ) → HeadFails passes r → up_to n passes r ≡ Ok r
 unfolding up_to
 up_to_halts n passes [] h = refl
@@ -382,11 +329,6 @@ up_to_taken (suc k) zero passes c r le good h = absurd (omega arith)
 up_to_taken (suc k) (suc n) passes c r le good h = up_to_step n passes c (replicate k c ++ r) good ∙ up_to_taken k n passes c r (omega arith) good h
 
 -- ---- exactly so many bytes
-
--- n bytes, which pass
-pub record Run (n : ℕ) (passes : ℕ → Bool) (c : List ℕ) : Type 0 where
-  pub count : length c ≡ n
-  pub passed : IsTrue (list_all passes c)
 
 more_run : (n : ℕ) (passes : ℕ → Bool) (c : List ℕ) → Joined (OneOf passes) (Run n passes) c → Run (suc n) passes c
 more_run n passes c j =
@@ -407,10 +349,6 @@ run_scans (suc n) passes sample good =
     (both_scans (OneOf passes) (Run n passes) (one passes) (run n passes) (one_scans passes sample good) (run_scans n passes sample good) (replicate n sample) (run_sample n passes sample good))
 
 -- ---- these bytes
-
--- this text alone
-abbrev pub Only : List ℕ → List ℕ → Type 0
-Only cs c = c ≡ cs
 
 literal_more : (c : ℕ) (cs s : List ℕ) → literal (c ∷ cs) s ≡ both (one (λ d. eqb d c)) (literal cs) s
 unfolding literal

@@ -1,3 +1,4 @@
 pub mod Place
 pub mod Scanners
 pub mod Machines
+pub mod Scanned

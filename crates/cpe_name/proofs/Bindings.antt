@@ -2,8 +2,8 @@
 use Rattle.std.proofs.Common.{◌≡◌, ℕ, List, ◌++◌, map, Option, Some, None, refl, sym, ap, ◌∙◌}
 use Rattle.std.specs.Option.{option_map}
 use Rattle.cpe_name.specs.declared.name.Values.{Values}
-use Rattle.cpe_name.specs.declared.scan.Written.{Written}
-use Rattle.cpe_name.specs.Equal.{named}
+use Rattle.cpe_name.specs.declared.written.Written.{Written}
+use Rattle.cpe_name.specs.Names.{named}
 use Rattle.cpe_name.specs.WfnText.{WfnText, IsWfnText}
 use Rattle.cpe_name.specs.Scanning.{all_at}
 use Rattle.cpe_name.specs.Spans.{AreWritten}

@@ -11,11 +11,14 @@ use Rattle.cpe_values.specs.Spelling.{spelling}
 use Rattle.cpe_values.specs.Unspelling.{body_at, behind_body, parts_at}
 use Rattle.cpe_values.specs.Values.{IsValue}
 use Rattle.cpe_values.proofs.Unspelled.{parts_are}
+use Rattle.cpe_grammar.specs.Scanners.{literal}
+use Rattle.cpe_grammar.proofs.Results.{left_over}
+use Rattle.cpe_grammar.proofs.Scans.{literal_scans}
 use Rattle.cpe_name.specs.declared.attribute.Attribute.{Attribute}
 use Rattle.cpe_name.specs.declared.attribute.Attribute.TheVariants.{Part, Vendor, Product, Version, Update, Edition, Language, SwEdition, TargetSw, TargetHw, Other}
 use Rattle.cpe_name.specs.Names.{attributes, Suits}
 use Rattle.cpe_name.specs.Text.{attribute_name, value_text}
-use Rattle.cpe_name.specs.Scanning.{◌>>?◌, value_end, value_at, cut, between, is_lone, is_part_text, is_language_text, has_shape, may_have, after_at, key_text, or_found, name_at, item_at, skip, next_at}
+use Rattle.cpe_name.specs.Scanning.{◌>>?◌, value_end, value_at, cut, between, is_lone, is_part_text, is_language_text, has_shape, may_have, left_behind, after_at, key_text, or_found, name_at, item_at, skip, next_at}
 use Rattle.cpe_name.proofs.QuotedTexts.{IsInQuotes, IsValueText, value_scans, value_taken}
 use Rattle.cpe_name.proofs.Shapes.{part_from, part_passes, language_from, language_passes}
 
@@ -46,15 +49,13 @@ chosen false x y z e = inr (refl, e)
 
 -- ---- bytes that are known
 
+left_is : (o : Result (List ℕ) ℕ) (r : List ℕ) → left_behind o ≡ Some r → o ≡ Ok r
+left_is (Ok rest) r e = ap left_over (some_is rest r e)
+left_is (Err left) r e = absurd (none≢some r e)
+
 pub after_reads : (p s r : List ℕ) → after_at p s ≡ Some r → s ≡ p ++ r
 unfolding after_at
-after_reads [] s r e = some_is s r e
-after_reads (c ∷ cs) [] r e = absurd (none≢some r e)
-after_reads (c ∷ cs) (d ∷ s) r e =
-    elim (chosen (eqb d c) (after_at cs s) None (Some r) e) [
-      | inl h ↦ ap (λ (z : ℕ). z ∷ s) (eqb-true d c h.0) ∙ ap (λ (u : List ℕ). c ∷ u) (after_reads cs s r h.1)
-      | inr h ↦ absurd (none≢some r h.1)
-    ]
+after_reads p s r e = let a = (literal_scans p).takes s r (left_is (literal p s) r e) in a.cut ∙ ap (λ (u : List ℕ). u ++ r) a.lawful
 
 -- ---- names
 
@@ -72,7 +73,7 @@ name_reads (a ∷ which) s x e =
     ]
 
 pub name_again : (a : Attribute) (r : List ℕ) → name_at attributes (key_text a ++ r) ≡ Some (a, r)
-unfolding name_at after_at
+unfolding name_at after_at literal
 name_again Part r = refl
 name_again Vendor r = refl
 name_again Product r = refl

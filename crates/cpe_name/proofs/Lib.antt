@@ -1,4 +1,3 @@
-pub mod Bodies
 pub mod Steps
 pub mod QuotedTexts
 pub mod Shapes
@@ -9,3 +8,6 @@ pub mod WholeTexts
 pub mod OutputTexts
 pub mod LowerNames
 pub mod Bindings
+pub mod PutLemmas
+pub mod ReadValues
+pub mod Unbinding

@@ -3,6 +3,12 @@ use Rattle.std.proofs.Common.{◌≡◌, ℕ, List, ◌∷◌, ◌++◌, sym, re
 use Rattle.std.specs.Prelude.{codes}
 use Rattle.cpe_name.specs.declared.name.Values.{Values}
 use Rattle.cpe_name.specs.declared.attribute.Attribute.TheVariants.{Part, Vendor, Product, Version, Update, Edition, Language, SwEdition, TargetSw, TargetHw, Other}
+use Rattle.cpe_name.specs.declared.attribute.Attribute.{Attribute}
+use Rattle.cpe_name.specs.declared.written.Written.{Written}
+use Rattle.cpe_name.specs.Names.{value_of}
+use Rattle.cpe_name.specs.OutputFrom.{keyed, output_from}
+use Rattle.cpe_name.specs.Scanning.{slot}
+use Rattle.cpe_name.specs.Spans.{texts}
 use Rattle.cpe_name.specs.Text.{value_text, attribute_text, output_text}
 
 regroup : (k1 k2 k3 k4 k5 k6 k7 k8 k9 k10 k11 a1 a2 a3 a4 a5 a6 a7 a8 a9 a10 a11 z : List ℕ) → (k1 ++ a1) ++ (k2 ++ a2) ++ (k3 ++ a3) ++ (k4 ++ a4) ++ (k5 ++ a5) ++ (k6 ++ a6) ++ (k7 ++ a7) ++ (k8 ++ a8) ++ (k9 ++ a9) ++ (k10 ++ a10) ++ (k11 ++ a11) ++ z ≡ k1 ++ (a1 ++ (k2 ++ (a2 ++ (k3 ++ (a3 ++ (k4 ++ (a4 ++ (k5 ++ (a5 ++ (k6 ++ (a6 ++ (k7 ++ (a7 ++ (k8 ++ (a8 ++ (k9 ++ (a9 ++ (k10 ++ (a10 ++ (k11 ++ (a11 ++ z)))))))))))))))))))))
@@ -19,3 +25,8 @@ pub output_keyed : (v : Values) → (codes "wfn:[part=" ++ value_text v.part) ++
 output_keyed v =
     regroup (codes "wfn:[part=") (codes ",vendor=") (codes ",product=") (codes ",version=") (codes ",update=") (codes ",edition=") (codes ",language=") (codes ",sw_edition=") (codes ",target_sw=") (codes ",target_hw=") (codes ",other=") (value_text v.part) (value_text v.vendor) (value_text v.product) (value_text v.version) (value_text v.update) (value_text v.edition) (value_text v.language) (value_text v.sw_edition) (value_text v.target_sw) (value_text v.target_hw) (value_text v.other) (codes "]")
     ∙ sym (output_is v)
+
+-- where each value's text is made, the output text is
+pub output_from_is : (text : List ℕ → List ℕ) (w : Values) (t : Written) → ((a : Attribute) → text (slot (texts t) a) ≡ value_text (value_of w a)) → output_from text t ≡ output_text w
+unfolding keyed
+output_from_is text w t h = rw (h Part, h Vendor, h Product, h Version, h Update, h Edition, h Language, h SwEdition, h TargetSw, h TargetHw, h Other) (output_keyed w)

@@ -8,13 +8,15 @@ use Rattle.cpe_values.specs.declared.value.Edge.{Edge}
 use Rattle.cpe_values.specs.declared.value.Edge.TheVariants as edge
 use Rattle.cpe_values.specs.declared.value.Value.{Value}
 use Rattle.cpe_values.specs.declared.value.Value.TheVariants as value
+use Rattle.cpe_values.specs.declared.spelling.Style.TheVariants as style
 use Rattle.cpe_values.specs.Parts.{Parts, parts, IsText, is_character, is_nothing}
-use Rattle.cpe_values.specs.Spelling.{is_letter, is_digit}
+use Rattle.cpe_values.specs.Spelling.{is_bare, is_letter, is_digit}
 use Rattle.cpe_values.specs.Values.{IsValue}
 use Rattle.cpe_name.specs.Shapes.{is_part, is_part_letter, is_part_body, is_language, is_language_body, is_region}
 use Rattle.cpe_name.specs.Text.{value_text}
-use Rattle.cpe_name.specs.Scanning.{is_bare_here, is_part_in_quotes, is_part_text, is_region_behind, is_language_in_quotes, is_language_text}
-use Rattle.cpe_name.proofs.QuotedTexts.{body_text, bare_character}
+use Rattle.cpe_name.specs.Scanning.{is_part_in_quotes, is_part_text, is_region_behind, is_language_in_quotes, is_language_text}
+use Rattle.cpe_text.proofs.Bytes.{bare_character}
+use Rattle.cpe_name.proofs.QuotedTexts.{body_text}
 
 -- ---- texts without specials
 
@@ -52,20 +54,20 @@ plain_parts t b h =
 
 -- ---- bytes
 
-part_letter_bare : (c : ℕ) → is_part_letter c ≡ true → is_bare_here c ≡ true
+part_letter_bare : (c : ℕ) → is_part_letter c ≡ true → is_bare style.Wfn c ≡ true
 part_letter_bare c h = grind (arith, nat_tests)
 
-letter_bare : (c : ℕ) → is_letter c ≡ true → is_bare_here c ≡ true
+letter_bare : (c : ℕ) → is_letter c ≡ true → is_bare style.Wfn c ≡ true
 letter_bare c h = grind (arith, nat_tests)
 
-digit_bare : (c : ℕ) → is_digit c ≡ true → is_bare_here c ≡ true
+digit_bare : (c : ℕ) → is_digit c ≡ true → is_bare style.Wfn c ≡ true
 digit_bare c h = grind (arith, nat_tests)
 
 letter_character : (c : ℕ) → is_letter c ≡ true → is_character c ≡ true
-letter_character c h = bare_character c (letter_bare c h)
+letter_character c h = bare_character style.Wfn c (letter_bare c h)
 
 digit_character : (c : ℕ) → is_digit c ≡ true → is_character c ≡ true
-digit_character c h = bare_character c (digit_bare c h)
+digit_character c h = bare_character style.Wfn c (digit_bare c h)
 
 -- ---- parts
 
@@ -76,7 +78,7 @@ part_behind (c ∷ q ∷ d ∷ u) h = absurd cc
 part_behind (c ∷ q ∷ []) h =
     let p = and_parts (is_part_letter c) (eqb q 34) h in
     let bare = part_letter_bare c p.0 in
-    record { body = c ∷ []; characters = and_from _ _ (bare_character c bare) refl; good = p.0; is = rw bare (ap (λ (z : ℕ). c ∷ z ∷ []) (eqb-true q 34 p.1)) }
+    record { body = c ∷ []; characters = and_from _ _ (bare_character style.Wfn c bare) refl; good = p.0; is = rw bare (ap (λ (z : ℕ). c ∷ z ∷ []) (eqb-true q 34 p.1)) }
 
 -- a text between quotes that passes is that of a part
 pub part_from : (u : List ℕ) → is_part_in_quotes u ≡ true → (v : Value) × (IsValue v × IsTrue (is_part v)) × (34 ∷ u ≡ value_text v)

@@ -1,15 +1,17 @@
 -- Language tags: which there are, what the scanners of their pieces take, and that they take each of them.
-use Rattle.std.proofs.Common.{◌≡◌, ℕ, Bool, true, false, ◌&&◌, ◌||◌, eqb, List, [], ◌∷◌, ◌++◌, Ok, refl, sym, subst, inl, inr, arith}
+use Rattle.std.proofs.Common.{◌≡◌, ℕ, Bool, true, false, ◌&&◌, ◌||◌, eqb, List, [], ◌∷◌, ◌++◌, Result, Ok, refl, sym, ap, subst, ◌∙◌, inl, inr, append_assoc, arith}
 use Rattle.std.specs.List.{list_all}
 use Rattle.std.proofs.lemmas.Bool.{eqb-true, and_parts, and_from, or_cases, or_left, or_right}
 use Rattle.std.proofs.lemmas.Bool.Decides.{nat_tests}
 use Rattle.cpe_values.specs.declared.spelling.Style.TheVariants as style
 use Rattle.cpe_values.specs.Parts.{is_character}
 use Rattle.cpe_values.specs.Spelling.{is_letter, is_digit, is_bare}
-use Rattle.cpe_grammar.proofs.Scans.{Scans, Empty, nothing_scans, OneOf, one_scans, Either, choose_scans, HeadFails, Run, run_scans}
-use Rattle.cpe_grammar.specs.Scanners.{nothing, one}
+use Rattle.cpe_grammar.proofs.Scans.{Scans, Empty, nothing_scans, OneOf, one_scans, Joined, both_scans, choose_scans, chosen_yes, chosen_no, HeadFails, Run, run_scans}
+use Rattle.cpe_grammar.specs.Scanners.{Scanner, ◌>>=◌, both, choose, nothing, one}
+use Rattle.cpe_text.proofs.Bytes.{bare_character}
 use Rattle.cpe_name.specs.Shapes.{is_language_body, is_region}
-use Rattle.cpe_name.specs.Tags.{letters_end, digits_end, code_end, third_end}
+pub use Rattle.cpe_name.specs.Tags.{Code, Third}
+use Rattle.cpe_name.specs.Tags.{letters_end, digits_end, code_end, third_end, region_end, tag_end, Hyphen, Region, Tag, is_bare_hyphen, Leads, IsHyphen, TagEnds}
 
 -- ---- bytes
 
@@ -17,13 +19,10 @@ use Rattle.cpe_name.specs.Tags.{letters_end, digits_end, code_end, third_end}
 abbrev pub all_bare : List ℕ → Bool
 all_bare b = list_all (is_bare style.Formatted) b
 
-bare_character : (c : ℕ) → is_bare style.Formatted c ≡ true → is_character c ≡ true
-bare_character c h = grind (arith, nat_tests)
-
 -- they are characters
 pub bare_characters : (b : List ℕ) → all_bare b ≡ true → list_all is_character b ≡ true
 bare_characters [] h = refl
-bare_characters (c ∷ b) h = let p = and_parts (is_bare style.Formatted c) (all_bare b) h in and_from _ _ (bare_character c p.0) (bare_characters b p.1)
+bare_characters (c ∷ b) h = let p = and_parts (is_bare style.Formatted c) (all_bare b) h in and_from _ _ (bare_character style.Formatted c p.0) (bare_characters b p.1)
 
 letter_no_digit : (c : ℕ) → is_letter c ≡ true → is_digit c ≡ false
 letter_no_digit c h = grind (arith, nat_tests)
@@ -133,14 +132,6 @@ code_taken _ r (digits x y z hx hy hz) = rw (hx, hy, hz) refl
 
 -- ---- what the scanners of the pieces take
 
--- the code of a region
-abbrev pub Code : List ℕ → Type 0
-Code = Either (Run 3 is_digit) (Run 2 is_letter)
-
--- a third letter, or nothing
-abbrev pub Third : List ℕ → Type 0
-Third = Either (OneOf is_letter) Empty
-
 -- such a text is one of those cases
 pub code_case : (u : List ℕ) → Code u → CodeCase u
 code_case [] code = absurd (elim code [ inl all ↦ omega (arith, all.count) | inr all ↦ omega (arith, all.count) ])
@@ -194,3 +185,125 @@ code_scans = choose_scans is_digit (Run 3 is_digit) (Run 2 is_letter) digits_end
 -- some code
 pub sample_code : Code (97 ∷ 97 ∷ [])
 sample_code = inr (record { count = refl; passed = refl })
+
+-- ---- whole tags, over the spelling of their hyphen
+
+code_text_taken : (u r : List ℕ) → Code u → code_end (u ++ r) ≡ Ok r
+code_text_taken u r code = code_taken u r (code_case u code)
+
+module _ (spells : List ℕ → Bool) (begins : ℕ → Bool) (hyphen : Scanner) (is : IsHyphen spells begins hyphen) where
+  region_scans : Scans (Region spells) (region_end begins hyphen)
+  unfolding region_end
+  region_scans =
+      choose_scans begins (Joined (Hyphen spells) Code) Empty (both hyphen code_end) nothing
+      (both_scans (Hyphen spells) Code hyphen code_end is.scans code_scans (97 ∷ 97 ∷ []) sample_code) nothing_scans
+
+  -- tags are scanned
+  pub tag_scans : Scans (Tag spells) (tag_end begins hyphen)
+  unfolding tag_end
+  tag_scans =
+      both_scans (Joined (Run 2 is_letter) Third) (Region spells) (both letters_end third_end) (region_end begins hyphen)
+      (both_scans (Run 2 is_letter) Third letters_end third_end letters_scans third_scans [] (inr refl))
+      region_scans [] (inr refl)
+
+  region_begun : (s : List ℕ) → Leads begins s → region_end begins hyphen s ≡ both hyphen code_end s
+  unfolding region_end
+  region_begun s l = ap (choose begins (both hyphen code_end) nothing) l.is ∙ chosen_yes begins (both hyphen code_end) nothing l.first l.more l.leads ∙ ap (both hyphen code_end) (sym l.is)
+
+  no_region : (r : List ℕ) → HeadFails begins r → region_end begins hyphen r ≡ Ok r
+  unfolding region_end
+  no_region [] h = refl
+  no_region (c ∷ r) h = chosen_no begins (both hyphen code_end) nothing c r h
+
+  region_taken : (v r : List ℕ) → Region spells v → HeadFails begins r → region_end begins hyphen (v ++ r) ≡ Ok r
+  region_taken v r region h = elim region [
+    | inl j ↦
+        let at : v ++ r ≡ j.front ++ (j.back ++ r) = ap (λ (w : List ℕ). w ++ r) j.is ∙ append_assoc j.front j.back r in
+        ap (region_end begins hyphen) at
+        ∙ region_begun (j.front ++ (j.back ++ r)) (is.leads j.front (j.back ++ r) j.first)
+        ∙ ap (λ (x : Result (List ℕ) ℕ). x >>= code_end) (is.taken j.front (j.back ++ r) j.first)
+        ∙ code_text_taken j.back r j.second
+    | inr empty ↦ ap (λ (w : List ℕ). region_end begins hyphen (w ++ r)) empty ∙ no_region r h
+  ]
+
+  region_no_letter : (v r : List ℕ) → Region spells v → HeadFails is_letter r → HeadFails is_letter (v ++ r)
+  region_no_letter v r region h = elim region [
+    | inl j ↦
+        let at : v ++ r ≡ j.front ++ (j.back ++ r) = ap (λ (w : List ℕ). w ++ r) j.is ∙ append_assoc j.front j.back r in
+        let l = is.leads j.front (j.back ++ r) j.first in
+        subst (HeadFails is_letter) (sym (at ∙ l.is)) l.no_letter
+    | inr empty ↦ subst (λ (w : List ℕ). HeadFails is_letter (w ++ r)) (sym empty) h
+  ]
+
+  third_taken : (w s : List ℕ) → Third w → HeadFails is_letter s → third_end (w ++ s) ≡ Ok s
+  third_taken w s third h = elim third [
+    | inl o ↦ ap (λ (x : List ℕ). third_end (x ++ s)) o.is ∙ third_some o.byte s o.passed
+    | inr empty ↦ ap (λ (x : List ℕ). third_end (x ++ s)) empty ∙ third_none s h
+  ]
+
+  two_taken : (u s : List ℕ) → Run 2 is_letter u → letters_end (u ++ s) ≡ Ok s
+  two_taken [] s all = absurd (omega (arith, all.count))
+  two_taken (a ∷ []) s all = absurd (omega (arith, all.count))
+  two_taken (a ∷ b ∷ c ∷ u) s all = absurd (omega (arith, all.count))
+  two_taken (a ∷ b ∷ []) s all =
+      let p = and_parts (is_letter a) (is_letter b && true) all.passed in
+      let q = and_parts (is_letter b) true p.1 in
+      letters_taken a b s p.0 q.0
+
+  -- each tag is taken before what doesn't go on it
+  pub tag_taken : (u r : List ℕ) → Tag spells u → TagEnds begins r → tag_end begins hyphen (u ++ r) ≡ Ok r
+  unfolding tag_end
+  tag_taken u r j h =
+      let front = j.first in
+      let behind : List ℕ = j.back ++ r in
+      let at : u ++ r ≡ front.front ++ (front.back ++ behind) = ap (λ (w : List ℕ). w ++ r) j.is ∙ append_assoc j.front j.back r ∙ ap (λ (w : List ℕ). w ++ behind) front.is ∙ append_assoc front.front front.back behind in
+      ap (λ (s : List ℕ). letters_end s >>= third_end >>= region_end begins hyphen) at
+      ∙ ap (λ (x : Result (List ℕ) ℕ). x >>= third_end >>= region_end begins hyphen) (two_taken front.front (front.back ++ behind) front.first)
+      ∙ ap (λ (x : Result (List ℕ) ℕ). x >>= region_end begins hyphen) (third_taken front.back behind front.second (region_no_letter j.back r j.second h.letter))
+      ∙ region_taken j.back r j.second h.hyphen
+
+-- ---- tags with a bare hyphen
+
+bare_is : (h : List ℕ) → is_bare_hyphen h ≡ true → h ≡ 45 ∷ []
+bare_is [] e = absurd cc
+bare_is (c ∷ []) e = ap (λ (d : ℕ). d ∷ []) (eqb-true c 45 e)
+bare_is (c ∷ d ∷ s) e = absurd cc
+
+pub code_text : (u : List ℕ) → CodeCase u → Code u
+code_text _ (letters x y hx hy) = inr (record { count = refl; passed = and_from _ _ hx (and_from _ _ hy refl) })
+code_text _ (digits x y z hx hy hz) = inl (record { count = refl; passed = and_from _ _ hx (and_from _ _ hy (and_from _ _ hz refl)) })
+
+region_text : (v : List ℕ) → RegionCase v → Region is_bare_hyphen v
+region_text _ none = inr refl
+region_text _ (behind u code) = inl (record { front = 45 ∷ []; back = u; is = refl; first = refl; second = code_text u code })
+
+pub two_letters : (a b : ℕ) → is_letter a ≡ true → is_letter b ≡ true → Run 2 is_letter (a ∷ b ∷ [])
+two_letters a b ha hb = record { count = refl; passed = and_from _ _ ha (and_from _ _ hb refl) }
+
+-- such a tag is one
+pub tag_text : (t : List ℕ) → TagCase t → Tag is_bare_hyphen t
+tag_text _ (two a b v ha hb region) = record {
+  front = a ∷ b ∷ [];
+  back = v;
+  is = refl;
+  first = record { front = a ∷ b ∷ []; back = []; is = refl; first = two_letters a b ha hb; second = inr refl };
+  second = region_text v region;
+}
+tag_text _ (three a b c v ha hb hc region) = record {
+  front = a ∷ b ∷ c ∷ [];
+  back = v;
+  is = refl;
+  first = record { front = a ∷ b ∷ []; back = c ∷ []; is = refl; first = two_letters a b ha hb; second = inl (record { byte = c; is = refl; passed = hc }) };
+  second = region_text v region;
+}
+
+text_region : (v : List ℕ) → Region is_bare_hyphen v → RegionCase v
+text_region v region = elim region [
+  | inl j ↦ subst RegionCase (sym (j.is ∙ ap (λ (w : List ℕ). w ++ j.back) (bare_is j.front j.first))) (behind j.back (code_case j.back j.second))
+  | inr empty ↦ subst RegionCase (sym empty) none
+]
+
+-- and it is such a tag
+pub text_tag : (t : List ℕ) → Tag is_bare_hyphen t → TagCase t
+text_tag t j =
+    subst TagCase (sym (j.is ∙ ap (λ (u : List ℕ). u ++ j.back) j.first.is)) (tag_of j.first.front j.first.back j.back j.first.first j.first.second (text_region j.back j.second))

@@ -11,18 +11,18 @@ use Rattle.cpe_values.specs.Values.{IsValue}
 use Rattle.cpe_values.specs.Spelling.{spelling}
 use Rattle.cpe_values.specs.Unspelling.{parts_at}
 use Rattle.cpe_values.proofs.Unspelled.{parts_are}
+use Rattle.cpe_grammar.specs.Scanners.{literal}
 use Rattle.cpe_name.specs.declared.name.Values.{Values}
 use Rattle.cpe_name.specs.declared.name.NameFault.{NameFault}
 use Rattle.cpe_name.specs.declared.name.NameFault.TheVariants.{BadPart, BadLanguage}
 use Rattle.cpe_name.specs.declared.attribute.Attribute.{Attribute}
 use Rattle.cpe_name.specs.declared.attribute.Attribute.TheVariants.{Part, Vendor, Product, Version, Update, Edition, Language, SwEdition, TargetSw, TargetHw, Other}
-use Rattle.cpe_name.specs.declared.scan.Written.{Written}
-use Rattle.cpe_name.specs.Equal.{named}
-use Rattle.cpe_name.specs.Names.{attributes, value_of, Suits, IsName, IsFault}
+use Rattle.cpe_name.specs.declared.written.Written.{Written}
+use Rattle.cpe_name.specs.Names.{named, attributes, value_of, Suits, IsName, IsFault}
 use Rattle.cpe_name.specs.Text.{attribute_name, value_text, output_text}
 use Rattle.cpe_name.specs.WfnText.{same_attribute, is_listed, names, later_text, list_text, WfnText, IsWfnText}
 use Rattle.cpe_name.specs.Spans.{texts, or_any, AreWritten}
-use Rattle.cpe_name.specs.Unwriting.{AreAnyTexts, inner, value_from}
+use Rattle.cpe_name.specs.Unwriting.{IsAnyText, inner, value_from}
 use Rattle.cpe_name.specs.Scanning.{Finds, after_at, slot, none_given, is_some_text, list_at, is_end, list_or_end, all_at}
 use Rattle.cpe_name.proofs.Items.{found, some_is, none≢some, went_on, chosen, after_reads, IsSlot, good_of}
 use Rattle.cpe_name.proofs.Lists.{same_is, by, slot_by, alike_by, given_length, value_some, list_by, later_by, AreNew, AreSlots, list_reads, AreTexts, Fits, list_again, few_items, all_listed}
@@ -267,7 +267,7 @@ list_found w (i ∷ rest) name once =
     ∙ list_again rest 11 none_given (by (given w which)) w i.0 (few_items i rest once) name refl (given_are w which which (λ b h. h)) (none_new which) once (given_fits w which)
 
 pub all_again : (w : Values) (s : List ℕ) → WfnText w s → Again w s
-unfolding all_at after_at
+unfolding all_at after_at literal
 all_again w s t = record {
   given = by (given w (names t.items));
   at = ap all_at t.text ∙ list_found w t.items t.name t.once;
@@ -321,7 +321,7 @@ refused_is (Some t) s e none is = absurd (none≢some t (sym none))
 refused_is None s e none is = let so = all_again is.0 s is.1 in none≢some so.given (sym e ∙ so.at)
 
 -- each text is that of a value
-pub texts_are : (s : List ℕ) (t : Written) → AreWritten s t → AreAnyTexts (texts t)
+pub texts_are : (s : List ℕ) (t : Written) → AreWritten s t → AllByRecursion IsAnyText (texts t)
 texts_are s t are =
     let each = each_text are.name (texts t) are.are in
     let good = λ (a : Attribute). good_value are.name a are.has.name in

@@ -2,16 +2,15 @@
 use Rattle.std.specs.Prelude.{◌≡◌, ℕ, Bool, ◌&&◌, List, [], ◌∷◌, map, refl}
 use Rattle.std.specs.List.{list_all, flat_map}
 use Rattle.std.specs.Bool.{Decides}
-use Rattle.std.proofs.Common.{ap, get_or}
+use Rattle.std.proofs.Common.{ap}
 use Rattle.std.proofs.lemmas.Slice.Eq.{slice_eq-Decides}
 use lib.Pointwise.{pointwise}
 use Rattle.cpe_values.specs.declared.value.Value.{Value}
-use Rattle.cpe_values.specs.declared.value.Value.TheVariants as value
 use Rattle.cpe_values.specs.Same.{same_value, value_input}
 use Rattle.cpe_values.specs.Equal.{same_value-Decides}
 use Rattle.cpe_name.specs.declared.name.Values.{Values}
 use Rattle.cpe_name.specs.declared.attribute.Attribute.{Attribute}
-use Rattle.cpe_name.specs.Names.{attributes, value_of}
+use Rattle.cpe_name.specs.Names.{attributes, value_of, named}
 
 -- each attribute has the same value
 abbrev pub same_name : Values → Values → Bool
@@ -23,22 +22,6 @@ name_input v = flat_map (λ a. value_input (value_of v a)) attributes
 as_pointwise : (v w : Values) (which : List Attribute) → list_all (λ a. same_value (value_of v a) (value_of w a)) which ≡ pointwise same_value (map (value_of v) which) (map (value_of w) which)
 as_pointwise v w [] = refl
 as_pointwise v w (a ∷ rest) = ap (λ (b : Bool). same_value (value_of v a) (value_of w a) && b) (as_pointwise v w rest)
-
--- these values, in the order of the attributes
-abbrev pub named : List Value → Values
-named vs = record {
-  part = get_or vs 0 value.Any;
-  vendor = get_or vs 1 value.Any;
-  product = get_or vs 2 value.Any;
-  version = get_or vs 3 value.Any;
-  update = get_or vs 4 value.Any;
-  edition = get_or vs 5 value.Any;
-  language = get_or vs 6 value.Any;
-  sw_edition = get_or vs 7 value.Any;
-  target_sw = get_or vs 8 value.Any;
-  target_hw = get_or vs 9 value.Any;
-  other = get_or vs 10 value.Any;
-}
 
 pub same_name-Decides : (v w : Values) → Decides (same_name v w) (v ≡ w)
 same_name-Decides v w =

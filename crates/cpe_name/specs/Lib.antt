@@ -11,3 +11,5 @@ pub mod Scanning
 pub mod Spans
 pub mod Unwriting
 pub mod Binding
+pub mod Borrowed
+pub mod OutputFrom

@@ -2,8 +2,7 @@
 use Rattle.std.specs.Prelude.{◌≡◌, map}
 use Rattle.cpe_values.specs.Lower.{lower_value}
 use Rattle.cpe_name.specs.declared.name.Values.{Values}
-use Rattle.cpe_name.specs.Equal.{named}
-use Rattle.cpe_name.specs.Names.{attributes, value_of}
+use Rattle.cpe_name.specs.Names.{attributes, value_of, named}
 
 -- each value with all its letters in lower case
 abbrev pub lower_name : Values → Values

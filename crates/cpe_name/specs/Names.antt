@@ -1,7 +1,8 @@
 -- Well-formed names (NIST IR 7695, 5): eleven values, of which the part and the language have shapes of their own.
-use Rattle.std.specs.Prelude.{◌≡◌, true, false, List, [], ◌∷◌, IsTrue}
+use Rattle.std.specs.Prelude.{◌≡◌, true, false, List, [], ◌∷◌, IsTrue, slice_index_or}
 use Rattle.std.specs.List.{AllByRecursion}
 use Rattle.cpe_values.specs.declared.value.Value.{Value}
+use Rattle.cpe_values.specs.declared.value.Value.TheVariants as value
 use Rattle.cpe_values.specs.Values.{IsValue}
 use Rattle.cpe_name.specs.declared.name.Values.{Values}
 use Rattle.cpe_name.specs.declared.attribute.Attribute.{Attribute}
@@ -27,6 +28,22 @@ value_of v SwEdition = v.sw_edition
 value_of v TargetSw = v.target_sw
 value_of v TargetHw = v.target_hw
 value_of v Other = v.other
+
+-- these values, in the order of the attributes
+abbrev pub named : List Value → Values
+named vs = record {
+  part = slice_index_or vs 0 value.Any;
+  vendor = slice_index_or vs 1 value.Any;
+  product = slice_index_or vs 2 value.Any;
+  version = slice_index_or vs 3 value.Any;
+  update = slice_index_or vs 4 value.Any;
+  edition = slice_index_or vs 5 value.Any;
+  language = slice_index_or vs 6 value.Any;
+  sw_edition = slice_index_or vs 7 value.Any;
+  target_sw = slice_index_or vs 8 value.Any;
+  target_hw = slice_index_or vs 9 value.Any;
+  other = slice_index_or vs 10 value.Any;
+}
 
 -- what this attribute may have
 abbrev pub Suits : Attribute → Value → Type 0

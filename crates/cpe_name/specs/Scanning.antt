@@ -1,9 +1,10 @@
--- Going over the text of a well-formed name, as the code does. No public clause speaks of it.
+-- Going over the text of a well-formed name, as the code does. Of the public words `bound_by` alone rests on it, which a law of each
+-- binding fixes.
 use Rattle.std.specs.Prelude.{◌≡◌, ℕ, zero, suc, ◌-◌, List, [], ◌∷◌, ◌++◌, length, take, map, get_or, codes, Bool, true, false, not, ◌&&◌, ◌||◌, ◌==◌, Result, Ok, Err, Option, Some, None, if◌then◌else◌}
-use Rattle.cpe_grammar.specs.Scanners.{Scanner, ◌>>=◌, both, choose, one, up_to, literal}
+use Rattle.cpe_grammar.specs.Scanners.{Scanner, ◌>>=◌, choose, one, literal}
 use Rattle.cpe_values.specs.declared.spelling.Style.TheVariants as style
-use Rattle.cpe_values.specs.Parts.{is_character}
-use Rattle.cpe_values.specs.Spelling.{is_bare, is_letter, is_digit}
+use Rattle.cpe_values.specs.Spelling.{is_letter, is_digit}
+use Rattle.cpe_text.specs.Scanning.{edge_end, stem_end}
 use Rattle.cpe_name.specs.declared.attribute.Attribute.{Attribute}
 use Rattle.cpe_name.specs.declared.attribute.Attribute.TheVariants.{Part, Vendor, Product, Version, Update, Edition, Language, SwEdition, TargetSw, TargetHw, Other}
 use Rattle.cpe_name.specs.Names.{attributes}
@@ -11,65 +12,14 @@ use Rattle.cpe_name.specs.Shapes.{is_part_letter}
 use Rattle.cpe_name.specs.Text.{attribute_name}
 use Rattle.cpe_name.specs.WfnText.{rank, same_attribute}
 
--- ---- bytes
-
-abbrev pub is_star : ℕ → Bool
-is_star c = c == 42
-
-abbrev pub is_mark : ℕ → Bool
-is_mark c = c == 63
-
-abbrev pub is_backslash : ℕ → Bool
-is_backslash c = c == 92
+-- ---- texts between double quotes
 
 abbrev pub is_quote : ℕ → Bool
 is_quote c = c == 34
 
--- stands without a backslash
-abbrev pub is_bare_here : ℕ → Bool
-is_bare_here c = is_bare style.Wfn c
-
--- what stands behind a backslash
-abbrev pub is_quoted : ℕ → Bool
-is_quoted c = is_character c && not (is_bare_here c)
-
--- a character begins with it
-abbrev pub starts_body : ℕ → Bool
-starts_body c = is_bare_here c || is_backslash c
-
-abbrev pub begins_with_backslash : List ℕ → Bool
-begins_with_backslash [] = false
-begins_with_backslash (c ∷ s) = is_backslash c
-
--- ---- texts between double quotes
-
--- marks, of which there are 4,294,967,295 at most
-unfoldable pub marks_end : Scanner
-marks_end s = up_to 4294967295 is_mark s
-
--- an asterisk, marks, or nothing
-unfoldable pub edge_end : Scanner
-edge_end s = choose is_star (one is_star) marks_end s
-
--- a character: bare, or behind a backslash
-unfoldable pub character_end : Scanner
-character_end s = choose is_backslash (both (one is_backslash) (one is_quoted)) (one is_bare_here) s
-
--- characters, as many as stand there
-unfoldable pub body_end : Scanner
-body_end [] = Ok []
-body_end (c ∷ []) = if is_bare_here c then Ok [] else (if is_backslash c then Err 0 else Ok (c ∷ []))
-body_end (c ∷ d ∷ s) =
-    if is_bare_here c then body_end (d ∷ s) else
-    (if is_backslash c then (if is_quoted d then body_end s else Err (suc (length s))) else Ok (c ∷ d ∷ s))
-
--- a body of one character at least, and a trail
-unfoldable pub stem_end : Scanner
-stem_end s = character_end s >>= body_end >>= edge_end
-
 -- a lead, a body and a trail between double quotes
 unfoldable pub quoted_end : Scanner
-quoted_end s = one is_quote s >>= edge_end >>= stem_end >>= one is_quote
+quoted_end s = one is_quote s >>= edge_end >>= stem_end style.Wfn >>= one is_quote
 
 -- ---- values
 
@@ -166,11 +116,13 @@ abbrev pub ◌>>?◌ : {A B : Type 0} → Option A → (A → Option B) → Opti
 (Some x) >>? f = f x
 None >>? f = None
 
+abbrev pub left_behind : Result (List ℕ) ℕ → Option (List ℕ)
+left_behind (Ok rest) = Some rest
+left_behind (Err left) = None
+
 -- what stands behind these bytes
 unfoldable pub after_at : List ℕ → List ℕ → Option (List ℕ)
-after_at [] s = Some s
-after_at (c ∷ cs) [] = None
-after_at (c ∷ cs) (d ∷ s) = if d == c then after_at cs s else None
+after_at cs s = left_behind (literal cs s)
 
 -- the name of an attribute and `=`
 abbrev pub key_text : Attribute → List ℕ

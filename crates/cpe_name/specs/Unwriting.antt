@@ -1,4 +1,5 @@
--- The value of which a text is that, as the code finds it. No public clause speaks of it.
+-- The value of which a text is that, as the code finds it. Of the public words `bound_by` alone rests on it, which a law of each
+-- binding fixes.
 use Rattle.std.specs.Prelude.{◌≡◌, ℕ, ◌-◌, ◌==◌, List, [], ◌∷◌, length, take, drop, if◌then◌else◌}
 use Rattle.cpe_values.specs.declared.value.Value.{Value}
 use Rattle.cpe_values.specs.declared.value.Value.TheVariants as value
@@ -12,10 +13,6 @@ pub record IsAnyText (u : List ℕ) : Type 0 where
   pub value : Value
   pub good : IsValue value
   pub is : or_any u ≡ value_text value
-
-abbrev pub AreAnyTexts : List (List ℕ) → Type 0
-AreAnyTexts [] = Unit {0}
-AreAnyTexts (u ∷ us) = IsAnyText u × AreAnyTexts us
 
 -- without the first byte and the last
 abbrev pub inner : List ℕ → List ℕ

@@ -3,22 +3,26 @@
 #![tactic(auto)]
 
 mod attribute;
+mod borrowed;
 mod copy;
 mod equal;
 mod lower;
 mod name;
+mod put;
 mod quoted;
 mod read;
 mod scan;
 mod shape;
 mod tag;
-#[cfg(test)]
-mod tests;
 mod write;
+mod written;
 
 pub use attribute::{ATTRIBUTES, Attribute};
+pub use borrowed::NameRef;
 pub use name::{NameFault, Values, Wfn};
+pub use put::{PutValue, put_output};
 pub use read::{WfnFault, read_wfn, wfn_texts};
-pub use scan::{Written, scan_wfn};
-pub use tag::{scan_language_letters, scan_region_code, scan_third_letter};
+pub use scan::scan_wfn;
+pub use tag::{Hyphen, language_tags, scan_language_tag};
 pub use write::write_wfn;
+pub use written::{ReadValue, Written, read_values};

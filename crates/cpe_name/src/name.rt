@@ -1,6 +1,8 @@
 // Well-formed names.
-ghost use Rattle.std.specs.Prelude.{◌≡◌, IfOk, OnOk, OnErr, IfErr};
-ghost use Rattle.cpe_name.specs.Names.{value_of, IsName, IsFault};
+ghost use Rattle.std.specs.Prelude.{◌≡◌, IfOk, IsOk, OnOk, OnErr, IfErr, IsTrue};
+ghost use Rattle.cpe_name.specs.declared.name.Values.{Values};
+ghost use Rattle.cpe_name.specs.Names.{value_of, Suits, IsName, IsFault};
+ghost use Rattle.cpe_name.specs.Shapes.{is_part};
 ghost use Rattle.cpe_name.specs.Put.{any_values, put};
 
 use crate::Attribute;
@@ -33,6 +35,9 @@ pub struct Wfn {
     pub(crate) values: Values,
 }
 
+// Names are kept by the million.
+const _: () = prove!(size_of::<Wfn>() == 440);
+
 impl Model for Wfn {
     ghost use Rattle.cpe_name.specs.declared.name.Values.{Values};
     ghost use Rattle.cpe_name.specs.Names.{IsName};
@@ -63,6 +68,7 @@ impl Wfn {
     pub fn new(values: Values) -> Result<Wfn, NameFault>
         ensures name { IfOk result (λ w. w ≡ values) }
         ensures lawful { OnOk result (IsName values) }
+        ensures made { IsName values → IsOk result }
         ensures fault { IfErr result (λ f. IsFault f values) }
     {
         if !is_lawful_part(&values.part) {
@@ -148,61 +154,54 @@ impl Wfn {
     pub fn set(&mut self, which: Attribute, value: Value) -> Result<(), NameFault>
         ensures ok { OnOk result (self.new ≡ put self.old which value) }
         ensures err { OnErr result (self.new ≡ self.old) }
+        ensures made { IsName (put self.old which value) → IsOk result }
         ensures fault { IfErr result (λ f. IsFault f (put self.old which value)) }
     {
         self.lawful();
-        value.lawful();
-        match which {
-            Attribute::Part => {
-                if !is_lawful_part(&value) {
-                    return Err(NameFault::BadPart);
-                }
-                self.values.part = value;
-                return Ok(());
+        test_value(which, &value)?;
+        put_value(&mut self.values, which, value);
+        Ok(())
+    }
+}
+
+// Whether an attribute may have a value.
+fn test_value(which: Attribute, value: &Value) -> Result<(), NameFault>
+    ensures suits { OnOk result (Suits which value.now) }
+    ensures unsuited { OnErr result (Suits which value.now → ⊥) }
+    ensures fault { IfErr result (λ f. (name : Values) → IsTrue (is_part name.part) → IsFault f (put name which value.now)) }
+{
+    value.lawful();
+    match which {
+        Attribute::Part => {
+            if !is_lawful_part(value) {
+                return Err(NameFault::BadPart);
             }
-            Attribute::Language => {
-                if !is_lawful_language(&value) {
-                    return Err(NameFault::BadLanguage);
-                }
-                self.values.language = value;
-                return Ok(());
-            }
-            Attribute::Vendor => {
-                self.values.vendor = value;
-                return Ok(());
-            }
-            Attribute::Product => {
-                self.values.product = value;
-                return Ok(());
-            }
-            Attribute::Version => {
-                self.values.version = value;
-                return Ok(());
-            }
-            Attribute::Update => {
-                self.values.update = value;
-                return Ok(());
-            }
-            Attribute::Edition => {
-                self.values.edition = value;
-                return Ok(());
-            }
-            Attribute::SwEdition => {
-                self.values.sw_edition = value;
-                return Ok(());
-            }
-            Attribute::TargetSw => {
-                self.values.target_sw = value;
-                return Ok(());
-            }
-            Attribute::TargetHw => {
-                self.values.target_hw = value;
-                return Ok(());
-            }
-            Attribute::Other => {
-                self.values.other = value;
-                return Ok(());
-            }
+            return Ok(());
         }
+        Attribute::Language => {
+            if !is_lawful_language(value) {
+                return Err(NameFault::BadLanguage);
+            }
+            return Ok(());
+        }
+        _ => return Ok(()),
+    }
+}
+
+pub(crate) fn put_value(values: &mut Values, which: Attribute, value: Value)
+    ensures { values.new ≡ put values.old which value }
+{
+    match which {
+        Attribute::Part => values.part = value,
+        Attribute::Vendor => values.vendor = value,
+        Attribute::Product => values.product = value,
+        Attribute::Version => values.version = value,
+        Attribute::Update => values.update = value,
+        Attribute::Edition => values.edition = value,
+        Attribute::Language => values.language = value,
+        Attribute::SwEdition => values.sw_edition = value,
+        Attribute::TargetSw => values.target_sw = value,
+        Attribute::TargetHw => values.target_hw = value,
+        Attribute::Other => values.other = value,
     }
 }

@@ -3,15 +3,14 @@ ghost use Rattle.std.specs.Prelude.{◌≡◌, ◌≤◌, ◌-◌, ◌∷◌, Li
 ghost use Rattle.cpe_values.specs.Spelled.{IsSpelling};
 ghost use Rattle.cpe_values.specs.Unspelling.{parts_at};
 ghost use Rattle.cpe_name.specs.declared.name.Values.{Values};
-ghost use Rattle.cpe_name.specs.Equal.{named};
-ghost use Rattle.cpe_name.specs.Names.{IsName};
+ghost use Rattle.cpe_name.specs.Names.{named, IsName};
 ghost use Rattle.cpe_name.specs.Text.{output_text};
 ghost use Rattle.cpe_name.specs.WfnText.{WfnText, Refuses};
 ghost use Rattle.cpe_name.specs.Spans.{texts};
-ghost use Rattle.cpe_name.specs.Unwriting.{IsAnyText, AreAnyTexts, inner, value_from};
+ghost use Rattle.cpe_name.specs.Unwriting.{IsAnyText, inner, value_from};
 
-use crate::scan::{Written, scan_wfn};
-use crate::{Values, Wfn};
+use crate::scan::scan_wfn;
+use crate::{ReadValue, Wfn, read_values};
 use cpe_values::{Memory, Pattern, Value, read_spelling};
 use std::alloc::Global;
 use thiserror::Error;
@@ -65,23 +64,20 @@ fn value_of(alloc: Global, text: &[u8]) -> Result<Value, Memory>
     }
 }
 
-fn values_of(alloc: Global, written: &Written) -> Result<Values, Memory>
-    requires { AreAnyTexts (texts written.now) }
-    ensures { IfOk result (λ values. values ≡ named (map value_from (texts written.now))) }
-{
-    Ok(Values {
-        part: value_of(alloc, written.part)?,
-        vendor: value_of(alloc, written.vendor)?,
-        product: value_of(alloc, written.product)?,
-        version: value_of(alloc, written.version)?,
-        update: value_of(alloc, written.update)?,
-        edition: value_of(alloc, written.edition)?,
-        language: value_of(alloc, written.language)?,
-        sw_edition: value_of(alloc, written.sw_edition)?,
-        target_sw: value_of(alloc, written.target_sw)?,
-        target_hw: value_of(alloc, written.target_hw)?,
-        other: value_of(alloc, written.other)?,
-    })
+// The values of texts of names.
+#[derive(Drop)]
+struct Quoted {
+    alloc: Global,
+}
+
+impl ReadValue for Quoted {
+    ghost may_stand = { IsAnyText };
+
+    ghost value = { value_from };
+
+    fn read(&mut self, text: &[u8]) -> Result<Value, Memory> {
+        value_of(self.alloc, text)
+    }
 }
 
 /// The name that has this text (NIST IR 7695, 5): attributes in any order, each at most once, with spaces behind
@@ -101,7 +97,7 @@ pub fn read_wfn(alloc: Global, text: &[u8]) -> Result<Wfn, WfnFault>
     let Some(written) = scan_wfn(text) else {
         return Err(WfnFault::NotWfn);
     };
-    match Wfn::new(values_of(alloc, &written)?) {
+    match Wfn::new(read_values(&mut Quoted { alloc }, &written)?) {
         Ok(name) => Ok(name),
         Err(_) => unreachable!(),
     }

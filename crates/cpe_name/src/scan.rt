@@ -7,91 +7,10 @@ ghost use Rattle.cpe_name.specs.Scanning.{Finds, value_at, is_lone, is_part_in_q
 ghost use Rattle.cpe_name.specs.Spans.{texts, AreWritten};
 
 use crate::quoted::scan_value;
-use crate::{ATTRIBUTES, Attribute};
+use crate::{ATTRIBUTES, Attribute, Written};
+use cpe_grammar::{front_of, scan_literal};
 use cpe_values::{is_digit_byte, is_letter_byte};
 
-/// The values of a name as they stand in one of its texts: `ANY`, `NA`, or a text between double quotes.
-/// Where the text gives no value there is nothing, and the value is ANY.
-#[derive(Clone, Copy, Debug)]
-pub struct Written<'a> {
-    pub part: &'a [u8],
-    pub vendor: &'a [u8],
-    pub product: &'a [u8],
-    pub version: &'a [u8],
-    pub update: &'a [u8],
-    pub edition: &'a [u8],
-    pub language: &'a [u8],
-    pub sw_edition: &'a [u8],
-    pub target_sw: &'a [u8],
-    pub target_hw: &'a [u8],
-    pub other: &'a [u8],
-}
-
-impl<'a> Written<'a> {
-    fn none() -> Written<'a>
-        ensures { texts result ≡ none_given }
-    {
-        Written {
-            part: b"",
-            vendor: b"",
-            product: b"",
-            version: b"",
-            update: b"",
-            edition: b"",
-            language: b"",
-            sw_edition: b"",
-            target_sw: b"",
-            target_hw: b"",
-            other: b"",
-        }
-    }
-
-    fn get(&self, which: Attribute) -> &'a [u8]
-        ensures { result.now ≡ slot (texts self.now) which }
-    {
-        match which {
-            Attribute::Part => self.part,
-            Attribute::Vendor => self.vendor,
-            Attribute::Product => self.product,
-            Attribute::Version => self.version,
-            Attribute::Update => self.update,
-            Attribute::Edition => self.edition,
-            Attribute::Language => self.language,
-            Attribute::SwEdition => self.sw_edition,
-            Attribute::TargetSw => self.target_sw,
-            Attribute::TargetHw => self.target_hw,
-            Attribute::Other => self.other,
-        }
-    }
-
-    // Sets the text at one attribute.
-    fn set(&mut self, which: Attribute, text: &'a [u8])
-        ensures { texts self.new ≡ put_text (texts self.old) which text.now }
-    {
-        match which {
-            Attribute::Part => self.part = text,
-            Attribute::Vendor => self.vendor = text,
-            Attribute::Product => self.product = text,
-            Attribute::Version => self.version = text,
-            Attribute::Update => self.update = text,
-            Attribute::Edition => self.edition = text,
-            Attribute::Language => self.language = text,
-            Attribute::SwEdition => self.sw_edition = text,
-            Attribute::TargetSw => self.target_sw = text,
-            Attribute::TargetHw => self.target_hw = text,
-            Attribute::Other => self.other = text,
-        }
-    }
-}
-
-// The front of a slice before a rest of it.
-fn front_of<'a>(all: &'a [u8], rest: &[u8]) -> &'a [u8]
-    ensures { result.now ≡ take (length all.now - length rest.now) all.now }
-{
-    &all[..all.len().saturating_sub(rest.len())]
-}
-
-// The text of a value, and what is left behind it.
 #[inline(never)]
 #[tactic(auto, unfolding(crate::specs::Scanning::value_at))]
 fn split_value(bytes: &[u8]) -> Option<(&[u8], &[u8])>
@@ -176,7 +95,6 @@ fn is_language_text(text: &[u8]) -> bool
     }
 }
 
-// Whether the text of a value has the shape that the attribute asks for.
 fn has_shape(which: Attribute, text: &[u8]) -> bool
     ensures { result ≡ has_shape which text.now }
 {
@@ -187,32 +105,15 @@ fn has_shape(which: Attribute, text: &[u8]) -> bool
     }
 }
 
-// What stands behind this byte, if it stands first.
-#[inline(always)]
-#[tactic(auto, unfolding(crate::specs::Scanning::after_at))]
-fn after_byte(expected: u8, bytes: &[u8]) -> Option<&[u8]>
-    ensures { MatchOption result ((more : List ℕ) → after_at (expected ∷ more) bytes.now ≡ None) (λ r. (more : List ℕ) → after_at (expected ∷ more) bytes.now ≡ after_at more r.now) }
-{
-    match bytes {
-        [first, rest @ ..] if *first == expected => Some(rest),
-        _ => None,
-    }
-}
-
-// What stands behind these bytes, if the text begins with them.
 #[inline(always)]
 #[tactic(auto, unfolding(crate::specs::Scanning::after_at))]
 fn after<'a>(expected: &[u8], bytes: &'a [u8]) -> Option<&'a [u8]>
     ensures { option_map (λ r. r.now) result ≡ after_at expected.now bytes.now }
 {
-    let mut rest = bytes;
-    for byte in expected {
-        match after_byte(*byte, rest) {
-            Some(tail) => rest = tail,
-            None => return None,
-        }
+    match scan_literal(expected, bytes) {
+        Ok(rest) => Some(rest),
+        Err(_) => None,
     }
-    Some(rest)
 }
 
 // What stands behind the name of this attribute and `=`. Each key is a constant where it is compared, so its length
@@ -279,7 +180,6 @@ fn following(which: Attribute) -> Attribute {
     }
 }
 
-// An attribute, the text of its value, and what is left behind them.
 #[tactic(auto, unfolding(crate::specs::Scanning::item_at))]
 fn scan_item(likely: Attribute, bytes: &[u8]) -> Option<(Attribute, &[u8], &[u8])>
     ensures { Finds (λ x. ((x.0, x.1.now), x.2.now)) result (item_at bytes.now) }
@@ -375,7 +275,6 @@ fn scan_list_or_end(bytes: &[u8]) -> Option<Written>
     scan_list(bytes)
 }
 
-// The whole text.
 #[tactic(auto, unfolding(crate::specs::Scanning::all_at))]
 fn scan_all(text: &[u8]) -> Option<Written>
     ensures { Finds texts result (all_at text.now) }

@@ -1,11 +1,13 @@
-// The pieces of a language tag that both bindings spell alike (NIST IR 7695, 5.3). Nothing here takes memory.
+// Language tags (NIST IR 7695, 5.3), which the bindings spell alike but for the hyphen. Nothing here takes memory.
 //
 // Each function takes a front of a text. It answers what is left behind it, or how many bytes are
 // left where no tag goes on.
-ghost use Rattle.std.specs.Prelude.{Ok, Err};
-ghost use Rattle.cpe_grammar.specs.Scanners.{Tells, one};
+ghost use Rattle.std.specs.Prelude.{◌≡◌, ◌++◌, true, ℕ, Bool, List, Ok};
+ghost use Rattle.cpe_grammar.specs.Scanners.{Scanner, Tells, both, one};
+ghost use Rattle.cpe_grammar.specs.Scanned.{Scans, Run};
 ghost use Rattle.cpe_values.specs.Spelling.{is_letter, is_digit};
-ghost use Rattle.cpe_name.specs.Tags.{letters_end, digits_end, code_end, third_end};
+ghost use Rattle.cpe_name.specs.Shapes.{is_language_body};
+ghost use Rattle.cpe_name.specs.Tags.{letters_end, digits_end, code_end, third_end, region_end, tag_end, Code, Third, Tag, is_bare_hyphen, IsHyphen, TagEnds};
 
 use cpe_values::{is_digit_byte, is_letter_byte};
 
@@ -27,17 +29,14 @@ fn scan_digit(bytes: &[u8]) -> Result<&[u8], usize>
     }
 }
 
-/// Takes the two letters that a language tag begins with (NIST IR 7695, 5.3): tells what is left behind them, or how many bytes are
-/// left at what is no letter.
 #[tactic(auto, unfolding(crate::specs::Tags::letters_end))]
-pub fn scan_language_letters(bytes: &[u8]) -> Result<&[u8], usize>
+fn scan_language_letters(bytes: &[u8]) -> Result<&[u8], usize>
     ensures { Tells (λ rest. rest.now) result (letters_end bytes.now) }
 {
     let rest = scan_letter(bytes)?;
     scan_letter(rest)
 }
 
-// Three digits.
 #[tactic(auto, unfolding(crate::specs::Tags::digits_end))]
 fn scan_digits(bytes: &[u8]) -> Result<&[u8], usize>
     ensures { Tells (λ rest. rest.now) result (digits_end bytes.now) }
@@ -47,10 +46,9 @@ fn scan_digits(bytes: &[u8]) -> Result<&[u8], usize>
     scan_digit(rest)
 }
 
-/// Takes the code of a region, two letters or three digits (NIST IR 7695, 5.3): tells what is left behind it, or how many bytes are left
-/// where no code goes on.
+// Two letters or three digits.
 #[tactic(auto, unfolding(crate::specs::Tags::code_end))]
-pub fn scan_region_code(bytes: &[u8]) -> Result<&[u8], usize>
+fn scan_region_code(bytes: &[u8]) -> Result<&[u8], usize>
     ensures { Tells (λ rest. rest.now) result (code_end bytes.now) }
 {
     match bytes {
@@ -59,9 +57,8 @@ pub fn scan_region_code(bytes: &[u8]) -> Result<&[u8], usize>
     }
 }
 
-/// Takes the third letter of a language (NIST IR 7695, 5.3), or nothing where none stands.
 #[tactic(auto, unfolding(crate::specs::Tags::third_end))]
-pub fn scan_third_letter(bytes: &[u8]) -> Result<&[u8], usize>
+fn scan_third_letter(bytes: &[u8]) -> Result<&[u8], usize>
     ensures { Tells (λ rest. rest.now) result (third_end bytes.now) }
 {
     match bytes {
@@ -69,3 +66,60 @@ pub fn scan_third_letter(bytes: &[u8]) -> Result<&[u8], usize>
         _ => Ok(bytes),
     }
 }
+
+/// How the hyphen of a language tag is spelled.
+pub trait Hyphen {
+    ghost begins: { ℕ → Bool };
+
+    ghost end: { Scanner };
+
+    /// Whether a hyphen begins with this byte.
+    fn begins_with(byte: u8) -> bool
+        ensures { result ≡ begins byte };
+
+    /// Takes a hyphen: tells what is left behind it, or how many bytes are left where none goes on.
+    fn scan(bytes: &[u8]) -> Result<&[u8], usize>
+        ensures { Tells (λ rest. rest.now) result (end bytes.now) };
+}
+
+#[inline(always)]
+fn scan_hyphen_and_code<H: Hyphen>(bytes: &[u8]) -> Result<&[u8], usize>
+    ensures { Tells (λ rest. rest.now) result (both H.end code_end bytes.now) }
+{
+    let rest = H::scan(bytes)?;
+    scan_region_code(rest)
+}
+
+#[inline(always)]
+#[tactic(auto, unfolding(crate::specs::Tags::region_end))]
+fn scan_region<H: Hyphen>(bytes: &[u8]) -> Result<&[u8], usize>
+    ensures { Tells (λ rest. rest.now) result (region_end H.begins H.end bytes.now) }
+{
+    match bytes {
+        [byte, ..] if H::begins_with(*byte) => scan_hyphen_and_code::<H>(bytes),
+        _ => Ok(bytes),
+    }
+}
+
+/// Takes a language tag (NIST IR 7695, 5.3), two letters or three and then a hyphen and the code of a region, or no region: tells
+/// what is left behind it, or how many bytes are left where no tag goes on.
+#[tactic(auto, unfolding(crate::specs::Tags::tag_end))]
+pub fn scan_language_tag<H: Hyphen>(bytes: &[u8]) -> Result<&[u8], usize>
+    ensures { Tells (λ rest. rest.now) result (tag_end H.begins H.end bytes.now) }
+{
+    let rest = scan_language_letters(bytes)?;
+    let rest = scan_third_letter(rest)?;
+    scan_region::<H>(rest)
+}
+
+/// What the scanners of language tags take: tags whose hyphen is spelled so, each of them before what doesn't go on it. With a bare
+/// hyphen they are the languages of NIST IR 7695, 5.3. It does nothing.
+pub fn language_tags()
+    ensures letters { Scans (Run 2 is_letter) letters_end }
+    ensures third { Scans Third third_end }
+    ensures code { Scans Code code_end }
+    ensures tags { (spells : List ℕ → Bool) (begins : ℕ → Bool) (hyphen : Scanner) → IsHyphen spells begins hyphen → Scans (Tag spells) (tag_end begins hyphen) }
+    ensures taken { (spells : List ℕ → Bool) (begins : ℕ → Bool) (hyphen : Scanner) → IsHyphen spells begins hyphen → (u r : List ℕ) → Tag spells u → TagEnds begins r → tag_end begins hyphen (u ++ r) ≡ Ok r }
+    ensures language { (u : List ℕ) → is_language_body u ≡ true → Tag is_bare_hyphen u }
+    ensures tag { (u : List ℕ) → Tag is_bare_hyphen u → is_language_body u ≡ true }
+{}

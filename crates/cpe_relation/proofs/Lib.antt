@@ -1,5 +1,6 @@
 pub mod Splits
 pub mod Places
+pub mod SeenLemmas
 pub mod Tables
 pub mod ValueLaws
 pub mod NameLaws

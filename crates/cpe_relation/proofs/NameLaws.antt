@@ -7,8 +7,7 @@ use Rattle.cpe_values.specs.Lower.{lower_value, has_specials}
 use Rattle.cpe_name.specs.declared.name.Values.{Values}
 use Rattle.cpe_name.specs.declared.attribute.Attribute.{Attribute}
 use Rattle.cpe_name.specs.declared.attribute.Attribute.TheVariants.{Part, Vendor, Product, Version, Update, Edition, Language, SwEdition, TargetSw, TargetHw, Other}
-use Rattle.cpe_name.specs.Names.{attributes, value_of}
-use Rattle.cpe_name.specs.Equal.{named}
+use Rattle.cpe_name.specs.Names.{attributes, value_of, named}
 use Rattle.cpe_name.specs.Lower.{lower_name}
 use Rattle.cpe_relation.specs.declared.relation.Relation.{Relation}
 use Rattle.cpe_relation.specs.declared.relation.Relation.TheVariants.{Disjoint, Equal, Subset, Superset, Undefined}
@@ -163,33 +162,13 @@ between_back a b (w ∷ ws) h k =
     let is : relation (value_of b w) (value_of a w) ≡ converse (relation (value_of a w) (value_of b w)) = relation_back (value_of a w) (value_of b w) (not-true (has_specials (value_of a w)) p.0) (not-true (has_specials (value_of b w)) q.0) in
     ap (λ (x : Relation). x ∷ between b a ws) is ∙ ap (λ (r : List Relation). converse (relation (value_of a w) (value_of b w)) ∷ r) (between_back a b ws p.1 q.1)
 
-flip_disjoint : (r : Relation) → is_disjoint (converse r) ≡ is_disjoint r
-flip_disjoint Disjoint = refl
-flip_disjoint Equal = refl
-flip_disjoint Subset = refl
-flip_disjoint Superset = refl
-flip_disjoint Undefined = refl
-
-flip_equal : (r : Relation) → is_equal (converse r) ≡ is_equal r
-flip_equal Disjoint = refl
-flip_equal Equal = refl
-flip_equal Subset = refl
-flip_equal Superset = refl
-flip_equal Undefined = refl
-
-flip_within : (r : Relation) → is_within (converse r) ≡ is_above r
-flip_within Disjoint = refl
-flip_within Equal = refl
-flip_within Subset = refl
-flip_within Superset = refl
-flip_within Undefined = refl
-
-flip_above : (r : Relation) → is_above (converse r) ≡ is_within r
-flip_above Disjoint = refl
-flip_above Equal = refl
-flip_above Subset = refl
-flip_above Superset = refl
-flip_above Undefined = refl
+-- what the tests say of the converse
+flip : (r : Relation) → (is_disjoint (converse r) ≡ is_disjoint r) × ((is_equal (converse r) ≡ is_equal r) × ((is_within (converse r) ≡ is_above r) × (is_above (converse r) ≡ is_within r)))
+flip Disjoint = (refl, (refl, (refl, refl)))
+flip Equal = (refl, (refl, (refl, refl)))
+flip Subset = (refl, (refl, (refl, refl)))
+flip Superset = (refl, (refl, (refl, refl)))
+flip Undefined = (refl, (refl, (refl, refl)))
 
 all_flip : (f g : Relation → Bool) → ((r : Relation) → f (converse r) ≡ g r) → (rs : List Relation) → list_all f (map converse rs) ≡ list_all g rs
 all_flip f g h [] = refl
@@ -210,10 +189,10 @@ summed_flip false false false false f = refl
 
 of_all_flip : (rs : List Relation) → of_all (map converse rs) ≡ converse (of_all rs)
 of_all_flip rs =
-    let d = any_flip is_disjoint is_disjoint flip_disjoint rs in
-    let e = all_flip is_equal is_equal flip_equal rs in
-    let w = all_flip is_within is_above flip_within rs in
-    let a = all_flip is_above is_within flip_above rs in
+    let d = any_flip is_disjoint is_disjoint (λ r. (flip r).0) rs in
+    let e = all_flip is_equal is_equal (λ r. (flip r).1.0) rs in
+    let w = all_flip is_within is_above (λ r. (flip r).1.1.0) rs in
+    let a = all_flip is_above is_within (λ r. (flip r).1.1.1) rs in
     ap (λ (x : Bool). cond x Disjoint (cond (list_all is_equal (map converse rs)) Equal (cond (list_all is_within (map converse rs)) Subset (cond (list_all is_above (map converse rs)) Superset Undefined)))) d
     ∙ ap (λ (x : Bool). cond (list_any is_disjoint rs) Disjoint (cond x Equal (cond (list_all is_within (map converse rs)) Subset (cond (list_all is_above (map converse rs)) Superset Undefined)))) e
     ∙ ap (λ (x : Bool). cond (list_any is_disjoint rs) Disjoint (cond (list_all is_equal rs) Equal (cond x Subset (cond (list_all is_above (map converse rs)) Superset Undefined)))) w

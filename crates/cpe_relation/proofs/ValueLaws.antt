@@ -9,13 +9,13 @@ use Rattle.cpe_values.specs.declared.value.Edge.{Edge}
 use Rattle.cpe_values.specs.declared.value.Edge.TheVariants as edge
 use Rattle.cpe_values.specs.declared.value.Value.{Value}
 use Rattle.cpe_values.specs.declared.value.Value.TheVariants as value
-use Rattle.cpe_values.specs.Parts.{Parts, parts, is_nothing}
+use Rattle.cpe_values.specs.Parts.{Parts, parts, is_nothing, has_special}
 use Rattle.cpe_values.specs.Lower.{lower_parts, lower_value, has_specials}
 use Rattle.cpe_relation.specs.declared.relation.Relation.{Relation}
 use Rattle.cpe_relation.specs.declared.relation.Relation.TheVariants.{Disjoint, Equal, Subset, Superset, Undefined}
 use Rattle.cpe_relation.specs.Matching.{lower, Allows, Matches}
 use Rattle.cpe_relation.specs.MatchTests.{matches, same_lower}
-use Rattle.cpe_relation.specs.Table.{has_special, to_plain, relation}
+use Rattle.cpe_relation.specs.Table.{to_plain, relation}
 use Rattle.cpe_relation.specs.NameRelation.{is_above}
 use Rattle.cpe_relation.specs.Laws.{converse}
 use Rattle.cpe_relation.proofs.Splits.{agree, matches-Decides, same_lower-Decides}

@@ -6,6 +6,10 @@
 //! allows: nothing allows none, `*` any number, and so many `?` at most so many. So `sp??` matches `sp`, `sp1` and
 //! `sp12`. Every such split is found: `*ab` matches `abab`.
 //!
+//! [`compare_borrowed`] does the same for values whose text lies elsewhere, as in a line, and [`compare_lent`] for names of
+//! such values; relations that were found one by one are put into [`Relations`], whose
+//! [`of_names`](Relations::of_names) is the relation of the names.
+//!
 //! Some laws are stated as functions that do nothing: [`one_relation`], [`cover_laws`] and [`relation_laws`].
 //! What does not hold:
 //! - `8.*` against itself is UNDEFINED, as each attribute is whose target has a special; so [`covers`] is not reflexive
@@ -18,9 +22,10 @@ mod laws;
 mod matching;
 mod names;
 mod relation;
+mod seen;
 mod table;
 
 pub use laws::{cover_laws, one_relation, relation_laws};
-pub use names::{compare_names, covers};
+pub use names::{compare_lent, compare_names, covers};
 pub use relation::{Relation, Relations};
-pub use table::compare_values;
+pub use table::{compare_borrowed, compare_values};

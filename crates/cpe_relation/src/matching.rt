@@ -1,24 +1,10 @@
 // Whether a pattern matches a plain text, and whether two texts are the same but for letter case.
-ghost use Rattle.std.specs.Prelude.{◌≡◌, ◌↔◌, ℕ, ◌-◌, ◌≤◌, not, IsTrue};
-ghost use Rattle.cpe_values.specs.Parts.{is_nothing};
+ghost use Rattle.std.specs.Prelude.{◌≡◌, ◌↔◌, ℕ, ◌-◌, ◌≤◌, IsTrue};
+ghost use Rattle.cpe_values.specs.Borrowed.{text_lent};
 ghost use Rattle.cpe_relation.specs.MatchTests.{allows, matches, same_lower};
-ghost use Rattle.cpe_relation.specs.Table.{has_special};
 
 use cpe_find::stands_within;
-use cpe_values::{Edge, Pattern};
-
-fn is_special_edge(edge: Edge) -> bool
-    ensures { result ≡ not (is_nothing edge) }
-{
-    !matches!(edge, Edge::None)
-}
-
-// Whether a text is a pattern: it has a special before or after its body.
-pub(crate) fn is_special(text: &Pattern) -> bool
-    ensures { result ≡ has_special text.now }
-{
-    is_special_edge(text.lead()) || is_special_edge(text.trail())
-}
+use cpe_values::{Edge, TextRef};
 
 // The fewest characters that may stand before the body where `room` characters stand around it: the trail allows the rest.
 fn fewest_before(trail: Edge, room: usize) -> usize
@@ -45,16 +31,16 @@ fn most_before(lead: Edge, room: usize) -> usize
 }
 
 // Whether a pattern matches a text. The places that both edges allow are all those between two, so one search serves.
-pub(crate) fn is_match(pattern: &Pattern, text: &[u8]) -> bool
-    ensures { result ≡ matches pattern.now text.now }
+pub(crate) fn is_match(pattern: &TextRef, text: &[u8]) -> bool
+    ensures { result ≡ matches (text_lent pattern.now) text.now }
 {
-    let body = pattern.stem();
+    let body = pattern.stem;
     if text.len() < body.len() {
         return false;
     }
     let room = text.len() - body.len();
-    let low = fewest_before(pattern.trail(), room);
-    let high = most_before(pattern.lead(), room);
+    let low = fewest_before(pattern.trail, room);
+    let high = most_before(pattern.lead, room);
     stands_within(text, body, low, high)
 }
 

@@ -1,7 +1,7 @@
 //! Writing into a room: a slice that is the caller's and long enough, from a place on. Nothing here takes memory.
 #![tactic(auto)]
 
-ghost use Rattle.std.specs.Prelude.{◌≡◌, ◌≤◌, ◌+◌, ◌++◌, ◌∷◌, [], length, take};
+ghost use Rattle.std.specs.Prelude.{◌≡◌, ◌≤◌, ◌+◌, ◌++◌, ◌∷◌, [], length, take, drop};
 
 /// Puts bytes at a place, and tells the place behind them.
 pub fn put(room: &mut [u8], at: usize, bytes: &[u8]) -> usize
@@ -9,6 +9,7 @@ pub fn put(room: &mut [u8], at: usize, bytes: &[u8]) -> usize
     ensures at { result ≡ at + length bytes.now }
     ensures room { length room.new ≡ length room.old }
     ensures written { take result room.new ≡ take at room.old ++ bytes.now }
+    ensures behind { drop result room.new ≡ drop result room.old }
 {
     let end = at + bytes.len();
     room[at..end].copy_from_slice(bytes);
@@ -21,6 +22,7 @@ pub fn put_byte(room: &mut [u8], at: usize, byte: u8) -> usize
     ensures at { result ≡ at + 1 }
     ensures room { length room.new ≡ length room.old }
     ensures written { take result room.new ≡ take at room.old ++ byte ∷ [] }
+    ensures behind { drop result room.new ≡ drop result room.old }
 {
     room[at] = byte;
     at + 1

@@ -19,8 +19,7 @@ use Rattle.cpe_values.specs.Values.{IsValue}
 use Rattle.cpe_name.specs.declared.name.Values.{Values}
 use Rattle.cpe_name.specs.declared.attribute.Attribute.{Attribute}
 use Rattle.cpe_name.specs.declared.attribute.Attribute.TheVariants.{Part, Vendor, Product, Version, Update, Edition, Language, SwEdition, TargetSw, TargetHw, Other}
-use Rattle.cpe_name.specs.Equal.{named}
-use Rattle.cpe_name.specs.Names.{attributes, value_of, IsName}
+use Rattle.cpe_name.specs.Names.{named, attributes, value_of, IsName}
 use Rattle.cpe_name.specs.Lower.{lower_name, IsLower}
 use Rattle.cpe_uri.specs.Spelling.{edge_codes, text_codes, hex_digit, character, component, is_hex, hex_value, has_percent_form, spells, Spelled, Stands}
 use Rattle.cpe_uri.specs.Canon.{is_any, extended, packed, edition_component, components, trimmed, canon}

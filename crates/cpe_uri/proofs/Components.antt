@@ -3,7 +3,7 @@ use Rattle.std.proofs.Common.{◌≡◌, ◌⊎◌, ℕ, ◌+◌, ◌*◌, ◌<�
 use Rattle.std.specs.Option.{option_map}
 use Rattle.std.specs.List.{list_all}
 use Rattle.std.specs.Char.{to_ascii_lowercase}
-use Rattle.std.proofs.lemmas.Bool.{cases_Bool, eqb-true, eq-eqb, and_parts, and_from, or_cases, or_left, or_right, both_ways}
+use Rattle.std.proofs.lemmas.Bool.{not-true, cases_Bool, eqb-true, eq-eqb, and_parts, and_from, or_cases, or_left, or_right, both_ways}
 use Rattle.std.proofs.lemmas.Bool.Decides.{nat_tests}
 use Rattle.std.proofs.lemmas.List.{take_all}
 use Rattle.cpe_grammar.proofs.Reading.{goes, went_in, went_out}
@@ -17,7 +17,7 @@ use Rattle.cpe_uri.specs.declared.text.Stage.{Stage}
 use Rattle.cpe_uri.specs.declared.text.Stage.TheVariants.{Start, Na, Hyphen, LeadStar, LeadMarks, Body, TrailMarks, TrailStar}
 use Rattle.cpe_uri.specs.declared.text.State.{State}
 use Rattle.cpe_uri.specs.declared.text.State.TheVariants.{Whole, Percent, Half}
-use Rattle.cpe_uri.specs.Reading.{after_mark, after_star, after_character, takes_character, takes_special, takes_digit, is_start, next, is_over, stands_bare, after_bare, after_percent, after_digit, after_code, step, may_end, is_in_body, finished, read_from}
+use Rattle.cpe_uri.specs.TextMachine.{begins_body, after_mark, after_star, after_character, takes_character, takes_special, takes_digit, is_start, next, is_over, stands_bare, after_bare, after_percent, after_digit, after_code, step, may_end, is_in_body, read_from}
 use Rattle.cpe_uri.proofs.Stages.{some_stage, no_stage, stage_is, no_stage_is, run, run_then, NextCase, mark, star, plain, next_case}
 
 -- ---- which way a test goes
@@ -71,6 +71,19 @@ module _ (packed : Bool) where
   skip_in_body (Percent q) s h = absurd cc
   skip_in_body (Half q n) s h = absurd cc
 
+  body_begins : (c : ℕ) → is_bare style.Formatted c ≡ true → eqb c 45 ≡ false → step packed (Whole Start) c ≡ Some (Whole Body)
+  body_begins c h k = rw (bare_no_percent c h, h, bare_no_mark c h, bare_no_star c h, bare_character c h, k) refl
+
+  -- a component that begins with bare characters is a body behind them
+  begun : (c : ℕ) (s : List ℕ) → begins_body c ≡ true → read_from packed (Whole Body) (skip_while (is_bare style.Formatted) s) ≡ read_from packed (Whole Start) (c ∷ s)
+  begun c s h =
+      let p = and_parts (is_bare style.Formatted c) (not (eqb c 45)) h in
+      skip_same s ∙ sym (goes (step packed) may_end (Whole Start) (Whole Body) c s (body_begins c p.0 (not-true (eqb c 45) p.1)))
+
+  pub begun_at : (s : List ℕ) → 1 ≤ length s → begins_body (slice_index s 0) ≡ true → read_from packed (Whole Body) (skip_while (is_bare style.Formatted) (take (length s - 1) (drop 1 s))) ≡ read_from packed (Whole Start) s
+  begun_at [] some h = absurd (omega (arith, some))
+  begun_at (c ∷ s) some h = let n : length (c ∷ s) - 1 ≡ length s = omega arith in ap (λ (u : List ℕ). read_from packed (Whole Body) (skip_while (is_bare style.Formatted) u)) (take_all (length (c ∷ s) - 1) s (omega (arith, n))) ∙ begun c s h
+
   -- a step is taken
   pub went : (q t : State) (c : ℕ) (s : List ℕ) → step packed q c ≡ Some t → read_from packed q (c ∷ s) ≡ read_from packed t s
   went q t c s e = goes (step packed) may_end q t c s e
@@ -78,13 +91,6 @@ module _ (packed : Bool) where
   pub went_at : (q t : State) (s : List ℕ) → 1 ≤ length s → step packed q (slice_index s 0) ≡ Some t → read_from packed t (take (length s - 1) (drop 1 s)) ≡ read_from packed q s
   went_at q t [] some e = absurd (omega (arith, some))
   went_at q t (c ∷ s) some e = let n : length (c ∷ s) - 1 ≡ length s = omega arith in ap (read_from packed t) (take_all (length (c ∷ s) - 1) s (omega (arith, n))) ∙ sym (went q t c s e)
-
-  -- no step is there
-  pub stayed : (q : State) (c : ℕ) (s : List ℕ) → step packed q c ≡ None → read_from packed q (c ∷ s) ≡ finished q (c ∷ s)
-  stayed q c s e = rw e refl
-
-  pub at_end : (q : State) → read_from packed q [] ≡ finished q []
-  at_end q = refl
 
 -- ---- what was read: codes, each in one of its spellings
 
@@ -228,42 +234,57 @@ module _ (packed : Bool) where
             inl (read_more q so.0 (to_ascii_lowercase b) (b ∷ []) s (next_lower q b ∙ so.1) (bare_unit b bare.0) (lower_lower b) rest)
       ]
 
+  -- ---- behind a percent sign, and behind its digits
+
+  from_state : (t u : State) (s : List ℕ) → t ≡ u → read_from packed u s ≡ Ok [] → read_from packed t s ≡ Ok []
+  from_state t u s same e = ap (λ (x : State). read_from packed x s) same ∙ e
+
+  percent_read : (q : Stage) (s : List ℕ) → read_from packed (Whole q) (37 ∷ s) ≡ Ok [] → read_from packed (Percent q) s ≡ Ok []
+  percent_read q s e =
+      let so = went_in (step packed) may_end (Whole q) 37 s e in
+      from_state (Percent q) so.0 s (state_is (Percent q) so.0 (chose (takes_character q || takes_special q) (Some (Percent q)) so.0 so.1).1) so.2
+
+  digit_read : (q : Stage) (h : ℕ) (s : List ℕ) → read_from packed (Percent q) (h ∷ s) ≡ Ok [] → (is_hex h ≡ true) × (read_from packed (Half q (hex_value h)) s ≡ Ok [])
+  digit_read q h s e =
+      let so = went_in (step packed) may_end (Percent q) h s e in
+      let hex = chose (is_hex h) (after_digit q (hex_value h)) so.0 so.1 in
+      (hex.0, from_state (Half q (hex_value h)) so.0 s (state_is (Half q (hex_value h)) so.0 (chose (takes_digit q (hex_value h)) (Some (Half q (hex_value h))) so.0 hex.1).1) so.2)
+
+  -- a code and what it leads to
+  record CodeRead (q : Stage) (c : ℕ) (s : List ℕ) : Type 0 where
+    stage : Stage
+    form : has_percent_form c ≡ true
+    goes : next q c ≡ Some stage
+    rest : read_from packed (Whole stage) s ≡ Ok []
+
+  code_read : (q : Stage) (h l : ℕ) (s : List ℕ) → read_from packed (Half q h) (l ∷ s) ≡ Ok [] → (is_hex l ≡ true) × CodeRead q (16 * h + hex_value l) s
+  code_read q h l s e =
+      let so = went_in (step packed) may_end (Half q h) l s e in
+      let hex = chose (is_hex l) (after_code q (16 * h + hex_value l)) so.0 so.1 in
+      let form = chose (has_percent_form (16 * h + hex_value l)) (option_map Whole (next q (16 * h + hex_value l))) so.0 hex.1 in
+      let to = mapped (next q (16 * h + hex_value l)) so.0 form.1 in
+      (hex.0, record { stage = to.0; form = form.0; goes = to.1; rest = from_state (Whole to.0) so.0 s (sym to.2) so.2 })
+
+  form_spells : (h l : ℕ) → is_hex h ≡ true → is_hex l ≡ true → has_percent_form (16 * hex_value h + hex_value l) ≡ true → spells (16 * hex_value h + hex_value l) (37 ∷ h ∷ l ∷ []) ≡ true
+  form_spells h l hex hex2 form = rw (hex, hex2, eq-eqb (16 * hex_value h + hex_value l) (16 * hex_value h + hex_value l) refl) form
+
+  form_after : (q : Stage) (h l : ℕ) (s : List ℕ) → ((p : Stage) → read_from packed (Whole p) s ≡ Ok [] → Outcome p s) → is_hex h ≡ true → is_hex l ≡ true → CodeRead q (16 * hex_value h + hex_value l) s → Read q (37 ∷ h ∷ l ∷ s)
+  form_after q h l s again hex hex2 code =
+      read_more q code.stage (16 * hex_value h + hex_value l) (37 ∷ h ∷ l ∷ []) s code.goes (form_spells h l hex hex2 code.form) (coded_lower (16 * hex_value h + hex_value l) code.form) (not_lone code.stage s (later_next q code.stage (16 * hex_value h + hex_value l) code.goes) (again code.stage code.rest))
+
   -- behind a percent form
   form_read : (q : Stage) (h l : ℕ) (s : List ℕ) → ((p : Stage) → read_from packed (Whole p) s ≡ Ok [] → Outcome p s) → read_from packed (Whole q) (37 ∷ h ∷ l ∷ s) ≡ Ok [] → Read q (37 ∷ h ∷ l ∷ s)
   form_read q h l s again e =
-      let percent = went_in (step packed) may_end (Whole q) 37 (h ∷ l ∷ s) e in
-      let one = chose (takes_character q || takes_special q) (Some (Percent q)) percent.0 percent.1 in
-      let at_percent : read_from packed (Percent q) (h ∷ l ∷ s) ≡ Ok [] = ap (λ (x : State). read_from packed x (h ∷ l ∷ s)) (state_is (Percent q) percent.0 one.1) ∙ percent.2 in
-      let high = went_in (step packed) may_end (Percent q) h (l ∷ s) at_percent in
-      let hex = chose (is_hex h) (after_digit q (hex_value h)) high.0 high.1 in
-      let two = chose (takes_digit q (hex_value h)) (Some (Half q (hex_value h))) high.0 hex.1 in
-      let at_half : read_from packed (Half q (hex_value h)) (l ∷ s) ≡ Ok [] = ap (λ (x : State). read_from packed x (l ∷ s)) (state_is (Half q (hex_value h)) high.0 two.1) ∙ high.2 in
-      let low = went_in (step packed) may_end (Half q (hex_value h)) l s at_half in
-      let code = 16 * hex_value h + hex_value l in
-      let three = chose (is_hex l) (after_code q code) low.0 low.1 in
-      let form = chose (has_percent_form code) (option_map Whole (next q code)) low.0 three.1 in
-      let so = mapped (next q code) low.0 form.1 in
-      let rest = not_lone so.0 s (later_next q so.0 code so.1) (again so.0 (ap (λ (x : State). read_from packed x s) (sym so.2) ∙ low.2)) in
-      let good : spells code (37 ∷ h ∷ l ∷ []) ≡ true = rw (hex.0, three.0, eq-eqb code code refl) form.0 in
-      read_more q so.0 code (37 ∷ h ∷ l ∷ []) s so.1 good (coded_lower code form.0) rest
+      let high = digit_read q h (l ∷ s) (percent_read q (h ∷ l ∷ s) e) in
+      let low = code_read q (hex_value h) l s high.1 in
+      form_after q h l s again high.0 low.0 low.1
 
   -- a percent sign, and an end too early
   cut_percent : (q : Stage) → read_from packed (Whole q) (37 ∷ []) ≡ Ok [] → ⊥
-  cut_percent q e =
-      let percent = went_in (step packed) may_end (Whole q) 37 [] e in
-      let one = chose (takes_character q || takes_special q) (Some (Percent q)) percent.0 percent.1 in
-      let over = went_out (step packed) may_end (Percent q) (ap (λ (x : State). read_from packed x []) (state_is (Percent q) percent.0 one.1) ∙ percent.2) in
-      absurd cc
+  cut_percent q e = let over = went_out (step packed) may_end (Percent q) (percent_read q [] e) in absurd cc
 
   cut_half : (q : Stage) (h : ℕ) → read_from packed (Whole q) (37 ∷ h ∷ []) ≡ Ok [] → ⊥
-  cut_half q h e =
-      let percent = went_in (step packed) may_end (Whole q) 37 (h ∷ []) e in
-      let one = chose (takes_character q || takes_special q) (Some (Percent q)) percent.0 percent.1 in
-      let high = went_in (step packed) may_end (Percent q) h [] (ap (λ (x : State). read_from packed x (h ∷ [])) (state_is (Percent q) percent.0 one.1) ∙ percent.2) in
-      let hex = chose (is_hex h) (after_digit q (hex_value h)) high.0 high.1 in
-      let two = chose (takes_digit q (hex_value h)) (Some (Half q (hex_value h))) high.0 hex.1 in
-      let over = went_out (step packed) may_end (Half q (hex_value h)) (ap (λ (x : State). read_from packed x []) (state_is (Half q (hex_value h)) high.0 two.1) ∙ high.2) in
-      absurd cc
+  cut_half q h e = let over = went_out (step packed) may_end (Half q (hex_value h)) (digit_read q h [] (percent_read q (h ∷ []) e)).1 in absurd cc
 
   -- what is taken whole was read code by code
   pub was_read : (q : Stage) (s : List ℕ) → read_from packed (Whole q) s ≡ Ok [] → Outcome q s
@@ -338,14 +359,20 @@ module _ (packed : Bool) where
   bare_is_other : (b : ℕ) → is_bare style.Formatted b || eqb b 126 ≡ true → eqb b 37 ≡ false
   bare_is_other b h = grind (arith, nat_tests)
 
-  lower_hyphen : (b : ℕ) → eqb (to_ascii_lowercase b) 45 ≡ eqb b 45
-  lower_hyphen b = grind (arith, nat_tests)
-
   not_tilde : (b : ℕ) (s : List ℕ) → NoTilde (b ∷ s) → packed ≡ true → eqb b 126 ≡ false
   not_tilde b s none is = elim (cases_Bool (eqb b 126)) [
     | inl h ↦ let never = (and_parts (not (eqb b 126)) (list_all (λ c. not (eqb c 126)) s) (none is)).0 in absurd (both_ways (not (eqb b 126)) (rw h refl) never)
     | inr h ↦ h
   ]
+
+  -- behind a percent form of a code
+  form_unit : (q t : Stage) (c b h l : ℕ) (r : List ℕ) → eqb b 37 ≡ true → is_hex h ≡ true → is_hex l ≡ true → 16 * hex_value h + hex_value l ≡ c → has_percent_form c ≡ true → next q c ≡ Some t
+      → read_from packed (Whole q) (b ∷ h ∷ l ∷ r) ≡ read_from packed (Whole t) r
+  form_unit q t c b h l r sign hex hex2 code form e =
+      let percent : step packed (Whole q) b ≡ Some (Percent q) = rw (sign, special_or_character q t c e) refl in
+      let high : step packed (Percent q) h ≡ Some (Half q (hex_value h)) = rw (hex, digit_taken q t h l c hex hex2 code e) refl in
+      let low : step packed (Half q (hex_value h)) l ≡ Some (Whole t) = rw (hex2, code, form, e) refl in
+      went packed (Whole q) (Percent q) b (h ∷ l ∷ r) percent ∙ went packed (Percent q) (Half q (hex_value h)) h (l ∷ r) high ∙ went packed (Half q (hex_value h)) (Whole t) l r low
 
   -- a code in one of its spellings leads to the stage behind it, but for the hyphen in front
   pub unit_read : (q t : Stage) (c : ℕ) (u r : List ℕ) → spells c u ≡ true → NoTilde u → next q c ≡ Some t → ((is_start q ≡ true) × (u ≡ 45 ∷ []) → ⊥) → read_from packed (Whole q) (u ++ r) ≡ read_from packed (Whole t) r
@@ -369,11 +396,7 @@ module _ (packed : Bool) where
       let o = and_parts (eqb b 37 && is_hex h && is_hex l) (eqb (16 * hex_value h + hex_value l) c) p.0 in
       let n = and_parts (eqb b 37 && is_hex h) (is_hex l) o.0 in
       let m = and_parts (eqb b 37) (is_hex h) n.0 in
-      let code : 16 * hex_value h + hex_value l ≡ c = eqb-true _ c o.1 in
-      let percent : step packed (Whole q) b ≡ Some (Percent q) = rw (m.0, special_or_character q t c e) refl in
-      let high : step packed (Percent q) h ≡ Some (Half q (hex_value h)) = rw (m.1, digit_taken q t h l c m.1 n.1 code e) refl in
-      let low : step packed (Half q (hex_value h)) l ≡ Some (Whole t) = rw (n.1, code, p.1, e) refl in
-      went packed (Whole q) (Percent q) b (h ∷ l ∷ r) percent ∙ went packed (Percent q) (Half q (hex_value h)) h (l ∷ r) high ∙ went packed (Half q (hex_value h)) (Whole t) l r low
+      form_unit q t c b h l r m.0 m.1 n.1 (eqb-true _ c o.1) p.1 e
   unit_read q t c (b ∷ h ∷ l ∷ d ∷ u) r good none e other = absurd cc
 
 -- ---- each state can be completed

@@ -1,26 +1,29 @@
 -- The component of the edition, alone and packed: its scanner takes each, and stops where none goes on.
-use Rattle.std.proofs.Common.{◌≡◌, ℕ, Bool, true, false, not, eqb, List, [], ◌∷◌, ◌++◌, length, length-append, Result, Ok, refl, sym, ap, subst, ◌∙◌, inl, inr, append_assoc, arith}
-use Rattle.std.specs.List.{list_all}
+use Rattle.std.proofs.Common.{◌≡◌, ℕ, zero, suc, ◌+◌, ◌-◌, ◌≤◌, Bool, true, false, not, eqb, List, [], ◌∷◌, ◌++◌, length, replicate, get_or, length-append, Result, Ok, refl, sym, ap, subst, ◌∙◌, inl, inr, append_assoc, arith}
+use Rattle.std.specs.List.{list_all, AllByRecursion}
+use Rattle.std.proofs.lemmas.List.{take_at}
 use Rattle.std.proofs.lemmas.Bool.{eqb-true}
-use Rattle.cpe_grammar.specs.Scanners.{◌>>=◌, both, one}
+use Rattle.cpe_grammar.specs.Scanners.{Scanner, ◌>>=◌, one}
 use Rattle.cpe_grammar.proofs.Results.{left_over}
 use Rattle.cpe_grammar.proofs.Choices.{Unled, unled_scans}
-use Rattle.cpe_grammar.proofs.Scans.{Scans, wider, OneOf, one_scans, Joined, both_scans, Either, HeadFails}
+use Rattle.cpe_grammar.proofs.Scans.{Scans, wider, Empty, nothing_scans, OneOf, one_scans, Joined, both_scans, Either, HeadFails}
 use Rattle.cpe_values.specs.declared.value.Value.{Value}
 use Rattle.cpe_values.specs.declared.value.Value.TheVariants as value
 use Rattle.cpe_values.specs.Lower.{lower_value}
 use Rattle.cpe_values.specs.Values.{IsValue}
 use Rattle.cpe_name.specs.declared.name.Values.{Values}
+use Rattle.cpe_name.specs.declared.attribute.Attribute.{Attribute}
 use Rattle.cpe_name.specs.declared.attribute.Attribute.TheVariants.{Edition}
-use Rattle.cpe_name.specs.Names.{IsName}
+use Rattle.cpe_name.specs.Names.{value_of, IsName}
 use Rattle.cpe_name.specs.Lower.{IsLower}
 use Rattle.cpe_name.specs.Put.{any_values}
 use Rattle.cpe_uri.specs.Spelling.{Stands}
 use Rattle.cpe_uri.specs.Canon.{extended}
 use Rattle.cpe_uri.specs.Grammar.{is_tilde, begins_with_tilde, Fields, EditionStands}
-use Rattle.cpe_uri.specs.Found.{IsTextComponent, EditionPiece}
-use Rattle.cpe_uri.specs.Reading.{text_end}
-use Rattle.cpe_uri.specs.Scanning.{field_end, packed_end, edition_end}
+use Rattle.cpe_uri.specs.Spans.{IsTextComponent, IsEdition}
+use Rattle.cpe_uri.specs.TextMachine.{text_end}
+use Rattle.cpe_uri.specs.Scanning.{field_end, fields_end, packed_end, edition_end}
+use Rattle.cpe_uri.specs.Pieces.{rest_of, left_by, front_before, piece, field_pieces, edition_pieces}
 use Rattle.cpe_uri.proofs.Ends.{Ends}
 use Rattle.cpe_uri.proofs.Texts.{EndsIn, text_taken, text_scans}
 
@@ -42,39 +45,6 @@ five_lower e s t h o le ls lt lh lo =
     ∙ ap (λ (x : Value). record any_values { edition = e; sw_edition = s; target_sw = t; target_hw = x; other = lower_value o }) lh
     ∙ ap (λ (x : Value). record any_values { edition = e; sw_edition = s; target_sw = t; target_hw = h; other = x }) lo
 
--- packed fields are those of their values
-pub packed_piece : (e s t h o u : List ℕ) → IsTextComponent true e → IsTextComponent true s → IsTextComponent true t → IsTextComponent true h → IsTextComponent true o
-    → u ≡ 126 ∷ e ++ (126 ∷ s ++ (126 ∷ t ++ (126 ∷ h ++ (126 ∷ o ++ [])))) → EditionPiece e s t h o u
-unfolding five
-packed_piece e s t h o u ie is it ih io text = record {
-  of = five ie.value is.value it.value ih.value io.value;
-  name = five_name ie.value is.value it.value ih.value io.value ie.good is.good it.good ih.good io.good;
-  lower = five_lower ie.value is.value it.value ih.value io.value ie.lower is.lower it.lower ih.lower io.lower;
-  stands = inr (e, 126 ∷ s ++ (126 ∷ t ++ (126 ∷ h ++ (126 ∷ o ++ []))), text, ie.stands, ie.none refl, (s, 126 ∷ t ++ (126 ∷ h ++ (126 ∷ o ++ [])), refl, is.stands, is.none refl, (t, 126 ∷ h ++ (126 ∷ o ++ []), refl, it.stands, it.none refl, (h, 126 ∷ o ++ [], refl, ih.stands, ih.none refl, (o, [], refl, io.stands, io.none refl, refl)))));
-  edition_at = ie.stands;
-  sw_edition_at = is.stands;
-  target_sw_at = it.stands;
-  target_hw_at = ih.stands;
-  other_at = io.stands;
-  within = omega (arith, ap length text, length-append e (126 ∷ s ++ (126 ∷ t ++ (126 ∷ h ++ (126 ∷ o ++ [])))), length-append s (126 ∷ t ++ (126 ∷ h ++ (126 ∷ o ++ []))), length-append t (126 ∷ h ++ (126 ∷ o ++ [])), length-append h (126 ∷ o ++ []), length-append o []);
-}
-
--- an edition alone is that of its value, and the others are ANY
-pub lone_piece : (e s t h o : List ℕ) → IsTextComponent false e → begins_with_tilde e ≡ false → s ≡ [] → t ≡ [] → h ≡ [] → o ≡ [] → EditionPiece e s t h o e
-unfolding five
-lone_piece e s t h o ie bare es et eh eo = record {
-  of = five ie.value value.Any value.Any value.Any value.Any;
-  name = five_name ie.value value.Any value.Any value.Any value.Any ie.good tt tt tt tt;
-  lower = five_lower ie.value value.Any value.Any value.Any value.Any ie.lower refl refl refl refl;
-  stands = inl (record { bare = bare; edition = ie.stands; others = (refl, (refl, (refl, (refl, tt)))) });
-  edition_at = ie.stands;
-  sw_edition_at = es;
-  target_sw_at = et;
-  target_hw_at = eh;
-  other_at = eo;
-  within = omega (arith, ap length es, ap length et, ap length eh, ap length eo);
-}
-
 -- an empty component of any value
 pub empty_text : (packed : Bool) (u : List ℕ) → u ≡ [] → IsTextComponent packed u
 empty_text packed u is = record { value = value.Any; good = tt; lower = refl; stands = is; none = λ p. ap (λ (v : List ℕ). list_all (λ c. not (eqb c 126)) v) is }
@@ -84,125 +54,212 @@ empty_text packed u is = record { value = value.Any; good = tt; lower = refl; st
 abbrev Field : List ℕ → Type 0
 Field = Joined (OneOf is_tilde) (IsTextComponent true)
 
-abbrev Packed : List ℕ → Type 0
-Packed = Joined (Joined (Joined (Joined Field Field) Field) Field) Field
+-- so many fields
+abbrev AreFields : ℕ → List ℕ → Type 0
+AreFields zero = Empty
+AreFields (suc n) = Joined Field (AreFields n)
 
 field_scans : Scans Field field_end
 unfolding field_end
 field_scans = both_scans (OneOf is_tilde) (IsTextComponent true) (one is_tilde) (text_end true) (one_scans is_tilde 126 refl) (text_scans true) [] (empty_text true [] refl)
 
-empty_field : Field (126 ∷ [])
-empty_field = record { front = 126 ∷ []; back = []; is = refl; first = record { byte = 126; is = refl; passed = refl }; second = empty_text true [] refl }
+empty_fields : (n : ℕ) → AreFields n (replicate n 126)
+empty_fields zero = refl
+empty_fields (suc n) = record {
+  front = 126 ∷ [];
+  back = replicate n 126;
+  is = refl;
+  first = record { front = 126 ∷ []; back = []; is = refl; first = record { byte = 126; is = refl; passed = refl }; second = empty_text true [] refl };
+  second = empty_fields n;
+}
 
-packed_scans : Scans Packed packed_end
+fields_scan : (n : ℕ) → Scans (AreFields n) (fields_end n)
+fields_scan zero = wider Empty (AreFields zero) (fields_end zero) (λ u is. is) nothing_scans
+fields_scan (suc n) =
+    wider (Joined Field (AreFields n)) (AreFields (suc n)) (fields_end (suc n)) (λ u h. h)
+    (both_scans Field (AreFields n) field_end (fields_end n) field_scans (fields_scan n) (replicate n 126) (empty_fields n))
+
+packed_scans : Scans (AreFields 5) packed_end
 unfolding packed_end
-packed_scans =
-    both_scans _ Field (both (both (both field_end field_end) field_end) field_end) field_end
-    (both_scans _ Field (both (both field_end field_end) field_end) field_end
-    (both_scans _ Field (both field_end field_end) field_end
-    (both_scans Field Field field_end field_end field_scans field_scans (126 ∷ []) empty_field)
-    field_scans (126 ∷ []) empty_field)
-    field_scans (126 ∷ []) empty_field)
-    field_scans (126 ∷ []) empty_field
+packed_scans = fields_scan 5
 
--- a component of the edition, and some five values in it
-pub record IsEditionText (u : List ℕ) : Type 0 where
-  pub edition : List ℕ
-  pub sw_edition : List ℕ
-  pub target_sw : List ℕ
-  pub target_hw : List ℕ
-  pub other : List ℕ
-  pub piece : EditionPiece edition sw_edition target_sw target_hw other u
+-- a field in front
+field_text : (L : List ℕ → Type 0) (u : List ℕ) (j : Joined Field L u) → u ≡ 126 ∷ j.first.back ++ j.back
+field_text L u j = j.is ∙ ap (λ (v : List ℕ). v ++ j.back) (j.first.is ∙ ap (λ (v : List ℕ). v ++ j.first.back) (j.first.first.is ∙ ap (λ (d : ℕ). d ∷ []) (eqb-true j.first.first.byte 126 j.first.first.passed)))
 
-field_text : (u : List ℕ) (f : Field u) → u ≡ 126 ∷ f.back
-field_text u f = f.is ∙ ap (λ (v : List ℕ). v ++ f.back) (f.first.is ∙ ap (λ (d : ℕ). d ∷ []) (eqb-true f.first.byte 126 f.first.passed))
-
-five_fields : (a b c d e : List ℕ) → (((126 ∷ a ++ 126 ∷ b) ++ 126 ∷ c) ++ 126 ∷ d) ++ 126 ∷ e ≡ 126 ∷ a ++ (126 ∷ b ++ (126 ∷ c ++ (126 ∷ d ++ (126 ∷ e ++ []))))
-five_fields a b c d e = simp append_assoc (ap (λ (v : List ℕ). 126 ∷ (a ++ (126 ∷ (b ++ (126 ∷ (c ++ (126 ∷ (d ++ (126 ∷ v))))))))) (sym (no_more e)))
-  where
-    no_more : (v : List ℕ) → v ++ [] ≡ v
-    no_more [] = refl
-    no_more (x ∷ v) = ap (λ (w : List ℕ). x ∷ w) (no_more v)
-
-packed_text : (u : List ℕ) → Packed u → IsEditionText u
-packed_text u j =
-    let f4 = j.first in
-    let f3 = f4.first in
-    let f2 = f3.first in
-    let text : u ≡ (((126 ∷ f2.first.back ++ 126 ∷ f2.second.back) ++ 126 ∷ f3.second.back) ++ 126 ∷ f4.second.back) ++ 126 ∷ j.second.back =
-    j.is ∙ ap (λ (v : List ℕ). v ++ j.back) (f4.is ∙ ap (λ (v : List ℕ). v ++ f4.back) (f3.is ∙ ap (λ (v : List ℕ). v ++ f3.back) (f2.is ∙ ap (λ (v : List ℕ). v ++ f2.back) (field_text f2.front f2.first) ∙ ap (λ (v : List ℕ). (126 ∷ f2.first.back) ++ v) (field_text f2.back f2.second)) ∙ ap (λ (v : List ℕ). (126 ∷ f2.first.back ++ 126 ∷ f2.second.back) ++ v) (field_text f3.back f3.second)) ∙ ap (λ (v : List ℕ). ((126 ∷ f2.first.back ++ 126 ∷ f2.second.back) ++ 126 ∷ f3.second.back) ++ v) (field_text f4.back f4.second)) ∙ ap (λ (v : List ℕ). (((126 ∷ f2.first.back ++ 126 ∷ f2.second.back) ++ 126 ∷ f3.second.back) ++ 126 ∷ f4.second.back) ++ v) (field_text j.back j.second)
-    in
+-- packed fields are those of their values
+packed_text : (u : List ℕ) → AreFields 5 u → IsEdition u
+unfolding five
+packed_text u e =
+    let s = e.second in
+    let t = s.second in
+    let h = t.second in
+    let o = h.second in
+    let ie = e.first.second in
+    let is = s.first.second in
+    let it = t.first.second in
+    let ih = h.first.second in
+    let io = o.first.second in
     record {
-      edition = f2.first.back;
-      sw_edition = f2.second.back;
-      target_sw = f3.second.back;
-      target_hw = f4.second.back;
-      other = j.second.back;
-      piece = packed_piece f2.first.back f2.second.back f3.second.back f4.second.back j.second.back u f2.first.second f2.second.second f3.second.second f4.second.second j.second.second (text ∙ five_fields f2.first.back f2.second.back f3.second.back f4.second.back j.second.back);
+      of = five ie.value is.value it.value ih.value io.value;
+      name = five_name ie.value is.value it.value ih.value io.value ie.good is.good it.good ih.good io.good;
+      lower = five_lower ie.value is.value it.value ih.value io.value ie.lower is.lower it.lower ih.lower io.lower;
+      stands = inr (e.first.back, e.back, field_text _ u e, ie.stands, ie.none refl, (s.first.back, s.back, field_text _ e.back s, is.stands, is.none refl, (t.first.back, t.back, field_text _ s.back t, it.stands, it.none refl, (h.first.back, h.back, field_text _ t.back h, ih.stands, ih.none refl, (o.first.back, o.back, field_text _ h.back o, io.stands, io.none refl, o.second)))));
     }
 
 no_tilde_first : (u : List ℕ) → HeadFails is_tilde u → begins_with_tilde u ≡ false
 no_tilde_first [] h = refl
 no_tilde_first (c ∷ u) h = h
 
-lone_text : (u : List ℕ) → Unled is_tilde (IsTextComponent false) u → IsEditionText u
-lone_text u l = record { edition = u; sw_edition = []; target_sw = []; target_hw = []; other = []; piece = lone_piece u [] [] [] [] l.lawful (no_tilde_first u l.head) refl refl refl refl }
+-- an edition alone is that of its value, and the others are ANY
+lone_text : (u : List ℕ) → begins_with_tilde u ≡ false → IsTextComponent false u → IsEdition u
+unfolding five
+lone_text u bare ie = record {
+  of = five ie.value value.Any value.Any value.Any value.Any;
+  name = five_name ie.value value.Any value.Any value.Any value.Any ie.good tt tt tt tt;
+  lower = five_lower ie.value value.Any value.Any value.Any value.Any ie.lower refl refl refl refl;
+  stands = inl (record { bare = bare; edition = ie.stands; others = (refl, (refl, (refl, (refl, tt)))) });
+}
 
-pub edition_scans : Scans IsEditionText edition_end
+pub empty_edition : IsEdition []
+empty_edition = lone_text [] refl (empty_text false [] refl)
+
+pub edition_scans : Scans IsEdition edition_end
 unfolding edition_end
 edition_scans =
-    wider (Either Packed (Unled is_tilde (IsTextComponent false))) IsEditionText edition_end (λ u h. elim h [ inl j ↦ packed_text u j | inr l ↦ lone_text u l ])
-    (unled_scans is_tilde Packed (IsTextComponent false) packed_end (text_end false) packed_scans (text_scans false) (empty_text false [] refl))
+    wider (Either (AreFields 5) (Unled is_tilde (IsTextComponent false))) IsEdition edition_end (λ u h. elim h [ inl e ↦ packed_text u e | inr l ↦ lone_text u (no_tilde_first u l.head) l.lawful ])
+    (unled_scans is_tilde (AreFields 5) (IsTextComponent false) packed_end (text_end false) packed_scans (text_scans false) (empty_text false [] refl))
 
 -- ---- each is taken
 
-field_taken : (v : Value) (f r : List ℕ) → IsValue v → Stands v f → list_all (λ c. not (is_tilde c)) f ≡ true → EndsIn true r → field_end (126 ∷ f ++ r) ≡ Ok r
-unfolding field_end
-field_taken v f r good stands none ends = text_taken true v f r good stands (λ p. none) ends
-
 taken_then : (s u r : List ℕ) → s ≡ 126 ∷ u ++ r → (n : List ℕ) → (s ++ n ≡ 126 ∷ u ++ (r ++ n))
 taken_then s u r is n = ap (λ (v : List ℕ). v ++ n) is ∙ ap (λ (v : List ℕ). 126 ∷ v) (append_assoc u r n)
-
-ends_tilde : (s u r n : List ℕ) → s ≡ 126 ∷ u ++ r → EndsIn true (s ++ n)
-ends_tilde s u r n is = subst (EndsIn true) (sym (taken_then s u r is n)) (inr (refl, refl))
 
 pub ends_in : (packed : Bool) (r : List ℕ) → Ends r → EndsIn packed r
 ends_in packed [] h = tt
 ends_in packed (c ∷ r) h = inl h
 
-packed_taken : (w : Values) (s r : List ℕ) → IsValue w.edition → IsValue w.sw_edition → IsValue w.target_sw → IsValue w.target_hw → IsValue w.other → Fields w (Edition ∷ extended) s → Ends r → packed_end (s ++ r) ≡ Ok r
-unfolding packed_end
-packed_taken w s r ge gs gt gh go a ends =
-    let b = a.5 in
-    let c = b.5 in
-    let d = c.5 in
-    let e = d.5 in
-    let last : e.1 ++ r ≡ r = ap (λ (v : List ℕ). v ++ r) e.5 in
-    let one : field_end (s ++ r) ≡ Ok (a.1 ++ r) = ap field_end (taken_then s a.0 a.1 a.2 r) ∙ field_taken w.edition a.0 (a.1 ++ r) ge a.3 a.4 (ends_tilde a.1 b.0 b.1 r b.2) in
-    let two : field_end (a.1 ++ r) ≡ Ok (b.1 ++ r) = ap field_end (taken_then a.1 b.0 b.1 b.2 r) ∙ field_taken w.sw_edition b.0 (b.1 ++ r) gs b.3 b.4 (ends_tilde b.1 c.0 c.1 r c.2) in
-    let three : field_end (b.1 ++ r) ≡ Ok (c.1 ++ r) = ap field_end (taken_then b.1 c.0 c.1 c.2 r) ∙ field_taken w.target_sw c.0 (c.1 ++ r) gt c.3 c.4 (ends_tilde c.1 d.0 d.1 r d.2) in
-    let four : field_end (c.1 ++ r) ≡ Ok (d.1 ++ r) = ap field_end (taken_then c.1 d.0 d.1 d.2 r) ∙ field_taken w.target_hw d.0 (d.1 ++ r) gh d.3 d.4 (ends_tilde d.1 e.0 e.1 r e.2) in
-    let five' : field_end (d.1 ++ r) ≡ Ok (e.1 ++ r) = ap field_end (taken_then d.1 e.0 e.1 e.2 r) ∙ field_taken w.other e.0 (e.1 ++ r) go e.3 e.4 (subst (EndsIn true) (sym last) (ends_in true r ends)) in
-    ap (λ (x : Result (List ℕ) ℕ). x >>= field_end >>= field_end >>= field_end >>= field_end) one
-    ∙ ap (λ (x : Result (List ℕ) ℕ). x >>= field_end >>= field_end >>= field_end) two
-    ∙ ap (λ (x : Result (List ℕ) ℕ). x >>= field_end >>= field_end) three
-    ∙ ap (λ (x : Result (List ℕ) ℕ). x >>= field_end) four
-    ∙ five'
-    ∙ ap (λ (v : List ℕ). left_over v) last
+-- each field ends at a tilde, and the last where the component ends
+fields_end_in : (w : Values) (which : List Attribute) (s r : List ℕ) → Fields w which s → Ends r → EndsIn true (s ++ r)
+fields_end_in w [] s r h ends = subst (λ (u : List ℕ). EndsIn true (u ++ r)) (sym h) (ends_in true r ends)
+fields_end_in w (a ∷ rest) s r h ends = subst (EndsIn true) (sym (taken_then s h.0 h.1 h.2 r)) (inr (refl, refl))
+
+-- lawful values
+abbrev pub AreGood : Values → List Attribute → Type 0
+AreGood w which = AllByRecursion (λ a. IsValue (value_of w a)) which
+
+-- a field in front is taken
+first_taken : (w : Values) (a : Attribute) (rest : List Attribute) (s r : List ℕ) (h : Fields w (a ∷ rest) s) → IsValue (value_of w a) → Ends r → text_end true (h.0 ++ (h.1 ++ r)) ≡ Ok (h.1 ++ r)
+first_taken w a rest s r h good ends = text_taken true (value_of w a) h.0 (h.1 ++ r) good h.3 (λ p. h.4) (fields_end_in w rest h.1 r h.5 ends)
+
+fields_taken : (w : Values) (which : List Attribute) (s r : List ℕ) → AreGood w which → Fields w which s → Ends r → fields_end (length which) (s ++ r) ≡ Ok r
+unfolding field_end
+fields_taken w [] s r good h ends = ap (λ (v : List ℕ). left_over (v ++ r)) h
+fields_taken w (a ∷ rest) s r good h ends =
+    ap (fields_end (suc (length rest))) (taken_then s h.0 h.1 h.2 r)
+    ∙ ap (λ (x : Result (List ℕ) ℕ). x >>= fields_end (length rest)) (first_taken w a rest s r h good.0 ends)
+    ∙ fields_taken w rest h.1 r good.1 h.5 ends
 
 choose_packed : (s u r : List ℕ) → s ≡ 126 ∷ u → edition_end (s ++ r) ≡ packed_end (s ++ r)
 unfolding edition_end
 choose_packed [] u r is = absurd cc
 choose_packed (c ∷ s) u r is = let first : c ≡ 126 = cc in rw first refl
 
-choose_lone : (s r : List ℕ) → begins_with_tilde s ≡ false → Ends r → edition_end (s ++ r) ≡ text_end false (s ++ r)
-unfolding edition_end
-choose_lone [] [] h ends = refl
-choose_lone [] (c ∷ r) h ends = rw ends refl
-choose_lone (c ∷ s) r h ends = rw h refl
+packed_taken : (w : Values) (s r : List ℕ) → AreGood w (Edition ∷ extended) → Fields w (Edition ∷ extended) s → Ends r → packed_end (s ++ r) ≡ Ok r
+unfolding packed_end
+packed_taken w s r good h ends = fields_taken w (Edition ∷ extended) s r good h ends
 
-pub edition_taken : (w : Values) (s r : List ℕ) → IsValue w.edition → IsValue w.sw_edition → IsValue w.target_sw → IsValue w.target_hw → IsValue w.other → EditionStands w s → Ends r → edition_end (s ++ r) ≡ Ok r
-edition_taken w s r ge gs gt gh go stands ends = elim stands [
-  | inl a ↦ choose_lone s r a.bare ends ∙ text_taken false w.edition s r ge a.edition (λ p. absurd cc) (ends_in false r ends)
-  | inr f ↦ choose_packed s (f.0 ++ f.1) r f.2 ∙ packed_taken w s r ge gs gt gh go f ends
+-- nothing packed stands there, nor behind it
+pub bare_then : (s r : List ℕ) → begins_with_tilde s ≡ false → Ends r → begins_with_tilde (s ++ r) ≡ false
+bare_then [] [] h ends = refl
+bare_then [] (c ∷ r) h ends = rw ends refl
+bare_then (c ∷ s) r h ends = h
+
+choose_lone : (s : List ℕ) → begins_with_tilde s ≡ false → edition_end s ≡ text_end false s
+unfolding edition_end
+choose_lone [] h = refl
+choose_lone (c ∷ s) h = rw h refl
+
+pub lone_taken : (w : Values) (s r : List ℕ) → IsValue w.edition → Stands w.edition s → Ends r → text_end false (s ++ r) ≡ Ok r
+lone_taken w s r good stands ends = text_taken false w.edition s r good stands (λ p. absurd cc) (ends_in false r ends)
+
+pub edition_taken : (w : Values) (s r : List ℕ) → AreGood w (Edition ∷ extended) → EditionStands w s → Ends r → edition_end (s ++ r) ≡ Ok r
+edition_taken w s r good stands ends = elim stands [
+  | inl a ↦ choose_lone (s ++ r) (bare_then s r a.bare ends) ∙ lone_taken w s r good.0 a.edition ends
+  | inr f ↦ choose_packed s (f.0 ++ f.1) r f.2 ∙ packed_taken w s r good f ends
+]
+
+-- ---- where the values lie
+
+-- the fields, in their order
+abbrev field_texts : (w : Values) (which : List Attribute) (s : List ℕ) → Fields w which s → List (List ℕ)
+field_texts w [] s h = []
+field_texts w (a ∷ rest) s h = h.0 ∷ field_texts w rest h.1 h.5
+
+-- what is taken before a rest is the piece
+pub piece_taken : (p : Scanner) (u r : List ℕ) → p (u ++ r) ≡ Ok r → piece p (u ++ r) ≡ u
+piece_taken p u r e = ap (λ (x : Result (List ℕ) ℕ). front_before (u ++ r) (rest_of x)) e ∙ take_at u r (length (u ++ r) - length r) (omega (arith, length-append u r))
+
+fields_are : (w : Values) (which : List Attribute) (s r : List ℕ) → AreGood w which → (h : Fields w which s) → Ends r → field_pieces (length which) (s ++ r) ≡ field_texts w which s h
+unfolding field_end
+fields_are w [] s r good h ends = refl
+fields_are w (a ∷ rest) s r good h ends =
+    let taken = first_taken w a rest s r h good.0 ends in
+    ap (field_pieces (suc (length rest))) (taken_then s h.0 h.1 h.2 r)
+    ∙ ap (λ (u : List ℕ). u ∷ field_pieces (length rest) (left_by (text_end true) (h.0 ++ (h.1 ++ r)))) (piece_taken (text_end true) h.0 (h.1 ++ r) taken)
+    ∙ ap (λ (x : Result (List ℕ) ℕ). h.0 ∷ field_pieces (length rest) (rest_of x)) taken
+    ∙ ap (λ (us : List (List ℕ)). h.0 ∷ us) (fields_are w rest h.1 r good.1 h.5 ends)
+
+-- the edition and what may be packed with it stand in these pieces of a component
+pub record EditionLies (w : Values) (s : List ℕ) (es : List (List ℕ)) : Type 0 where
+  pub edition : Stands w.edition (get_or es 0 [])
+  pub sw_edition : Stands w.sw_edition (get_or es 1 [])
+  pub target_sw : Stands w.target_sw (get_or es 2 [])
+  pub target_hw : Stands w.target_hw (get_or es 3 [])
+  pub other : Stands w.other (get_or es 4 [])
+  pub within : length (get_or es 0 []) + length (get_or es 1 []) + length (get_or es 2 []) + length (get_or es 3 []) + length (get_or es 4 []) ≤ length s
+
+any_stands : (v : Value) → v ≡ value.Any → Stands v []
+any_stands v e = subst (λ (x : Value). Stands x []) (sym e) refl
+
+lone_pieces : (s : List ℕ) → begins_with_tilde s ≡ false → edition_pieces s ≡ piece (text_end false) s ∷ [] ∷ [] ∷ [] ∷ [] ∷ []
+lone_pieces s h = rw h refl
+
+packed_pieces : (s : List ℕ) → begins_with_tilde s ≡ true → edition_pieces s ≡ field_pieces 5 s
+packed_pieces s h = rw h refl
+
+pub edition_lies : (w : Values) (s r : List ℕ) → AreGood w (Edition ∷ extended) → EditionStands w s → Ends r → EditionLies w s (edition_pieces (s ++ r))
+edition_lies w s r good stands ends = elim stands [
+  | inl a ↦
+      let at : edition_pieces (s ++ r) ≡ s ∷ [] ∷ [] ∷ [] ∷ [] ∷ [] = lone_pieces (s ++ r) (bare_then s r a.bare ends) ∙ ap (λ (u : List ℕ). u ∷ [] ∷ [] ∷ [] ∷ [] ∷ []) (piece_taken (text_end false) s r (lone_taken w s r good.0 a.edition ends)) in
+      subst (EditionLies w s) (sym at) (record {
+        edition = a.edition;
+        sw_edition = any_stands w.sw_edition a.others.0;
+        target_sw = any_stands w.target_sw a.others.1.0;
+        target_hw = any_stands w.target_hw a.others.1.1.0;
+        other = any_stands w.other a.others.1.1.1.0;
+        within = omega arith;
+      })
+  | inr f ↦
+      let at : edition_pieces (s ++ r) ≡ field_texts w (Edition ∷ extended) s f = packed_pieces (s ++ r) (ap (λ (u : List ℕ). begins_with_tilde (u ++ r)) f.2) ∙ fields_are w (Edition ∷ extended) s r good f ends in
+      subst (EditionLies w s) (sym at) (record {
+        edition = f.3;
+        sw_edition = f.5.3;
+        target_sw = f.5.5.3;
+        target_hw = f.5.5.5.3;
+        other = f.5.5.5.5.3;
+        within = omega (
+          arith,
+          ap length f.2,
+          length-append f.0 f.1,
+          ap length f.5.2,
+          length-append f.5.0 f.5.1,
+          ap length f.5.5.2,
+          length-append f.5.5.0 f.5.5.1,
+          ap length f.5.5.5.2,
+          length-append f.5.5.5.0 f.5.5.5.1,
+          ap length f.5.5.5.5.2,
+          length-append f.5.5.5.5.0 f.5.5.5.5.1,
+        );
+      })
 ]

@@ -1,26 +1,24 @@
 -- What a text says in either binding.
-use Rattle.std.proofs.Common.{◌≡◌, ◌⊎◌, ℕ, Bool, true, false, List, ◌++◌, take, Result, Ok, Err, refl, sym, ap, subst, ◌∙◌, inl, inr}
+use Rattle.std.proofs.Common.{◌≡◌, ℕ, Bool, true, false, List, take, Result, Ok, Err, refl, sym, ap, subst, ◌∙◌, inl, inr}
 use Rattle.std.specs.Bool.{MatchBool}
 use Rattle.std.specs.Prelude.{codes}
 use Rattle.std.specs.List.{join_with_byte}
-use Rattle.std.specs.Result.{result_map_both, IfOk, IfErr, MatchResult}
+use Rattle.std.specs.Result.{IfOk, IfErr, MatchResult}
 use Rattle.std.specs.Str.{str_to_ascii_lowercase}
 use Rattle.std.proofs.lemmas.Bool.{cases_Bool, MatchBool-at_true, MatchBool-at_false}
 use Rattle.std.proofs.lemmas.List.{take_at}
 use Rattle.std.proofs.lemmas.Slice.Eq.{bytes_eq-Decides}
-use Rattle.cpe_grammar.proofs.Places.{one_place}
-use Rattle.cpe_grammar.proofs.Results.{left_over, stopped, ok_is, err_is, ok≢err}
+use Rattle.cpe_grammar.proofs.Results.{ok_is, err_is, ok≢err}
 use Rattle.cpe_name.specs.declared.name.Values.{Values}
 use Rattle.cpe_name.specs.Text.{output_text}
-use Rattle.cpe_fs.specs.Grammar.{Fs, IsFs, LeavesAt}
+use Rattle.cpe_fs.specs.Grammar.{Fs, LeavesAt}
 use Rattle.cpe_fs.specs.Unbound.{read_fs, unbound}
 use Rattle.cpe_fs.proofs.Said as fs
-use Rattle.cpe_fs.proofs.Said.{text_of}
-use Rattle.cpe_fs.proofs.ValueLemmas.{one_name}
-use Rattle.cpe_uri.specs.Grammar.{Uri, IsUri, LeavesUri}
+use Rattle.cpe_name.proofs.Unbinding.{text_of}
+use Rattle.cpe_uri.specs.Grammar.{Uri, LeavesUri}
 use Rattle.cpe_uri.specs.Unbound.{read_uri, unbound_uri}
-use Rattle.cpe_uri.specs.EitherBinding.{begins_as_uri, Bound, IsBound, LeavesBound, RefusesBound, SaysFault, SaysAny, read_any, unbound_any}
-use Rattle.cpe_uri.proofs.Pieces.{one_uri, prefix_length}
+use Rattle.cpe_uri.specs.EitherBinding.{begins_as_uri, UriOrFs, LeavesUriOrFs, RefusesUriOrFs, SaysFault, SaysAny, read_any, unbound_any}
+use Rattle.cpe_uri.proofs.Pieces.{prefix_length}
 use Rattle.cpe_uri.proofs.Said as uri
 use Rattle.cpe_uri.specs.declared.UriFault.{UriFault}
 use Rattle.cpe_uri.specs.declared.UriFault.TheVariants as fault
@@ -44,44 +42,12 @@ at_false : (b : Bool) (P Q : Type 0) → b ≡ false → Q → MatchBool b P Q
 at_false b P Q h q = subst (λ (x : Bool). MatchBool x P Q) (sym h) q
 
 -- a URI of a name is a text of it
-pub uri_bound : (w : Values) (s : List ℕ) → Uri w s → Bound w s
-uri_bound w s uri = at_true (begins_as_uri s) (Uri w s) (Fs w s) (uri_begins w s uri) uri
+pub uri_is_either : (w : Values) (s : List ℕ) → Uri w s → UriOrFs w s
+uri_is_either w s uri = at_true (begins_as_uri s) (Uri w s) (Fs w s) (uri_begins w s uri) uri
 
 -- so is its formatted string
-pub fs_bound : (w : Values) (s : List ℕ) → Fs w s → Bound w s
-fs_bound w s fs = at_false (begins_as_uri s) (Uri w s) (Fs w s) (fs_begins w s fs) fs
-
--- there is no other
-pub bound_either : (w : Values) (s : List ℕ) → Bound w s → Uri w s ⊎ Fs w s
-bound_either w s h =
-    elim (cases_Bool (begins_as_uri s)) [
-      | inl b ↦ inl (MatchBool-at_true (Uri w s) (Fs w s) b h)
-      | inr b ↦ inr (MatchBool-at_false (Uri w s) (Fs w s) b h)
-    ]
-
--- a text that leaves its grammar is none of a name
-pub bound_refused : (s : List ℕ) (place : ℕ) → LeavesBound s place → ¬ (IsBound s)
-bound_refused s place at h =
-    elim (cases_Bool (begins_as_uri s)) [
-      | inl b ↦ (MatchBool-at_true (LeavesUri s place) (LeavesAt s place) b at).refused (h.0, MatchBool-at_true (Uri h.0 s) (Fs h.0 s) b h.1)
-      | inr b ↦ (MatchBool-at_false (LeavesUri s place) (LeavesAt s place) b at).refused (h.0, MatchBool-at_false (Uri h.0 s) (Fs h.0 s) b h.1)
-    ]
-
--- no text is that of two names
-pub one_bound : (v w : Values) (s : List ℕ) → Bound v s → Bound w s → v ≡ w
-one_bound v w s g h =
-    elim (cases_Bool (begins_as_uri s)) [
-      | inl b ↦ one_uri v w s (MatchBool-at_true (Uri v s) (Fs v s) b g) (MatchBool-at_true (Uri w s) (Fs w s) b h)
-      | inr b ↦ one_name v w s (MatchBool-at_false (Uri v s) (Fs v s) b g) (MatchBool-at_false (Uri w s) (Fs w s) b h)
-    ]
-
--- a text has one place
-pub one_bound_place : (s : List ℕ) (m n : ℕ) → LeavesBound s m → LeavesBound s n → m ≡ n
-one_bound_place s m n g h =
-    elim (cases_Bool (begins_as_uri s)) [
-      | inl b ↦ one_place IsUri s m n (MatchBool-at_true (LeavesUri s m) (LeavesAt s m) b g).is_place (MatchBool-at_true (LeavesUri s n) (LeavesAt s n) b h).is_place
-      | inr b ↦ one_place IsFs s m n (MatchBool-at_false (LeavesUri s m) (LeavesAt s m) b g).is_place (MatchBool-at_false (LeavesUri s n) (LeavesAt s n) b h).is_place
-    ]
+pub fs_is_either : (w : Values) (s : List ℕ) → Fs w s → UriOrFs w s
+fs_is_either w s fs = at_false (begins_as_uri s) (Uri w s) (Fs w s) (fs_begins w s fs) fs
 
 -- ---- the name that is read
 
@@ -96,7 +62,7 @@ unfolding read_any
 any_fs s b = rw b refl
 
 -- a text of a name is read as the name
-pub any_read : (name : Values) (s : List ℕ) → Bound name s → read_any s ≡ Ok name
+pub any_read : (name : Values) (s : List ℕ) → UriOrFs name s → read_any s ≡ Ok name
 any_read name s h =
     elim (cases_Bool (begins_as_uri s)) [
       | inl b ↦ any_uri s b ∙ uri.read_name name s (MatchBool-at_true (Uri name s) (Fs name s) b h)
@@ -104,15 +70,15 @@ any_read name s h =
     ]
 
 -- a name that is read has the text
-pub any_has : (name : Values) (s : List ℕ) → read_any s ≡ Ok name → Bound name s
+pub any_has : (name : Values) (s : List ℕ) → read_any s ≡ Ok name → UriOrFs name s
 any_has name s is =
     elim (cases_Bool (begins_as_uri s)) [
-      | inl b ↦ uri_bound name s (uri.name_has name s (sym (any_uri s b) ∙ is))
-      | inr b ↦ fs_bound name s (fs.name_has name s (sym (any_fs s b) ∙ is))
+      | inl b ↦ uri_is_either name s (uri.name_has name s (sym (any_uri s b) ∙ is))
+      | inr b ↦ fs_is_either name s (fs.name_has name s (sym (any_fs s b) ∙ is))
     ]
 
 -- where a place is read no name has the text, and it is its place
-pub any_left : (s : List ℕ) (place : ℕ) → read_any s ≡ Err place → LeavesBound s place
+pub any_left : (s : List ℕ) (place : ℕ) → read_any s ≡ Err place → LeavesUriOrFs s place
 any_left s place is =
     elim (cases_Bool (begins_as_uri s)) [
       | inl b ↦ at_true (begins_as_uri s) (LeavesUri s place) (LeavesAt s place) b (uri.place_is s place (sym (any_uri s b) ∙ is))
@@ -120,7 +86,7 @@ any_left s place is =
     ]
 
 -- the place of a text that no name has is read
-pub any_left_read : (s : List ℕ) (place : ℕ) → LeavesBound s place → read_any s ≡ Err place
+pub any_left_read : (s : List ℕ) (place : ℕ) → LeavesUriOrFs s place → read_any s ≡ Err place
 any_left_read s place at =
     elim (cases_Bool (begins_as_uri s)) [
       | inl b ↦ any_uri s b ∙ uri.read_place s place (MatchBool-at_true (LeavesUri s place) (LeavesAt s place) b at)
@@ -128,7 +94,7 @@ any_left_read s place at =
     ]
 
 -- a name that has the text is what is read, and a fault of the text says so of what is read
-pub any_reads : (r : Result Values UriFault) (s : List ℕ) → IfOk r (λ name. Bound name s) → IfErr r (λ f. RefusesBound f s)
+pub any_reads : (r : Result Values UriFault) (s : List ℕ) → IfOk r (λ name. UriOrFs name s) → IfErr r (λ f. RefusesUriOrFs f s)
     → MatchResult r (λ name. read_any s ≡ Ok name) (λ f. SaysFault f (read_any s))
 any_reads (Ok name) s has refused = any_read name s has
 any_reads (Err (fault.At place)) s has refused = any_left_read s place refused
@@ -151,12 +117,8 @@ unfolding unbound
 any_says_fs s b = says s (read_fs s) (any_fs s b)
 
 -- a text of a name says the output text of the name
-pub any_text : (name : Values) (s : List ℕ) → Bound name s → unbound_any s ≡ Ok (output_text name)
+pub any_text : (name : Values) (s : List ℕ) → UriOrFs name s → unbound_any s ≡ Ok (output_text name)
 any_text name s h = says s (Ok name) (any_read name s h)
-
--- the place of a text that no name has is said
-pub any_place_said : (s : List ℕ) (place : ℕ) → LeavesBound s place → unbound_any s ≡ Err place
-any_place_said s place at = says s (Err place) (any_left_read s place at)
 
 -- what is said is the output text of a name that has the text
 pub any_name : (s text : List ℕ) → unbound_any s ≡ Ok text → SaysAny s text
@@ -166,19 +128,8 @@ any_name s text is = go (read_any s) refl where
   go (Err place) e = absurd (ok≢err text place (sym is ∙ says s (Err place) e))
 
 -- where a place is said no name has the text, and it is its place
-pub any_place : (s : List ℕ) (place : ℕ) → unbound_any s ≡ Err place → LeavesBound s place
+pub any_place : (s : List ℕ) (place : ℕ) → unbound_any s ≡ Err place → LeavesUriOrFs s place
 any_place s place is = go (read_any s) refl where
-  go : (r : Result Values ℕ) → read_any s ≡ r → LeavesBound s place
+  go : (r : Result Values ℕ) → read_any s ≡ r → LeavesUriOrFs s place
   go (Ok name) e = absurd (ok≢err (output_text name) place (sym (says s (Ok name) e) ∙ is))
-  go (Err other) e = subst (LeavesBound s) (err_is other place (sym (says s (Err other) e) ∙ is)) (any_left s other e)
-
--- ---- behind what stood before
-
--- what was written is what is said
-pub any_said_is : (s : List ℕ) (name : Values) (old new : List ℕ) → Bound name s → new ≡ old ++ output_text name
-    → left_over new ≡ result_map_both (λ said. old ++ said) (λ (place : ℕ). place) (unbound_any s)
-any_said_is s name old new h is = ap left_over is ∙ ap (result_map_both (λ said. old ++ said) (λ (place : ℕ). place)) (sym (any_text name s h))
-
--- where no name has the text its place is said
-pub any_unsaid_is : (s old : List ℕ) (place : ℕ) → LeavesBound s place → stopped place ≡ result_map_both (λ said. old ++ said) (λ (place : ℕ). place) (unbound_any s)
-any_unsaid_is s old place at = ap (result_map_both (λ said. old ++ said) (λ (place : ℕ). place)) (sym (any_place_said s place at))
+  go (Err other) e = subst (LeavesUriOrFs s) (err_is other place (sym (says s (Err other) e) ∙ is)) (any_left s other e)

@@ -12,16 +12,16 @@ use Rattle.cpe_values.specs.declared.spelling.Style.TheVariants as style
 use Rattle.cpe_values.specs.Parts.{Parts}
 use Rattle.cpe_values.specs.Spelling.{is_letter, is_digit, is_word, is_bare}
 use Rattle.cpe_grammar.specs.Scanners.{both, nothing, one, literal}
-use Rattle.cpe_grammar.proofs.Scans.{Scans, wider, Empty, nothing_scans, OneOf, one_scans, Joined, both_scans, Either, choose_scans, HeadFails, Run, Only, literal_scans}
+use Rattle.cpe_grammar.proofs.Scans.{Scans, wider, Empty, nothing_scans, OneOf, one_scans, Joined, both_scans, Either, choose_scans, Only, literal_scans}
 use Rattle.cpe_name.specs.declared.attribute.Attribute.TheVariants.{Part, Language}
 use Rattle.cpe_name.specs.Names.{Suits}
 use Rattle.cpe_name.specs.Shapes.{is_part_letter, is_part_body, is_language_body}
-use Rattle.cpe_name.specs.Tags.{letters_end, code_end, third_end}
+use Rattle.cpe_name.specs.Tags.{tag_end, Hyphen, Region, Tag, Leads, IsHyphen, TagEnds}
 use Rattle.cpe_name.proofs.Shapes.{plain, plain_text, plain_parts}
-use Rattle.cpe_name.proofs.Tags.{all_bare, bare_characters, CodeCase, letters, digits, RegionCase, none, behind, TagCase, two, three, tag_case, tag_lawful, code_bare, tag_bare, letters_taken, third_none, third_some, code_taken, Code, Third, code_case, tag_of, letters_scans, third_scans, code_scans, sample_code}
+use Rattle.cpe_name.proofs.Tags.{all_bare, bare_characters, CodeCase, letters, digits, RegionCase, none, behind, TagCase, two, three, tag_case, tag_lawful, code_bare, tag_bare, code_case, tag_of, code_text, two_letters, tag_scans, tag_taken}
 use Rattle.cpe_uri.specs.Spelling.{is_hex, hex_value, has_percent_form, spells, Spelled, Stands}
 use Rattle.cpe_uri.specs.Spans.{IsComponent}
-use Rattle.cpe_uri.specs.Languages.{is_part_byte, is_hyphen, begins_hyphen, is_last_digit, part_end, percent_hyphen_end, hyphen_end, region_end, tag_end, tag_or_nothing_end, language_end}
+use Rattle.cpe_uri.specs.Languages.{is_part_byte, is_hyphen, begins_hyphen, is_last_digit, part_end, percent_hyphen_end, hyphen_end, tag_or_nothing_end, language_end}
 use Rattle.cpe_uri.proofs.Ends.{Ends}
 
 -- ---- lower case
@@ -241,16 +241,10 @@ part_taken (value.Text t) s r suits stands e =
     let p = plain_parts t (is_part_body t.body) suits.1 in
     part_body_taken t.body s r p.1 (alone_stands t.body s (subst (λ (x : Parts). Stands (value.Text x) s) p.0 stands))
 
--- ---- what the scanners of language tags take
+-- ---- the hyphen of a tag, in each of its spellings
 
-abbrev Hyphen : List ℕ → Type 0
-Hyphen = Either (OneOf is_hyphen) (Joined (Only (codes "%2")) (OneOf is_last_digit))
-
-abbrev Region : List ℕ → Type 0
-Region = Either (Joined Hyphen Code) Empty
-
-abbrev Tag : List ℕ → Type 0
-Tag = Joined (Joined (Run 2 is_letter) Third) Region
+abbrev HyphenText : List ℕ → Type 0
+HyphenText = Either (OneOf is_hyphen) (Joined (Only (codes "%2")) (OneOf is_last_digit))
 
 last_spells : (d : ℕ) → is_last_digit d ≡ true → spells 45 (37 ∷ 50 ∷ d ∷ []) ≡ true
 last_spells d h = elim (or_cases (eqb d 68) (eqb d 100) h) [
@@ -258,7 +252,7 @@ last_spells d h = elim (or_cases (eqb d 68) (eqb d 100) h) [
   | inr is ↦ ap (λ (c : ℕ). spells 45 (37 ∷ 50 ∷ c ∷ [])) (eqb-true d 100 is)
 ]
 
-hyphen_spells : (u : List ℕ) → Hyphen u → spells 45 u ≡ true
+hyphen_spells : (u : List ℕ) → HyphenText u → Hyphen (spells 45) u
 hyphen_spells u h = elim h [
   | inl o ↦ ap (spells 45) (o.is ∙ ap (λ (c : ℕ). c ∷ []) (eqb-true o.byte 45 o.passed))
   | inr j ↦
@@ -266,17 +260,41 @@ hyphen_spells u h = elim h [
       ap (spells 45) is ∙ last_spells j.second.byte j.second.passed
 ]
 
+hyphen_scans : Scans (Hyphen (spells 45)) hyphen_end
+unfolding hyphen_end percent_hyphen_end
+hyphen_scans =
+    wider HyphenText (Hyphen (spells 45)) hyphen_end hyphen_spells
+    (choose_scans is_hyphen (OneOf is_hyphen) (Joined (Only (codes "%2")) (OneOf is_last_digit)) (one is_hyphen) (both (literal (codes "%2")) (one is_last_digit)) (one_scans is_hyphen 45 refl)
+    (both_scans (Only (codes "%2")) (OneOf is_last_digit) (literal (codes "%2")) (one is_last_digit) (literal_scans (codes "%2")) (one_scans is_last_digit 100 refl) (100 ∷ []) (record { byte = 100; is = refl; passed = refl })))
+
+case_taken : (u r : List ℕ) → HyphenCase u → hyphen_end (u ++ r) ≡ Ok r
+unfolding hyphen_end percent_hyphen_end literal
+case_taken _ r bare = refl
+case_taken _ r (percent d h) = rw h refl
+
+case_leads : (u r : List ℕ) → HyphenCase u → Leads begins_hyphen (u ++ r)
+case_leads _ r bare = record { first = 45; more = r; is = refl; leads = refl; no_letter = refl }
+case_leads _ r (percent d h) = record { first = 37; more = 50 ∷ d ∷ r; is = refl; leads = refl; no_letter = refl }
+
+hyphen_is : IsHyphen (spells 45) begins_hyphen hyphen_end
+hyphen_is = record { scans = hyphen_scans; taken = λ h r e. case_taken h r (hyphen_case h e); leads = λ h r e. case_leads h r (hyphen_case h e) }
+
+-- ---- what is a tag, its hyphen spelled so
+
+abbrev AnyTag : List ℕ → Type 0
+AnyTag = Tag (spells 45)
+
 -- a region and how it is spelled
 record IsRegion (s : List ℕ) : Type 0 where
   region : List ℕ
   lawful : RegionCase region
   spelled : Spelled (lowered region) s
 
-a_region : (s : List ℕ) → Region s → IsRegion s
+a_region : (s : List ℕ) → Region (spells 45) s → IsRegion s
 a_region s h = elim h [
   | inl j ↦
       let code = code_case j.back j.second in
-      record { region = 45 ∷ j.back; lawful = behind j.back code; spelled = (j.front, j.back, j.is, hyphen_spells j.front j.first, bare_spelled j.back (code_bare j.back code)) }
+      record { region = 45 ∷ j.back; lawful = behind j.back code; spelled = (j.front, j.back, j.is, j.first, bare_spelled j.back (code_bare j.back code)) }
   | inr empty ↦ record { region = []; lawful = none; spelled = empty }
 ]
 
@@ -286,7 +304,7 @@ record IsTag (s : List ℕ) : Type 0 where
   lawful : TagCase tag
   spelled : Spelled (lowered tag) s
 
-a_tag : (s : List ℕ) → Tag s → IsTag s
+a_tag : (s : List ℕ) → AnyTag s → IsTag s
 a_tag s j =
     let front : List ℕ = j.first.front ++ j.first.back in
     let front_bare : all_bare front ≡ true = ap all_bare (sym (append-nil front)) ∙ tag_bare (front ++ []) (tag_of j.first.front j.first.back [] j.first.first j.first.second none) in
@@ -299,88 +317,89 @@ a_tag s j =
       spelled = subst (Spelled (lowered (front ++ region.region))) (sym (j.is ∙ ap (λ (u : List ℕ). u ++ j.back) j.first.is)) codes_are;
     }
 
-hyphen_scans : Scans Hyphen hyphen_end
-unfolding hyphen_end percent_hyphen_end
-hyphen_scans =
-    choose_scans is_hyphen (OneOf is_hyphen) (Joined (Only (codes "%2")) (OneOf is_last_digit)) (one is_hyphen) (both (literal (codes "%2")) (one is_last_digit)) (one_scans is_hyphen 45 refl)
-    (both_scans (Only (codes "%2")) (OneOf is_last_digit) (literal (codes "%2")) (one is_last_digit) (literal_scans (codes "%2")) (one_scans is_last_digit 100 refl) (100 ∷ []) (record { byte = 100; is = refl; passed = refl }))
+-- ---- each spelling of a tag is one
 
-region_scans : Scans Region region_end
-unfolding region_end
-region_scans =
-    choose_scans begins_hyphen (Joined Hyphen Code) Empty (both hyphen_end code_end) nothing
-    (both_scans Hyphen Code hyphen_end code_end hyphen_scans code_scans (97 ∷ 97 ∷ []) sample_code) nothing_scans
+spelled_region : (v s : List ℕ) → RegionCase v → Spelled v s → Region (spells 45) s
+spelled_region _ s none spelled = inr spelled
+spelled_region _ s (behind u code) spelled = inl (record {
+  front = spelled.0;
+  back = spelled.1;
+  is = spelled.2;
+  first = spelled.3;
+  second = code_text spelled.1 (code_spelled u spelled.1 code spelled.4);
+})
 
-tag_scans : Scans Tag tag_end
-unfolding tag_end
-tag_scans =
-    both_scans (Joined (Run 2 is_letter) Third) Region (both letters_end third_end) region_end
-    (both_scans (Run 2 is_letter) Third letters_end third_end letters_scans third_scans [] (inr refl))
-    region_scans [] (inr refl)
+-- a tag, which begins with a letter
+record Begun (s : List ℕ) : Type 0 where
+  first : ℕ
+  more : List ℕ
+  is : s ≡ first ∷ more
+  letter : is_letter first ≡ true
+  tag : AnyTag s
 
--- ---- language tags are taken
+spelled_tag : (t s : List ℕ) → TagCase t → Spelled t s → Begun s
+spelled_tag _ s (two a b v ha hb region) spelled =
+    let x = letter_head a (b ∷ v) s ha spelled in
+    let y = letter_head b v x.rest hb x.spelled in
+    let is : s ≡ x.byte ∷ y.byte ∷ y.rest = x.is ∙ ap (λ (w : List ℕ). x.byte ∷ w) y.is in record {
+      first = x.byte;
+      more = y.byte ∷ y.rest;
+      is = is;
+      letter = x.passed;
+      tag = record {
+        front = x.byte ∷ y.byte ∷ [];
+        back = y.rest;
+        is = is;
+        first = record { front = x.byte ∷ y.byte ∷ []; back = []; is = refl; first = two_letters x.byte y.byte x.passed y.passed; second = inr refl };
+        second = spelled_region v y.rest region y.spelled;
+      };
+    }
+spelled_tag _ s (three a b c v ha hb hc region) spelled =
+    let x = letter_head a (b ∷ c ∷ v) s ha spelled in
+    let y = letter_head b (c ∷ v) x.rest hb x.spelled in
+    let z = letter_head c v y.rest hc y.spelled in
+    let is : s ≡ x.byte ∷ y.byte ∷ z.byte ∷ z.rest = x.is ∙ ap (λ (w : List ℕ). x.byte ∷ w) (y.is ∙ ap (λ (w : List ℕ). y.byte ∷ w) z.is) in record {
+      first = x.byte;
+      more = y.byte ∷ z.byte ∷ z.rest;
+      is = is;
+      letter = x.passed;
+      tag = record {
+        front = x.byte ∷ y.byte ∷ z.byte ∷ [];
+        back = z.rest;
+        is = is;
+        first = record {
+          front = x.byte ∷ y.byte ∷ [];
+          back = z.byte ∷ [];
+          is = refl;
+          first = two_letters x.byte y.byte x.passed y.passed;
+          second = inl (record { byte = z.byte; is = refl; passed = z.passed });
+        };
+        second = spelled_region v z.rest region z.spelled;
+      };
+    }
 
-region_behind : (u w r : List ℕ) → HyphenCase u → CodeCase w → region_end ((u ++ w) ++ r) ≡ Ok r
-unfolding region_end hyphen_end percent_hyphen_end literal
-region_behind _ w r bare code = code_taken w r code
-region_behind _ w r (percent d h) code = rw h (code_taken w r code)
+-- where a component ends no tag goes on
+tag_ends : (r : List ℕ) → Ends r → TagEnds begins_hyphen r
+tag_ends [] e = record { letter = tt; hyphen = tt }
+tag_ends (c ∷ r) e = record { letter = rw e refl; hyphen = rw e refl }
 
-no_region_taken : (r : List ℕ) → Ends r → region_end r ≡ Ok r
-unfolding region_end
-no_region_taken [] e = refl
-no_region_taken (c ∷ r) e = rw e refl
-
-region_taken : (v s r : List ℕ) → RegionCase v → Spelled v s → Ends r → region_end (s ++ r) ≡ Ok r
-region_taken _ s r none spelled e = ap (λ (u : List ℕ). region_end (u ++ r)) spelled ∙ no_region_taken r e
-region_taken _ s r (behind u code) spelled e =
-    ap (λ (w : List ℕ). region_end (w ++ r)) spelled.2 ∙ region_behind spelled.0 spelled.1 r (hyphen_case spelled.0 spelled.3) (code_spelled u spelled.1 code spelled.4)
-
-no_letter_ends : (r : List ℕ) → Ends r → HeadFails is_letter r
-no_letter_ends [] e = tt
-no_letter_ends (c ∷ r) e = rw e refl
-
-hyphen_no_letter : (u w : List ℕ) → HyphenCase u → HeadFails is_letter (u ++ w)
-hyphen_no_letter _ w bare = refl
-hyphen_no_letter _ w (percent d h) = refl
-
-region_no_letter : (v s r : List ℕ) → RegionCase v → Spelled v s → Ends r → HeadFails is_letter (s ++ r)
-region_no_letter _ s r none spelled e = subst (λ (u : List ℕ). HeadFails is_letter (u ++ r)) (sym spelled) (no_letter_ends r e)
-region_no_letter _ s r (behind u code) spelled e =
-    subst (HeadFails is_letter) (sym (ap (λ (w : List ℕ). w ++ r) spelled.2 ∙ append_assoc spelled.0 spelled.1 r)) (hyphen_no_letter spelled.0 (spelled.1 ++ r) (hyphen_case spelled.0 spelled.3))
-
-tag_step : (a b : ℕ) (s r : List ℕ) → is_letter a ≡ true → is_letter b ≡ true → third_end s ≡ Ok r → tag_end (a ∷ b ∷ s) ≡ region_end r
-unfolding tag_end
-tag_step a b s r ha hb third = rw (letters_taken a b s ha hb, third) refl
-
-begun_tag : (a : ℕ) (s : List ℕ) → is_letter a ≡ true → language_end (a ∷ s) ≡ tag_end (a ∷ s)
+begun_tag : (a : ℕ) (s : List ℕ) → is_letter a ≡ true → language_end (a ∷ s) ≡ tag_end begins_hyphen hyphen_end (a ∷ s)
 unfolding language_end tag_or_nothing_end
 begun_tag a s h = rw (letter_no_hyphen a h, h) refl where
   letter_no_hyphen : (c : ℕ) → is_letter c ≡ true → is_hyphen c ≡ false
   letter_no_hyphen c h = grind (arith, nat_tests)
 
-tag_taken : (t s r : List ℕ) → TagCase t → Spelled t s → Ends r → language_end (s ++ r) ≡ Ok r
-tag_taken _ s r (two a b v ha hb region) spelled e =
-    let x = letter_head a (b ∷ v) s ha spelled in
-    let y = letter_head b v x.rest hb x.spelled in
-    let is : s ≡ x.byte ∷ y.byte ∷ y.rest = x.is ∙ ap (λ (w : List ℕ). x.byte ∷ w) y.is in
-    let third = third_none (y.rest ++ r) (region_no_letter v y.rest r region y.spelled e) in
-    ap (λ (w : List ℕ). language_end (w ++ r)) is
-    ∙ begun_tag x.byte (y.byte ∷ (y.rest ++ r)) x.passed
-    ∙ tag_step x.byte y.byte (y.rest ++ r) (y.rest ++ r) x.passed y.passed third
-    ∙ region_taken v y.rest r region y.spelled e
-tag_taken _ s r (three a b c v ha hb hc region) spelled e =
-    let x = letter_head a (b ∷ c ∷ v) s ha spelled in
-    let y = letter_head b (c ∷ v) x.rest hb x.spelled in
-    let z = letter_head c v y.rest hc y.spelled in
-    let is : s ≡ x.byte ∷ y.byte ∷ z.byte ∷ z.rest = x.is ∙ ap (λ (w : List ℕ). x.byte ∷ w) (y.is ∙ ap (λ (w : List ℕ). y.byte ∷ w) z.is) in
-    ap (λ (w : List ℕ). language_end (w ++ r)) is
-    ∙ begun_tag x.byte (y.byte ∷ z.byte ∷ (z.rest ++ r)) x.passed
-    ∙ tag_step x.byte y.byte (z.byte ∷ (z.rest ++ r)) (z.rest ++ r) x.passed y.passed (third_some z.byte (z.rest ++ r) z.passed)
-    ∙ region_taken v z.rest r region z.spelled e
+spelled_tag_taken : (t s r : List ℕ) → TagCase t → Spelled t s → Ends r → language_end (s ++ r) ≡ Ok r
+spelled_tag_taken t s r lawful spelled e =
+    let begun = spelled_tag t s lawful spelled in
+    ap (λ (w : List ℕ). language_end (w ++ r)) begun.is
+    ∙ begun_tag begun.first (begun.more ++ r) begun.letter
+    ∙ ap (λ (w : List ℕ). tag_end begins_hyphen hyphen_end (w ++ r)) (sym begun.is)
+    ∙ tag_taken (spells 45) begins_hyphen hyphen_end hyphen_is s r begun.tag (tag_ends r e)
 
 -- ---- languages
 
-a_language : (u : List ℕ) → Either (OneOf is_hyphen) (Either Tag Empty) u → IsComponent Language u
+a_language : (u : List ℕ) → Either (OneOf is_hyphen) (Either AnyTag Empty) u → IsComponent Language u
 a_language u h = elim h [
   | inl o ↦ record { value = value.Na; suits = (tt, refl); lower = refl; stands = o.is ∙ ap (λ (d : ℕ). d ∷ []) (eqb-true o.byte 45 o.passed) }
   | inr more ↦ elim more [
@@ -403,9 +422,9 @@ a_language u h = elim h [
 pub language_scans : Scans (IsComponent Language) language_end
 unfolding language_end tag_or_nothing_end
 language_scans =
-    wider (Either (OneOf is_hyphen) (Either Tag Empty)) (IsComponent Language) language_end a_language
-    (choose_scans is_hyphen (OneOf is_hyphen) (Either Tag Empty) (one is_hyphen) tag_or_nothing_end (one_scans is_hyphen 45 refl)
-    (choose_scans is_letter Tag Empty tag_end nothing tag_scans nothing_scans))
+    wider (Either (OneOf is_hyphen) (Either AnyTag Empty)) (IsComponent Language) language_end a_language
+    (choose_scans is_hyphen (OneOf is_hyphen) (Either AnyTag Empty) (one is_hyphen) tag_or_nothing_end (one_scans is_hyphen 45 refl)
+    (choose_scans is_letter AnyTag Empty (tag_end begins_hyphen hyphen_end) nothing (tag_scans (spells 45) begins_hyphen hyphen_end hyphen_is) nothing_scans))
 
 no_language_taken : (r : List ℕ) → Ends r → language_end r ≡ Ok r
 unfolding language_end tag_or_nothing_end
@@ -422,4 +441,4 @@ language_taken value.Any s r suits stands e = ap (λ (u : List ℕ). language_en
 language_taken value.Na s r suits stands e = ap (λ (u : List ℕ). language_end (u ++ r)) stands ∙ hyphen_taken r
 language_taken (value.Text t) s r suits stands e =
     let p = plain_parts t (is_language_body t.body) suits.1 in
-    tag_taken t.body s r (tag_case t.body p.1) (alone_stands t.body s (subst (λ (x : Parts). Stands (value.Text x) s) p.0 stands)) e
+    spelled_tag_taken t.body s r (tag_case t.body p.1) (alone_stands t.body s (subst (λ (x : Parts). Stands (value.Text x) s) p.0 stands)) e

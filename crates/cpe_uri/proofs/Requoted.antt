@@ -17,7 +17,7 @@ use Rattle.cpe_values.specs.Spelling as wfn
 use Rattle.cpe_name.specs.declared.name.Values.{Values}
 use Rattle.cpe_name.specs.declared.attribute.Attribute.{Attribute}
 use Rattle.cpe_name.specs.declared.attribute.Attribute.TheVariants.{Part, Vendor, Product, Version, Update, Edition, Language, SwEdition, TargetSw, TargetHw, Other}
-use Rattle.cpe_name.specs.declared.scan.Written.{Written}
+use Rattle.cpe_name.specs.declared.written.Written.{Written}
 use Rattle.cpe_name.specs.Names.{value_of}
 use Rattle.cpe_name.specs.Text.{value_text}
 use Rattle.cpe_name.specs.Scanning.{slot}

@@ -10,7 +10,7 @@ use Rattle.cpe_values.specs.Parts.{Parts, parts, IsEdge, IsText, is_character}
 use Rattle.cpe_uri.specs.Spelling.{edge_codes, text_codes}
 use Rattle.cpe_uri.specs.declared.text.Stage.{Stage}
 use Rattle.cpe_uri.specs.declared.text.Stage.TheVariants.{Start, Hyphen, LeadStar, LeadMarks, Body, TrailMarks, TrailStar}
-use Rattle.cpe_uri.specs.Reading.{after_mark, after_star, after_character, next, is_over}
+use Rattle.cpe_uri.specs.TextMachine.{after_mark, after_star, after_character, next, is_over}
 
 -- ---- steps
 

@@ -18,8 +18,8 @@ use Rattle.cpe_uri.specs.declared.text.Stage.{Stage}
 use Rattle.cpe_uri.specs.declared.text.Stage.TheVariants.{Start, Na, Hyphen}
 use Rattle.cpe_uri.specs.declared.text.State.{State}
 use Rattle.cpe_uri.specs.declared.text.State.TheVariants.{Whole, Percent, Half}
-use Rattle.cpe_uri.specs.Reading.{is_start, next, is_over, step, may_end, read_from, text_end}
-use Rattle.cpe_uri.specs.Found.{IsTextComponent}
+use Rattle.cpe_uri.specs.TextMachine.{is_start, next, is_over, step, may_end, read_from, text_end}
+use Rattle.cpe_uri.specs.Spans.{IsTextComponent}
 use Rattle.cpe_uri.proofs.Stages.{stage_is, no_stage_is, start_text, run, Over, text_over}
 use Rattle.cpe_uri.proofs.Components.{went, was_read, NoTilde, unit_read, Good, stays_good, completed, later_next}
 

@@ -15,9 +15,8 @@ use Rattle.cpe_values.proofs.Unspelled.{parts_are}
 use Rattle.cpe_name.specs.declared.name.Values.{Values}
 use Rattle.cpe_name.specs.declared.attribute.Attribute.{Attribute}
 use Rattle.cpe_name.specs.declared.attribute.Attribute.TheVariants.{Part, Vendor, Product, Version, Update, Edition, Language, SwEdition, TargetSw, TargetHw, Other}
-use Rattle.cpe_name.specs.declared.scan.Written.{Written}
-use Rattle.cpe_name.specs.Names.{attributes, value_of, Suits, IsName}
-use Rattle.cpe_name.specs.Equal.{named}
+use Rattle.cpe_name.specs.declared.written.Written.{Written}
+use Rattle.cpe_name.specs.Names.{attributes, value_of, Suits, IsName, named}
 use Rattle.cpe_name.specs.Scanning.{slot}
 use Rattle.cpe_name.specs.Spans.{texts}
 use Rattle.cpe_name.proofs.Items.{good_of}
@@ -68,10 +67,6 @@ pub value_back : (v : Value) (s : List ℕ) → IsValue v → Stands v s → val
 value_back value.Any s good h = ap value_at h
 value_back value.Na s good h = ap value_at h
 value_back (value.Text t) s good h = rw (text_some t s good h, text_no_hyphen t s good h) (ap value.Text (text_back t s good h))
-
--- no two values stand alike
-pub one_value : (v w : Value) (s : List ℕ) → IsValue v → IsValue w → Stands v s → Stands w s → v ≡ w
-one_value v w s good right a b = sym (value_back v s good a) ∙ value_back w s right b
 
 -- where neither ANY nor NA stands, the rewritten text is the spelling of one
 pub spells_text : (s : List ℕ) → IsSpan s → eqb (length s) 0 ≡ false → is_hyphen s ≡ false → IsSpelling (rewritten s)

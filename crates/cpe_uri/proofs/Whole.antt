@@ -17,16 +17,15 @@ use Rattle.cpe_name.specs.declared.attribute.Attribute.TheVariants.{Part, Vendor
 use Rattle.cpe_name.specs.Names.{IsName}
 use Rattle.cpe_name.specs.Lower.{IsLower}
 use Rattle.cpe_uri.specs.Spelling.{Stands}
-use Rattle.cpe_uri.specs.Grammar.{EditionStands, Uri, IsUri}
-use Rattle.cpe_uri.specs.Pieces.{is_colon}
-use Rattle.cpe_uri.specs.Spans.{IsComponent, LeavesWith}
-use Rattle.cpe_uri.specs.Found.{IsTextComponent, EditionPiece}
+use Rattle.cpe_uri.specs.Grammar.{is_colon, EditionStands, Uri, IsUri}
+use Rattle.cpe_uri.specs.Spans.{IsComponent, IsTextComponent, IsEdition, LeavesWith}
 use Rattle.cpe_uri.specs.Languages.{part_end}
 use Rattle.cpe_uri.specs.Scanning.{component_end, later, later_end, components_end, prefix_end, all_end, whole_end}
 use Rattle.cpe_uri.proofs.Ends.{Ends}
 use Rattle.cpe_uri.proofs.Texts.{text_taken, text_scans}
 use Rattle.cpe_uri.proofs.Languages.{part_scans, part_taken, language_scans, language_taken}
-use Rattle.cpe_uri.proofs.Editions.{IsEditionText, edition_scans, edition_taken, empty_text, lone_piece, ends_in}
+use Rattle.cpe_uri.specs.Canon.{extended}
+use Rattle.cpe_uri.proofs.Editions.{AreGood, edition_scans, edition_taken, empty_text, empty_edition, ends_in}
 
 -- ---- the component of an attribute
 
@@ -36,7 +35,7 @@ IsSlot Vendor = IsTextComponent false
 IsSlot Product = IsTextComponent false
 IsSlot Version = IsTextComponent false
 IsSlot Update = IsTextComponent false
-IsSlot Edition = IsEditionText
+IsSlot Edition = IsEdition
 IsSlot Language = IsComponent Language
 IsSlot SwEdition = IsTextComponent true
 IsSlot TargetSw = IsTextComponent true
@@ -62,7 +61,7 @@ empty_slot Vendor = empty_text false [] refl
 empty_slot Product = empty_text false [] refl
 empty_slot Version = empty_text false [] refl
 empty_slot Update = empty_text false [] refl
-empty_slot Edition = record { edition = []; sw_edition = []; target_sw = []; target_hw = []; other = []; piece = lone_piece [] [] [] [] [] (empty_text false [] refl) refl refl refl refl refl }
+empty_slot Edition = empty_edition
 empty_slot Language = record { value = value.Any; suits = (tt, refl); lower = refl; stands = refl }
 empty_slot SwEdition = empty_text true [] refl
 empty_slot TargetSw = empty_text true [] refl
@@ -183,12 +182,7 @@ pub record Made (part : List ℕ) (cs : List (List ℕ)) : Type 0 where
   pub d : IsTextComponent false (get_or cs 1 [])
   pub n : IsTextComponent false (get_or cs 2 [])
   pub u : IsTextComponent false (get_or cs 3 [])
-  pub edition : List ℕ
-  pub sw_edition : List ℕ
-  pub target_sw : List ℕ
-  pub target_hw : List ℕ
-  pub other : List ℕ
-  pub e : EditionPiece edition sw_edition target_sw target_hw other (get_or cs 4 [])
+  pub e : IsEdition (get_or cs 4 [])
   pub l : IsComponent Language (get_or cs 5 [])
 
 abbrev pub name_made : (part : List ℕ) (cs : List (List ℕ)) → Made part cs → Values
@@ -246,14 +240,14 @@ made_uri s prefix part cs m begins few text = record {
 }
 
 -- the same component under another name of it
-abbrev pub moved_text : (packed : Bool) (u v : List ℕ) → u ≡ v → IsTextComponent packed u → IsTextComponent packed v
+abbrev moved_text : (packed : Bool) (u v : List ℕ) → u ≡ v → IsTextComponent packed u → IsTextComponent packed v
 moved_text packed u v e t = record { value = t.value; good = t.good; lower = t.lower; stands = subst (Stands t.value) e t.stands; none = λ p. subst (λ (x : List ℕ). list_all (λ c. not (eqb c 126)) x ≡ true) e (t.none p) }
 
-abbrev pub moved_component : (a : Attribute) (u v : List ℕ) → u ≡ v → IsComponent a u → IsComponent a v
+abbrev moved_component : (a : Attribute) (u v : List ℕ) → u ≡ v → IsComponent a u → IsComponent a v
 moved_component a u v e t = record { value = t.value; suits = t.suits; lower = t.lower; stands = subst (Stands t.value) e t.stands }
 
-abbrev pub moved_edition : (e s t h o u v : List ℕ) → u ≡ v → EditionPiece e s t h o u → EditionPiece e s t h o v
-moved_edition e s t h o u v is x = record { of = x.of; name = x.name; lower = x.lower; stands = subst (EditionStands x.of) is x.stands; edition_at = x.edition_at; sw_edition_at = x.sw_edition_at; target_sw_at = x.target_sw_at; target_hw_at = x.target_hw_at; other_at = x.other_at; within = omega (arith, ap length is, x.within) }
+abbrev moved_edition : (u v : List ℕ) → u ≡ v → IsEdition u → IsEdition v
+moved_edition u v is x = record { of = x.of; name = x.name; lower = x.lower; stands = subst (EditionStands x.of) is x.stands }
 
 pub second : (cs : List (List ℕ)) → get_or cs 1 [] ≡ first_of (behind_first cs)
 second cs = at_behind cs 0 ∙ at_first (behind_first cs)
@@ -273,18 +267,13 @@ sixth cs = at_behind cs 4 ∙ fifth (behind_first cs)
 tail_made : (part : List ℕ) (cs : List (List ℕ)) (s : List ℕ) → IsComponent Part part → Tail later cs s → Made part cs
 tail_made part cs s p t =
     let all = tail_slots later cs s t in
-    let e = all.1.1.1.1.0 in record {
+    record {
       p = p;
       v = moved_text false _ _ (sym (at_first cs)) all.0;
       d = moved_text false _ _ (sym (second cs)) all.1.0;
       n = moved_text false _ _ (sym (third cs)) all.1.1.0;
       u = moved_text false _ _ (sym (fourth cs)) all.1.1.1.0;
-      edition = e.edition;
-      sw_edition = e.sw_edition;
-      target_sw = e.target_sw;
-      target_hw = e.target_hw;
-      other = e.other;
-      e = moved_edition e.edition e.sw_edition e.target_sw e.target_hw e.other _ _ (sym (fifth cs)) e.piece;
+      e = moved_edition _ _ (sym (fifth cs)) all.1.1.1.1.0;
       l = moved_component Language _ _ (sym (sixth cs)) all.1.1.1.1.1.0;
     }
 
@@ -311,7 +300,7 @@ prefix_scans (c ∷ cs) low =
     wider (Joined (OneOf (is_lower_of c)) (IsPrefix cs)) (IsPrefix (c ∷ cs)) (prefix_end (c ∷ cs)) (more_prefix c cs)
     (both_scans (OneOf (is_lower_of c)) (IsPrefix cs) (one (is_lower_of c)) (prefix_end cs) (one_scans (is_lower_of c) c (eq-eqb (to_ascii_lowercase c) c first)) (prefix_scans cs rest) cs rest)
 
-prefix_taken : (cs u r : List ℕ) → map to_ascii_lowercase u ≡ cs → prefix_end cs (u ++ r) ≡ Ok r
+pub prefix_taken : (cs u r : List ℕ) → map to_ascii_lowercase u ≡ cs → prefix_end cs (u ++ r) ≡ Ok r
 prefix_taken [] [] r is = refl
 prefix_taken [] (d ∷ u) r is = absurd cc
 prefix_taken (c ∷ cs) [] r is = absurd cc
@@ -370,7 +359,7 @@ whole_name s rest e =
 -- ---- each is taken
 
 -- what a name has for an attribute stands so
-abbrev StandsAs : Values → Attribute → List ℕ → Type 0
+abbrev pub StandsAs : Values → Attribute → List ℕ → Type 0
 StandsAs w Part c = Stands w.part c
 StandsAs w Vendor c = Stands w.vendor c
 StandsAs w Product c = Stands w.product c
@@ -383,24 +372,27 @@ StandsAs w TargetSw c = ⊥
 StandsAs w TargetHw c = ⊥
 StandsAs w Other c = ⊥
 
-slot_taken : (w : Values) (a : Attribute) (c r : List ℕ) → IsName w → StandsAs w a c → Ends r → component_end a (c ++ r) ≡ Ok r
+pub good_five : (w : Values) → IsName w → AreGood w (Edition ∷ extended)
+good_five w good = (good.1.1.1.1.1.0, (good.1.1.1.1.1.1.1.0, (good.1.1.1.1.1.1.1.1.0, (good.1.1.1.1.1.1.1.1.1.0, (good.1.1.1.1.1.1.1.1.1.1.0, tt)))))
+
+pub slot_taken : (w : Values) (a : Attribute) (c r : List ℕ) → IsName w → StandsAs w a c → Ends r → component_end a (c ++ r) ≡ Ok r
 slot_taken w Part c r good stands ends = part_taken w.part c r good.0 stands ends
 slot_taken w Vendor c r good stands ends = text_taken false w.vendor c r good.1.0 stands (λ e. absurd cc) (ends_in false r ends)
 slot_taken w Product c r good stands ends = text_taken false w.product c r good.1.1.0 stands (λ e. absurd cc) (ends_in false r ends)
 slot_taken w Version c r good stands ends = text_taken false w.version c r good.1.1.1.0 stands (λ e. absurd cc) (ends_in false r ends)
 slot_taken w Update c r good stands ends = text_taken false w.update c r good.1.1.1.1.0 stands (λ e. absurd cc) (ends_in false r ends)
-slot_taken w Edition c r good stands ends = edition_taken w c r good.1.1.1.1.1.0 good.1.1.1.1.1.1.1.0 good.1.1.1.1.1.1.1.1.0 good.1.1.1.1.1.1.1.1.1.0 good.1.1.1.1.1.1.1.1.1.1.0 stands ends
+slot_taken w Edition c r good stands ends = edition_taken w c r (good_five w good) stands ends
 slot_taken w Language c r good stands ends = language_taken w.language c r good.1.1.1.1.1.1.0 stands ends
 slot_taken w SwEdition c r good stands ends = absurd stands
 slot_taken w TargetSw c r good stands ends = absurd stands
 slot_taken w TargetHw c r good stands ends = absurd stands
 slot_taken w Other c r good stands ends = absurd stands
 
-abbrev AllStand : Values → List Attribute → List (List ℕ) → Type 0
+abbrev pub AllStand : Values → List Attribute → List (List ℕ) → Type 0
 AllStand w [] cs = Unit {0}
 AllStand w (a ∷ rest) cs = StandsAs w a (first_of cs) × AllStand w rest (behind_first cs)
 
-tail_ends : (cs : List (List ℕ)) → Ends (tail_of cs)
+pub tail_ends : (cs : List (List ℕ)) → Ends (tail_of cs)
 tail_ends [] = tt
 tail_ends (c ∷ cs) = refl
 
@@ -411,7 +403,7 @@ rest_taken w (a ∷ rest) [] good stand few = refl
 rest_taken w (a ∷ rest) (c ∷ cs) good stand few =
     ap (λ (x : Result (List ℕ) ℕ). x >>= rest_end rest) (slot_taken w a c (tail_of cs) good stand.0 (tail_ends cs)) ∙ rest_taken w rest cs good stand.1 (omega (arith, few))
 
-uri_stand : (w : Values) (s part : List ℕ) (cs : List (List ℕ)) (uri : Uri w s) → uri.components ≡ part ∷ cs → AllStand w later cs
+pub uri_stand : (w : Values) (s part : List ℕ) (cs : List (List ℕ)) (uri : Uri w s) → uri.components ≡ part ∷ cs → AllStand w later cs
 uri_stand w s part cs uri is =
     (subst (Stands w.vendor) (ap (λ (us : List (List ℕ)). get_or us 1 []) is ∙ at_first cs) uri.vendor, (subst (Stands w.product) (ap (λ (us : List (List ℕ)). get_or us 2 []) is ∙ second cs) uri.product, (subst (Stands w.version) (ap (λ (us : List (List ℕ)). get_or us 3 []) is ∙ third cs) uri.version, (subst (Stands w.update) (ap (λ (us : List (List ℕ)). get_or us 4 []) is ∙ fourth cs) uri.update, (subst (EditionStands w) (ap (λ (us : List (List ℕ)). get_or us 5 []) is ∙ fifth cs) uri.edition, (subst (Stands w.language) (ap (λ (us : List (List ℕ)). get_or us 6 []) is ∙ sixth cs) uri.language, tt))))))
 

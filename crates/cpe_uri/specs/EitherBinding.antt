@@ -1,10 +1,11 @@
 -- Texts in either binding (NIST IR 7695, 6): one that begins as a URI does is read as a URI, and any other as a formatted string.
-use Rattle.std.specs.Prelude.{◌≡◌, ℕ, Bool, if◌then◌else◌, List, ◌++◌, take, Result, Err, codes}
+use Rattle.std.specs.Prelude.{◌≡◌, ℕ, Bool, if◌then◌else◌, List, take, Result, Err, codes}
 use Rattle.std.specs.Bool.{MatchBool}
 use Rattle.std.specs.Result.{result_map_both}
 use Rattle.std.specs.Str.{str_eq_ignore_ascii_case}
 use Rattle.cpe_name.specs.declared.name.Values.{Values}
 use Rattle.cpe_name.specs.Text.{output_text}
+use Rattle.cpe_name.specs.Binding.{SaysBy, PutsBy}
 use Rattle.cpe_fs.specs.Grammar.{Fs, LeavesAt}
 use Rattle.cpe_fs.specs.Unbound.{read_fs}
 use Rattle.cpe_fs.specs.declared.FsFault.{FsFault}
@@ -19,21 +20,21 @@ abbrev pub begins_as_uri : List ℕ → Bool
 begins_as_uri s = str_eq_ignore_ascii_case (take 5 s) (codes "cpe:/")
 
 -- the name has this text: as its URI where it begins as one, else as its formatted string
-abbrev pub Bound : Values → List ℕ → Type 0
-Bound w s = MatchBool (begins_as_uri s) (Uri w s) (Fs w s)
+abbrev pub UriOrFs : Values → List ℕ → Type 0
+UriOrFs w s = MatchBool (begins_as_uri s) (Uri w s) (Fs w s)
 
 -- some name has it
-abbrev pub IsBound : List ℕ → Type 0
-IsBound s = (w : Values) × Bound w s
+abbrev pub IsUriOrFs : List ℕ → Type 0
+IsUriOrFs s = (w : Values) × UriOrFs w s
 
 -- no name has this text, and this is its place in that grammar
-abbrev pub LeavesBound : List ℕ → ℕ → Type 0
-LeavesBound s place = MatchBool (begins_as_uri s) (LeavesUri s place) (LeavesAt s place)
+abbrev pub LeavesUriOrFs : List ℕ → ℕ → Type 0
+LeavesUriOrFs s place = MatchBool (begins_as_uri s) (LeavesUri s place) (LeavesAt s place)
 
 -- what a fault says of a text; want of memory comes only where some name has it
-abbrev pub RefusesBound : UriFault → List ℕ → Type 0
-RefusesBound (fault.At place) s = LeavesBound s place
-RefusesBound fault.Memory s = IsBound s
+abbrev pub RefusesUriOrFs : UriFault → List ℕ → Type 0
+RefusesUriOrFs (fault.At place) s = LeavesUriOrFs s place
+RefusesUriOrFs fault.Memory s = IsUriOrFs s
 
 -- the fault of a formatted string, as that of a text in either binding
 abbrev pub same_fault : FsFault → UriFault
@@ -41,16 +42,12 @@ same_fault (fs_fault.At place) = fault.At place
 same_fault fs_fault.Memory = fault.Memory
 
 -- the name that has this text has this output text
-pub record SaysAny (s text : List ℕ) : Type 0 where
-  pub name : Values
-  pub has : Bound name s
-  pub is : text ≡ output_text name
+abbrev pub SaysAny : List ℕ → List ℕ → Type 0
+SaysAny s text = SaysBy UriOrFs output_text s text
 
 -- the same text behind what stood before
-pub record WritesAny (s old new : List ℕ) : Type 0 where
-  pub name : Values
-  pub has : Bound name s
-  pub written : new ≡ old ++ output_text name
+abbrev pub WritesAny : List ℕ → List ℕ → List ℕ → Type 0
+WritesAny s old new = PutsBy UriOrFs output_text s old new
 
 -- the name that has the text as the one or the other, or the place; `read_any_is` fixes it
 unfoldable pub read_any : List ℕ → Result Values ℕ

@@ -14,6 +14,9 @@ use Rattle.cpe_uri.specs.declared.UriFault.TheVariants as fault
 use Rattle.cpe_uri.specs.Spelling.{Stands}
 use Rattle.cpe_uri.specs.Canon.{extended}
 
+abbrev pub is_colon : ℕ → Bool
+is_colon c = c == 58
+
 -- ---- the component of the edition
 
 abbrev pub is_tilde : ℕ → Bool

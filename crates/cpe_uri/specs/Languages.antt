@@ -1,10 +1,11 @@
--- The scanners of the parts and the languages of a URI, as the code goes over them. No public clause rests on it.
+-- The scanners of the parts and the languages of a URI, as the code goes over them. Of the public words `read_uri` alone rests on
+-- them, and what stands on it; `read_uri_is` fixes it by the grammar.
 use Rattle.std.specs.Prelude.{ℕ, Bool, ◌||◌, ◌==◌, codes}
 use Rattle.std.specs.Char.{to_ascii_lowercase}
-use Rattle.cpe_grammar.specs.Scanners.{Scanner, ◌>>=◌, both, choose, nothing, one, literal}
+use Rattle.cpe_grammar.specs.Scanners.{Scanner, ◌>>=◌, choose, nothing, one, literal}
 use Rattle.cpe_values.specs.Spelling.{is_letter}
 use Rattle.cpe_name.specs.Shapes.{is_part_letter}
-use Rattle.cpe_name.specs.Tags.{letters_end, code_end, third_end}
+use Rattle.cpe_name.specs.Tags.{tag_end}
 
 -- ---- parts
 
@@ -37,17 +38,9 @@ percent_hyphen_end s = literal (codes "%2") s >>= one is_last_digit
 unfoldable pub hyphen_end : Scanner
 hyphen_end s = choose is_hyphen (one is_hyphen) percent_hyphen_end s
 
--- a hyphen and a code, or nothing
-unfoldable pub region_end : Scanner
-region_end s = choose begins_hyphen (both hyphen_end code_end) nothing s
-
--- two letters or three, and a region
-unfoldable pub tag_end : Scanner
-tag_end s = letters_end s >>= third_end >>= region_end
-
 -- a language tag, or nothing
 unfoldable pub tag_or_nothing_end : Scanner
-tag_or_nothing_end s = choose is_letter tag_end nothing s
+tag_or_nothing_end s = choose is_letter (tag_end begins_hyphen hyphen_end) nothing s
 
 -- nothing, `-`, or a language tag
 unfoldable pub language_end : Scanner

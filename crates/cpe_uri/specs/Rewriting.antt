@@ -1,8 +1,7 @@
--- The text of a well-formed name, made from where its values lie in its URI, form by form. Of the public words `read_uri` alone
+-- The text of a value, made from where it lies in a URI, form by form. Of the public words `read_uri` alone
 -- rests on it.
 use Rattle.std.specs.Prelude.{ℕ, ◌+◌, ◌*◌, ◌%◌, Bool, false, ◌||◌, ◌==◌, if◌then◌else◌, List, [], ◌∷◌, ◌++◌, length, codes}
 use Rattle.std.specs.Char.{to_ascii_lowercase}
-use Rattle.cpe_name.specs.declared.scan.Written.{Written}
 use Rattle.cpe_uri.specs.Spelling.{hex_value}
 
 -- the code of two hexadecimal digits; the remainder is for other bytes alone
@@ -16,6 +15,9 @@ code_text c = if c == 1 then 63 ∷ [] else (if c == 2 then 42 ∷ [] else 92 �
 -- what gets a backslash though it stands bare in a URI
 abbrev pub is_requoted : ℕ → Bool
 is_requoted b = b == 46 || b == 45 || b == 126
+
+abbrev pub backslashes : ℕ → ℕ
+backslashes b = if is_requoted b then 1 else 0
 
 -- a bare byte, in lower case
 abbrev pub bare_text : ℕ → List ℕ
@@ -40,15 +42,3 @@ is_hyphen (c ∷ d ∷ s) = false
 -- nothing and `-` alone have words
 unfoldable pub span_text : List ℕ → List ℕ
 span_text s = if length s == 0 then codes "ANY" else (if is_hyphen s then codes "NA" else in_quotes s)
-
--- a key, and the text of a value
-unfoldable pub attribute_bytes : List ℕ → List ℕ → List ℕ
-attribute_bytes key s = key ++ span_text s
-
--- the whole text
-abbrev pub spans_text : Written → List ℕ
-spans_text c =
-    attribute_bytes (codes "wfn:[part=") c.part.now ++ attribute_bytes (codes ",vendor=") c.vendor.now ++ attribute_bytes (codes ",product=") c.product.now
-    ++ attribute_bytes (codes ",version=") c.version.now ++ attribute_bytes (codes ",update=") c.update.now ++ attribute_bytes (codes ",edition=") c.edition.now
-    ++ attribute_bytes (codes ",language=") c.language.now ++ attribute_bytes (codes ",sw_edition=") c.sw_edition.now ++ attribute_bytes (codes ",target_sw=") c.target_sw.now
-    ++ attribute_bytes (codes ",target_hw=") c.target_hw.now ++ attribute_bytes (codes ",other=") c.other.now ++ codes "]"

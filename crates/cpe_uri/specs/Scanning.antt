@@ -1,13 +1,12 @@
 -- The scanner of whole URIs, as the code goes over them. Of the public words `read_uri` alone rests on it, and `read_uri_is` fixes
 -- it by the grammar.
-use Rattle.std.specs.Prelude.{ℕ, List, [], ◌∷◌, false, true, ◌==◌, codes, Ok}
+use Rattle.std.specs.Prelude.{ℕ, zero, suc, List, [], ◌∷◌, false, true, ◌==◌, codes, Ok}
 use Rattle.std.specs.Char.{to_ascii_lowercase}
 use Rattle.cpe_grammar.specs.Scanners.{Scanner, ◌>>=◌, both, choose, nothing, ending, one}
 use Rattle.cpe_name.specs.declared.attribute.Attribute.{Attribute}
 use Rattle.cpe_name.specs.declared.attribute.Attribute.TheVariants.{Part, Vendor, Product, Version, Update, Edition, Language, SwEdition, TargetSw, TargetHw, Other}
-use Rattle.cpe_uri.specs.Grammar.{is_tilde}
-use Rattle.cpe_uri.specs.Pieces.{is_colon}
-use Rattle.cpe_uri.specs.Reading.{text_end}
+use Rattle.cpe_uri.specs.Grammar.{is_tilde, is_colon}
+use Rattle.cpe_uri.specs.TextMachine.{text_end}
 use Rattle.cpe_uri.specs.Languages.{part_end, language_end}
 
 -- ---- editions
@@ -16,9 +15,13 @@ use Rattle.cpe_uri.specs.Languages.{part_end, language_end}
 unfoldable pub field_end : Scanner
 field_end s = one is_tilde s >>= text_end true
 
--- five of them
+-- so many of them
+abbrev pub fields_end : ℕ → Scanner
+fields_end zero s = Ok s
+fields_end (suc n) s = field_end s >>= fields_end n
+
 unfoldable pub packed_end : Scanner
-packed_end s = field_end s >>= field_end >>= field_end >>= field_end >>= field_end
+packed_end s = fields_end 5 s
 
 -- packed, or the edition alone
 unfoldable pub edition_end : Scanner

@@ -1,5 +1,6 @@
 -- The value that stands in a piece of a URI: one value at most does. Of the public words `read_uri` alone rests on it.
-use Rattle.std.specs.Prelude.{ℕ, ◌==◌, List, [], ◌∷◌, length, if◌then◌else◌}
+use Rattle.std.specs.Prelude.{ℕ, ◌==◌, List, length, if◌then◌else◌}
+use Rattle.std.specs.List.{AllByRecursion}
 use Rattle.cpe_values.specs.declared.value.Value.{Value}
 use Rattle.cpe_values.specs.declared.value.Value.TheVariants as value
 use Rattle.cpe_values.specs.Values.{IsValue}
@@ -18,5 +19,4 @@ pub record IsSpan (s : List ℕ) : Type 0 where
 
 -- in each of them
 abbrev pub AreSpans : List (List ℕ) → Type 0
-AreSpans [] = Unit {0}
-AreSpans (u ∷ us) = IsSpan u × AreSpans us
+AreSpans us = AllByRecursion IsSpan us

@@ -1,33 +1,30 @@
 -- What a text says as a URI: the name that has it and the output text of that name, or its place where no name has it.
-use Rattle.std.specs.Prelude.{◌≡◌, ℕ, ◌-◌, List, ◌++◌, length, map, Result, Ok, Err}
+use Rattle.std.specs.Prelude.{ℕ, List, map, Result}
 use Rattle.std.specs.Result.{result_map_both}
 use Rattle.cpe_name.specs.declared.name.Values.{Values}
-use Rattle.cpe_name.specs.Equal.{named}
+use Rattle.cpe_name.specs.Names.{named}
 use Rattle.cpe_name.specs.Text.{output_text}
+use Rattle.cpe_name.specs.Binding.{SaysBy, PutsBy, read_by}
 use Rattle.cpe_uri.specs.Grammar.{Uri}
 use Rattle.cpe_uri.specs.Pieces.{pieces}
 use Rattle.cpe_uri.specs.Scanning.{whole_end}
 use Rattle.cpe_uri.specs.SpanValues.{value_at}
 
 -- the name that has this URI has this output text
-pub record SaysUri (s text : List ℕ) : Type 0 where
-  pub name : Values
-  pub uri : Uri name s
-  pub is : text ≡ output_text name
+abbrev pub SaysUri : List ℕ → List ℕ → Type 0
+SaysUri s text = SaysBy Uri output_text s text
 
 -- the same text behind what stood before
-pub record WritesUnbound (s old new : List ℕ) : Type 0 where
-  pub name : Values
-  pub uri : Uri name s
-  pub written : new ≡ old ++ output_text name
+abbrev pub WritesUnbound : List ℕ → List ℕ → List ℕ → Type 0
+WritesUnbound s old new = PutsBy Uri output_text s old new
 
-abbrev name_found : List ℕ → Result (List ℕ) ℕ → Result Values ℕ
-name_found s (Ok rest) = Ok (named (map value_at (pieces s)))
-name_found s (Err left) = Err (length s - left)
+-- the values of the pieces of a URI
+abbrev pub name_of : List ℕ → Values
+name_of s = named (map value_at (pieces s))
 
 -- the name that has this URI, or the place; `read_uri_is` fixes it
 unfoldable pub read_uri : List ℕ → Result Values ℕ
-read_uri s = name_found s (whole_end s)
+read_uri s = read_by whole_end name_of s
 
 -- the text of that name, or the place; `unbound_uri_is` fixes it
 unfoldable pub unbound_uri : List ℕ → Result (List ℕ) ℕ

@@ -11,7 +11,7 @@ use cpe_name::{Attribute, Wfn};
 use cpe_values::{Edge, Memory, Style, Value, is_bare_byte};
 use std::alloc::Global;
 
-/// The attributes with components of their own between the first and that of the edition.
+// These have components of their own, between those of the part and of the edition.
 const MIDDLE: [Attribute; 4] = [
     Attribute::Vendor,
     Attribute::Product,
@@ -19,7 +19,7 @@ const MIDDLE: [Attribute; 4] = [
     Attribute::Update,
 ];
 
-/// The attributes that names of CPE 2.2 don't have.
+// Names of CPE 2.2 don't have these: they are packed with the edition.
 const EXTENDED: [Attribute; 4] = [
     Attribute::SwEdition,
     Attribute::TargetSw,
@@ -83,7 +83,6 @@ fn push_component(out: &mut Vec<u8>, value: &Value) -> Result<(), Memory>
     }
 }
 
-// The byte and a component for each attribute.
 fn push_each(out: &mut Vec<u8>, before: u8, name: &Wfn, which: &[Attribute]) -> Result<(), Memory>
     ensures { OnOk result (out.new.items ≡ out.old.items ++ flat_map (λ a. before ∷ component (value_of name.now a)) which.now) }
 {
@@ -118,7 +117,7 @@ fn push_edition(out: &mut Vec<u8>, name: &Wfn) -> Result<(), Memory>
     push_each(out, b'~', name, &EXTENDED)
 }
 
-// The URI with the colons at its end.
+// Leaves the colons at the end, which the canonical URI doesn't have.
 fn push_components(out: &mut Vec<u8>, name: &Wfn) -> Result<(), Memory>
     ensures { OnOk result (out.new.items ≡ out.old.items ++ codes "cpe:/" ++ join_with_byte 58 (components name.now)) }
 {

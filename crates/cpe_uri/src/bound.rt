@@ -20,14 +20,14 @@ fn code_from(quoted: bool, byte: u8) -> u8
     }
 }
 
-/// Whether a byte is written in its percent form: one that doesn't stand bare and isn't dropped.
+// Takes the count in place of the byte, which is looked up once; a quoted backslash has the count of a dropped one.
 fn is_coded(quoted: bool, count: u8) -> bool
     ensures { result ≡ is_coded quoted count }
 {
     count < u8::from(quoted) || count > 1
 }
 
-/// Puts a byte that stands bare, or none of a backslash that is dropped. It is always written: no branch depends on which it is.
+// The byte is always written, and a dropped backslash is written over by the next: no branch depends on which it is.
 fn put_kept(room: &mut [u8], at: usize, byte: u8, count: u8) -> usize
     requires room { at + 1 ≤ length room.old }
     requires most { count ≤ 1 }
@@ -39,7 +39,7 @@ fn put_kept(room: &mut [u8], at: usize, byte: u8, count: u8) -> usize
     at + usize::from(count)
 }
 
-/// Puts the spelling of a byte, and tells whether it quotes the byte behind it.
+// Tells beside the place whether the byte quotes the one behind it.
 fn put_spelled(room: &mut [u8], at: usize, quoted: bool, byte: u8) -> (usize, bool)
     requires { at + 3 ≤ length room.old }
     ensures at { result.0 ≤ at + 3 }
@@ -76,7 +76,7 @@ fn but_last(bytes: &[u8]) -> &[u8]
     &bytes[..bytes.len().saturating_sub(1)]
 }
 
-/// Puts the component of the value that has this text.
+// The first byte tells: a text begins with a double quote, NA with its N, and what is empty or begins otherwise is ANY.
 #[tactic(auto, unfolding(crate::specs::Requoting::component_from))]
 fn put_component(room: &mut [u8], at: usize, text: &[u8]) -> usize
     requires { at + 3 * length text.now ≤ length room.old }
@@ -91,7 +91,6 @@ fn put_component(room: &mut [u8], at: usize, text: &[u8]) -> usize
     }
 }
 
-/// Puts the prefix and the component of the first value.
 #[tactic(auto, unfolding(crate::specs::Requoting::first_from))]
 fn put_first(room: &mut [u8], at: usize, text: &[u8]) -> usize
     requires { at + 5 + 3 * length text.now ≤ length room.old }
@@ -103,7 +102,6 @@ fn put_first(room: &mut [u8], at: usize, text: &[u8]) -> usize
     put_component(room, at, text)
 }
 
-/// Puts a byte and the component of a value.
 #[tactic(auto, unfolding(crate::specs::Requoting::behind))]
 fn put_behind(room: &mut [u8], at: usize, before: u8, text: &[u8]) -> usize
     requires { at + 1 + 3 * length text.now ≤ length room.old }
@@ -130,7 +128,6 @@ fn is_edition_alone(written: &Written) -> bool
         && says_any(written.other)
 }
 
-/// Puts the edition and the attributes that names of CPE 2.2 don't have, a tilde before each.
 fn put_packed(room: &mut [u8], at: usize, written: &Written) -> usize
     requires { at + 3 * (length written.now.edition.now + total_length (extended_texts written.now)) + 5 ≤ length room.old }
     ensures at { result ≤ at + 3 * (length written.now.edition.now + total_length (extended_texts written.now)) + 5 }
@@ -144,7 +141,6 @@ fn put_packed(room: &mut [u8], at: usize, written: &Written) -> usize
     put_behind(room, at, b'~', written.other)
 }
 
-/// Puts a colon and the component of the edition.
 #[tactic(auto, unfolding(crate::specs::Requoting::edition_from))]
 fn put_edition(room: &mut [u8], at: usize, written: &Written) -> usize
     requires { at + 3 * (length written.now.edition.now + total_length (extended_texts written.now)) + 6 ≤ length room.old }
@@ -159,7 +155,7 @@ fn put_edition(room: &mut [u8], at: usize, written: &Written) -> usize
     put_packed(room, at, written)
 }
 
-/// Puts the URI with the colons at its end: `cpe:/`, six colons and five tildes at most stand beside the values.
+// Sixteen bytes at most stand beside the values: `cpe:/`, six colons and five tildes.
 fn put_components(room: &mut [u8], at: usize, written: &Written) -> usize
     requires { at + 3 * total_length (texts written.now) + 16 ≤ length room.old }
     ensures at { result ≤ at + 3 * total_length (texts written.now) + 16 }
@@ -175,7 +171,6 @@ fn put_components(room: &mut [u8], at: usize, written: &Written) -> usize
     put_behind(room, at, b':', written.language)
 }
 
-/// Puts the canonical URI of the name whose values have these texts.
 pub(crate) fn put_uri(room: &mut [u8], at: usize, written: &Written) -> usize
     requires { at + 3 * total_length (texts written.now) + 16 ≤ length room.old }
     ensures at { result ≤ at + 3 * total_length (texts written.now) + 16 }

@@ -1,7 +1,32 @@
-//! URIs, the binding of well-formed names that CPE 2.2 had (NIST IR 7695, 6.1).
+//! URIs, the binding of well-formed names that CPE 2.2 had (NIST IR 7695, 6.1), and texts in either binding.
+//!
+//! Each name has one canonical URI, as the standard binds it (6.1.2): [`bind_uri`] and [`write_bound_uri`] give it, and no other.
+//! Letters, digits, `_`, `.` and `-` stand bare; each other character is a percent sign and its code in two hexadecimal digits with
+//! small letters; the special `?` is `%01`, and `*` is `%02`. Letters stay as they are in the name.
+//!
+//! [`unbind_uri`] and its likes read a URI back (6.1.3). Letters are put in lower case, and a component that is missing is ANY. More
+//! spellings than the canonical one are accepted. Which these are is this project's own rule, and no statement of the standard:
+//!
+//! - the prefix and the part in either case, and hexadecimal digits in either case;
+//! - `%2d` and `%2e` for `-` and `.`;
+//! - a bare `~` for `%7e`, but not in a packed field, nor as the first byte of the component of the edition, where it begins the
+//!   five packed fields;
+//! - empty components at the end, up to seven components in all;
+//! - a packed edition whose last four fields are empty;
+//! - `-` as the part, which is NA there as elsewhere.
+//!
+//! Every other percent form is refused. So are, by rules of this project's own too,
+//!
+//! - `%2d` as a whole component or packed field: it would be the text that is one hyphen, which no value is;
+//! - `%01` and `%02` inside a text: the specials stand at its edges alone.
+//!
+//! The place of a refusal ([`UriFault::At`]) is this project's own as well.
+//!
+//! A text is read as a URI where its first five bytes are `cpe:/` in any letter case, and as a formatted string otherwise
+//! ([`unbind_any`]).
 #![tactic(auto)]
 
-ghost use Rattle.std.specs.Prelude.{◌≡◌, ℕ, List, ◌+◌, ◌*◌, ◌++◌, ◌≤◌, length, take, Some, None, IfSome, MatchOption};
+ghost use Rattle.std.specs.Prelude.{◌≡◌, ℕ, List, ◌+◌, ◌*◌, ◌++◌, ◌≤◌, length, take, Ok, Some, None, IfSome, MatchOption};
 ghost use Rattle.std.specs.Option.{option_map};
 ghost use Rattle.cpe_name.specs.declared.name.Values.{Values};
 ghost use Rattle.cpe_name.specs.WfnText.{WfnText, IsWfnText};
@@ -9,17 +34,15 @@ ghost use Rattle.cpe_uri.specs.Canon.{canon};
 ghost use Rattle.cpe_name.specs.Lower.{lower_name};
 ghost use Rattle.cpe_name.specs.Names.{IsName};
 ghost use Rattle.cpe_uri.specs.Grammar.{Uri};
+ghost use Rattle.cpe_uri.specs.Unbound.{read_uri};
 ghost use Rattle.cpe_uri.specs.Bound.{bound_uri, BindsUri, WritesUri};
 
 mod bind;
-#[cfg(test)]
-mod bind_tests;
 mod bound;
 mod language;
+mod lend;
 mod scan;
 mod spelling;
-#[cfg(test)]
-mod tests;
 mod text;
 mod trim;
 mod unbind;
@@ -30,20 +53,23 @@ use crate::bound::put_uri;
 pub use bind::bind_uri;
 use cpe_name::scan_wfn;
 use cpe_values::Memory;
+pub use lend::{lend_any, lend_uri};
 use thiserror::Error;
 pub use unbind::{
-    unbind_any, unbind_uri, unbound_any_is, unbound_uri_is, write_unbound_any, write_unbound_uri,
+    read_any_is, read_uri_is, unbind_any, unbind_uri, unbound_any_is, unbound_uri_is,
+    write_unbound_any, write_unbound_uri,
 };
 
 /// The bytes that an output text has beside its values: the names of the attributes, the brackets, the commas,
 /// and `ANY` where nothing stands in the URI.
-pub const FRAME: usize = 138;
+pub const UNBOUND_FRAME: usize = 138;
 
 /// Why a text has no name.
 #[derive(Clone, Copy, Debug, PartialEq, Eq, Error)]
 pub enum UriFault {
-    /// It is the URI of no name. The place is the length of its longest front with which some URI begins: at the byte
-    /// behind it the text goes wrong, or it is cut off there.
+    /// No name has this text. The place is the length of its longest front with which some text of its binding begins, a URI, or in
+    /// [`unbind_any`] a formatted string where the text doesn't begin as a URI: at the byte behind it the text goes wrong, or it
+    /// is cut off there.
     #[error("no name has this text: it goes wrong at byte {0}")]
     At(usize),
     /// Memory ran out.
@@ -100,5 +126,6 @@ pub fn bound_uri_is()
 /// [`unbind_uri`] gives the name in lower case of what [`bind_uri`] wrote.
 pub fn one_name()
     ensures canonical { (name : Values) → IsName name → Uri (lower_name name) (canon name) }
+    ensures back { (name : Values) → IsName name → read_uri (canon name) ≡ Ok (lower_name name) }
     ensures name { (a b : Values) (text : List ℕ) → Uri a text → Uri b text → a ≡ b }
 {}

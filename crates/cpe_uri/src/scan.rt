@@ -1,21 +1,22 @@
 // Where the values of a name lie in its URI (NIST IR 7695, 6.1). Nothing here takes memory.
-ghost use Rattle.std.specs.Prelude.{◌≡◌, ◌-◌, ◌==◌, List, ℕ, false, true, length, take, [], codes, Ok, Err, IfOk, IfErr};
+ghost use Rattle.std.specs.Prelude.{◌≡◌, ◌-◌, ◌==◌, List, ℕ, false, true, length, take, drop, [], ◌∷◌, codes, Ok, Err, IfOk, IfErr};
 ghost use Rattle.std.specs.Char.{to_ascii_lowercase};
 ghost use Rattle.cpe_grammar.specs.Scanners.{Tells, one};
-ghost use Rattle.cpe_name.specs.declared.attribute.Attribute.TheVariants.{Part, Language};
+ghost use Rattle.cpe_name.specs.Spans.{texts};
 ghost use Rattle.cpe_uri.specs.Grammar.{begins_with_tilde};
 ghost use Rattle.cpe_uri.specs.Languages.{part_end, language_end};
-ghost use Rattle.cpe_uri.specs.Reading.{text_end};
+ghost use Rattle.cpe_uri.specs.TextMachine.{text_end};
+ghost use Rattle.cpe_uri.specs.Editions.{edition_texts};
 ghost use Rattle.cpe_uri.specs.Scanning.{field_end, packed_end, edition_end, later_end, prefix_end, all_end, whole_end};
-ghost use Rattle.cpe_uri.specs.Spans.{IsComponent, AreComponents, LeavesWith};
-ghost use Rattle.cpe_uri.specs.Found.{IsTextComponent, Piece, FieldPiece, begins_with_colon, Later, EditionFound, EditionLater, Pieces};
+ghost use Rattle.cpe_uri.specs.Spans.{AreComponents, LeavesWith};
+ghost use Rattle.cpe_uri.specs.Pieces.{front_before, piece, begins_with_colon, behind_colon, field_pieces, edition_pieces, all_pieces};
 
 use crate::language::{scan_language, scan_part};
 use crate::text::scan_text;
 use cpe_grammar::{front_of, scan_byte};
 use cpe_name::Written;
 
-/// Where the values of a packed edition lie, or the edition alone and nothing for the others.
+// Where the values lie in the component of the edition: five in a packed one, else the edition and nothing for the others.
 #[derive(Clone, Copy)]
 pub(crate) struct Editions<'a> {
     pub edition: &'a [u8],
@@ -37,48 +38,43 @@ fn is_at_tilde(bytes: &[u8]) -> bool
     matches!(bytes, [b'~', ..])
 }
 
-/// A part, and what is left behind it.
 fn part_piece(bytes: &[u8]) -> Result<(&[u8], &[u8]), usize>
     ensures told { Tells (λ x. x.1.now) result (part_end bytes.now) }
-    ensures found { IfOk result (λ x. Piece (IsComponent Part) bytes.now x.0.now x.1.now) }
+    ensures found { IfOk result (λ x. x.0.now ≡ front_before bytes.now x.1.now) }
 {
     let rest = scan_part(bytes)?;
     Ok((front_of(bytes, rest), rest))
 }
 
-/// A component of ANY, NA or a text, and what is left behind it.
 fn text_piece(packed: bool, bytes: &[u8]) -> Result<(&[u8], &[u8]), usize>
     ensures told { Tells (λ x. x.1.now) result (text_end packed bytes.now) }
-    ensures found { IfOk result (λ x. Piece (IsTextComponent packed) bytes.now x.0.now x.1.now) }
+    ensures found { IfOk result (λ x. x.0.now ≡ front_before bytes.now x.1.now) }
 {
     let rest = scan_text(packed, bytes)?;
     Ok((front_of(bytes, rest), rest))
 }
 
-/// A language, and what is left behind it.
 fn language_piece(bytes: &[u8]) -> Result<(&[u8], &[u8]), usize>
     ensures told { Tells (λ x. x.1.now) result (language_end bytes.now) }
-    ensures found { IfOk result (λ x. Piece (IsComponent Language) bytes.now x.0.now x.1.now) }
+    ensures found { IfOk result (λ x. x.0.now ≡ front_before bytes.now x.1.now) }
 {
     let rest = scan_language(bytes)?;
     Ok((front_of(bytes, rest), rest))
 }
 
-/// A tilde and a packed field: the field, and what is left behind it.
 #[tactic(auto, unfolding(crate::specs::Scanning::field_end))]
 fn field_piece(bytes: &[u8]) -> Result<(&[u8], &[u8]), usize>
     ensures told { Tells (λ x. x.1.now) result (field_end bytes.now) }
-    ensures found { IfOk result (λ x. FieldPiece bytes.now x.0.now x.1.now) }
+    ensures found { IfOk result (λ x. x.0.now ≡ piece (text_end true) (drop 1 bytes.now)) }
 {
     let start = scan_byte(b'~', bytes)?;
     text_piece(true, start)
 }
 
-/// Five packed fields, and what is left behind them.
 #[tactic(auto, unfolding(crate::specs::Scanning::packed_end))]
 fn packed_pieces(bytes: &[u8]) -> Result<(Editions, &[u8]), usize>
     ensures told { Tells (λ x. x.1.now) result (packed_end bytes.now) }
-    ensures found { IfOk result (λ x. EditionFound bytes.now x.0 x.1.now) }
+    ensures found { IfOk result (λ x. edition_texts x.0 ≡ field_pieces 5 bytes.now) }
 {
     let (edition, rest) = field_piece(bytes)?;
     let (sw_edition, rest) = field_piece(rest)?;
@@ -95,10 +91,8 @@ fn packed_pieces(bytes: &[u8]) -> Result<(Editions, &[u8]), usize>
     Ok((editions, rest))
 }
 
-/// The edition alone.
 fn alone(edition: &[u8]) -> Editions
-    ensures edition { result.edition.now ≡ edition.now }
-    ensures others { (result.sw_edition.now ≡ []) × (result.target_sw.now ≡ []) × (result.target_hw.now ≡ []) × (result.other.now ≡ []) }
+    ensures { edition_texts result ≡ edition.now ∷ [] ∷ [] ∷ [] ∷ [] ∷ [] }
 {
     Editions {
         edition,
@@ -109,21 +103,20 @@ fn alone(edition: &[u8]) -> Editions
     }
 }
 
-/// An edition alone, and what is left behind it.
 fn lone_edition(bytes: &[u8]) -> Result<(Editions, &[u8]), usize>
     requires { begins_with_tilde bytes.now ≡ false }
     ensures told { Tells (λ x. x.1.now) result (text_end false bytes.now) }
-    ensures found { IfOk result (λ x. EditionFound bytes.now x.0 x.1.now) }
+    ensures found { IfOk result (λ x. edition_texts x.0 ≡ edition_pieces bytes.now) }
 {
     let (edition, rest) = text_piece(false, bytes)?;
     Ok((alone(edition), rest))
 }
 
-/// The component of the edition, and what is left behind it.
+// The first byte decides: the component is packed exactly where it is a tilde.
 #[tactic(auto, unfolding(crate::specs::Scanning::edition_end))]
 fn edition_pieces(bytes: &[u8]) -> Result<(Editions, &[u8]), usize>
     ensures told { Tells (λ x. x.1.now) result (edition_end bytes.now) }
-    ensures found { IfOk result (λ x. EditionFound bytes.now x.0 x.1.now) }
+    ensures found { IfOk result (λ x. edition_texts x.0 ≡ edition_pieces bytes.now) }
 {
     if is_at_tilde(bytes) {
         packed_pieces(bytes)
@@ -132,11 +125,11 @@ fn edition_pieces(bytes: &[u8]) -> Result<(Editions, &[u8]), usize>
     }
 }
 
-/// A colon and a component, or nothing: the component, and what is left behind it.
+// A URI may end before any component but the first, so a missing one is empty, and what is left stays.
 #[tactic(auto, unfolding(crate::specs::Scanning::later_end))]
 fn later_text(bytes: &[u8]) -> Result<(&[u8], &[u8]), usize>
     ensures told { Tells (λ x. x.1.now) result (later_end (text_end false) bytes.now) }
-    ensures found { IfOk result (λ x. Later (IsTextComponent false) bytes.now x.0.now x.1.now) }
+    ensures found { IfOk result (λ x. x.0.now ≡ piece (text_end false) (behind_colon bytes.now)) }
 {
     if !is_at_colon(bytes) {
         return Ok((b"", bytes));
@@ -145,11 +138,10 @@ fn later_text(bytes: &[u8]) -> Result<(&[u8], &[u8]), usize>
     text_piece(false, start)
 }
 
-/// A colon and the component of the edition, or nothing.
 #[tactic(auto, unfolding(crate::specs::Scanning::later_end))]
 fn later_edition(bytes: &[u8]) -> Result<(Editions, &[u8]), usize>
     ensures told { Tells (λ x. x.1.now) result (later_end edition_end bytes.now) }
-    ensures found { IfOk result (λ x. EditionLater bytes.now x.0 x.1.now) }
+    ensures found { IfOk result (λ x. edition_texts x.0 ≡ edition_pieces (behind_colon bytes.now)) }
 {
     if !is_at_colon(bytes) {
         return Ok((alone(b""), bytes));
@@ -158,11 +150,10 @@ fn later_edition(bytes: &[u8]) -> Result<(Editions, &[u8]), usize>
     edition_pieces(start)
 }
 
-/// A colon and a language, or nothing: the language, and what is left behind it.
 #[tactic(auto, unfolding(crate::specs::Scanning::later_end))]
 fn later_language(bytes: &[u8]) -> Result<(&[u8], &[u8]), usize>
     ensures told { Tells (λ x. x.1.now) result (later_end language_end bytes.now) }
-    ensures found { IfOk result (λ x. Later (IsComponent Language) bytes.now x.0.now x.1.now) }
+    ensures found { IfOk result (λ x. x.0.now ≡ piece language_end (behind_colon bytes.now)) }
 {
     if !is_at_colon(bytes) {
         return Ok((b"", bytes));
@@ -171,11 +162,10 @@ fn later_language(bytes: &[u8]) -> Result<(&[u8], &[u8]), usize>
     language_piece(start)
 }
 
-/// All components, and what is left behind them.
 #[tactic(auto, unfolding(crate::specs::Scanning::all_end))]
 fn all_pieces(bytes: &[u8]) -> Result<(Written, &[u8]), usize>
     ensures told { Tells (λ x. x.1.now) result (all_end bytes.now) }
-    ensures found { IfOk result (λ x. Pieces bytes.now x.0 x.1.now) }
+    ensures found { IfOk result (λ x. texts x.0 ≡ all_pieces bytes.now) }
 {
     let (part, rest) = part_piece(bytes)?;
     let (vendor, rest) = later_text(rest)?;
@@ -209,7 +199,6 @@ fn scan_in_either_case(expected: u8, bytes: &[u8]) -> Result<&[u8], usize>
     }
 }
 
-/// Behind the bytes that are expected, letters in either case.
 fn scan_prefix<'a>(expected: &[u8], bytes: &'a [u8]) -> Result<&'a [u8], usize>
     ensures { Tells (λ rest. rest.now) result (prefix_end expected.now bytes.now) }
 {
@@ -220,8 +209,8 @@ fn scan_prefix<'a>(expected: &[u8], bytes: &'a [u8]) -> Result<&'a [u8], usize>
     Ok(rest)
 }
 
-/// Where the values of a name lie in its URI, or how many bytes are left where the text leaves the grammar.
-#[tactic(auto, using(crate::proofs::FoundLemmas::start_leaves, crate::proofs::FoundLemmas::pieces_leave))]
+// An error is the number of bytes that are left: no scanner knows where in the text it began.
+#[tactic(auto, using(crate::proofs::Scanned::start_leaves, crate::proofs::Scanned::pieces_leave))]
 pub(crate) fn scan_uri(text: &[u8]) -> Result<Written, usize>
     ensures found { IfOk result (AreComponents text.now) }
     ensures refused { IfErr result (LeavesWith text.now) }

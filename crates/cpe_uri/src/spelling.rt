@@ -3,7 +3,7 @@ ghost use Rattle.std.specs.Prelude.{◌≡◌, ◌<◌};
 ghost use Rattle.cpe_uri.specs.Spelling.{hex_digit, hex_value, percent};
 ghost use Rattle.cpe_uri.specs.Requoting.{unquoted_length};
 
-/// How many bytes an unquoted byte gives: none for a backslash, one where it stands bare, three of a percent form.
+// How many bytes an unquoted byte gives: none for a backslash, one where it stands bare, three of a percent form.
 #[rattlefmt::skip]
 const LENGTHS: [u8; 256] = [
     3, 3, 3, 3, 3, 3, 3, 3, 3, 3, 3, 3, 3, 3, 3, 3, 3, 3, 3, 3, 3, 3, 3, 3, 3, 3, 3, 3, 3, 3, 3, 3,
@@ -18,7 +18,6 @@ const LENGTHS: [u8; 256] = [
 
 const DIGITS: &[u8; 16] = b"0123456789abcdef";
 
-/// How many bytes an unquoted byte gives.
 #[tactic(auto, using(crate::proofs::Tables::length_at))]
 pub(crate) fn unquoted_length(byte: u8) -> u8
     ensures { result ≡ unquoted_length byte }
@@ -34,14 +33,13 @@ fn hex_digit(number: u8) -> u8
     DIGITS[usize::from(number)]
 }
 
-/// A percent sign, and a code in two digits with small letters.
 pub(crate) fn percent_form(code: u8) -> [u8; 3]
     ensures { result ≡ percent code }
 {
     [b'%', hex_digit(code / 16), hex_digit(code % 16)]
 }
 
-/// The number of a hexadecimal digit, its letters in either case.
+// Of another byte it is any number: the caller knows that it is a digit, or doesn't care.
 pub(crate) fn hex_value(byte: u8) -> u8
     ensures { result ≡ hex_value byte }
 {

@@ -3,40 +3,42 @@ ghost use Rattle.std.specs.Prelude.{◌≡◌, ◌≤◌, Bool, length};
 ghost use Rattle.cpe_grammar.specs.Scanners.{Tells};
 ghost use Rattle.cpe_values.specs.Parts.{is_character};
 ghost use Rattle.cpe_uri.specs.Spelling.{is_hex, hex_value, has_percent_form};
-ghost use Rattle.cpe_uri.specs.Reading.{after_mark, after_star, takes_character, is_start, after_character, next, is_over, stands_bare, takes_special, takes_digit, after_bare, after_percent, after_digit, after_code, step, may_end, is_in_body, finished, read_from, text_end};
+ghost use Rattle.cpe_uri.specs.declared.text.Stage.TheVariants.{Start};
+ghost use Rattle.cpe_uri.specs.declared.text.State.TheVariants.{Whole};
+ghost use Rattle.cpe_uri.specs.TextMachine.{after_mark, after_star, takes_character, is_start, after_character, next, is_over, stands_bare, takes_special, takes_digit, after_bare, after_percent, after_digit, after_code, step, may_end, is_in_body, begins_body, finished, read_from, text_end};
 
 use crate::spelling::hex_value;
 use cpe_values::{Style, is_bare_byte, skip_bare};
 
-/// How much of a component was read.
+// How much of a component was read, as far as it decides what may follow.
 #[derive(Clone, Copy)]
 pub(crate) enum Stage {
-    /// Nothing.
+    // nothing
     Start,
-    /// A bare hyphen, which is NA where the component ends.
+    // a bare hyphen, which is NA where the component ends
     Na,
-    /// A hyphen in its percent form, which is no component alone.
+    // a hyphen in its percent form, which is no component alone
     Hyphen,
-    /// An asterisk before the body.
+    // an asterisk before the body
     LeadStar,
-    /// So many question marks before the body.
+    // so many question marks before the body
     LeadMarks(u32),
-    /// Some of the body.
+    // some of the body
     Body,
-    /// So many question marks after the body.
+    // so many question marks after the body
     TrailMarks(u32),
-    /// An asterisk after the body.
+    // an asterisk after the body
     TrailStar,
 }
 
-/// The same, and how much of a percent form.
+// The same, and how much of a percent form.
 #[derive(Clone, Copy)]
 pub(crate) enum State {
-    /// Nothing of one.
+    // nothing of one
     Whole(Stage),
-    /// The percent sign.
+    // the percent sign
     Percent(Stage),
-    /// The percent sign and a digit of this number.
+    // the percent sign and a digit of this number
     Half(Stage, u8),
 }
 
@@ -187,7 +189,6 @@ fn is_hex_byte(byte: u8) -> bool
     matches!(byte, b'0'..=b'9' | b'A'..=b'F' | b'a'..=b'f')
 }
 
-/// One byte more, in a packed field or not.
 fn step(packed: bool, state: State, byte: u8) -> Option<State>
     ensures { result ≡ step packed state byte }
 {
@@ -224,13 +225,19 @@ fn finish(state: State, rest: &[u8]) -> Result<&[u8], usize>
     }
 }
 
+fn begins_body(byte: u8) -> bool
+    ensures { result ≡ begins_body byte }
+{
+    is_bare_byte(Style::Formatted, byte) && byte != b'-'
+}
+
 fn is_in_body(state: State) -> bool
     ensures { result ≡ is_in_body state }
 {
     matches!(state, State::Whole(Stage::Body))
 }
 
-/// What is left behind the bare characters that lead from a body to a body.
+// Bare characters lead from a body to a body, and are passed over many at a time.
 #[inline(always)]
 #[tactic(auto, using(crate::proofs::Components::skip_in_body, crate::proofs::Components::skip_within))]
 fn skip_from(state: State, bytes: &[u8]) -> &[u8]
@@ -244,13 +251,22 @@ fn skip_from(state: State, bytes: &[u8]) -> &[u8]
     }
 }
 
-/// What is left behind a component of ANY, NA or a text, or how many bytes are left where none goes on.
-#[tactic(auto, unfolding(crate::specs::Reading::text_end))]
+// Most components begin with a character that stands bare: the machine then begins behind all of these.
+#[inline(always)]
+fn begin(bytes: &[u8]) -> (State, &[u8])
+    ensures same { (packed : Bool) → read_from packed result.0 result.1.now ≡ read_from packed (Whole Start) bytes.now }
+{
+    match bytes {
+        [byte, tail @ ..] if begins_body(*byte) => (State::Whole(Stage::Body), skip_bare(tail)),
+        _ => (State::Whole(Stage::Start), bytes),
+    }
+}
+
+#[tactic(auto, unfolding(crate::specs::TextMachine::text_end))]
 pub(crate) fn scan_text(packed: bool, bytes: &[u8]) -> Result<&[u8], usize>
     ensures { Tells (λ rest. rest.now) result (text_end packed bytes.now) }
 {
-    let mut state = State::Whole(Stage::Start);
-    let mut rest = bytes;
+    let (mut state, mut rest) = begin(bytes);
     while let [byte, tail @ ..] = rest {
         let Some(next) = step(packed, state, *byte) else {
             return finish(state, rest);

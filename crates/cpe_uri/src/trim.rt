@@ -10,7 +10,6 @@ fn ends_in_colon(text: &[u8], end: usize) -> bool
     end > 0 && text[end - 1] == b':'
 }
 
-/// Where the colons begin that stand at the end of these bytes of a text.
 pub(crate) fn without_colons(text: &[u8], end: usize) -> usize
     requires { end ≤ length text.now }
     ensures within { result ≤ end }

@@ -5,14 +5,14 @@ ghost use Rattle.cpe_name.specs.declared.name.Values.{Values};
 ghost use Rattle.cpe_name.specs.Text.{output_text};
 ghost use Rattle.cpe_uri.specs.Grammar.{Uri, LeavesUri, RefusesUri};
 ghost use Rattle.cpe_uri.specs.Unbound.{read_uri, unbound_uri, SaysUri, WritesUnbound};
-ghost use Rattle.cpe_uri.specs.EitherBinding.{begins_as_uri, Bound, LeavesBound, RefusesBound, SaysFault, read_any, unbound_any, SaysAny, WritesAny};
+ghost use Rattle.cpe_uri.specs.EitherBinding.{begins_as_uri, UriOrFs, LeavesUriOrFs, RefusesUriOrFs, SaysFault, read_any, unbound_any, SaysAny, WritesAny};
 
 use crate::scan::scan_uri;
 use crate::values::values_of;
-use crate::write::put_name;
-use crate::{FRAME, UriFault};
+use crate::write::FromPieces;
+use crate::{UNBOUND_FRAME, UriFault};
 use cpe_fs::{FsFault, unbind_fs, write_unbound};
-use cpe_name::Wfn;
+use cpe_name::{Wfn, put_output};
 use std::alloc::Global;
 
 /// The name that has this URI, in each accepted spelling of it (NIST IR 7695, 6.1.3). The name is in lower case.
@@ -45,7 +45,7 @@ pub fn unbind_uri(alloc: Global, text: &[u8]) -> Result<Wfn, UriFault>
 ///
 /// The place of the text as in [`UriFault::At`], exactly where no name has it; the room is then as it was.
 pub fn write_unbound_uri(room: &mut [u8], at: usize, text: &[u8]) -> Result<usize, usize>
-    requires { at + 2 * length text.now + FRAME ≤ length room.old }
+    requires { at + 2 * length text.now + UNBOUND_FRAME ≤ length room.old }
     // What was written is the text of a name that has this URI.
     ensures found { IfOk result (λ end. WritesUnbound text.now (take at room.old) (take end room.new)) }
     // The text of a name that has this URI is written.
@@ -55,12 +55,12 @@ pub fn write_unbound_uri(room: &mut [u8], at: usize, text: &[u8]) -> Result<usiz
     // The same by a function.
     ensures said { result_map_both (λ end. take end room.new) (λ place. place) result ≡ result_map_both (λ said. take at room.old ++ said) (λ place. place) (unbound_uri text.now) }
 
-    ensures within { IfOk result (λ end. end ≤ at + 2 * length text.now + FRAME) }
+    ensures within { IfOk result (λ end. end ≤ at + 2 * length text.now + UNBOUND_FRAME) }
     ensures length { length room.new ≡ length room.old }
     ensures unchanged { OnErr result (room.new ≡ room.old) }
 {
     match scan_uri(text) {
-        Ok(spans) => Ok(put_name(room, at, &spans)),
+        Ok(spans) => Ok(put_output::<FromPieces>(room, at, &spans)),
         Err(left) => Err(text.len() - left),
     }
 }
@@ -80,8 +80,7 @@ pub fn unbound_uri_is()
     ensures refused { (s : List ℕ) (place : ℕ) → unbound_uri s ≡ Err place → LeavesUri s place }
 {}
 
-/// Whether a text begins as a URI does, with `cpe:/` in any letter case.
-fn begins_as_uri(text: &[u8]) -> bool
+pub(crate) fn begins_as_uri(text: &[u8]) -> bool
     ensures { result ≡ begins_as_uri text.now }
 {
     matches!(
@@ -111,9 +110,9 @@ impl From<FsFault> for UriFault {
 ///
 /// `At` the place exactly where no name has this text, whatever the memory; else `Memory` where memory runs out.
 pub fn unbind_any(alloc: Global, text: &[u8]) -> Result<Wfn, UriFault>
-    ensures found { IfOk result (λ name. Bound name text.now) }
-    ensures only { (name : Values) → Bound name text.now → MatchResult result (λ found. found ≡ name) (λ fault. fault ≡ UriFault.Memory) }
-    ensures refused { IfErr result (λ fault. RefusesBound fault text.now) }
+    ensures found { IfOk result (λ name. UriOrFs name text.now) }
+    ensures only { (name : Values) → UriOrFs name text.now → MatchResult result (λ found. found ≡ name) (λ fault. fault ≡ UriFault.Memory) }
+    ensures refused { IfErr result (λ fault. RefusesUriOrFs fault text.now) }
 
     // The same by a function.
     ensures read { MatchResult result (λ name. read_any text.now ≡ Ok name) (λ fault. SaysFault fault (read_any text.now)) }
@@ -121,11 +120,11 @@ pub fn unbind_any(alloc: Global, text: &[u8]) -> Result<Wfn, UriFault>
     read_either(alloc, text)
 }
 
-// The name that has this text in one binding or the other.
+// Apart from its only caller, so that the clause by a function is proved from these and not from the two ways to read.
 fn read_either(alloc: Global, text: &[u8]) -> Result<Wfn, UriFault>
-    ensures found { IfOk result (λ name. Bound name text.now) }
-    ensures only { (name : Values) → Bound name text.now → MatchResult result (λ found. found ≡ name) (λ fault. fault ≡ UriFault.Memory) }
-    ensures refused { IfErr result (λ fault. RefusesBound fault text.now) }
+    ensures found { IfOk result (λ name. UriOrFs name text.now) }
+    ensures only { (name : Values) → UriOrFs name text.now → MatchResult result (λ found. found ≡ name) (λ fault. fault ≡ UriFault.Memory) }
+    ensures refused { IfErr result (λ fault. RefusesUriOrFs fault text.now) }
 {
     if begins_as_uri(text) {
         return unbind_uri(alloc, text);
@@ -141,17 +140,17 @@ fn read_either(alloc: Global, text: &[u8]) -> Result<Wfn, UriFault>
 ///
 /// The place of the text as in [`UriFault::At`], exactly where no name has it; the room is then as it was.
 pub fn write_unbound_any(room: &mut [u8], at: usize, text: &[u8]) -> Result<usize, usize>
-    requires { at + 2 * length text.now + FRAME ≤ length room.old }
+    requires { at + 2 * length text.now + UNBOUND_FRAME ≤ length room.old }
     // What was written is the text of a name that has this text.
     ensures found { IfOk result (λ end. WritesAny text.now (take at room.old) (take end room.new)) }
     // The text of a name that has this text is written.
-    ensures only { (name : Values) → Bound name text.now → MatchResult result (λ end. take end room.new ≡ take at room.old ++ output_text name) (λ place. ⊥) }
-    ensures refused { IfErr result (LeavesBound text.now) }
+    ensures only { (name : Values) → UriOrFs name text.now → MatchResult result (λ end. take end room.new ≡ take at room.old ++ output_text name) (λ place. ⊥) }
+    ensures refused { IfErr result (LeavesUriOrFs text.now) }
 
     // The same by a function.
     ensures said { result_map_both (λ end. take end room.new) (λ place. place) result ≡ result_map_both (λ said. take at room.old ++ said) (λ place. place) (unbound_any text.now) }
 
-    ensures within { IfOk result (λ end. end ≤ at + 2 * length text.now + FRAME) }
+    ensures within { IfOk result (λ end. end ≤ at + 2 * length text.now + UNBOUND_FRAME) }
     ensures length { length room.new ≡ length room.old }
     ensures unchanged { OnErr result (room.new ≡ room.old) }
 {
@@ -165,15 +164,15 @@ pub fn write_unbound_any(room: &mut [u8], at: usize, text: &[u8]) -> Result<usiz
 /// What `read_any` says of a text: the name that has it in one binding or the other, and its place exactly where no name
 /// has it.
 pub fn read_any_is()
-    ensures named { (name : Values) (s : List ℕ) → Bound name s → read_any s ≡ Ok name }
-    ensures found { (name : Values) (s : List ℕ) → read_any s ≡ Ok name → Bound name s }
-    ensures refused { (s : List ℕ) (place : ℕ) → read_any s ≡ Err place → LeavesBound s place }
+    ensures named { (name : Values) (s : List ℕ) → UriOrFs name s → read_any s ≡ Ok name }
+    ensures found { (name : Values) (s : List ℕ) → read_any s ≡ Ok name → UriOrFs name s }
+    ensures refused { (s : List ℕ) (place : ℕ) → read_any s ≡ Err place → LeavesUriOrFs s place }
 {}
 
 /// What `unbound_any` says of a text: the output text of the name that has it in one binding or the other, and its place
 /// exactly where no name has it.
 pub fn unbound_any_is()
-    ensures named { (name : Values) (s : List ℕ) → Bound name s → unbound_any s ≡ Ok (output_text name) }
+    ensures named { (name : Values) (s : List ℕ) → UriOrFs name s → unbound_any s ≡ Ok (output_text name) }
     ensures found { (s text : List ℕ) → unbound_any s ≡ Ok text → SaysAny s text }
-    ensures refused { (s : List ℕ) (place : ℕ) → unbound_any s ≡ Err place → LeavesBound s place }
+    ensures refused { (s : List ℕ) (place : ℕ) → unbound_any s ≡ Err place → LeavesUriOrFs s place }
 {}

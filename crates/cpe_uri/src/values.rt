@@ -2,23 +2,23 @@
 ghost use Rattle.std.specs.Prelude.{◌≡◌, ◌≤◌, length, take, map, IfOk};
 ghost use Rattle.cpe_values.specs.Spelled.{IsSpelling};
 ghost use Rattle.cpe_values.specs.Unspelling.{parts_at};
-ghost use Rattle.cpe_name.specs.Equal.{named};
+ghost use Rattle.cpe_name.specs.Names.{named};
 ghost use Rattle.cpe_name.specs.Spans.{texts};
 ghost use Rattle.cpe_uri.specs.Rewriting.{rewritten, is_hyphen};
 ghost use Rattle.cpe_uri.specs.SpanValues.{value_at, IsSpan, AreSpans};
 
 use crate::write::put_rewritten;
-use cpe_name::{Values, Written};
+use cpe_name::{ReadValue, Values, Written, read_values};
 use cpe_values::{Memory, Pattern, Value, read_spelling};
 use std::alloc::Global;
 
-fn is_hyphen(span: &[u8]) -> bool
+pub(crate) fn is_hyphen(span: &[u8]) -> bool
     ensures { result ≡ is_hyphen span.now }
 {
     matches!(span, [b'-'])
 }
 
-/// Rewrites a span into the front of the scratch, which grows where it is too short.
+// One scratch serves all values of a name: it only grows, and its front is written anew for each.
 fn rewrite(scratch: &mut Vec<u8>, span: &[u8]) -> Result<usize, Memory>
     ensures within { IfOk result (λ end. end ≤ length scratch.new.items) }
     ensures written { IfOk result (λ end. take end scratch.new.items ≡ rewritten span.now) }
@@ -30,7 +30,6 @@ fn rewrite(scratch: &mut Vec<u8>, span: &[u8]) -> Result<usize, Memory>
     Ok(put_rewritten(scratch, 0, span))
 }
 
-/// The text that stands there.
 fn text_of(alloc: Global, scratch: &mut Vec<u8>, span: &[u8]) -> Result<Pattern, Memory>
     requires { IsSpelling (rewritten span.now) }
     ensures { IfOk result (λ text. text ≡ parts_at (rewritten span.now)) }
@@ -39,7 +38,6 @@ fn text_of(alloc: Global, scratch: &mut Vec<u8>, span: &[u8]) -> Result<Pattern,
     read_spelling(alloc, &scratch[..end])
 }
 
-/// The value that stands there.
 fn value_of(alloc: Global, scratch: &mut Vec<u8>, span: &[u8]) -> Result<Value, Memory>
     requires { IsSpan span.now }
     ensures { IfOk result (λ value. value ≡ value_at span.now) }
@@ -53,23 +51,27 @@ fn value_of(alloc: Global, scratch: &mut Vec<u8>, span: &[u8]) -> Result<Value, 
     }
 }
 
-/// The values that stand there.
+// Reads the values of pieces.
+#[derive(Drop)]
+struct Pieces {
+    alloc: Global,
+    scratch: Vec<u8>,
+}
+
+impl ReadValue for Pieces {
+    ghost may_stand = { IsSpan };
+
+    ghost value = { value_at };
+
+    fn read(&mut self, text: &[u8]) -> Result<Value, Memory> {
+        value_of(self.alloc, &mut self.scratch, text)
+    }
+}
+
 pub(crate) fn values_of(alloc: Global, spans: &Written) -> Result<Values, Memory>
     requires { AreSpans (texts spans.now) }
     ensures { IfOk result (λ values. values ≡ named (map value_at (texts spans.now))) }
 {
-    let mut scratch = Vec::new(alloc);
-    Ok(Values {
-        part: value_of(alloc, &mut scratch, spans.part)?,
-        vendor: value_of(alloc, &mut scratch, spans.vendor)?,
-        product: value_of(alloc, &mut scratch, spans.product)?,
-        version: value_of(alloc, &mut scratch, spans.version)?,
-        update: value_of(alloc, &mut scratch, spans.update)?,
-        edition: value_of(alloc, &mut scratch, spans.edition)?,
-        language: value_of(alloc, &mut scratch, spans.language)?,
-        sw_edition: value_of(alloc, &mut scratch, spans.sw_edition)?,
-        target_sw: value_of(alloc, &mut scratch, spans.target_sw)?,
-        target_hw: value_of(alloc, &mut scratch, spans.target_hw)?,
-        other: value_of(alloc, &mut scratch, spans.other)?,
-    })
+    let scratch = Vec::new(alloc);
+    read_values(&mut Pieces { alloc, scratch }, spans)
 }

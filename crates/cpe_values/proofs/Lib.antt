@@ -4,3 +4,4 @@ pub mod LowerTexts
 pub mod SkippingLemmas
 pub mod LaneLemmas
 pub mod Unspelled
+pub mod Kept

@@ -1,5 +1,5 @@
 -- The parts of a text are found in its spelling, whatever the style.
-use Rattle.std.proofs.Common.{◌≡◌, ◌≢◌, ℕ, zero, suc, ◌+◌, ◌<◌, ◌^◌, true, false, eqb, List, [], ◌∷◌, ◌++◌, drop, replicate, refl, sym, ap, subst, ◌∙◌, inl, inr, append_assoc, arith}
+use Rattle.std.proofs.Common.{◌≡◌, ◌≢◌, ℕ, zero, suc, ◌+◌, ◌<◌, ◌^◌, true, false, eqb, List, [], ◌∷◌, ◌++◌, length, take, drop, ◌-◌, replicate, refl, sym, ap, subst, ◌∙◌, inl, inr, append_assoc, arith}
 use Rattle.std.specs.List.{flat_map}
 use Rattle.std.proofs.lemmas.List.{append-nil}
 use Rattle.std.proofs.lemmas.Bool.{cases_Bool, or_parts}
@@ -11,7 +11,9 @@ use Rattle.cpe_values.specs.declared.spelling.Style.TheVariants as style
 use Rattle.cpe_values.specs.Parts.{Parts, IsText, IsEdge}
 use Rattle.cpe_values.specs.Spelling.{is_bare, character, edge_text, spelling}
 use Rattle.cpe_values.specs.Spelled.{IsSpelling}
-use Rattle.cpe_values.specs.Unspelling.{is_special, marks_count, edge_at, behind_edge, body_at, behind_body, parts_at}
+use Rattle.cpe_values.specs.Skipping.{skip_while}
+use Rattle.cpe_values.specs.Unspelling.{is_special, marks_count, edge_at, behind_edge, body_at, behind_body, ends_body, parts_at}
+use Rattle.cpe_values.proofs.SkippingLemmas.{length-skip_while}
 
 -- ---- specials
 
@@ -60,12 +62,7 @@ marks_fit (c ∷ s) good =
 
 -- ---- bodies
 
--- a special stands in front, or nothing
-abbrev OnlySpecial : List ℕ → Type 0
-OnlySpecial [] = Unit {0}
-OnlySpecial (c ∷ s) = is_special c ≡ true
-
-body_over : (z : List ℕ) → OnlySpecial z → (body_at z ≡ []) × (behind_body z ≡ z)
+body_over : (z : List ℕ) → ends_body z ≡ true → (body_at z ≡ []) × (behind_body z ≡ z)
 unfolding body_at behind_body
 body_over [] h = (refl, refl)
 body_over (c ∷ []) h = (rw h refl, rw h refl)
@@ -75,11 +72,11 @@ body_quoted : (c : ℕ) (s : List ℕ) → (body_at (92 ∷ c ∷ s) ≡ c ∷ b
 unfolding body_at behind_body
 body_quoted c s = (refl, refl)
 
-edge_special : (e : Edge) → OnlySpecial (edge_text e)
-edge_special edge.None = tt
-edge_special edge.Star = refl
-edge_special (edge.Marks zero) = tt
-edge_special (edge.Marks (suc k)) = refl
+edge_ends : (e : Edge) → ends_body (edge_text e) ≡ true
+edge_ends edge.None = refl
+edge_ends edge.Star = refl
+edge_ends (edge.Marks zero) = refl
+edge_ends (edge.Marks (suc k)) = refl
 
 edge_alone : (e : Edge) → IsEdge e → edge_at (edge_text e) ≡ e
 edge_alone edge.None good = refl
@@ -103,7 +100,7 @@ module _ (sty : Style) where
   body_bare c [] h = (rw (bare_no_special sty c h) refl, rw (bare_no_special sty c h) refl)
   body_bare c (d ∷ s) h = (rw (bare_no_special sty c h, bare_no_backslash sty c h) refl, rw (bare_no_special sty c h, bare_no_backslash sty c h) refl)
 
-  body_back : (b z : List ℕ) → OnlySpecial z → (body_at (body_text b ++ z) ≡ b) × (behind_body (body_text b ++ z) ≡ z)
+  body_back : (b z : List ℕ) → ends_body z ≡ true → (body_at (body_text b ++ z) ≡ b) × (behind_body (body_text b ++ z) ≡ z)
   body_back [] z h = body_over z h
   body_back (c ∷ b) z h =
       let more = body_back b z h in
@@ -129,9 +126,34 @@ module _ (sty : Style) where
   parts_back t is =
       let stem : spelling sty t ≡ edge_text t.lead ++ (body_text t.body ++ edge_text t.trail) = append_assoc (edge_text t.lead) (body_text t.body) (edge_text t.trail) in
       let begins = body_no_special t.body (edge_text t.trail) is.some in
-      let body = body_back t.body (edge_text t.trail) (edge_special t.trail) in
+      let body = body_back t.body (edge_text t.trail) (edge_ends t.trail) in
       ap parts_at stem
       ∙ rw (edge_back t.lead (body_text t.body ++ edge_text t.trail) is.lead begins, behind_back t.lead (body_text t.body ++ edge_text t.trail) is.lead begins, body.0, body.1, edge_alone t.trail is.trail) refl
+
+-- characters that stand bare up to the end of a body are the body
+body_stands : (sty : Style) (s : List ℕ) → ends_body (skip_while (is_bare sty) s) ≡ true
+    → (body_at s ≡ take (length s - length (skip_while (is_bare sty) s)) s) × (behind_body s ≡ skip_while (is_bare sty) s)
+body_stands sty [] h = body_over [] h
+body_stands sty (c ∷ s) h =
+    elim (cases_Bool (is_bare sty c)) [
+      | inl bare ↦
+          let ends : ends_body (skip_while (is_bare sty) s) ≡ true = rw bare at h in
+          let more = body_stands sty s ends in
+          let step = body_bare sty c s bare in
+          let count : suc (length s) - length (skip_while (is_bare sty) s) ≡ suc (length s - length (skip_while (is_bare sty) s)) = omega (arith, length-skip_while (is_bare sty) s) in
+          rw bare (step.0 ∙ ap (λ (u : List ℕ). c ∷ u) more.0 ∙ ap (λ (n : ℕ). take n (c ∷ s)) (sym count), step.1 ∙ more.1)
+      | inr other ↦
+          let ends : ends_body (c ∷ s) ≡ true = rw other at h in
+          let over = body_over (c ∷ s) ends in
+          let none : length (c ∷ s) - length (c ∷ s) ≡ 0 = omega arith in
+          rw other (over.0 ∙ ap (λ (n : ℕ). take n (c ∷ s)) (sym none), over.1)
+    ]
+
+-- the same of what was skipped
+pub body_lent : (sty : Style) (s z : List ℕ) → z ≡ skip_while (is_bare sty) s → ends_body z ≡ true → (take (length s - length z) s ≡ body_at s) × (z ≡ behind_body s)
+body_lent sty s z is ends =
+    let stands = body_stands sty s (subst (λ (u : List ℕ). ends_body u ≡ true) is ends) in
+    (ap (λ (u : List ℕ). take (length s - length u) s) is ∙ sym stands.0, is ∙ sym stands.1)
 
 -- the parts that are found in a spelling are a text
 pub lawful_parts : (s : List ℕ) → IsSpelling s → IsText (parts_at s)

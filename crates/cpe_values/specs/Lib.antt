@@ -1,7 +1,9 @@
 pub mod Parts
+pub mod Forms
 pub mod Faults
 pub mod Spelling
 pub mod Values
+pub mod Borrowed
 pub mod Same
 pub mod Equal
 pub mod Lower

@@ -1,5 +1,5 @@
 -- A text as contracts see it: what stands before the body, the body, and what stands after it (NIST IR 7695, 5.3).
-use Rattle.std.specs.Prelude.{◌≢◌, ℕ, ◌<◌, ◌^◌, Bool, true, false, ◌&&◌, nat_le, IsTrue, List, [], ◌∷◌}
+use Rattle.std.specs.Prelude.{◌≢◌, ℕ, ◌<◌, ◌^◌, Bool, true, false, not, ◌&&◌, ◌||◌, nat_le, IsTrue, List, [], ◌∷◌}
 use Rattle.std.specs.List.{list_all}
 use Rattle.cpe_values.specs.declared.value.Edge.{Edge}
 use Rattle.cpe_values.specs.declared.value.Edge.TheVariants as edge
@@ -27,6 +27,10 @@ abbrev pub is_nothing : Edge → Bool
 is_nothing edge.None = true
 is_nothing edge.Star = false
 is_nothing (edge.Marks n) = false
+
+-- a special stands before or after the body
+abbrev pub has_special : Parts → Bool
+has_special t = not (is_nothing t.lead) || not (is_nothing t.trail)
 
 -- some characters between two edges, but no hyphen that stands alone
 pub record IsText (t : Parts) : Type 0 where

@@ -1,5 +1,5 @@
 -- The parts of a text from its spelling, as the code finds them: the same in either style. No public clause speaks of it.
-use Rattle.std.specs.Prelude.{ℕ, Bool, ◌||◌, ◌==◌, List, [], ◌∷◌, drop, if◌then◌else◌}
+use Rattle.std.specs.Prelude.{ℕ, Bool, true, ◌||◌, ◌==◌, List, [], ◌∷◌, drop, if◌then◌else◌}
 use Rattle.std.specs.List.{prefix_len}
 use Rattle.cpe_values.specs.declared.value.Edge.{Edge}
 use Rattle.cpe_values.specs.declared.value.Edge.TheVariants as edge
@@ -31,6 +31,11 @@ behind_edge (c ∷ s) = if is_star c then s else (if is_mark c then drop (marks_
 -- `*` or `?`
 abbrev pub is_special : ℕ → Bool
 is_special c = is_star c || is_mark c
+
+-- a special stands in front, or nothing
+abbrev pub ends_body : List ℕ → Bool
+ends_body [] = true
+ends_body (c ∷ s) = is_special c
 
 -- the characters up to a special, without their backslashes
 unfoldable pub body_at : List ℕ → List ℕ

@@ -3,6 +3,7 @@ ghost use Rattle.std.specs.Prelude.{◌≡◌, ◌↔◌, IsTrue, IfOk};
 ghost use Rattle.std.specs.Str.{str_to_ascii_lowercase};
 ghost use Rattle.cpe_values.specs.Lower.{lower_parts, lower_value};
 
+use crate::value::own_text;
 use crate::{Memory, Pattern, Value};
 use std::alloc::{AllocError, Global};
 
@@ -28,12 +29,9 @@ impl Pattern {
     pub fn lower(&self, alloc: Global) -> Result<Pattern, Memory>
         ensures { IfOk result (λ p. p ≡ lower_parts self.now) }
     {
-        let body = lower_body(alloc, &self.body)?;
-        Ok(Pattern {
-            lead: self.lead,
-            body,
-            trail: self.trail,
-        })
+        self.lawful();
+        let body = lower_body(alloc, self.stem())?;
+        own_text(alloc, self.lead(), body, self.trail())
     }
 
     /// Whether two texts are the same but for the case of letters. It takes no memory.

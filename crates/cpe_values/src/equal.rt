@@ -41,19 +41,20 @@ impl Hash for Pattern {
     ghost respects_eq = { (same_Alike parts_input same_parts-Decides).fed };
 
     fn hash<H: Hasher>(&self, state: &mut H) {
-        state.write_u32(edge_code(self.lead()));
+        state.write_u64(edge_code(self.lead()));
         self.stem().hash(state);
-        state.write_u32(edge_code(self.trail()));
+        state.write_u64(edge_code(self.trail()));
     }
 }
 
-fn edge_code(edge: Edge) -> u32
+// The number of an edge, which no other edge has: `*` and one `?` are told apart.
+fn edge_code(edge: Edge) -> u64
     ensures { result ≡ edge_number edge }
 {
     match edge {
         Edge::None => 0,
         Edge::Star => 1,
-        Edge::Marks(marks) => marks,
+        Edge::Marks(marks) => marks as u64 + 1,
     }
 }
 

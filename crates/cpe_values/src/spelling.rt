@@ -1,5 +1,5 @@
 // How texts are spelled, character by character.
-ghost use Rattle.std.specs.Prelude.{◌≡◌, OnOk, replicate, ◌++◌};
+ghost use Rattle.std.specs.Prelude.{◌≡◌, OnOk, replicate, ◌++◌, take, length};
 ghost use Rattle.std.specs.List.{flat_map};
 ghost use Rattle.cpe_values.specs.Parts.{is_character};
 ghost use Rattle.cpe_values.specs.Spelling.{is_bare, character, edge_text, spelling, is_letter, is_digit};
@@ -47,8 +47,10 @@ pub fn is_bare_byte(style: Style, byte: u8) -> bool
     }
 }
 
+#[tactic(auto, using(crate::proofs::Kept::keeping))]
 fn push_marks(out: &mut Vec<u8>, marks: u32) -> Result<(), Memory>
-    ensures { OnOk result (out.new.items ≡ out.old.items ++ replicate marks 63) }
+    ensures spelled { OnOk result (out.new.items ≡ out.old.items ++ replicate marks 63) }
+    ensures kept { take (length out.old.items) out.new.items ≡ out.old.items }
 {
     for _ in 0..marks {
         out.push(b'?')?;
@@ -56,8 +58,10 @@ fn push_marks(out: &mut Vec<u8>, marks: u32) -> Result<(), Memory>
     Ok(())
 }
 
+#[tactic(auto, using(crate::proofs::Kept::keeping))]
 fn push_edge(out: &mut Vec<u8>, edge: Edge) -> Result<(), Memory>
-    ensures { OnOk result (out.new.items ≡ out.old.items ++ edge_text edge) }
+    ensures spelled { OnOk result (out.new.items ≡ out.old.items ++ edge_text edge) }
+    ensures kept { take (length out.old.items) out.new.items ≡ out.old.items }
 {
     match edge {
         Edge::None => Ok(()),
@@ -69,8 +73,10 @@ fn push_edge(out: &mut Vec<u8>, edge: Edge) -> Result<(), Memory>
     }
 }
 
+#[tactic(auto, using(crate::proofs::Kept::keeping))]
 fn push_character(out: &mut Vec<u8>, style: Style, byte: u8) -> Result<(), Memory>
-    ensures { OnOk result (out.new.items ≡ out.old.items ++ character style byte) }
+    ensures spelled { OnOk result (out.new.items ≡ out.old.items ++ character style byte) }
+    ensures kept { take (length out.old.items) out.new.items ≡ out.old.items }
 {
     if is_bare_byte(style, byte) {
         out.push(byte)?;
@@ -81,8 +87,10 @@ fn push_character(out: &mut Vec<u8>, style: Style, byte: u8) -> Result<(), Memor
     Ok(())
 }
 
+#[tactic(auto, using(crate::proofs::Kept::keeping))]
 fn push_body(out: &mut Vec<u8>, style: Style, body: &[u8]) -> Result<(), Memory>
-    ensures { OnOk result (out.new.items ≡ out.old.items ++ flat_map (character style) body.now) }
+    ensures spelled { OnOk result (out.new.items ≡ out.old.items ++ flat_map (character style) body.now) }
+    ensures kept { take (length out.old.items) out.new.items ≡ out.old.items }
 {
     for byte in body {
         push_character(out, style, *byte)?;
@@ -92,8 +100,12 @@ fn push_body(out: &mut Vec<u8>, style: Style, body: &[u8]) -> Result<(), Memory>
 
 /// Puts the spelling of a text behind what `out` holds: its lead, its body character by character, and its trail.
 /// On want of memory a front of it may stand there.
+#[tactic(auto, using(crate::proofs::Kept::keeping))]
 pub fn push_spelling(out: &mut Vec<u8>, style: Style, text: &Pattern) -> Result<(), Memory>
-    ensures { OnOk result (out.new.items ≡ out.old.items ++ spelling style text.now) }
+    ensures spelled { OnOk result (out.new.items ≡ out.old.items ++ spelling style text.now) }
+
+    // What stood there stays, whatever the answer.
+    ensures kept { take (length out.old.items) out.new.items ≡ out.old.items }
 {
     push_edge(out, text.lead())?;
     push_body(out, style, text.stem())?;

@@ -1,12 +1,14 @@
 // Texts from their spelling.
-ghost use Rattle.std.specs.Prelude.{◌≡◌, ◌<◌, ◌≤◌, ◌^◌, ◌∷◌, [], length, IfOk, MatchOption, ⊤};
+ghost use Rattle.std.specs.Prelude.{◌≡◌, ◌<◌, ◌≤◌, ◌^◌, ◌∷◌, [], length, IfOk, IfSome, MatchOption, ⊤};
 ghost use Rattle.cpe_values.specs.declared.spelling.Style.{Style};
-ghost use Rattle.cpe_values.specs.Parts.{Parts, parts, IsText};
+ghost use Rattle.cpe_values.specs.Parts.{Parts, IsText};
 ghost use Rattle.cpe_values.specs.Spelling.{spelling};
 ghost use Rattle.cpe_values.specs.Spelled.{IsSpelling};
-ghost use Rattle.cpe_values.specs.Unspelling.{marks_count, edge_at, behind_edge, body_at, behind_body, parts_at};
+ghost use Rattle.cpe_values.specs.Borrowed.{text_lent};
+ghost use Rattle.cpe_values.specs.Unspelling.{marks_count, edge_at, behind_edge, body_at, behind_body, ends_body, parts_at};
 
-use crate::{Edge, Memory, Pattern, ValueFault};
+use crate::value::own_text;
+use crate::{Edge, Memory, Pattern, TextRef, skip_bare};
 use std::alloc::Global;
 
 // How many marks stand in front.
@@ -61,18 +63,6 @@ fn split_body(alloc: Global, bytes: &[u8]) -> Result<(Vec<u8>, &[u8]), Memory>
     Ok((body, rest))
 }
 
-// The text of parts that are lawful.
-fn make_text(alloc: Global, lead: Edge, body: &[u8], trail: Edge) -> Result<Pattern, Memory>
-    requires { IsText (parts lead body.now trail) }
-    ensures { IfOk result (λ text. text ≡ parts lead body.now trail) }
-{
-    match Pattern::new(alloc, lead, body, trail) {
-        Ok(text) => Ok(text),
-        Err(ValueFault::Memory) => Err(Memory),
-        Err(_) => unreachable!(),
-    }
-}
-
 #[tactic(auto, using(crate::proofs::Unspelled::marks_fit))]
 fn text_of(alloc: Global, bytes: &[u8]) -> Result<Pattern, Memory>
     requires { IsText (parts_at bytes.now) }
@@ -81,7 +71,7 @@ fn text_of(alloc: Global, bytes: &[u8]) -> Result<Pattern, Memory>
     let (lead, rest) = split_edge(bytes);
     let (body, rest) = split_body(alloc, rest)?;
     let (trail, _) = split_edge(rest);
-    make_text(alloc, lead, &body, trail)
+    own_text(alloc, lead, body, trail)
 }
 
 /// The text that is spelled so, in one style or the other: no two texts are spelled alike.
@@ -93,4 +83,44 @@ pub fn read_spelling(alloc: Global, bytes: &[u8]) -> Result<Pattern, Memory>
     ensures { (style : Style) (t : Parts) → IsText t → spelling style t ≡ bytes.now → IfOk result (λ text. text ≡ t) }
 {
     text_of(alloc, bytes)
+}
+
+// Whether a body ends in front: at a special, or at the end of the spelling.
+fn ends_body(bytes: &[u8]) -> bool
+    ensures { result ≡ ends_body bytes.now }
+{
+    matches!(bytes, [] | [b'*' | b'?', ..])
+}
+
+// The body in front and what is left behind it, where the body stands there as it is.
+#[inline(always)]
+fn lend_body(bytes: &[u8]) -> Option<(&[u8], &[u8])>
+    ensures body { IfSome result (λ x. x.0.now ≡ body_at bytes.now) }
+    ensures rest { IfSome result (λ x. x.1.now ≡ behind_body bytes.now) }
+{
+    let behind = skip_bare(bytes);
+    if !ends_body(behind) {
+        return None;
+    }
+    Some((&bytes[..bytes.len() - behind.len()], behind))
+}
+
+#[tactic(auto, using(crate::proofs::Unspelled::marks_fit))]
+fn lend_text(bytes: &[u8]) -> Option<TextRef<'_>>
+    requires { IsText (parts_at bytes.now) }
+    ensures { IfSome result (λ text. text_lent text ≡ parts_at bytes.now) }
+{
+    let (lead, rest) = split_edge(bytes);
+    let (stem, behind) = lend_body(rest)?;
+    let (trail, _) = split_edge(behind);
+    Some(TextRef { lead, stem, trail })
+}
+
+/// The text that is spelled so, borrowed from its spelling where its body stands there as it is: `None` where a
+/// character stands behind a backslash.
+pub fn lend_spelling(bytes: &[u8]) -> Option<TextRef<'_>>
+    requires { IsSpelling bytes.now }
+    ensures { (style : Style) (t : Parts) → IsText t → spelling style t ≡ bytes.now → IfSome result (λ text. text_lent text ≡ t) }
+{
+    lend_text(bytes)
 }

@@ -1,6 +1,6 @@
 // What an attribute may have.
-ghost use Rattle.std.specs.Prelude.{◌≡◌, ◌≢◌, IfOk, IfErr, IfSome, OnOk, Err, position, not, false};
-ghost use Rattle.cpe_values.specs.Parts.{parts, is_character, is_nothing, IsEdge, IsText};
+ghost use Rattle.std.specs.Prelude.{◌≡◌, ◌≢◌, IfOk, IfErr, IfSome, OnOk, Err, position, not, ◌||◌, false};
+ghost use Rattle.cpe_values.specs.Parts.{parts, is_character, is_nothing, has_special, IsEdge, IsText};
 ghost use Rattle.cpe_values.specs.Faults.{first_fault, is_lone_hyphen, has_no_marks};
 ghost use Rattle.cpe_values.specs.Values.{IsValue};
 ghost use Rattle.cpe_values.specs.Lower.{has_specials};
@@ -27,19 +27,32 @@ pub enum Edge {
 /// Contracts see it as these three parts. Its body is not empty, and a text without specials is not one hyphen.
 #[derive(Debug, Drop)]
 pub struct Pattern {
-    pub(crate) lead: Edge,
-    pub(crate) body: Vec<u8>,
-    pub(crate) trail: Edge,
+    form: Form,
+}
+
+// Few texts have a special, and names, with eleven values each, are kept by the million: so the edges lie elsewhere.
+#[derive(Debug, Drop)]
+pub(crate) enum Form {
+    Plain(Vec<u8>),
+    Special(Box<SpecialText>),
+}
+
+#[derive(Debug, Drop)]
+pub(crate) struct SpecialText {
+    pub lead: Edge,
+    pub body: Vec<u8>,
+    pub trail: Edge,
 }
 
 impl Model for Pattern {
-    ghost use Rattle.cpe_values.specs.Parts.{Parts, IsText, parts};
+    ghost use Rattle.cpe_values.specs.Parts.{Parts, IsText};
+    ghost use Rattle.cpe_values.specs.Forms.{form_parts};
 
     ghost Value = { Parts };
 
-    ghost view = { λ p. parts p.lead p.body.items p.trail };
+    ghost view = { λ p. form_parts p.form };
 
-    ghost invariant = { λ p. IsText (parts p.lead p.body.items p.trail) };
+    ghost invariant = { λ p. IsText (form_parts p.form) };
 }
 
 /// What an attribute has.
@@ -52,6 +65,9 @@ pub enum Value {
     /// A text.
     Text(Pattern),
 }
+
+// (a name takes 440 bytes)
+const _: () = prove!(size_of::<Value>() == 40);
 
 /// Why a lead, a body and a trail make no text: the first cause, in this order.
 #[derive(Clone, Copy, Debug, PartialEq, Eq, Error)]
@@ -78,6 +94,41 @@ fn first_unprintable(body: &[u8]) -> Option<usize>
     ensures { result ≡ position (λ c. not (is_character c)) body.now }
 {
     body.iter().position(|byte| !is_printable_byte(*byte))
+}
+
+// Whether one of two edges is a special.
+pub(crate) fn is_special(lead: Edge, trail: Edge) -> bool
+    ensures { result ≡ (not (is_nothing lead) || not (is_nothing trail)) }
+{
+    !matches!((lead, trail), (Edge::None, Edge::None))
+}
+
+// The text of these parts.
+pub(crate) fn own_text(
+    alloc: Global,
+    lead: Edge,
+    body: Vec<u8>,
+    trail: Edge,
+) -> Result<Pattern, Memory>
+    requires { IsText (parts lead body.items trail) }
+    ensures { IfOk result (λ p. p ≡ parts lead body.items trail) }
+{
+    if !is_special(lead, trail) {
+        let form = Form::Plain(body);
+        return Ok(Pattern { form });
+    }
+    let text = Box::new(alloc, SpecialText { lead, body, trail })?;
+    let form = Form::Special(text);
+    Ok(Pattern { form })
+}
+
+// The text of these parts, its body copied.
+fn text_of(alloc: Global, lead: Edge, body: &[u8], trail: Edge) -> Result<Pattern, Memory>
+    requires { IsText (parts lead body.now trail) }
+    ensures { IfOk result (λ p. p ≡ parts lead body.now trail) }
+{
+    let body = Vec::from_slice(alloc, body)?;
+    own_text(alloc, lead, body, trail)
 }
 
 fn is_lone(lead: Edge, body: &[u8], trail: Edge) -> bool
@@ -122,9 +173,9 @@ impl Pattern {
         if is_unmarked(lead) || is_unmarked(trail) {
             return Err(ValueFault::ZeroMarks);
         }
-        match Vec::from_slice(alloc, body) {
-            Ok(body) => Ok(Pattern { lead, body, trail }),
-            Err(_) => Err(ValueFault::Memory),
+        match text_of(alloc, lead, body, trail) {
+            Ok(text) => Ok(text),
+            Err(Memory) => Err(ValueFault::Memory),
         }
     }
 
@@ -132,25 +183,48 @@ impl Pattern {
     pub fn lead(&self) -> Edge
         ensures { result ≡ self.now.lead }
     {
-        self.lead
+        match &self.form {
+            Form::Plain(_) => Edge::None,
+            Form::Special(text) => text.lead,
+        }
     }
 
     /// The body, without quoting.
     pub fn stem(&self) -> &[u8]
         ensures { result.now ≡ self.now.body }
     {
-        self.body.as_slice()
+        match &self.form {
+            Form::Plain(body) => body,
+            Form::Special(text) => &text.body,
+        }
     }
 
     /// What stands after the body.
     pub fn trail(&self) -> Edge
         ensures { result ≡ self.now.trail }
     {
-        self.trail
+        match &self.form {
+            Form::Plain(_) => Edge::None,
+            Form::Special(text) => text.trail,
+        }
     }
 }
 
 impl Pattern {
+    /// Every text is lawful: it has the parts of one. It does nothing.
+    pub fn lawful(&self)
+        ensures { IsText self.now }
+    {
+        let _ = &self.form;
+    }
+
+    /// Whether the text has a special, `*` or `?`, before or after its body.
+    pub fn has_wildcards(&self) -> bool
+        ensures { result ≡ has_special self.now }
+    {
+        is_special(self.lead(), self.trail())
+    }
+
     /// The same text again.
     ///
     /// # Errors
@@ -158,19 +232,9 @@ impl Pattern {
     pub fn copy(&self, alloc: Global) -> Result<Pattern, Memory>
         ensures { IfOk result (λ p. p ≡ self.now) }
     {
-        let body = Vec::from_slice(alloc, &self.body)?;
-        Ok(Pattern {
-            lead: self.lead,
-            body,
-            trail: self.trail,
-        })
+        self.lawful();
+        text_of(alloc, self.lead(), self.stem(), self.trail())
     }
-}
-
-fn is_special(edge: Edge) -> bool
-    ensures { result ≡ not (is_nothing edge) }
-{
-    !matches!(edge, Edge::None)
 }
 
 impl Value {
@@ -179,7 +243,7 @@ impl Value {
         ensures { result ≡ has_specials self.now }
     {
         match self {
-            Value::Text(text) => is_special(text.lead) || is_special(text.trail),
+            Value::Text(text) => text.has_wildcards(),
             _ => false,
         }
     }
@@ -203,7 +267,7 @@ impl Value {
         ensures { IsValue self.now }
     {
         if let Value::Text(text) = self {
-            let _ = &text.lead;
+            text.lawful();
         }
     }
 }

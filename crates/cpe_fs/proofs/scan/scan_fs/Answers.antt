@@ -9,4 +9,4 @@ returns-then-not-is_empty-clause-refused c =
 pub returns-clause-found : goal.returns-clause-found
 returns-clause-found c =
     found c.args.text.now c.in_ok-rest.rest.now c.in_ok-components.behind.now c.in_ok-components.components c.in_ok-rest.ensures c.in_ok-components.ensures.told (sym c.is_empty.ensures ∙ c.if-not-is_empty.false)
-    c.in_ok-components.ensures.spans
+    c.in_ok-components.ensures.texts

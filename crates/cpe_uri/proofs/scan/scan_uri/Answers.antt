@@ -1,7 +1,7 @@
 use Rattle.std.proofs.Common.{sym, ◌∙◌}
 use Rattle.std.proofs.lemmas.Bool.{eqb-true}
 use Rattle.std.proofs.lemmas.List.{nil_from_length}
-use Rattle.cpe_uri.proofs.FoundLemmas.{found, end_leaves}
+use Rattle.cpe_uri.proofs.Scanned.{found, end_leaves}
 use Rattle.cpe_uri.proofs.scan.scan_uri.Goals as goal
 
 pub returns-then-not-is_empty-clause-refused : goal.returns-then-not-is_empty-clause-refused
@@ -10,4 +10,4 @@ returns-then-not-is_empty-clause-refused c =
 
 pub returns-clause-found : goal.returns-clause-found
 returns-clause-found c =
-    found c.args.text.now c.in_ok-rest.rest.now c.in_ok-written.behind.now c.in_ok-written.written c.in_ok-rest.ensures (nil_from_length c.in_ok-written.behind.now (eqb-true _ 0 (sym c.is_empty.ensures ∙ c.if-not-is_empty.false))) c.in_ok-written.ensures.found
+    found c.args.text.now c.in_ok-rest.rest.now c.in_ok-written.behind.now c.in_ok-written.written c.in_ok-rest.ensures (nil_from_length c.in_ok-written.behind.now (eqb-true _ 0 (sym c.is_empty.ensures ∙ c.if-not-is_empty.false))) c.in_ok-written.ensures.told c.in_ok-written.ensures.found

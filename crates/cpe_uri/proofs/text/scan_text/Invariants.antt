@@ -1,5 +1,5 @@
 use Rattle.std.proofs.Common.{◌≡◌, length}
-use Rattle.cpe_uri.specs.Reading.{read_from}
+use Rattle.cpe_uri.specs.TextMachine.{read_from}
 use Rattle.cpe_uri.specs.declared.text.Stage.TheVariants.{Start}
 use Rattle.cpe_uri.specs.declared.text.State.TheVariants.{Whole}
 use Rattle.cpe_uri.proofs.text.scan_text.Given as goal

@@ -1,5 +1,5 @@
 use Rattle.std.proofs.Common.{◌∙◌, sym, ap}
-use Rattle.cpe_uri.specs.Reading.{read_from}
+use Rattle.cpe_uri.specs.TextMachine.{read_from}
 use Rattle.cpe_uri.proofs.Components.{skip_in_body}
 use Rattle.cpe_uri.proofs.text.skip_from.Goals as goal
 

@@ -1,7 +1,7 @@
 use Rattle.std.proofs.Common.{sym, subst, ◌∙◌}
 use Rattle.cpe_name.specs.declared.name.Values.{Values}
 use Rattle.cpe_name.specs.Names.{IsFault}
-use Rattle.cpe_fs.proofs.ValueLemmas.{no_fault}
+use Rattle.cpe_name.proofs.WholeTexts.{no_fault}
 use Rattle.cpe_uri.specs.Grammar.{Uri}
 use Rattle.cpe_uri.proofs.ValueLemmas.{name_back, spans_are}
 use Rattle.cpe_uri.proofs.Pieces.{one_uri}

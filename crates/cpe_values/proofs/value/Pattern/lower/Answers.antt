@@ -1,6 +1,5 @@
 use Rattle.cpe_values.proofs.LowerTexts.{lower_text}
-use Rattle.cpe_values.specs.Parts.{parts}
 use Rattle.cpe_values.proofs.value.Pattern.lower.Goals as goal
 
-pub invariant_of-result : goal.invariant_of-result
-invariant_of-result c = rw (c.in_ok-body.ensures, c.deref.ensures.value) (lower_text (parts c.self.inside.lead c.self.inside.body.items c.self.inside.trail) c.self.invariant)
+pub own_text-requires : goal.own_text-requires
+own_text-requires c = rw (c.lead.ensures, c.in_ok-body.ensures, c.stem.ensures, c.trail.ensures) (lower_text c.args.self.now c.lawful.ensures)

@@ -4,8 +4,8 @@ use Rattle.cpe_values.proofs.Lawful.{never_unprintable}
 use Rattle.cpe_values.specs.Parts.{parts}
 use Rattle.cpe_values.proofs.value.Pattern.new.Goals as goal
 
-pub invariant_of-result : goal.invariant_of-result
-invariant_of-result c = rw c.in-Ok.ensures.items (text_of (parts c.args.lead c.args.body.now c.args.trail) (search rules) (search rules) (search rules) (search rules) (search rules))
+pub text_of-requires : goal.text_of-requires
+text_of-requires c = text_of (parts c.args.lead c.args.body.now c.args.trail) (search rules) (search rules) (search rules) (search rules) (search rules)
 
 pub returns-in-Ok-clause-lawful : goal.returns-in-Ok-clause-lawful
 returns-in-Ok-clause-lawful c = text_of (parts c.args.lead c.args.body.now c.args.trail) (search rules) (search rules) (search rules) (search rules) (search rules)

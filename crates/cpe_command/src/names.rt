@@ -1,0 +1,151 @@
+// What a line of one name says.
+ghost use Rattle.std.specs.Prelude.{◌≡◌, ◌≤◌, ◌+◌, ◌*◌, Some, None, IfOk, MatchResult, length, take};
+ghost use Rattle.cpe_command.specs.Names.{other_form, name_reason_text, name_session};
+ghost use Rattle.cpe_command.specs.Puts.{Puts, as_line};
+
+use crate::place::push_place;
+use cpe_fs::write_bound;
+use cpe_io::{Sink, SinkFault};
+use cpe_room::put_byte;
+use cpe_session::{Page, Reason, Speaker};
+use cpe_steps::Steps;
+use cpe_uri::{UNBOUND_FRAME, write_bound_uri, write_unbound_any};
+use std::alloc::{AllocError, Global};
+use std::mem::replace;
+use std::sync::ledger::Ledger;
+
+/// What each line is written as, which is one name in some form.
+#[derive(Clone, Copy, Debug, PartialEq, Eq)]
+pub enum NameCommand {
+    /// A formatted string or a URI is written as the text of its well-formed name.
+    Unbind,
+    /// The text of a well-formed name is written as its formatted string.
+    BindFs,
+    /// The text of a well-formed name is written as its URI.
+    BindUri,
+}
+
+/// Why a line of one name is refused.
+#[derive(Clone, Copy, Debug, PartialEq, Eq)]
+pub enum NameReason {
+    /// It is the text of no well-formed name.
+    Wfn,
+    /// No name has this text, as its formatted string or as its URI, and this is its place.
+    Name(usize),
+}
+
+impl Reason for NameReason {
+    ghost text = { name_reason_text };
+
+    fn push(&self, page: &mut Page) -> Result<(), AllocError> {
+        match self {
+            NameReason::Wfn => page.push(b"wfn"),
+            NameReason::Name(place) => push_place(page, b"name ", *place),
+        }
+    }
+}
+
+impl Speaker for NameCommand {
+    type State = ();
+
+    type Reason = NameReason;
+
+    ghost session = { name_session };
+
+    fn is_quiet(&self) -> bool {
+        false
+    }
+
+    fn say<L: Ledger>(
+        &self,
+        alloc: Global,
+        state: &mut (),
+        page: &mut Page,
+        number: u64,
+        text: &[u8],
+        steps: &mut Steps<L>,
+    ) -> Result<Option<NameReason>, AllocError> {
+        let _ = state;
+        let _ = number;
+        let _ = steps;
+        say_name(alloc, page, *self, text)
+    }
+
+    fn say_end<K: Sink, L: Ledger>(
+        &self,
+        alloc: Global,
+        state: &(),
+        page: &mut Page,
+        sink: &mut K,
+        steps: &mut Steps<L>,
+    ) -> Result<(), SinkFault> {
+        let _ = alloc;
+        let _ = state;
+        let _ = page;
+        let _ = sink;
+        let _ = steps;
+        Ok(())
+    }
+}
+
+// Puts the line of the other form behind what is gathered, in one room, or tells why there is none.
+fn say_name(
+    alloc: Global,
+    page: &mut Page,
+    command: NameCommand,
+    text: &[u8],
+) -> Result<Option<NameReason>, AllocError>
+    ensures { IfOk result (Puts (as_line (other_form command text.now)) page.old page.new) }
+{
+    let most = text
+        .len()
+        .saturating_mul(3)
+        .saturating_add(UNBOUND_FRAME + 1);
+    let (mut room, used) = replace(page, Page::new(alloc)).into_room(most)?;
+    match write_line(command, &mut room, used, text) {
+        Ok(end) => {
+            *page = Page::from_room(room, end);
+            Ok(None)
+        }
+        Err(reason) => {
+            *page = Page::from_room(room, used);
+            Ok(Some(reason))
+        }
+    }
+}
+
+// Writes the other form and a newline into the room, from `at` on, and answers the place behind them.
+fn write_line(
+    command: NameCommand,
+    room: &mut [u8],
+    at: usize,
+    text: &[u8],
+) -> Result<usize, NameReason>
+    requires { at + 3 * length text.now + UNBOUND_FRAME + 1 ≤ length room.old }
+    ensures line { MatchResult result (λ end. Puts (as_line (other_form command text.now)) (take at room.old) (take end room.new) None)
+        (λ reason. Puts (as_line (other_form command text.now)) (take at room.old) (take at room.new) (Some reason)) }
+    ensures within { IfOk result (λ end. end ≤ length room.old) }
+{
+    let end = write_form(command, room, at, text)?;
+    Ok(put_byte(room, end, b'\n'))
+}
+
+// No form has more than three bytes for each of the text, and those of the frame.
+fn write_form(
+    command: NameCommand,
+    room: &mut [u8],
+    at: usize,
+    text: &[u8],
+) -> Result<usize, NameReason>
+    requires { at + 3 * length text.now + UNBOUND_FRAME ≤ length room.old }
+    ensures form { MatchResult result (λ end. Puts (other_form command text.now) (take at room.old) (take end room.new) None)
+        (λ reason. Puts (other_form command text.now) (take at room.old) (take at room.new) (Some reason)) }
+    ensures within { IfOk result (λ end. end ≤ at + 3 * length text.now + UNBOUND_FRAME) }
+    ensures length { length room.new ≡ length room.old }
+{
+    match command {
+        NameCommand::Unbind => write_unbound_any(room, at, text).map_err(NameReason::Name),
+        NameCommand::BindFs => write_bound(room, at, text).ok_or(NameReason::Wfn),
+        NameCommand::BindUri => write_bound_uri(room, at, text).ok_or(NameReason::Wfn),
+    }
+}

@@ -1,0 +1,220 @@
+// What a line of a source and a target says.
+ghost use Rattle.std.specs.Prelude.{◌≡◌, ◌≤◌, ◌+◌, ◌*◌, ◌∷◌, ◌++◌, Ok, IfOk, OnOk, codes, length, take};
+ghost use Rattle.std.specs.List.{flat_map};
+ghost use Rattle.cpe_io.specs.Halves.{halves};
+ghost use Rattle.cpe_name.specs.Names.{attributes};
+ghost use Rattle.cpe_name.specs.Borrowed.{name_lent};
+ghost use Rattle.cpe_uri.specs.EitherBinding.{IsUriOrFs, read_any};
+ghost use Rattle.cpe_relation.specs.NameRelation.{relation_of};
+ghost use Rattle.cpe_command.specs.Pairs.{relation_text, relation_line, to_target, from_source, compared, pair_reason_text, pair_session};
+ghost use Rattle.cpe_command.specs.Puts.{Puts};
+
+use crate::place::push_place;
+use cpe_io::{Sink, SinkFault, cut_in_halves};
+use cpe_name::{ATTRIBUTES, Attribute, NameRef, Wfn};
+use cpe_relation::{Relation, Relations, compare_lent};
+use cpe_room::{put, put_byte};
+use cpe_session::{Page, Reason, Speaker};
+use cpe_steps::Steps;
+use cpe_uri::{UriFault, lend_any, unbind_any};
+use std::alloc::{AllocError, Global};
+use std::mem::replace;
+use std::sync::ledger::Ledger;
+
+// The bytes of the longest word that stands for a relation, and of the space before it.
+const WORD: usize = 10;
+
+/// Each line is a source and a target, formatted strings or URIs, and is answered by their relations.
+#[derive(Clone, Copy, Debug, PartialEq, Eq)]
+pub struct Compare;
+
+/// Why a line of a source and a target is refused.
+#[derive(Clone, Copy, Debug, PartialEq, Eq)]
+pub enum PairReason {
+    /// The line has not exactly one space.
+    Pair,
+    /// No name has the text before the only space, and this is its place.
+    Source(usize),
+    /// A name has the text before the space, but none has the text behind it; this is its place, counted in that text alone.
+    Target(usize),
+}
+
+impl Reason for PairReason {
+    ghost text = { pair_reason_text };
+
+    fn push(&self, page: &mut Page) -> Result<(), AllocError> {
+        match self {
+            PairReason::Pair => page.push(b"pair"),
+            PairReason::Source(place) => push_place(page, b"source ", *place),
+            PairReason::Target(place) => push_place(page, b"target ", *place),
+        }
+    }
+}
+
+impl Speaker for Compare {
+    type State = ();
+
+    type Reason = PairReason;
+
+    ghost session = { λ _. pair_session };
+
+    fn is_quiet(&self) -> bool {
+        false
+    }
+
+    fn say<L: Ledger>(
+        &self,
+        alloc: Global,
+        state: &mut (),
+        page: &mut Page,
+        number: u64,
+        text: &[u8],
+        steps: &mut Steps<L>,
+    ) -> Result<Option<PairReason>, AllocError> {
+        let _ = state;
+        let _ = number;
+        let _ = steps;
+        say_relations(alloc, page, text)
+    }
+
+    fn say_end<K: Sink, L: Ledger>(
+        &self,
+        alloc: Global,
+        state: &(),
+        page: &mut Page,
+        sink: &mut K,
+        steps: &mut Steps<L>,
+    ) -> Result<(), SinkFault> {
+        let _ = alloc;
+        let _ = state;
+        let _ = page;
+        let _ = sink;
+        let _ = steps;
+        Ok(())
+    }
+}
+
+// Puts how the source relates to the target, or tells why the line is refused.
+fn say_relations(
+    alloc: Global,
+    page: &mut Page,
+    line: &[u8],
+) -> Result<Option<PairReason>, AllocError>
+    ensures { IfOk result (Puts (compared (halves line.now)) page.old page.new) }
+{
+    match cut_in_halves(line) {
+        Some((source, target)) => say_from_source(alloc, page, source, target),
+        None => Ok(Some(PairReason::Pair)),
+    }
+}
+
+// The source is lent from the line where it can be: only else is it made, which takes memory.
+fn say_from_source(
+    alloc: Global,
+    page: &mut Page,
+    source: &[u8],
+    target: &[u8],
+) -> Result<Option<PairReason>, AllocError>
+    ensures { IfOk result (Puts (from_source (read_any source.now) (read_any target.now)) page.old page.new) }
+{
+    match lend_any(source) {
+        Ok(Some(source)) => say_to_target(alloc, page, &source, target),
+        Ok(None) => say_to_target(alloc, page, &make_name(alloc, source)?.as_ref(), target),
+        Err(place) => Ok(Some(PairReason::Source(place))),
+    }
+}
+
+// And so is the target.
+fn say_to_target(
+    alloc: Global,
+    page: &mut Page,
+    source: &NameRef,
+    target: &[u8],
+) -> Result<Option<PairReason>, AllocError>
+    ensures { IfOk result (Puts (to_target (name_lent source.now) (read_any target.now)) page.old page.new) }
+{
+    match lend_any(target) {
+        Ok(Some(target)) => push_relations(alloc, page, source, &target),
+        Ok(None) => push_relations(alloc, page, source, &make_name(alloc, target)?.as_ref()),
+        Err(place) => Ok(Some(PairReason::Target(place))),
+    }
+}
+
+// The name of a text that some name has.
+fn make_name(alloc: Global, text: &[u8]) -> Result<Wfn, AllocError>
+    requires { IsUriOrFs text.now }
+    ensures { IfOk result (λ name. read_any text.now ≡ Ok name) }
+{
+    match unbind_any(alloc, text) {
+        Ok(name) => Ok(name),
+        Err(UriFault::Memory) => Err(AllocError),
+        Err(UriFault::At(_)) => unreachable!(),
+    }
+}
+
+fn push_relations(
+    alloc: Global,
+    page: &mut Page,
+    source: &NameRef,
+    target: &NameRef,
+) -> Result<Option<PairReason>, AllocError>
+    ensures { IfOk result (Puts (Ok (relation_line (name_lent source.now) (name_lent target.now))) page.old page.new) }
+{
+    let (whole, each) = compare_lent(source, target);
+    push_line(alloc, page, whole, &each)?;
+    Ok(None)
+}
+
+// Puts the relation of the names, and those of the attributes in order, behind what is gathered, in one room.
+fn push_line(
+    alloc: Global,
+    page: &mut Page,
+    whole: Relation,
+    each: &Relations,
+) -> Result<(), AllocError>
+    ensures { OnOk result (page.new ≡ page.old ++ (relation_text whole ++ flat_map (λ w. 32 ∷ relation_text (relation_of each.now w)) attributes ++ codes "\n")) }
+{
+    let most = WORD * (ATTRIBUTES.len() + 1) + 1;
+    let (mut room, used) = replace(page, Page::new(alloc)).into_room(most)?;
+    let end = put_line(&mut room, used, whole, each);
+    *page = Page::from_room(room, end);
+    Ok(())
+}
+
+fn put_line(room: &mut [u8], at: usize, whole: Relation, each: &Relations) -> usize
+    requires { at + WORD * (length attributes + 1) + 1 ≤ length room.old }
+    ensures within { result ≤ length room.old }
+    ensures length { length room.new ≡ length room.old }
+    ensures line { take result room.new ≡ take at room.old ++ (relation_text whole ++ flat_map (λ w. 32 ∷ relation_text (relation_of each.now w)) attributes ++ codes "\n") }
+{
+    let behind_whole = put(room, at, &word_behind_space(whole)[1..]);
+    let behind_each = put_each(room, behind_whole, each, &ATTRIBUTES);
+    put_byte(room, behind_each, b'\n')
+}
+
+// Each behind a space.
+fn put_each(room: &mut [u8], at: usize, relations: &Relations, which: &[Attribute]) -> usize
+    requires { at + WORD * length which.now ≤ length room.old }
+    ensures within { result ≤ at + WORD * length which.now }
+    ensures length { length room.new ≡ length room.old }
+    ensures words { take result room.new ≡ take at room.old ++ flat_map (λ w. 32 ∷ relation_text (relation_of relations.now w)) which.now }
+{
+    let mut end = at;
+    for attribute in which {
+        end = put(room, end, word_behind_space(relations.get(*attribute)));
+    }
+    end
+}
+
+fn word_behind_space(relation: Relation) -> &'static [u8]
+    ensures word { result.now ≡ 32 ∷ relation_text relation }
+    ensures within { length result.now ≤ WORD }
+{
+    match relation {
+        Relation::Disjoint => b" DISJOINT",
+        Relation::Equal => b" EQUAL",
+        Relation::Subset => b" SUBSET",
+        Relation::Superset => b" SUPERSET",
+        Relation::Undefined => b" UNDEFINED",
+    }
+}

@@ -1,0 +1,14 @@
+-- The output text of a name, made from what stands for its values in another text.
+use Rattle.std.specs.Prelude.{ℕ, List, ◌++◌, codes}
+use Rattle.cpe_name.specs.declared.written.Written.{Written}
+
+-- a key, and the text of a value
+unfoldable pub keyed : (List ℕ → List ℕ) → List ℕ → List ℕ → List ℕ
+keyed text key u = key ++ text u
+
+-- the whole text, where `text` gives the text of a value from what stands for it
+abbrev pub output_from : (List ℕ → List ℕ) → Written → List ℕ
+output_from text w =
+    keyed text (codes "wfn:[part=") w.part.now ++ keyed text (codes ",vendor=") w.vendor.now ++ keyed text (codes ",product=") w.product.now ++ keyed text (codes ",version=") w.version.now
+    ++ keyed text (codes ",update=") w.update.now ++ keyed text (codes ",edition=") w.edition.now ++ keyed text (codes ",language=") w.language.now ++ keyed text (codes ",sw_edition=") w.sw_edition.now
+    ++ keyed text (codes ",target_sw=") w.target_sw.now ++ keyed text (codes ",target_hw=") w.target_hw.now ++ keyed text (codes ",other=") w.other.now ++ codes "]"

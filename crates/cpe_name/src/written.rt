@@ -1,0 +1,116 @@
+// Where the values of a name stand in a text, and the values that stand there.
+ghost use Rattle.std.specs.Prelude.{◌≡◌, ℕ, List, map, IfOk};
+ghost use Rattle.std.specs.List.{AllByRecursion};
+ghost use Rattle.cpe_values.specs.declared.value.Value.{Value as AnyValue};
+ghost use Rattle.cpe_name.specs.Names.{named};
+ghost use Rattle.cpe_name.specs.Scanning.{slot, put_text, none_given};
+ghost use Rattle.cpe_name.specs.Spans.{texts};
+
+use crate::name::{any_of_each, put_value};
+use crate::{ATTRIBUTES, Attribute, Values};
+use cpe_values::{Memory, Value};
+
+/// The eleven values of a name as they stand in a text, spelled as that text's binding spells them: in the text of a well-formed name
+/// `ANY`, `NA`, a text between double quotes, or nothing where no value is given.
+#[derive(Clone, Copy, Debug)]
+pub struct Written<'a> {
+    pub part: &'a [u8],
+    pub vendor: &'a [u8],
+    pub product: &'a [u8],
+    pub version: &'a [u8],
+    pub update: &'a [u8],
+    pub edition: &'a [u8],
+    pub language: &'a [u8],
+    pub sw_edition: &'a [u8],
+    pub target_sw: &'a [u8],
+    pub target_hw: &'a [u8],
+    pub other: &'a [u8],
+}
+
+impl<'a> Written<'a> {
+    pub(crate) fn none() -> Written<'a>
+        ensures { texts result ≡ none_given }
+    {
+        Written {
+            part: b"",
+            vendor: b"",
+            product: b"",
+            version: b"",
+            update: b"",
+            edition: b"",
+            language: b"",
+            sw_edition: b"",
+            target_sw: b"",
+            target_hw: b"",
+            other: b"",
+        }
+    }
+
+    pub(crate) fn get(&self, which: Attribute) -> &'a [u8]
+        ensures { result.now ≡ slot (texts self.now) which }
+    {
+        match which {
+            Attribute::Part => self.part,
+            Attribute::Vendor => self.vendor,
+            Attribute::Product => self.product,
+            Attribute::Version => self.version,
+            Attribute::Update => self.update,
+            Attribute::Edition => self.edition,
+            Attribute::Language => self.language,
+            Attribute::SwEdition => self.sw_edition,
+            Attribute::TargetSw => self.target_sw,
+            Attribute::TargetHw => self.target_hw,
+            Attribute::Other => self.other,
+        }
+    }
+
+    pub(crate) fn set(&mut self, which: Attribute, text: &'a [u8])
+        ensures { texts self.new ≡ put_text (texts self.old) which text.now }
+    {
+        match which {
+            Attribute::Part => self.part = text,
+            Attribute::Vendor => self.vendor = text,
+            Attribute::Product => self.product = text,
+            Attribute::Version => self.version = text,
+            Attribute::Update => self.update = text,
+            Attribute::Edition => self.edition = text,
+            Attribute::Language => self.language = text,
+            Attribute::SwEdition => self.sw_edition = text,
+            Attribute::TargetSw => self.target_sw = text,
+            Attribute::TargetHw => self.target_hw = text,
+            Attribute::Other => self.other = text,
+        }
+    }
+}
+
+/// How a value is made from what stands for it in a text.
+pub trait ReadValue {
+    ghost may_stand: { List ℕ → Type 0 };
+
+    ghost value: { List ℕ → AnyValue };
+
+    /// The value for which this stands.
+    ///
+    /// # Errors
+    /// Want of memory alone.
+    fn read(&mut self, text: &[u8]) -> Result<Value, Memory>
+        requires { may_stand text.now }
+        ensures { IfOk result (λ found. found ≡ value text.now) };
+}
+
+/// The values for which these stand.
+///
+/// # Errors
+/// Want of memory alone.
+pub fn read_values<R: ReadValue>(reader: &mut R, written: &Written) -> Result<Values, Memory>
+    requires { AllByRecursion R.may_stand (texts written.now) }
+    ensures { IfOk result (λ values. values ≡ named (map R.value (texts written.now))) }
+{
+    // One loop: eleven early returns, each with more values to be let go, would be slow to prove.
+    let mut values = any_of_each();
+    for which in &ATTRIBUTES {
+        let value = reader.read(written.get(*which))?;
+        put_value(&mut values, *which, value);
+    }
+    Ok(values)
+}

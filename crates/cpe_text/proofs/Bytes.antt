@@ -1,0 +1,52 @@
+-- Which bytes stand bare, whatever the style.
+use Rattle.std.proofs.Common.{◌≡◌, ℕ, true, false, eqb, refl, arith}
+use Rattle.std.proofs.lemmas.Bool.Decides.{nat_tests}
+use Rattle.cpe_values.specs.declared.spelling.Style.{Style}
+use Rattle.cpe_values.specs.declared.spelling.Style.TheVariants as style
+use Rattle.cpe_values.specs.Parts.{is_character}
+use Rattle.cpe_values.specs.Spelling.{is_bare}
+
+-- a letter stands bare
+pub letter_bare : (here : Style) → is_bare here 97 ≡ true
+letter_bare style.Wfn = refl
+letter_bare style.Formatted = refl
+
+-- an exclamation mark doesn't
+pub bang_not_bare : (here : Style) → is_bare here 33 ≡ false
+bang_not_bare style.Wfn = refl
+bang_not_bare style.Formatted = refl
+
+-- nor does an asterisk
+pub star_not_bare : (here : Style) → is_bare here 42 ≡ false
+star_not_bare style.Wfn = refl
+star_not_bare style.Formatted = refl
+
+-- nor a question mark
+pub mark_not_bare : (here : Style) → is_bare here 63 ≡ false
+mark_not_bare style.Wfn = refl
+mark_not_bare style.Formatted = refl
+
+-- nor a backslash
+pub slash_not_bare : (here : Style) → is_bare here 92 ≡ false
+slash_not_bare style.Wfn = refl
+slash_not_bare style.Formatted = refl
+
+-- what stands bare is printable
+pub bare_character : (here : Style) (c : ℕ) → is_bare here c ≡ true → is_character c ≡ true
+bare_character style.Wfn c h = grind (arith, nat_tests)
+bare_character style.Formatted c h = grind (arith, nat_tests)
+
+-- it is no backslash
+pub bare_no_slash : (here : Style) (c : ℕ) → is_bare here c ≡ true → eqb c 92 ≡ false
+bare_no_slash style.Wfn c h = grind (arith, nat_tests)
+bare_no_slash style.Formatted c h = grind (arith, nat_tests)
+
+-- nor an asterisk
+pub bare_no_star : (here : Style) (c : ℕ) → is_bare here c ≡ true → eqb c 42 ≡ false
+bare_no_star style.Wfn c h = grind (arith, nat_tests)
+bare_no_star style.Formatted c h = grind (arith, nat_tests)
+
+-- nor a question mark
+pub bare_no_mark : (here : Style) (c : ℕ) → is_bare here c ≡ true → eqb c 63 ≡ false
+bare_no_mark style.Wfn c h = grind (arith, nat_tests)
+bare_no_mark style.Formatted c h = grind (arith, nat_tests)

@@ -1,0 +1,4 @@
+pub mod Bytes
+pub mod Bodies
+pub mod Edges
+pub mod Stems

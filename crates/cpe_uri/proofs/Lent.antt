@@ -1,0 +1,77 @@
+-- The value that stands in a piece of a URI whose bytes spell themselves is the text that has the piece as its body.
+use Rattle.std.proofs.Common.{◌≡◌, ℕ, true, false, eqb, List, [], ◌∷◌, length, refl, sym, ap, subst, ◌∙◌, arith, map, Option, Some, None, Ok, IfSome}
+use Rattle.std.specs.List.{list_all, AllByRecursion}
+use Rattle.std.proofs.lemmas.List.{append-nil}
+use Rattle.std.proofs.lemmas.Bool.{and_parts, both_ways}
+use Rattle.std.proofs.lemmas.Bool.Decides.{nat_tests}
+use Rattle.cpe_values.specs.declared.value.Edge.TheVariants as edge
+use Rattle.cpe_values.specs.declared.value.Value.TheVariants as value
+use Rattle.cpe_values.specs.Parts.{Parts, parts, is_character, IsText}
+use Rattle.cpe_name.specs.declared.borrowed.NameRef.{NameRef}
+use Rattle.cpe_name.specs.declared.name.Values.{Values}
+use Rattle.cpe_name.specs.declared.written.Written.{Written}
+use Rattle.cpe_name.specs.Borrowed.{name_lent}
+use Rattle.cpe_name.specs.Names.{named}
+use Rattle.cpe_name.specs.Spans.{texts}
+use Rattle.cpe_uri.specs.Grammar.{Uri}
+use Rattle.cpe_uri.specs.Spans.{AreComponents}
+use Rattle.cpe_uri.specs.Spelling.{Spelled, Stands}
+use Rattle.cpe_uri.specs.Unbound.{read_uri}
+use Rattle.cpe_uri.specs.Rewriting.{is_hyphen}
+use Rattle.cpe_uri.specs.SpanValues.{value_at}
+use Rattle.cpe_uri.specs.Lending.{spells_itself, spell_themselves, all_spell_themselves}
+use Rattle.cpe_uri.proofs.ValueLemmas.{value_back, name_back}
+use Rattle.cpe_uri.proofs.Said.{read_name}
+
+-- the text that has nothing but this body
+abbrev pub text_alone : List ℕ → Parts
+text_alone s = parts edge.None s edge.None
+
+each_spelled : (s : List ℕ) → spell_themselves s ≡ true → Spelled s s
+each_spelled [] h = refl
+each_spelled (c ∷ s) h =
+    let p = and_parts (spells_itself c) (spell_themselves s) h in
+    (c ∷ [], s, refl, p.0, each_spelled s p.1)
+
+body_stands : (s : List ℕ) → spell_themselves s ≡ true → Stands (value.Text (text_alone s)) s
+body_stands s h = subst (λ (cs : List ℕ). Spelled cs s) (sym (append-nil s)) (each_spelled s h)
+
+is_printable : (c : ℕ) → spells_itself c ≡ true → is_character c ≡ true
+is_printable c h = grind (arith, nat_tests)
+
+are_printable : (s : List ℕ) → spell_themselves s ≡ true → list_all is_character s ≡ true
+are_printable [] h = refl
+are_printable (c ∷ s) h =
+    let p = and_parts (spells_itself c) (spell_themselves s) h in
+    rw (is_printable c p.0) (are_printable s p.1)
+
+body_is_text : (s : List ℕ) → spell_themselves s ≡ true → eqb (length s) 0 ≡ false → is_hyphen s ≡ false → IsText (text_alone s)
+body_is_text s h some other = record {
+  lead = tt;
+  characters = are_printable s h;
+  some = λ e. both_ways (eqb (length s) 0) some (ap (λ (u : List ℕ). eqb (length u) 0) e);
+  no_hyphen = λ e. both_ways (is_hyphen s) other (ap (λ (t : Parts). is_hyphen t.body) e);
+  trail = tt;
+}
+
+-- the text that stands there is the piece itself
+pub value_itself : (s : List ℕ) → spell_themselves s ≡ true → eqb (length s) 0 ≡ false → is_hyphen s ≡ false → value_at s ≡ value.Text (text_alone s)
+value_itself s h some other = value_back (value.Text (text_alone s)) s (body_is_text s h some other) (body_stands s h)
+
+pub each_themselves : (us : List (List ℕ)) → all_spell_themselves us ≡ true → AllByRecursion (λ u. spell_themselves u ≡ true) us
+each_themselves [] h = tt
+each_themselves (u ∷ us) h =
+    let p = and_parts (spell_themselves u) (all_spell_themselves us) h in
+    (p.0, each_themselves us p.1)
+
+-- a name whose values stand in the pieces of a URI has the URI
+pub pieces_lent : (s : List ℕ) (c : Written) → AreComponents s c → (r : Option NameRef)
+    → IfSome r (λ n. name_lent n ≡ named (map value_at (texts c))) → IfSome r (λ n. Uri (name_lent n) s)
+pieces_lent s c are None h = tt
+pieces_lent s c are (Some n) h = subst (λ (w : Values). Uri w s) (sym (h ∙ name_back s c are)) are.uri
+
+-- it is what the URI is read as
+pub pieces_read : (s : List ℕ) (c : Written) → AreComponents s c → (r : Option NameRef)
+    → IfSome r (λ n. name_lent n ≡ named (map value_at (texts c))) → IfSome r (λ n. read_uri s ≡ Ok (name_lent n))
+pieces_read s c are None h = tt
+pieces_read s c are (Some n) h = read_name (name_lent n) s (pieces_lent s c are (Some n) h)

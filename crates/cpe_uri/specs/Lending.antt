@@ -1,0 +1,19 @@
+-- The bytes that stand in a URI as they stand in the text that they spell. No public clause rests on it.
+use Rattle.std.specs.Prelude.{ℕ, Bool, List, [], ◌∷◌, if◌then◌else◌}
+use Rattle.std.specs.List.{list_all}
+use Rattle.cpe_uri.specs.Spelling.{spells}
+
+-- it stands bare and is no capital letter
+abbrev pub spells_itself : ℕ → Bool
+spells_itself c = spells c (c ∷ [])
+
+-- 1 where it does
+abbrev pub itself : ℕ → ℕ
+itself c = if spells_itself c then 1 else 0
+
+abbrev pub spell_themselves : List ℕ → Bool
+spell_themselves s = list_all spells_itself s
+
+-- in each of them
+abbrev pub all_spell_themselves : List (List ℕ) → Bool
+all_spell_themselves us = list_all spell_themselves us

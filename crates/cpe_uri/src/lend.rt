@@ -1,0 +1,165 @@
+// From URIs, and from texts in either binding, to names that borrow their texts from them (NIST IR 7695, 6.1.3). Nothing here takes
+// memory: a name of which a text is spelled by other bytes than its own is made by `unbind_uri` and `unbind_any`.
+ghost use Rattle.std.specs.Prelude.{◌≡◌, map, true, Ok, Err, IfOk, IfErr, OnOk, IfSome, MatchResult};
+ghost use Rattle.std.specs.List.{AllByRecursion};
+ghost use Rattle.cpe_values.specs.declared.value.Edge.TheVariants as edge;
+ghost use Rattle.cpe_values.specs.Parts.{parts};
+ghost use Rattle.cpe_values.specs.Borrowed.{text_lent, value_lent};
+ghost use Rattle.cpe_name.specs.Borrowed.{name_lent};
+ghost use Rattle.cpe_name.specs.Names.{named};
+ghost use Rattle.cpe_name.specs.Spans.{texts};
+ghost use Rattle.cpe_uri.specs.EitherBinding.{UriOrFs, IsUriOrFs, LeavesUriOrFs, read_any};
+ghost use Rattle.cpe_uri.specs.Grammar.{Uri, IsUri, LeavesUri};
+ghost use Rattle.cpe_uri.specs.Lending.{spells_itself, spell_themselves, all_spell_themselves};
+ghost use Rattle.cpe_uri.specs.SpanValues.{value_at};
+ghost use Rattle.cpe_uri.specs.Unbound.{read_uri};
+
+use crate::scan::scan_uri;
+use crate::unbind::begins_as_uri;
+use crate::values::is_hyphen;
+use cpe_fs::lend_fs;
+use cpe_name::{NameRef, Written};
+use cpe_values::{Edge, TextRef, ValueRef};
+
+// 1 for a small letter, a digit, `_`, `.`, `-` and `~`. A table, since letters and digits alternate in no order that a branch could foretell.
+#[rattlefmt::skip]
+const ITSELF: [u8; 256] = [
+    0, 0, 0, 0, 0, 0, 0, 0, 0, 0, 0, 0, 0, 0, 0, 0, 0, 0, 0, 0, 0, 0, 0, 0, 0, 0, 0, 0, 0, 0, 0, 0,
+    0, 0, 0, 0, 0, 0, 0, 0, 0, 0, 0, 0, 0, 1, 1, 0, 1, 1, 1, 1, 1, 1, 1, 1, 1, 1, 0, 0, 0, 0, 0, 0,
+    0, 0, 0, 0, 0, 0, 0, 0, 0, 0, 0, 0, 0, 0, 0, 0, 0, 0, 0, 0, 0, 0, 0, 0, 0, 0, 0, 0, 0, 0, 0, 1,
+    0, 1, 1, 1, 1, 1, 1, 1, 1, 1, 1, 1, 1, 1, 1, 1, 1, 1, 1, 1, 1, 1, 1, 1, 1, 1, 1, 0, 0, 0, 1, 0,
+    0, 0, 0, 0, 0, 0, 0, 0, 0, 0, 0, 0, 0, 0, 0, 0, 0, 0, 0, 0, 0, 0, 0, 0, 0, 0, 0, 0, 0, 0, 0, 0,
+    0, 0, 0, 0, 0, 0, 0, 0, 0, 0, 0, 0, 0, 0, 0, 0, 0, 0, 0, 0, 0, 0, 0, 0, 0, 0, 0, 0, 0, 0, 0, 0,
+    0, 0, 0, 0, 0, 0, 0, 0, 0, 0, 0, 0, 0, 0, 0, 0, 0, 0, 0, 0, 0, 0, 0, 0, 0, 0, 0, 0, 0, 0, 0, 0,
+    0, 0, 0, 0, 0, 0, 0, 0, 0, 0, 0, 0, 0, 0, 0, 0, 0, 0, 0, 0, 0, 0, 0, 0, 0, 0, 0, 0, 0, 0, 0, 0,
+];
+
+#[tactic(auto, using(crate::proofs::Tables::itself_is))]
+fn spells_itself(byte: u8) -> bool
+    ensures { result ≡ spells_itself byte }
+{
+    ITSELF[usize::from(byte)] == 1
+}
+
+// Whether the piece has no percent form and no capital letter, so that the body that it spells stands there as it is.
+fn spell_themselves(span: &[u8]) -> bool
+    ensures { result ≡ spell_themselves span.now }
+{
+    span.iter().all(|byte| spells_itself(*byte))
+}
+
+fn all_spell_themselves(spans: &Written) -> bool
+    ensures { result ≡ all_spell_themselves (texts spans.now) }
+{
+    spell_themselves(spans.part)
+        && spell_themselves(spans.vendor)
+        && spell_themselves(spans.product)
+        && spell_themselves(spans.version)
+        && spell_themselves(spans.update)
+        && spell_themselves(spans.edition)
+        && spell_themselves(spans.language)
+        && spell_themselves(spans.sw_edition)
+        && spell_themselves(spans.target_sw)
+        && spell_themselves(spans.target_hw)
+        && spell_themselves(spans.other)
+}
+
+fn text_alone(body: &[u8]) -> TextRef
+    ensures { text_lent result ≡ parts edge.None body.now edge.None }
+{
+    TextRef {
+        lead: Edge::None,
+        stem: body,
+        trail: Edge::None,
+    }
+}
+
+fn lend_value(span: &[u8]) -> ValueRef
+    requires { spell_themselves span.now ≡ true }
+    ensures { value_lent result ≡ value_at span.now }
+{
+    if span.is_empty() {
+        ValueRef::Any
+    } else if is_hyphen(span) {
+        ValueRef::Na
+    } else {
+        ValueRef::Text(text_alone(span))
+    }
+}
+
+fn lend_values<'a>(spans: &Written<'a>) -> NameRef<'a>
+    requires { AllByRecursion (λ u. spell_themselves u ≡ true) (texts spans.now) }
+    ensures { name_lent result ≡ named (map value_at (texts spans.now)) }
+{
+    NameRef {
+        part: lend_value(spans.part),
+        vendor: lend_value(spans.vendor),
+        product: lend_value(spans.product),
+        version: lend_value(spans.version),
+        update: lend_value(spans.update),
+        edition: lend_value(spans.edition),
+        language: lend_value(spans.language),
+        sw_edition: lend_value(spans.sw_edition),
+        target_sw: lend_value(spans.target_sw),
+        target_hw: lend_value(spans.target_hw),
+        other: lend_value(spans.other),
+    }
+}
+
+#[tactic(auto, using(crate::proofs::Lent::each_themselves))]
+fn lend_pieces<'a>(spans: &Written<'a>) -> Option<NameRef<'a>>
+    ensures { IfSome result (λ name. name_lent name ≡ named (map value_at (texts spans.now))) }
+{
+    if !all_spell_themselves(spans) {
+        return None;
+    }
+    Some(lend_values(spans))
+}
+
+/// The name that has this URI, borrowed from it where each of its texts stands there as it is (NIST IR 7695, 6.1.3): without a percent form
+/// and without a capital letter. `None` where one doesn't: [`unbind_uri`](crate::unbind_uri) makes that name. It takes no memory.
+///
+/// # Errors
+///
+/// The place of the text as in [`UriFault::At`](crate::UriFault::At), exactly where no name has it.
+pub fn lend_uri(text: &[u8]) -> Result<Option<NameRef<'_>>, usize>
+    // What is lent has this text.
+    ensures lent { IfOk result (λ lent. IfSome lent (λ name. Uri (name_lent name) text.now)) }
+    // Where there is no error some name has it.
+    ensures had { OnOk result (IsUri text.now) }
+    // A text that no name has is refused with its place.
+    ensures refused { IfErr result (LeavesUri text.now) }
+
+    // The same by a function.
+    ensures read { MatchResult result (λ lent. IfSome lent (λ name. read_uri text.now ≡ Ok (name_lent name))) (λ place. read_uri text.now ≡ Err place) }
+{
+    match scan_uri(text) {
+        Ok(spans) => Ok(lend_pieces(&spans)),
+        Err(left) => Err(text.len() - left),
+    }
+}
+
+/// The name that has this text in one binding or the other, borrowed from it: as [`lend_uri`] where the text begins with `cpe:/` in any
+/// letter case, and as [`lend_fs`] where it doesn't (NIST IR 7695, 6.1.3 and 6.2.3). `None` where the name can't be lent:
+/// [`unbind_any`](crate::unbind_any) makes it. It takes no memory.
+///
+/// # Errors
+///
+/// The place of the text as in [`UriFault::At`](crate::UriFault::At), exactly where no name has it.
+pub fn lend_any(text: &[u8]) -> Result<Option<NameRef<'_>>, usize>
+    // What is lent has this text.
+    ensures lent { IfOk result (λ lent. IfSome lent (λ name. UriOrFs (name_lent name) text.now)) }
+    // Where there is no error some name has it.
+    ensures had { OnOk result (IsUriOrFs text.now) }
+    // A text that no name has is refused with its place.
+    ensures refused { IfErr result (LeavesUriOrFs text.now) }
+
+    // The same by a function.
+    ensures read { MatchResult result (λ lent. IfSome lent (λ name. read_any text.now ≡ Ok (name_lent name))) (λ place. read_any text.now ≡ Err place) }
+{
+    if begins_as_uri(text) {
+        lend_uri(text)
+    } else {
+        lend_fs(text)
+    }
+}

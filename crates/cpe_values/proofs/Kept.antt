@@ -1,0 +1,18 @@
+-- What stands in front is kept where more is put behind it.
+use Rattle.std.proofs.Common.{◌≡◌, ℕ, List, [], ◌∷◌, ◌++◌, length, take, refl, ap, ◌∙◌}
+use Rattle.std.proofs.Math.Seq.{take-append_seam}
+
+pub kept_append : (a b t : List ℕ) → b ≡ a ++ t → take (length a) b ≡ a
+kept_append a b t e = ap (take (length a)) e ∙ take-append_seam a t
+
+pub kept_along : (a b c : List ℕ) → take (length a) b ≡ a → take (length b) c ≡ b → take (length a) c ≡ a
+kept_along [] b c h k = refl
+kept_along (x ∷ a) [] c h k = absurd cc
+kept_along (x ∷ a) (y ∷ b) [] h k = absurd cc
+kept_along (x ∷ a) (y ∷ b) (z ∷ c) h k =
+    let front : take (length a) b ≡ a = cc in
+    let whole : take (length b) c ≡ b = cc in
+    let head : z ≡ x = cc in
+    ap (λ (d : ℕ). d ∷ take (length a) c) head ∙ ap (λ (u : List ℕ). x ∷ u) (kept_along a b c front whole)
+
+pub ruleset keeping = (kept_append, kept_along)

@@ -1,0 +1,66 @@
+// Values whose text lies elsewhere, as a `&str` is to a `String`.
+ghost use Rattle.std.specs.Prelude.{◌≡◌};
+ghost use Rattle.cpe_values.specs.Parts.{has_special};
+ghost use Rattle.cpe_values.specs.Borrowed.{text_lent, value_lent};
+
+use crate::value::is_special;
+use crate::{Edge, Pattern, Value};
+
+/// A text whose body is borrowed: a [`Pattern`], or a slice of a line in which the body stands as it is.
+///
+/// Any parts are allowed: whoever makes one tells which text it is.
+#[derive(Clone, Copy, Debug)]
+pub struct TextRef<'a> {
+    /// What stands before the body.
+    pub lead: Edge,
+    /// The body, without quoting.
+    pub stem: &'a [u8],
+    /// What stands after the body.
+    pub trail: Edge,
+}
+
+/// What an attribute has, borrowed: a [`Value`], or what a line says in place. It takes no memory.
+#[derive(Clone, Copy, Debug)]
+pub enum ValueRef<'a> {
+    /// The logical value ANY (NIST IR 7695, 5.3).
+    Any,
+    /// The logical value NA: not applicable (NIST IR 7695, 5.3).
+    Na,
+    /// A text.
+    Text(TextRef<'a>),
+}
+
+impl TextRef<'_> {
+    /// Whether the text has a special, `*` or `?`, before or after its body.
+    pub fn has_wildcards(&self) -> bool
+        ensures { result ≡ has_special (text_lent self.now) }
+    {
+        is_special(self.lead, self.trail)
+    }
+}
+
+impl Pattern {
+    /// The same text, borrowed.
+    pub fn as_ref(&self) -> TextRef<'_>
+        ensures { text_lent result ≡ self.now }
+    {
+        TextRef {
+            lead: self.lead(),
+            stem: self.stem(),
+            trail: self.trail(),
+        }
+    }
+}
+
+impl Value {
+    /// The same value, borrowed.
+    pub fn as_ref(&self) -> ValueRef<'_>
+        ensures { value_lent result ≡ self.now }
+    {
+        match self {
+            Value::Any => ValueRef::Any,
+            Value::Na => ValueRef::Na,
+            Value::Text(text) => ValueRef::Text(text.as_ref()),
+        }
+    }
+}
