@@ -1,0 +1,50 @@
+-- The tables on a list are the fold of the tables on two.
+use Rattle.std.proofs.Common.{◌≡◌, List, [], ◌∷◌, ◌++◌, Bool, true, false, if◌then◌else◌, ◌||◌, refl}
+use Rattle.std.specs.List.{list_any}
+use Rattle.std.proofs.lemmas.List.Folds.{list_any-append}
+use Rattle.cpe_rows.specs.Truth.{same_truth, and_of, or_of}
+use Rattle.cpe_rows.specs.Evaluation.{joined}
+use Rattle.cpe_rows.specs.declared.truth.Truth.{Truth}
+use Rattle.cpe_rows.specs.declared.truth.Truth.TheVariants.{True, False, Error, Unknown}
+use Rattle.cpe_rows.specs.declared.test.Operator.{Operator}
+use Rattle.cpe_rows.specs.declared.test.Operator.TheVariants.{And, Or}
+
+-- the first of three, by whether each is there
+abbrev pick : Truth → Truth → Bool → Bool → Bool → Truth
+pick first last f e u = if f then first else (if e then Error else (if u then Unknown else last))
+
+and-pick : (f e u : Bool) (t : Truth) → pick False True (f || (same_truth False t || false)) (e || (same_truth Error t || false)) (u || (same_truth Unknown t || false)) ≡ and_of (pick False True f e u) t
+and-pick true e u t = refl
+and-pick false true u True = refl
+and-pick false true u False = refl
+and-pick false true u Error = refl
+and-pick false true u Unknown = refl
+and-pick false false true True = refl
+and-pick false false true False = refl
+and-pick false false true Error = refl
+and-pick false false true Unknown = refl
+and-pick false false false True = refl
+and-pick false false false False = refl
+and-pick false false false Error = refl
+and-pick false false false Unknown = refl
+
+or-pick : (f e u : Bool) (t : Truth) → pick True False (f || (same_truth True t || false)) (e || (same_truth Error t || false)) (u || (same_truth Unknown t || false)) ≡ or_of (pick True False f e u) t
+or-pick true e u t = refl
+or-pick false true u True = refl
+or-pick false true u False = refl
+or-pick false true u Error = refl
+or-pick false true u Unknown = refl
+or-pick false false true True = refl
+or-pick false false true False = refl
+or-pick false false true Error = refl
+or-pick false false true Unknown = refl
+or-pick false false false True = refl
+or-pick false false false False = refl
+or-pick false false false Error = refl
+or-pick false false false Unknown = refl
+
+pub joined-snoc : (operator : Operator) (ts : List Truth) (t : Truth) → joined operator (ts ++ t ∷ []) ≡ joined operator (joined operator ts ∷ (t ∷ []))
+joined-snoc And ts t =
+    simp list_any-append (and-pick (list_any (same_truth False) ts) (list_any (same_truth Error) ts) (list_any (same_truth Unknown) ts) t)
+joined-snoc Or ts t =
+    simp list_any-append (or-pick (list_any (same_truth True) ts) (list_any (same_truth Error) ts) (list_any (same_truth Unknown) ts) t)

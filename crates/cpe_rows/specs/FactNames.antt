@@ -1,0 +1,16 @@
+-- The names of a test's fact references, in the order of its arrays.
+use Rattle.std.specs.Prelude.{List, [], ◌∷◌}
+use Rattle.std.specs.List.{flat_map}
+use Rattle.cpe_name.specs.declared.name.Values.{Values}
+use Rattle.cpe_rows.specs.declared.test.Test.{Test}
+use Rattle.cpe_rows.specs.declared.test.Test.TheOpen.{Test-F}
+use Rattle.cpe_rows.specs.declared.test.Test.TheFolds.{fold-Test}
+
+abbrev pub fact_names_step : Test-F (List Values) → List Values
+fact_names_step (Test-F.Logic operator negate of) = flat_map (λ names. names) of
+fact_names_step (Test-F.Fact name) = name ∷ []
+fact_names_step (Test-F.Check key) = []
+
+-- each as often as it stands there
+abbrev pub fact_names : Test → List Values
+fact_names = fold-Test (List Values) fact_names_step

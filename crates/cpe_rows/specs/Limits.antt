@@ -1,0 +1,45 @@
+-- How many rows there may be, and how much of them.
+use Rattle.std.specs.Prelude.{ℕ, List, [], ◌∷◌, length, Bool, nat_lt}
+use Rattle.std.specs.List.{flat_map}
+use Rattle.cpe_rows.specs.Rows.{Rows}
+use Rattle.cpe_rows.specs.Chains.{ends}
+use Rattle.cpe_rows.specs.FactNames.{fact_names}
+use Rattle.cpe_rows.specs.Weight.{weight}
+use Rattle.cpe_rows.specs.declared.entry.Entry.{Entry}
+use Rattle.cpe_rows.specs.declared.fault.Which.{Which}
+use Rattle.cpe_rows.specs.declared.fault.Which.TheVariants as limit
+
+abbrev pub number_of : Which → Rows → ℕ
+number_of limit.Entries rows = length rows.entries
+number_of limit.Items rows = length rows.items
+number_of limit.Statements rows = length rows.statements
+number_of limit.Facts rows = length (flat_map (λ s. fact_names s.test) rows.statements)
+number_of limit.Checks rows = length rows.checks
+number_of limit.Weight rows = weight rows
+
+-- no number is greater
+abbrev pub most : Which → ℕ
+most limit.Entries = 2000000
+most limit.Items = 1000000
+most limit.Statements = 100000
+most limit.Facts = 1000000
+most limit.Checks = 100000
+most limit.Weight = 536870912
+
+-- what is limited, in the order in which it is tested; the weight will be the last, once it is kept
+abbrev pub limited : List Which
+limited = limit.Entries ∷ limit.Items ∷ limit.Statements ∷ limit.Facts ∷ limit.Checks ∷ []
+
+abbrev pub exceeds : Rows → Which → Bool
+exceeds rows which = nat_lt (most which) (number_of which rows)
+
+-- an entry has no more ends
+abbrev pub most_ends : ℕ
+most_ends = 64
+
+abbrev pub is_wide : List Entry → Entry → Bool
+is_wide entries e = nat_lt most_ends (length (ends entries e.name))
+
+-- a deprecation has no more successors
+abbrev pub most_successors : ℕ
+most_successors = 16

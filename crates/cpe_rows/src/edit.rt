@@ -1,0 +1,142 @@
+// Edits and queries.
+ghost use Rattle.std.specs.Prelude.{◌≡◌};
+ghost use Rattle.std.specs.List.{list_all};
+ghost use Rattle.cpe_rows.specs.Names.{is_lower};
+ghost use Rattle.cpe_rows.specs.Valid.{is_valid_edit, is_valid_query, is_id, is_visible, is_statement_test};
+
+use crate::{CheckKey, Date, Deprecation, Entry, Statement, Test, Text, Truth, is_lower};
+use cpe_name::Wfn;
+
+/// A change of the rows.
+#[derive(Debug, Drop)]
+pub enum Edit {
+    /// Adds an entry, which has no deprecation.
+    Entry(Entry),
+    /// Adds an item.
+    Item(Wfn),
+    /// Drops an item.
+    DropItem(Wfn),
+    /// Gives an active entry a deprecation, and a note of this date and comment.
+    Deprecate {
+        name: Wfn,
+        deprecation: Deprecation,
+        date: Date,
+        comment: Text,
+    },
+    /// Replaces the deprecation of an entry, with a note of this date and comment.
+    Amend {
+        name: Wfn,
+        deprecation: Deprecation,
+        date: Date,
+        comment: Text,
+    },
+    /// Takes the deprecation of an entry away, with a note of this date and comment.
+    Restore {
+        name: Wfn,
+        date: Date,
+        comment: Text,
+    },
+    /// Adds a statement.
+    PutStatement(Statement),
+    /// Drops the statement of this id.
+    DropStatement(Text),
+    /// Keeps the result of a check, in the place of the one that is kept for this key, if any.
+    SetCheck {
+        key: CheckKey,
+        result: Truth,
+    },
+    /// Drops the result that is kept for a key.
+    DropCheck(CheckKey),
+}
+
+/// A question about the rows.
+#[derive(Debug, Drop)]
+pub enum Query {
+    /// Whether an entry has this name, and whether it is active.
+    Lookup(Wfn),
+    /// The entries that the name covers, or the active ones among them.
+    Search { name: Wfn, active_only: bool },
+    /// The items that the name covers.
+    Items(Wfn),
+    /// The entries to which a path of successors leads from the entry of this name.
+    Chain(Wfn),
+    /// The whole entry of this name.
+    Show(Wfn),
+    /// The verdict of the statement of this id.
+    Verdict(Text),
+}
+
+fn are_visible(bytes: &[u8]) -> bool
+    ensures { result ≡ list_all is_visible bytes.now }
+{
+    bytes.iter().all(|b| 0x21 <= *b && *b <= 0x7e)
+}
+
+/// Whether a text may be the id of a statement: 1 to 256 bytes, each a visible ASCII character.
+pub fn is_id(text: &str) -> bool
+    ensures { result ≡ is_id text.now }
+{
+    let bytes = text.as_bytes();
+    0 < bytes.len() && bytes.len() <= 256 && are_visible(bytes)
+}
+
+fn is_statement_test(test: &Test) -> bool
+    ensures { result ≡ is_statement_test test.now }
+{
+    match test {
+        Test::Logic { .. } => test.is_within(32) && test.is_sound(),
+        _ => false,
+    }
+}
+
+fn are_lower(names: &[Wfn]) -> bool
+    ensures { result ≡ list_all is_lower names.now }
+{
+    names.iter().all(|name| is_lower(name))
+}
+
+impl Edit {
+    /// Whether the edit is one that an engine takes: its names are in lower case, a new entry has no deprecation, the id of
+    /// a statement is 1 to 256 visible ASCII characters, and its test is a logical one of at most 32 levels, each with a
+    /// child. It takes no memory.
+    pub fn valid(&self) -> bool
+        ensures { result ≡ is_valid_edit self.now }
+    {
+        match self {
+            Edit::Entry(entry) => is_lower(&entry.name) && entry.deprecation.is_none(),
+            Edit::Item(name) | Edit::DropItem(name) | Edit::Restore { name, .. } => is_lower(name),
+            Edit::Deprecate {
+                name,
+                deprecation,
+                ..
+            }
+            | Edit::Amend {
+                name,
+                deprecation,
+                ..
+            } => is_lower(name) && are_lower(deprecation.successors.as_slice()),
+            Edit::PutStatement(statement) => {
+                is_id(statement.id.as_str()) && is_statement_test(&statement.test)
+            }
+            Edit::DropStatement(id) => is_id(id.as_str()),
+            Edit::SetCheck { .. } | Edit::DropCheck(_) => true,
+        }
+    }
+}
+
+impl Query {
+    /// Whether the query is one that an engine takes: its name is in lower case, and the id of a statement is 1 to 256
+    /// visible ASCII characters. It takes no memory.
+    pub fn valid(&self) -> bool
+        ensures { result ≡ is_valid_query self.now }
+    {
+        match self {
+            Query::Lookup(name)
+            | Query::Search { name, .. }
+            | Query::Items(name)
+            | Query::Chain(name)
+            | Query::Show(name) => is_lower(name),
+            Query::Verdict(id) => is_id(id.as_str()),
+        }
+    }
+}

@@ -1,0 +1,65 @@
+// The truth of a test, from the truths of its facts and checks.
+ghost use Rattle.std.specs.Prelude.{◌≡◌, List, [], ◌∷◌};
+ghost use Rattle.cpe_name.specs.declared.name.Values.{Values};
+ghost use Rattle.cpe_rows.specs.Evaluation.{test_truth, joined};
+ghost use Rattle.cpe_rows.specs.declared.truth.Truth.{Truth};
+ghost use Rattle.cpe_rows.specs.declared.test.CheckKey.{CheckKey};
+
+use crate::{CheckKey, Operator, Test, Truth, and_of, not_of, or_of};
+use cpe_name::Wfn;
+
+/// What is known of facts and checks.
+pub trait Facts {
+    ghost fact_truth: { Self → Values → Truth };
+
+    ghost check_truth: { Self → CheckKey → Truth };
+
+    /// The truth of a fact reference.
+    fn fact(&self, name: &Wfn) -> Truth
+        ensures { result ≡ fact_truth self.now name.now };
+
+    /// The truth of a check reference.
+    fn check(&self, key: &CheckKey) -> Truth
+        ensures { result ≡ check_truth self.now key.now };
+}
+
+/// The truth of a test (NIST IR 7698): that of a logical test is its children's joined by its operator, swapped where it
+/// negates. It takes no memory.
+pub fn evaluate<F: Facts>(test: &Test, facts: &F) -> Truth
+    ensures { result ≡ test_truth (F.fact_truth facts.now) (F.check_truth facts.now) test.now }
+{
+    match test {
+        Test::Logic {
+            operator,
+            negate,
+            of,
+        } => {
+            let mut truth = neutral(*operator);
+            for child in of.as_slice() {
+                truth = join(*operator, truth, evaluate(child, facts));
+            }
+            if *negate { not_of(truth) } else { truth }
+        }
+        Test::Fact(name) => facts.fact(name),
+        Test::Check(key) => facts.check(key),
+    }
+}
+
+// What is joined of no children.
+fn neutral(operator: Operator) -> Truth
+    ensures { result ≡ joined operator [] }
+{
+    match operator {
+        Operator::And => Truth::True,
+        Operator::Or => Truth::False,
+    }
+}
+
+fn join(operator: Operator, a: Truth, b: Truth) -> Truth
+    ensures { result ≡ joined operator (a ∷ (b ∷ [])) }
+{
+    match operator {
+        Operator::And => and_of(a, b),
+        Operator::Or => or_of(a, b),
+    }
+}

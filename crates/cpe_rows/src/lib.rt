@@ -1,0 +1,42 @@
+//! The rows of a dictionary and of an inventory, and what they mean.
+//!
+//! A dictionary (NIST IR 7697) has entries with provenance and deprecations. An inventory has items, and applicability
+//! statements (NIST IR 7698) are tests over them. The definitions say what an edit makes of these rows, what a query
+//! answers and which verdict a statement has: [`Edit`], [`Query`], [`Reply`] and [`EditFault`] are what they speak of.
+//! An engine above keeps the rows.
+#![tactic(auto)]
+
+mod date;
+mod edit;
+mod entry;
+mod facts;
+mod fault;
+mod laws;
+mod list;
+mod names;
+mod reply;
+mod room;
+mod statement;
+mod test;
+#[cfg(test)]
+mod tests;
+mod text;
+mod truth;
+
+pub use date::Date;
+pub use edit::{Edit, Query, is_id};
+pub use entry::{Deprecation, Entry, Kind, Note, NoteKind, Provenance};
+pub use facts::{Facts, evaluate};
+pub use fault::{EditFault, Which};
+pub use laws::{
+    chains_are_paths, entries_stand_alone, names_are_equal, rows_stay_lawful,
+    statements_stand_alone, tables_are_folds,
+};
+pub use list::List;
+pub use names::{has_wildcards, is_identifier, is_lower, is_same};
+pub use reply::{Changed, Reply, Row, State};
+pub use room::Room;
+pub use statement::{Mode, Statement};
+pub use test::{CheckKey, Operator, Test};
+pub use text::Text;
+pub use truth::{Truth, and_of, not_of, or_of};
