@@ -1,8 +1,8 @@
 -- What is written of the texts of values is the formatted string of their name.
-use Rattle.std.proofs.Common.{◌≡◌, ℕ, zero, suc, ◌-◌, true, false, ◌||◌, eqb, List, [], ◌∷◌, ◌++◌, length, take, replicate, refl, sym, ap, ◌∙◌, inl, inr, append_assoc, arith, length-append}
+use Rattle.std.proofs.Common.{◌≡◌, ℕ, zero, suc, true, false, ◌||◌, eqb, List, [], ◌∷◌, ◌++◌, length, replicate, refl, sym, ap, ◌∙◌, inl, inr, append_assoc, arith}
 use Rattle.std.specs.Prelude.{codes}
 use Rattle.std.specs.List.{flat_map}
-use Rattle.std.proofs.lemmas.List.{append-nil, take_at}
+use Rattle.std.proofs.lemmas.List.{append-nil}
 use Rattle.std.proofs.lemmas.Bool.{cases_Bool, or_left, or_right, or_from}
 use Rattle.std.proofs.lemmas.Bool.Decides.{nat_tests}
 use Rattle.cpe_values.specs.declared.value.Edge.{Edge}
@@ -21,6 +21,7 @@ use Rattle.cpe_name.specs.Names.{value_of}
 use Rattle.cpe_name.specs.Text.{value_text}
 use Rattle.cpe_name.specs.Scanning.{slot}
 use Rattle.cpe_name.specs.Spans.{texts, or_any, AreWritten}
+use Rattle.cpe_name.proofs.Items.{between_is}
 use Rattle.cpe_name.proofs.WholeTexts.{value_found, good_value, each_text}
 use Rattle.cpe_fs.specs.Grammar.{component, fs_text}
 use Rattle.cpe_fs.specs.Unquoting.{begins_bare, unquoted, component_from, keyed, written_string}
@@ -127,16 +128,11 @@ unquoted_spelling t =
 
 -- ---- components
 
-front_is : (x : List ℕ) → take (length (x ++ 34 ∷ []) - 1) (x ++ 34 ∷ []) ≡ x
-front_is x =
-    let long : length (x ++ 34 ∷ []) - 1 ≡ length x = omega (arith, length-append x (34 ∷ [])) in
-    ap (λ (n : ℕ). take n (x ++ 34 ∷ [])) long ∙ take_at x (34 ∷ []) (length x) refl
-
 text_component : (v : Value) → component_from (value_text v) ≡ component v
 unfolding component_from
 text_component value.Any = refl
 text_component value.Na = refl
-text_component (value.Text t) = ap unquoted (front_is (spelling style.Wfn t)) ∙ unquoted_spelling t
+text_component (value.Text t) = ap unquoted (between_is (spelling style.Wfn t) (34 ∷ [])) ∙ unquoted_spelling t
 
 none_component : component_from [] ≡ component value.Any
 unfolding component_from

@@ -1,8 +1,8 @@
 -- The whole text: its scanner takes the formatted strings, and stops at the place of what is none.
-use Rattle.std.proofs.Common.{◌≡◌, ℕ, ◌-◌, ◌≤◌, eqb, true, false, List, [], ◌∷◌, ◌++◌, length, take, drop, map, Result, Ok, Err, refl, sym, ap, subst, ◌∙◌, append_assoc, arith, length-append}
+use Rattle.std.proofs.Common.{◌≡◌, ℕ, ◌≤◌, eqb, true, false, List, [], ◌∷◌, ◌++◌, length, drop, map, Result, Ok, Err, refl, sym, ap, subst, ◌∙◌, append_assoc, arith, length-append}
 use Rattle.std.specs.Prelude.{codes}
 use Rattle.std.specs.List.{flat_map}
-use Rattle.std.proofs.lemmas.List.{append-nil, nil_from_length, take_at}
+use Rattle.std.proofs.lemmas.List.{append-nil, nil_from_length}
 use Rattle.std.proofs.lemmas.Bool.{eqb-true}
 use Rattle.cpe_values.specs.declared.value.Value.{Value}
 use Rattle.cpe_values.specs.declared.value.Value.TheVariants as value
@@ -17,6 +17,8 @@ use Rattle.cpe_grammar.proofs.Places.{not_taken, within_text, place_of}
 use Rattle.cpe_fs.specs.Grammar.{component, fs_text, Fs, IsFs}
 use Rattle.cpe_fs.specs.Scanning.{is_colon, part_end, language_end, text_end, component_end, field_end, fields_end, whole_end}
 use Rattle.cpe_fs.specs.Spans.{IsSpan, AreComponents, Leaves, behind_field, between, component_at, components_at}
+use Rattle.cpe_name.proofs.Items.{between_is}
+use Rattle.cpe_name.proofs.WholeTexts.{any_suits}
 use Rattle.cpe_name.specs.Spans.{texts, total_length}
 use Rattle.cpe_name.specs.declared.written.Written.{Written}
 use Rattle.cpe_fs.proofs.Texts.{Ends, text_scans, text_taken}
@@ -55,19 +57,6 @@ component_taken SwEdition v r h e = text_taken v r h e
 component_taken TargetSw v r h e = text_taken v r h e
 component_taken TargetHw v r h e = text_taken v r h e
 component_taken Other v r h e = text_taken v r h e
-
-any_suits : (a : Attribute) → Suits a value.Any
-any_suits Part = (tt, refl)
-any_suits Language = (tt, refl)
-any_suits Vendor = tt
-any_suits Product = tt
-any_suits Version = tt
-any_suits Update = tt
-any_suits Edition = tt
-any_suits SwEdition = tt
-any_suits TargetSw = tt
-any_suits TargetHw = tt
-any_suits Other = tt
 
 -- ---- fields
 
@@ -138,12 +127,9 @@ behind_taken : (a : Attribute) (s r : List ℕ) → field_end (component_end a) 
 unfolding behind_field
 behind_taken a s r e = rw e refl
 
-front_is : (u r : List ℕ) → take (length (u ++ r) - length r) (u ++ r) ≡ u
-front_is u r = take_at u r (length (u ++ r) - length r) (omega (arith, length-append u r))
-
 component_there : (a : Attribute) (v : Value) (r : List ℕ) → Suits a v → Ends r → component_at (component_end a) (field v ++ r) ≡ component v
 unfolding component_at
-component_there a v r suit h = ap (between (field v ++ r)) (behind_taken a (field v ++ r) r (field_taken a v r suit h)) ∙ front_is (component v) r
+component_there a v r suit h = ap (between (field v ++ r)) (behind_taken a (field v ++ r) r (field_taken a v r suit h)) ∙ between_is (component v) r
 
 -- the components that stand in the fields of these values are their texts
 pub components_there : (which : List Attribute) (vs : List Value) (r : List ℕ) → AllSuit which vs → Ends r → components_at which (fields_text vs ++ r) ≡ map component vs

@@ -39,7 +39,17 @@ fn push_fields(out: &mut Vec<u8>, name: &Wfn, which: &[Attribute]) -> Result<(),
 pub fn bind_fs(alloc: Global, name: &Wfn) -> Result<Vec<u8>, Memory>
     ensures { IfOk result (λ text. text.items ≡ fs_text name.now) }
 {
-    let mut out = Vec::new(alloc);
+    append_fs(Vec::new(alloc), name)
+}
+
+/// Puts the formatted string of a name, as [`bind_fs`] gives it, behind what a buffer holds.
+///
+/// # Errors
+/// Want of memory alone; the buffer is then dropped.
+pub fn append_fs(buffer: Vec<u8>, name: &Wfn) -> Result<Vec<u8>, Memory>
+    ensures { IfOk result (λ text. text.items ≡ buffer.items ++ fs_text name.now) }
+{
+    let mut out = buffer;
     out.extend_from_slice(b"cpe:2.3")?;
     push_fields(&mut out, name, &ATTRIBUTES)?;
     Ok(out)

@@ -5,6 +5,7 @@ ghost use Rattle.cpe_name.specs.Spans.{texts, total_length};
 ghost use Rattle.cpe_fs.specs.Unquoting.{begins_bare, unquoted, component_from, keyed, written_string};
 
 use crate::BOUND_FRAME;
+use cpe_grammar::but_last;
 use cpe_name::Written;
 use cpe_room::{put, put_byte};
 
@@ -46,13 +47,6 @@ fn put_unquoted(room: &mut [u8], start: usize, bytes: &[u8]) -> usize
         rest = behind;
     }
     at
-}
-
-fn but_last(bytes: &[u8]) -> &[u8]
-    ensures front { result.now ≡ take (length bytes.now - 1) bytes.now }
-    ensures within { length result.now ≤ length bytes.now }
-{
-    &bytes[..bytes.len().saturating_sub(1)]
 }
 
 #[tactic(auto, unfolding(crate::specs::Unquoting::component_from))]

@@ -26,7 +26,7 @@ use crate::bound::put_string;
 use crate::scan::scan_fs;
 use crate::values::Components;
 use crate::write::FromComponents;
-pub use bind::{bind_fs, fs_len};
+pub use bind::{append_fs, bind_fs, fs_len};
 use cpe_name::{Wfn, put_output, read_values, scan_wfn};
 use cpe_values::Memory;
 pub use lend::lend_fs;

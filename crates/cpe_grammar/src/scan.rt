@@ -1,5 +1,5 @@
 // Scanners of given bytes. Nothing here takes memory.
-ghost use Rattle.std.specs.Prelude.{◌≡◌, ◌==◌, ◌-◌, length, take, Ok, Err};
+ghost use Rattle.std.specs.Prelude.{◌≡◌, ◌≤◌, ◌==◌, ◌-◌, length, take, Ok, Err};
 ghost use Rattle.cpe_grammar.specs.Scanners.{Tells, one, literal};
 
 /// Takes the byte that is expected: tells what is left behind it, or at another byte or the end how many bytes are left.
@@ -24,6 +24,15 @@ pub fn scan_literal<'a>(expected: &[u8], bytes: &'a [u8]) -> Result<&'a [u8], us
         rest = scan_byte(*byte, rest)?;
     }
     Ok(rest)
+}
+
+/// All bytes but the last.
+#[inline(always)]
+pub fn but_last(bytes: &[u8]) -> &[u8]
+    ensures front { result.now ≡ take (length bytes.now - 1) bytes.now }
+    ensures within { length result.now ≤ length bytes.now }
+{
+    &bytes[..bytes.len().saturating_sub(1)]
 }
 
 /// The front of a slice before a rest of it.

@@ -1,5 +1,6 @@
 -- One attribute is read exactly.
-use Rattle.std.proofs.Common.{◌≡◌, ◌⊎◌, ℕ, zero, suc, ◌-◌, Bool, true, false, ◌&&◌, cond, eqb, List, [], ◌∷◌, ◌++◌, length, take, drop, Result, Ok, Err, Option, Some, None, refl, sym, ap, subst, ◌∙◌, inl, inr, append_assoc, arith, replicate, length-append}
+use Rattle.std.proofs.Common.{◌≡◌, ◌⊎◌, ℕ, zero, suc, ◌-◌, ◌<◌, Bool, true, false, ◌&&◌, cond, eqb, List, [], ◌∷◌, ◌++◌, length, take, drop, Result, Ok, Err, Option, Some, None, refl, sym, ap, subst, ◌∙◌, inl, inr, append_assoc, arith, replicate, length-append}
+use Rattle.std.specs.Prelude.{codes}
 use Rattle.std.proofs.lemmas.List.{nil_from_length, take_at, append_cancel_right}
 use Rattle.std.proofs.lemmas.Bool.{cases_Bool, eqb-true, and_parts, and_from, not-true, not_from_false, false_from_ne_true, both_ways}
 use Rattle.cpe_values.specs.declared.value.Edge.TheVariants as edge
@@ -57,6 +58,16 @@ pub after_reads : (p s r : List ℕ) → after_at p s ≡ Some r → s ≡ p ++ 
 unfolding after_at
 after_reads p s r e = let a = (literal_scans p).takes s r (left_is (literal p s) r e) in a.cut ∙ ap (λ (u : List ℕ). u ++ r) a.lawful
 
+pub after_short : (cs s : List ℕ) → length s < length cs → after_at cs s ≡ None
+unfolding after_at literal
+after_short [] s h = absurd (omega (arith, h))
+after_short (c ∷ cs) [] h = refl
+after_short (c ∷ cs) (d ∷ s) h =
+    elim (cases_Bool (eqb d c)) [
+      | inl is ↦ rw is (after_short cs s (omega (arith, h)))
+      | inr is ↦ rw is refl
+    ]
+
 -- ---- names
 
 or_parts_found : (o : Option (List ℕ)) (a : Attribute) (other : Option (Attribute × List ℕ)) (x : Attribute × List ℕ) → or_found o a other ≡ Some x → ((o ≡ Some x.1) × (a ≡ x.0)) ⊎ (other ≡ Some x)
@@ -91,6 +102,14 @@ pub name_found : (a : Attribute) (s r : List ℕ) → after_at (key_text a) s �
 name_found a s r e = ap (name_at attributes) (after_reads (key_text a) s r e) ∙ name_again a r
 
 -- ---- values
+
+any_again : (r : List ℕ) → left_behind (value_end (codes "ANY" ++ r)) ≡ Some r
+unfolding value_end literal
+any_again r = refl
+
+-- where ANY stands, that is the value
+pub any_found : (s r : List ℕ) → after_at (codes "ANY") s ≡ Some r → left_behind (value_end s) ≡ Some r
+any_found s r e = ap (λ (u : List ℕ). left_behind (value_end u)) (after_reads (codes "ANY") s r e) ∙ any_again r
 
 -- the text of a value that the attribute may have
 pub record IsSlot (a : Attribute) (u : List ℕ) : Type 0 where
@@ -220,7 +239,7 @@ may a v h = and_from _ _ (not_from_false _ (not_lone v (good_of a v h))) (has a 
 
 -- ---- the text of a value in front
 
-between_is : (u r : List ℕ) → between (u ++ r) r ≡ u
+pub between_is : (u r : List ℕ) → between (u ++ r) r ≡ u
 between_is u r =
     let long : length (u ++ r) - length r ≡ length u = omega (arith, length-append u r) in
     ap (λ (n : ℕ). take n (u ++ r)) long ∙ take_at u r (length u) refl

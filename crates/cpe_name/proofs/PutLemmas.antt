@@ -1,11 +1,11 @@
 -- A name with another value at one attribute is a name where the value suits it.
-use Rattle.std.proofs.Common.{◌≡◌, ◌≢◌, true, refl}
+use Rattle.std.proofs.Common.{◌≢◌, refl}
 use Rattle.cpe_values.specs.declared.value.Value.{Value}
 use Rattle.cpe_values.specs.Values.{IsValue}
 use Rattle.cpe_name.specs.declared.name.Values.{Values}
 use Rattle.cpe_name.specs.declared.attribute.Attribute.{Attribute}
 use Rattle.cpe_name.specs.declared.attribute.Attribute.TheVariants.{Part, Vendor, Product, Version, Update, Edition, Language, SwEdition, TargetSw, TargetHw, Other}
-use Rattle.cpe_name.specs.Names.{value_of, Suits, IsName}
+use Rattle.cpe_name.specs.Names.{Suits, IsName}
 use Rattle.cpe_name.specs.Put.{put}
 
 -- any value suits an attribute that has no shape of its own

@@ -52,7 +52,7 @@ record Has (a : Attribute) (u : List ℕ) : Type 0 where
   suits : Suits a value
   is : or_any u ≡ value_text value
 
-any_suits : (a : Attribute) → Suits a value.Any
+pub any_suits : (a : Attribute) → Suits a value.Any
 any_suits Part = (tt, refl)
 any_suits Language = (tt, refl)
 any_suits Vendor = tt

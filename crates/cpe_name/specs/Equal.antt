@@ -5,7 +5,6 @@ use Rattle.std.specs.Bool.{Decides}
 use Rattle.std.proofs.Common.{ap}
 use Rattle.std.proofs.lemmas.Slice.Eq.{slice_eq-Decides}
 use lib.Pointwise.{pointwise}
-use Rattle.cpe_values.specs.declared.value.Value.{Value}
 use Rattle.cpe_values.specs.Same.{same_value, value_input}
 use Rattle.cpe_values.specs.Equal.{same_value-Decides}
 use Rattle.cpe_name.specs.declared.name.Values.{Values}

@@ -5,27 +5,26 @@ ghost use Rattle.cpe_values.specs.Same.{same_value};
 ghost use Rattle.cpe_name.specs.Equal.{same_name};
 ghost use Rattle.cpe_name.specs.Lower.{lower_name, IsLower};
 
-use crate::name::any_of_each;
 use crate::{ATTRIBUTES, Values, Wfn};
 use cpe_values::{Memory, Value};
 use std::alloc::Global;
 
-fn lower_values(alloc: Global, values: &Values) -> Result<Values, Memory>
-    ensures { IfOk result (λ lowered. lowered ≡ lower_name values.now) }
+fn into_lower_values(values: Values) -> Values
+    ensures { result ≡ lower_name values }
 {
-    let mut lowered = any_of_each();
-    lowered.part = values.part.lower(alloc)?;
-    lowered.vendor = values.vendor.lower(alloc)?;
-    lowered.product = values.product.lower(alloc)?;
-    lowered.version = values.version.lower(alloc)?;
-    lowered.update = values.update.lower(alloc)?;
-    lowered.edition = values.edition.lower(alloc)?;
-    lowered.language = values.language.lower(alloc)?;
-    lowered.sw_edition = values.sw_edition.lower(alloc)?;
-    lowered.target_sw = values.target_sw.lower(alloc)?;
-    lowered.target_hw = values.target_hw.lower(alloc)?;
-    lowered.other = values.other.lower(alloc)?;
-    Ok(lowered)
+    Values {
+        part: values.part.into_lower(),
+        vendor: values.vendor.into_lower(),
+        product: values.product.into_lower(),
+        version: values.version.into_lower(),
+        update: values.update.into_lower(),
+        edition: values.edition.into_lower(),
+        language: values.language.into_lower(),
+        sw_edition: values.sw_edition.into_lower(),
+        target_sw: values.target_sw.into_lower(),
+        target_hw: values.target_hw.into_lower(),
+        other: values.other.into_lower(),
+    }
 }
 
 impl Wfn {
@@ -36,8 +35,16 @@ impl Wfn {
     pub fn lower(&self, alloc: Global) -> Result<Wfn, Memory>
         ensures { IfOk result (λ w. w ≡ lower_name self.now) }
     {
-        let values = lower_values(alloc, &self.values)?;
-        Ok(Wfn { values })
+        Ok(self.copy(alloc)?.into_lower())
+    }
+
+    /// The name with every letter in lower case, in the same memory: it takes none.
+    pub fn into_lower(self) -> Wfn
+        ensures { result ≡ lower_name self }
+    {
+        let Wfn { values } = self;
+        let values = into_lower_values(values);
+        Wfn { values }
     }
 
     /// Whether two names are the same but for the case of letters, by which names are compared (NIST IR 7695, 5.3). It takes no memory.

@@ -3,7 +3,7 @@ ghost use Rattle.std.specs.Prelude.{◌≡◌, ◌-◌, ◌==◌, ◌≤◌, ◌
 ghost use Rattle.std.specs.Option.{option_map};
 ghost use Rattle.cpe_name.specs.Names.{attributes};
 ghost use Rattle.cpe_name.specs.WfnText.{rank, IsWfnText};
-ghost use Rattle.cpe_name.specs.Scanning.{Finds, value_at, is_lone, is_part_in_quotes, is_part_text, is_region_behind, is_language_in_quotes, is_language_text, has_shape, may_have, after_at, key_text, name_at, item_at, skip, next_at, slot, put_text, none_given, is_some_text, step_at, list_at, is_end, list_or_end, all_at};
+ghost use Rattle.cpe_name.specs.Scanning.{Finds, left_behind, value_end, value_at, is_lone, is_part_in_quotes, is_part_text, is_region_behind, is_language_in_quotes, is_language_text, has_shape, may_have, after_at, key_text, name_at, item_at, skip, next_at, slot, put_text, none_given, is_some_text, step_at, list_at, is_end, list_or_end, all_at};
 ghost use Rattle.cpe_name.specs.Spans.{texts, AreWritten};
 
 use crate::quoted::scan_value;
@@ -11,15 +11,51 @@ use crate::{ATTRIBUTES, Attribute, Written};
 use cpe_grammar::{front_of, scan_literal};
 use cpe_values::{is_digit_byte, is_letter_byte};
 
+// A shorter text is told apart first: where the bytes are constants, each then takes one test.
+#[inline(always)]
+#[tactic(auto, using(crate::proofs::Items::after_short), unfolding(crate::specs::Scanning::after_at))]
+fn after<'a>(expected: &[u8], bytes: &'a [u8]) -> Option<&'a [u8]>
+    ensures { option_map (λ r. r.now) result ≡ after_at expected.now bytes.now }
+{
+    if bytes.len() < expected.len() {
+        return None;
+    }
+    match scan_literal(expected, bytes) {
+        Ok(rest) => Some(rest),
+        Err(_) => None,
+    }
+}
+
+// What is left behind the value in front.
 #[inline(never)]
+fn behind_value(bytes: &[u8]) -> Option<&[u8]>
+    ensures { option_map (λ r. r.now) result ≡ left_behind (value_end bytes.now) }
+{
+    match scan_value(bytes) {
+        Ok(rest) => Some(rest),
+        Err(_) => None,
+    }
+}
+
+// The same. Most values are ANY, and cost no call.
+#[inline(always)]
+#[tactic(auto, using(crate::proofs::Items::any_found))]
+fn behind_likely_value(bytes: &[u8]) -> Option<&[u8]>
+    ensures { option_map (λ r. r.now) result ≡ left_behind (value_end bytes.now) }
+{
+    match after(b"ANY", bytes) {
+        Some(rest) => Some(rest),
+        None => behind_value(bytes),
+    }
+}
+
+#[inline(always)]
 #[tactic(auto, unfolding(crate::specs::Scanning::value_at))]
 fn split_value(bytes: &[u8]) -> Option<(&[u8], &[u8])>
     ensures { Finds (λ x. (x.0.now, x.1.now)) result (value_at bytes.now) }
 {
-    match scan_value(bytes) {
-        Ok(rest) => Some((front_of(bytes, rest), rest)),
-        Err(_) => None,
-    }
+    let rest = behind_likely_value(bytes)?;
+    Some((front_of(bytes, rest), rest))
 }
 
 fn is_lone(text: &[u8]) -> bool
@@ -102,17 +138,6 @@ fn has_shape(which: Attribute, text: &[u8]) -> bool
         Attribute::Part => is_part_text(text),
         Attribute::Language => is_language_text(text),
         _ => true,
-    }
-}
-
-#[inline(always)]
-#[tactic(auto, unfolding(crate::specs::Scanning::after_at))]
-fn after<'a>(expected: &[u8], bytes: &'a [u8]) -> Option<&'a [u8]>
-    ensures { option_map (λ r. r.now) result ≡ after_at expected.now bytes.now }
-{
-    match scan_literal(expected, bytes) {
-        Ok(rest) => Some(rest),
-        Err(_) => None,
     }
 }
 
@@ -240,6 +265,7 @@ fn scan_step<'a>(
 }
 
 // The attributes up to the end. There are eleven, so a twelfth would be given twice.
+#[inline(never)]
 #[tactic(auto, using(crate::proofs::Steps::over))]
 fn scan_list(bytes: &[u8]) -> Option<Written>
     ensures { Finds texts result (list_at 11 none_given bytes.now) }

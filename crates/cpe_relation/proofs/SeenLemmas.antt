@@ -1,9 +1,8 @@
 -- What one pass has seen is what of_all asks of all relations.
-use Rattle.std.proofs.Common.{◌≡◌, Bool, true, false, ◌&&◌, ◌||◌, cond, List, [], ◌∷◌, map, fold, refl, sym, ap, ◌∙◌}
+use Rattle.std.proofs.Common.{◌≡◌, Bool, true, false, ◌&&◌, ◌||◌, List, [], ◌∷◌, map, fold, refl, ◌∙◌}
 use Rattle.std.specs.List.{list_all, list_any}
 use Rattle.cpe_name.specs.declared.attribute.Attribute.{Attribute}
 use Rattle.cpe_relation.specs.declared.relation.Relation.{Relation}
-use Rattle.cpe_relation.specs.declared.relation.Relation.TheVariants.{Disjoint, Equal, Subset, Superset, Undefined}
 use Rattle.cpe_relation.specs.declared.seen.Seen.{Seen}
 use Rattle.cpe_relation.specs.NameRelation.{is_disjoint, is_equal, is_within, is_above, of_all}
 use Rattle.cpe_relation.specs.Attributes.{seen_nothing, seen_with, relation_seen}

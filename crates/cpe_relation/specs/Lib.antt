@@ -5,3 +5,4 @@ pub mod Related
 pub mod NameRelation
 pub mod Laws
 pub mod Attributes
+pub mod Order

@@ -1,5 +1,6 @@
 //! The relation of two names (NIST IR 7696): of each attribute, of the names as a whole, and whether one name covers
-//! the other. Letters are compared in lower case. No call takes memory, and each answers for any two values or names.
+//! the other. Letters are compared in lower case. No call but [`deciding_order`] takes memory, and each answers for any two
+//! values or names.
 //!
 //! [`compare_values`] is the table of the report. A source that is a pattern, a text with `*` or `?` before or after its
 //! body, matches a plain text where that is some characters that the lead allows, the body, and some that the trail
@@ -10,6 +11,9 @@
 //! such values; relations that were found one by one are put into [`Relations`], whose
 //! [`of_names`](Relations::of_names) is the relation of the names.
 //!
+//! A name that is asked of many targets is compared by [`covers_in_order`]: [`deciding_order`] finds once which of its
+//! attributes soonest decide, and most targets are then told by one of them.
+//!
 //! Some laws are stated as functions that do nothing: [`one_relation`], [`cover_laws`] and [`relation_laws`].
 //! What does not hold:
 //! - `8.*` against itself is UNDEFINED, as each attribute is whose target has a special; so [`covers`] is not reflexive
@@ -18,14 +22,17 @@
 //!   UNDEFINED; `sp??` to `sp123` is DISJOINT, and back UNDEFINED; NA to `8.*` is UNDEFINED, and back DISJOINT.
 #![tactic(auto)]
 
+mod above;
 mod laws;
 mod matching;
 mod names;
+mod order;
 mod relation;
 mod seen;
 mod table;
 
 pub use laws::{cover_laws, one_relation, relation_laws};
 pub use names::{compare_lent, compare_names, covers};
+pub use order::{covers_in_order, deciding_order};
 pub use relation::{Relation, Relations};
 pub use table::{compare_borrowed, compare_values};

@@ -1,8 +1,8 @@
 -- What is written of the texts of values is the canonical URI of their name.
-use Rattle.std.proofs.Common.{◌≡◌, ℕ, zero, suc, ◌+◌, ◌-◌, ◌<◌, ◌≤◌, Bool, true, false, cond, eqb, nat_eq, List, [], ◌∷◌, ◌++◌, length, take, drop, get_or, replicate, add-one, drop-cons, refl, sym, ap, ◌∙◌, inl, inr, append_assoc, arith, length-append, length-drop}
+use Rattle.std.proofs.Common.{◌≡◌, ℕ, zero, suc, ◌-◌, Bool, true, false, cond, eqb, nat_eq, List, [], ◌∷◌, ◌++◌, length, take, replicate, refl, sym, ap, ◌∙◌, inl, inr, append_assoc, arith}
 use Rattle.std.specs.Prelude.{codes}
 use Rattle.std.specs.List.{flat_map, list_all}
-use Rattle.std.proofs.lemmas.List.{append-nil, nil_from_length, take_at}
+use Rattle.std.proofs.lemmas.List.{append-nil, nil_from_length}
 use Rattle.std.proofs.lemmas.Bool.{cases_Bool}
 use Rattle.std.proofs.lemmas.Bool.Decides.{nat_tests}
 use Rattle.cpe_values.specs.declared.value.Edge.{Edge}
@@ -14,6 +14,8 @@ use Rattle.cpe_values.specs.Parts.{Parts}
 use Rattle.cpe_values.specs.Values.{IsValue}
 use Rattle.cpe_values.specs.Spelling.{edge_text, is_word, spelling}
 use Rattle.cpe_values.specs.Spelling as wfn
+use Rattle.cpe_values.specs.Skipping.{skip_while}
+use Rattle.cpe_values.proofs.SkippingLemmas.{skipped_copied}
 use Rattle.cpe_name.specs.declared.name.Values.{Values}
 use Rattle.cpe_name.specs.declared.attribute.Attribute.{Attribute}
 use Rattle.cpe_name.specs.declared.attribute.Attribute.TheVariants.{Part, Vendor, Product, Version, Update, Edition, Language, SwEdition, TargetSw, TargetHw, Other}
@@ -22,6 +24,7 @@ use Rattle.cpe_name.specs.Names.{value_of}
 use Rattle.cpe_name.specs.Text.{value_text}
 use Rattle.cpe_name.specs.Scanning.{slot}
 use Rattle.cpe_name.specs.Spans.{texts, or_any, AreWritten}
+use Rattle.cpe_name.proofs.Items.{between_is}
 use Rattle.cpe_name.proofs.WholeTexts.{value_found, good_value, each_text}
 use Rattle.cpe_uri.specs.Spelling.{edge_codes, text_codes, character, component}
 use Rattle.cpe_uri.specs.Canon.{is_any, extended, packed, edition_component, trimmed, canon}
@@ -54,6 +57,15 @@ requoted_character c s =
       | inr h ↦ let quoted : wfn.character style.Wfn c ≡ 92 ∷ c ∷ [] = rw h refl in ap (λ (u : List ℕ). requoted false (u ++ s)) quoted ∙ quoted_character c s
     ]
 
+-- many letters, digits and `_`
+word_copied : (c : ℕ) (s : List ℕ) → is_word c ≡ true → requoted false (c ∷ s) ≡ c ∷ requoted false s
+word_copied c s h =
+    let bare : character c ≡ c ∷ [] = rw h refl in
+    bare_character c s h ∙ ap (λ (u : List ℕ). u ++ requoted false s) bare
+
+pub word_requoted : (s : List ℕ) → requoted false s ≡ take (length s - length (skip_while is_word s)) s ++ requoted false (skip_while is_word s)
+word_requoted s = skipped_copied (requoted false) is_word word_copied s
+
 -- ---- bodies and edges
 
 requoted_body : (b s : List ℕ) → requoted false (flat_map (wfn.character style.Wfn) b ++ s) ≡ flat_map character b ++ requoted false s
@@ -82,22 +94,21 @@ requoted_edge edge.Star s = requoted_star s
 requoted_edge (edge.Marks n) s = requoted_marks n s
 
 -- one byte more
-pub requoted_on : (s : List ℕ) (i : ℕ) (quoted : Bool) (old new : List ℕ) → i < length s → new ≡ old ++ spelled quoted (get_or s i 0) → new ++ requoted (quotes quoted (get_or s i 0)) (drop (i + 1) s) ≡ old ++ requoted quoted (drop i s)
+pub requoted_on : (quoted after : Bool) (c : ℕ) (s old new : List ℕ) → after ≡ quotes quoted c → new ≡ old ++ spelled quoted c → new ++ requoted after s ≡ old ++ requoted quoted (c ∷ s)
 unfolding requoted
-requoted_on s i quoted old new here h =
-    let c = get_or s i 0 in
-    let more : drop i s ≡ c ∷ drop (i + 1) s = rw add-one (drop-cons s i 0 here) in
-    ap (λ (u : List ℕ). u ++ requoted (quotes quoted c) (drop (i + 1) s)) h ∙ append_assoc old (spelled quoted c) (requoted (quotes quoted c) (drop (i + 1) s)) ∙ ap (λ (u : List ℕ). old ++ requoted quoted u) (sym more)
+requoted_on quoted after c s old new is h =
+    ap (λ (q : Bool). new ++ requoted q s) is
+    ∙ ap (λ (u : List ℕ). u ++ requoted (quotes quoted c) s) h
+    ∙ append_assoc old (spelled quoted c) (requoted (quotes quoted c) s)
 
 nothing_requoted : (quoted : Bool) → requoted quoted [] ≡ []
 unfolding requoted
 nothing_requoted quoted = refl
 
 -- nothing is left behind the last byte
-pub requoted_done : (s : List ℕ) (i : ℕ) (quoted : Bool) (new : List ℕ) → length s ≤ i → new ++ requoted quoted (drop i s) ≡ new
-requoted_done s i quoted new past =
-    let none : drop i s ≡ [] = nil_from_length (drop i s) (omega (arith, length-drop i s)) in
-    ap (λ (u : List ℕ). new ++ requoted quoted u) none ∙ ap (λ (u : List ℕ). new ++ u) (nothing_requoted quoted) ∙ append-nil new
+pub requoted_done : (quoted : Bool) (s new : List ℕ) → length s ≡ 0 → new ++ requoted quoted s ≡ new
+requoted_done quoted s new none =
+    ap (λ (u : List ℕ). new ++ requoted quoted u) (nil_from_length s none) ∙ ap (λ (u : List ℕ). new ++ u) (nothing_requoted quoted) ∙ append-nil new
 
 requoted_end : (e : Edge) → requoted false (edge_text e) ≡ flat_map character (edge_codes e)
 requoted_end e =
@@ -123,16 +134,11 @@ requoted_spelling t =
 
 -- ---- components
 
-front_is : (x : List ℕ) → take (length (x ++ 34 ∷ []) - 1) (x ++ 34 ∷ []) ≡ x
-front_is x =
-    let long : length (x ++ 34 ∷ []) - 1 ≡ length x = omega (arith, length-append x (34 ∷ [])) in
-    ap (λ (n : ℕ). take n (x ++ 34 ∷ [])) long ∙ take_at x (34 ∷ []) (length x) refl
-
 text_component : (v : Value) → component_from (value_text v) ≡ component v
 unfolding component_from
 text_component value.Any = refl
 text_component value.Na = refl
-text_component (value.Text t) = ap (requoted false) (front_is (spelling style.Wfn t)) ∙ requoted_spelling t
+text_component (value.Text t) = ap (requoted false) (between_is (spelling style.Wfn t) (34 ∷ [])) ∙ requoted_spelling t
 
 none_component : component_from [] ≡ component value.Any
 unfolding component_from

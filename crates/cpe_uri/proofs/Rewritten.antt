@@ -11,7 +11,9 @@ use Rattle.cpe_values.specs.declared.value.Edge.{Edge}
 use Rattle.cpe_values.specs.declared.value.Edge.TheVariants as edge
 use Rattle.cpe_values.specs.declared.spelling.Style.TheVariants as style
 use Rattle.cpe_values.specs.Parts.{Parts, is_character, IsText}
-use Rattle.cpe_values.specs.Spelling.{is_word, is_bare, character, edge_text, spelling}
+use Rattle.cpe_values.specs.Spelling.{is_word, is_lower_word, is_bare, character, edge_text, spelling}
+use Rattle.cpe_values.specs.Skipping.{skip_while}
+use Rattle.cpe_values.proofs.SkippingLemmas.{skipped_copied}
 use Rattle.cpe_uri.specs.Spelling.{edge_codes, text_codes, is_hex, hex_value, has_percent_form, spells, Spelled}
 use Rattle.cpe_uri.specs.Rewriting.{code_of, code_text, is_requoted, bare_text, rewritten}
 
@@ -51,6 +53,22 @@ pub rewritten_none : (s : List ℕ) → length s ≡ 0 → rewritten s ≡ []
 unfolding rewritten
 rewritten_none [] h = refl
 rewritten_none (c ∷ s) h = absurd (omega (arith, h))
+
+-- ---- many small letters, digits and `_`
+
+lower_word_bare : (b : ℕ) → is_lower_word b ≡ true → bare_text b ≡ b ∷ []
+lower_word_bare b h =
+    let alone : is_requoted b ≡ false = grind (arith, nat_tests) in
+    let lower : to_ascii_lowercase b ≡ b = grind (arith, nat_tests) in
+    rw (alone, lower) refl
+
+lower_word_rewritten : (b : ℕ) (s : List ℕ) → is_lower_word b ≡ true → rewritten (b ∷ s) ≡ b ∷ rewritten s
+lower_word_rewritten b s h =
+    let other : eqb b 37 ≡ false = grind (arith, nat_tests) in
+    bare_rewritten b s other ∙ ap (λ (u : List ℕ). u ++ rewritten s) (lower_word_bare b h)
+
+pub word_rewritten : (s : List ℕ) → rewritten s ≡ take (length s - length (skip_while is_lower_word s)) s ++ rewritten (skip_while is_lower_word s)
+word_rewritten s = skipped_copied rewritten is_lower_word lower_word_rewritten s
 
 -- ---- one code
 

@@ -1,5 +1,5 @@
 -- The bytes that stand in a URI as they stand in the text that they spell. No public clause rests on it.
-use Rattle.std.specs.Prelude.{ℕ, Bool, List, [], ◌∷◌, if◌then◌else◌}
+use Rattle.std.specs.Prelude.{ℕ, Bool, List, [], ◌∷◌}
 use Rattle.std.specs.List.{list_all}
 use Rattle.cpe_uri.specs.Spelling.{spells}
 
@@ -7,10 +7,7 @@ use Rattle.cpe_uri.specs.Spelling.{spells}
 abbrev pub spells_itself : ℕ → Bool
 spells_itself c = spells c (c ∷ [])
 
--- 1 where it does
-abbrev pub itself : ℕ → ℕ
-itself c = if spells_itself c then 1 else 0
-
+-- each of them does
 abbrev pub spell_themselves : List ℕ → Bool
 spell_themselves s = list_all spells_itself s
 

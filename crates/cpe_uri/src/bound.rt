@@ -5,10 +5,12 @@ ghost use Rattle.std.specs.List.{list_all};
 ghost use Rattle.cpe_name.specs.Spans.{texts, total_length};
 ghost use Rattle.cpe_uri.specs.Requoting.{quotes, code_from, spelled, is_coded, requoted, component_from, says_any, first_from, behind, extended_texts, packed_from, edition_from, untrimmed_from, uri_from};
 
-use crate::spelling::{percent_form, unquoted_length};
+use crate::spelling::{LONG_TEXT, percent_form, unquoted_length};
 use crate::trim::without_colons;
+use cpe_grammar::{but_last, front_of};
 use cpe_name::Written;
 use cpe_room::{put, put_byte};
+use cpe_values::skip_word;
 
 fn code_from(quoted: bool, byte: u8) -> u8
     ensures { result ≡ code_from quoted byte }
@@ -55,25 +57,85 @@ fn put_spelled(room: &mut [u8], at: usize, quoted: bool, byte: u8) -> (usize, bo
     (put_kept(room, at, byte, count), count == 0)
 }
 
-fn put_requoted(room: &mut [u8], start: usize, bytes: &[u8]) -> usize
-    requires { start + 3 * length bytes.now ≤ length room.old }
-    ensures at { result ≤ start + 3 * length bytes.now }
+// Letters, digits and `_` in front, many at a time.
+fn put_word<'a>(room: &mut [u8], at: usize, bytes: &'a [u8]) -> (usize, &'a [u8])
+    requires { at + 3 * length bytes.now ≤ length room.old }
+    ensures at { result.0 + 3 * length result.1.now ≤ at + 3 * length bytes.now }
+    ensures shorter { length result.1.now ≤ length bytes.now }
     ensures room { length room.new ≡ length room.old }
-    ensures written { take result room.new ≡ take start room.old ++ requoted false bytes.now }
+    ensures written { take result.0 room.new ++ requoted false result.1.now ≡ take at room.old ++ requoted false bytes.now }
+{
+    let behind = skip_word(bytes);
+    (put(room, at, front_of(bytes, behind)), behind)
+}
+
+// One byte, and the word behind it. Tells beside the place whether the byte quotes the one behind it, and what is left.
+fn put_next<'a>(
+    room: &mut [u8],
+    at: usize,
+    quoted: bool,
+    byte: u8,
+    behind: &'a [u8],
+) -> (usize, bool, &'a [u8])
+    requires { at + 3 * (length behind.now + 1) ≤ length room.old }
+    ensures at { result.0 + 3 * length result.2.now ≤ at + 3 * (length behind.now + 1) }
+    ensures shorter { length result.2.now ≤ length behind.now }
+    ensures room { length room.new ≡ length room.old }
+    ensures written { take result.0 room.new ++ requoted result.1 result.2.now ≡ take at room.old ++ requoted quoted (byte ∷ behind.now) }
+{
+    let (at, quoted) = put_spelled(room, at, quoted, byte);
+    if quoted {
+        return (at, true, behind);
+    }
+    let (at, left) = put_word(room, at, behind);
+    (at, false, left)
+}
+
+// A long text up to its last bytes: words are copied, and only what stands between them goes byte by byte.
+#[inline(never)]
+fn put_long<'a>(room: &mut [u8], start: usize, bytes: &'a [u8]) -> (usize, bool, &'a [u8])
+    requires { start + 3 * length bytes.now ≤ length room.old }
+    ensures at { result.0 + 3 * length result.2.now ≤ start + 3 * length bytes.now }
+    ensures room { length room.new ≡ length room.old }
+    ensures written { take result.0 room.new ++ requoted result.1 result.2.now ≡ take start room.old ++ requoted false bytes.now }
 {
     let mut at = start;
     let mut quoted = false;
+    let mut rest = bytes;
+    while rest.len() >= LONG_TEXT {
+        let [byte, behind @ ..] = rest else {
+            return (at, quoted, rest);
+        };
+        (at, quoted, rest) = put_next(room, at, quoted, *byte, behind);
+    }
+    (at, quoted, rest)
+}
+
+fn put_each(room: &mut [u8], start: usize, first_quoted: bool, bytes: &[u8]) -> usize
+    requires { start + 3 * length bytes.now ≤ length room.old }
+    ensures at { result ≤ start + 3 * length bytes.now }
+    ensures room { length room.new ≡ length room.old }
+    ensures written { take result room.new ≡ take start room.old ++ requoted first_quoted bytes.now }
+{
+    let mut at = start;
+    let mut quoted = first_quoted;
     for byte in bytes {
         (at, quoted) = put_spelled(room, at, quoted, *byte);
     }
     at
 }
 
-fn but_last(bytes: &[u8]) -> &[u8]
-    ensures front { result.now ≡ take (length bytes.now - 1) bytes.now }
-    ensures within { length result.now ≤ length bytes.now }
+fn put_requoted(room: &mut [u8], at: usize, bytes: &[u8]) -> usize
+    requires { at + 3 * length bytes.now ≤ length room.old }
+    ensures at { result ≤ at + 3 * length bytes.now }
+    ensures room { length room.new ≡ length room.old }
+    ensures written { take result room.new ≡ take at room.old ++ requoted false bytes.now }
 {
-    &bytes[..bytes.len().saturating_sub(1)]
+    if bytes.len() < LONG_TEXT {
+        return put_each(room, at, false, bytes);
+    }
+    let (end, quoted, rest) = put_long(room, at, bytes);
+    put_each(room, end, quoted, rest)
 }
 
 // The first byte tells: a text begins with a double quote, NA with its N, and what is empty or begins otherwise is ANY.

@@ -3,6 +3,9 @@ ghost use Rattle.std.specs.Prelude.{◌≡◌, ◌<◌};
 ghost use Rattle.cpe_uri.specs.Spelling.{hex_digit, hex_value, percent};
 ghost use Rattle.cpe_uri.specs.Requoting.{unquoted_length};
 
+// From so many bytes on, what stands bare in a text is looked for and written many bytes at a time.
+pub(crate) const LONG_TEXT: usize = 32;
+
 // How many bytes an unquoted byte gives: none for a backslash, one where it stands bare, three of a percent form.
 #[rattlefmt::skip]
 const LENGTHS: [u8; 256] = [
@@ -18,7 +21,6 @@ const LENGTHS: [u8; 256] = [
 
 const DIGITS: &[u8; 16] = b"0123456789abcdef";
 
-#[tactic(auto, using(crate::proofs::Tables::length_at))]
 pub(crate) fn unquoted_length(byte: u8) -> u8
     ensures { result ≡ unquoted_length byte }
 {

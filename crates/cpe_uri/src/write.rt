@@ -1,12 +1,15 @@
 // The text of a well-formed name, written from where its values lie in its URI (NIST IR 7695, 6.1.3).
 // The room is the caller's: nothing here takes memory.
 ghost use Rattle.std.specs.Prelude.{◌≡◌, ◌≤◌, ◌+◌, ◌*◌, ◌++◌, ◌∷◌, [], length, take, codes};
+ghost use Rattle.std.specs.Char.{to_ascii_lowercase};
 ghost use Rattle.cpe_uri.specs.Spelling.{hex_value};
 ghost use Rattle.cpe_uri.specs.Rewriting.{code_of, code_text, backslashes, bare_text, rewritten, in_quotes, span_text};
 
-use crate::spelling::hex_value;
+use crate::spelling::{LONG_TEXT, hex_value};
+use cpe_grammar::front_of;
 use cpe_name::PutValue;
 use cpe_room::{put, put_byte};
+use cpe_values::skip_lower_word;
 
 // Wraps where the bytes are no digits; of a lawful span they are.
 fn code_of(high: u8, low: u8) -> u8
@@ -30,25 +33,36 @@ fn put_code(room: &mut [u8], at: usize, code: u8) -> usize
     }
 }
 
-// How many backslashes a byte gets that stands bare in a URI: one where it is `.`, `-` or `~`. A table, since no branch is to depend
-// on the byte.
+// A byte that stands bare in a URI in lower case, and 256 more where it gets a backslash, since it is `.`, `-` or `~`. A table, since
+// no branch is to depend on the byte.
 #[rattlefmt::skip]
-const BACKSLASHES: [u8; 256] = [
-    0, 0, 0, 0, 0, 0, 0, 0, 0, 0, 0, 0, 0, 0, 0, 0, 0, 0, 0, 0, 0, 0, 0, 0, 0, 0, 0, 0, 0, 0, 0, 0,
-    0, 0, 0, 0, 0, 0, 0, 0, 0, 0, 0, 0, 0, 1, 1, 0, 0, 0, 0, 0, 0, 0, 0, 0, 0, 0, 0, 0, 0, 0, 0, 0,
-    0, 0, 0, 0, 0, 0, 0, 0, 0, 0, 0, 0, 0, 0, 0, 0, 0, 0, 0, 0, 0, 0, 0, 0, 0, 0, 0, 0, 0, 0, 0, 0,
-    0, 0, 0, 0, 0, 0, 0, 0, 0, 0, 0, 0, 0, 0, 0, 0, 0, 0, 0, 0, 0, 0, 0, 0, 0, 0, 0, 0, 0, 0, 1, 0,
-    0, 0, 0, 0, 0, 0, 0, 0, 0, 0, 0, 0, 0, 0, 0, 0, 0, 0, 0, 0, 0, 0, 0, 0, 0, 0, 0, 0, 0, 0, 0, 0,
-    0, 0, 0, 0, 0, 0, 0, 0, 0, 0, 0, 0, 0, 0, 0, 0, 0, 0, 0, 0, 0, 0, 0, 0, 0, 0, 0, 0, 0, 0, 0, 0,
-    0, 0, 0, 0, 0, 0, 0, 0, 0, 0, 0, 0, 0, 0, 0, 0, 0, 0, 0, 0, 0, 0, 0, 0, 0, 0, 0, 0, 0, 0, 0, 0,
-    0, 0, 0, 0, 0, 0, 0, 0, 0, 0, 0, 0, 0, 0, 0, 0, 0, 0, 0, 0, 0, 0, 0, 0, 0, 0, 0, 0, 0, 0, 0, 0,
+const LOWERED: [u16; 256] = [
+    0, 1, 2, 3, 4, 5, 6, 7, 8, 9, 10, 11, 12, 13, 14, 15,
+    16, 17, 18, 19, 20, 21, 22, 23, 24, 25, 26, 27, 28, 29, 30, 31,
+    32, 33, 34, 35, 36, 37, 38, 39, 40, 41, 42, 43, 44, 301, 302, 47,
+    48, 49, 50, 51, 52, 53, 54, 55, 56, 57, 58, 59, 60, 61, 62, 63,
+    64, 97, 98, 99, 100, 101, 102, 103, 104, 105, 106, 107, 108, 109, 110, 111,
+    112, 113, 114, 115, 116, 117, 118, 119, 120, 121, 122, 91, 92, 93, 94, 95,
+    96, 97, 98, 99, 100, 101, 102, 103, 104, 105, 106, 107, 108, 109, 110, 111,
+    112, 113, 114, 115, 116, 117, 118, 119, 120, 121, 122, 123, 124, 125, 382, 127,
+    128, 129, 130, 131, 132, 133, 134, 135, 136, 137, 138, 139, 140, 141, 142, 143,
+    144, 145, 146, 147, 148, 149, 150, 151, 152, 153, 154, 155, 156, 157, 158, 159,
+    160, 161, 162, 163, 164, 165, 166, 167, 168, 169, 170, 171, 172, 173, 174, 175,
+    176, 177, 178, 179, 180, 181, 182, 183, 184, 185, 186, 187, 188, 189, 190, 191,
+    192, 193, 194, 195, 196, 197, 198, 199, 200, 201, 202, 203, 204, 205, 206, 207,
+    208, 209, 210, 211, 212, 213, 214, 215, 216, 217, 218, 219, 220, 221, 222, 223,
+    224, 225, 226, 227, 228, 229, 230, 231, 232, 233, 234, 235, 236, 237, 238, 239,
+    240, 241, 242, 243, 244, 245, 246, 247, 248, 249, 250, 251, 252, 253, 254, 255,
 ];
 
-#[tactic(auto, using(crate::proofs::Tables::backslashes_at))]
-fn backslashes(byte: u8) -> u8
-    ensures { result ≡ backslashes byte }
+// How many backslashes a byte gets that stands bare in a URI, and the byte in lower case.
+#[inline(always)]
+fn lowered(byte: u8) -> (u8, u8)
+    ensures backslashes { result.0 ≡ backslashes byte }
+    ensures lower { result.1 ≡ to_ascii_lowercase byte }
 {
-    BACKSLASHES[usize::from(byte)]
+    let entry = LOWERED[usize::from(byte)];
+    ((entry / 256) as u8, (entry % 256) as u8)
 }
 
 // The backslash is always written, and written over where the byte needs none: no branch depends on the byte.
@@ -58,9 +72,10 @@ fn put_bare(room: &mut [u8], at: usize, byte: u8) -> usize
     ensures room { length room.new ≡ length room.old }
     ensures written { take result room.new ≡ take at room.old ++ bare_text byte }
 {
+    let (backslashes, lower) = lowered(byte);
     room[at] = b'\\';
-    let place = at + usize::from(backslashes(byte));
-    room[place] = byte.to_ascii_lowercase();
+    let place = at + usize::from(backslashes);
+    room[place] = lower;
     place + 1
 }
 
@@ -92,7 +107,39 @@ fn put_next<'a>(room: &mut [u8], at: usize, byte: u8, behind: &'a [u8]) -> (usiz
     (put_bare(room, at, byte), behind)
 }
 
-pub(crate) fn put_rewritten(room: &mut [u8], start: usize, span: &[u8]) -> usize
+// Small letters, digits and `_` in front, many at a time.
+fn put_word<'a>(room: &mut [u8], at: usize, bytes: &'a [u8]) -> (usize, &'a [u8])
+    requires { at + 2 * length bytes.now ≤ length room.old }
+    ensures at { result.0 + 2 * length result.1.now ≤ at + 2 * length bytes.now }
+    ensures shorter { length result.1.now ≤ length bytes.now }
+    ensures room { length room.new ≡ length room.old }
+    ensures written { take result.0 room.new ++ rewritten result.1.now ≡ take at room.old ++ rewritten bytes.now }
+{
+    let behind = skip_lower_word(bytes);
+    (put(room, at, front_of(bytes, behind)), behind)
+}
+
+// A long text up to its last bytes: words are copied, and only what stands between them goes form by form.
+#[inline(never)]
+fn put_long<'a>(room: &mut [u8], start: usize, span: &'a [u8]) -> (usize, &'a [u8])
+    requires { start + 2 * length span.now ≤ length room.old }
+    ensures at { result.0 + 2 * length result.1.now ≤ start + 2 * length span.now }
+    ensures room { length room.new ≡ length room.old }
+    ensures written { take result.0 room.new ++ rewritten result.1.now ≡ take start room.old ++ rewritten span.now }
+{
+    let mut at = start;
+    let mut rest = span;
+    while rest.len() >= LONG_TEXT {
+        let [byte, behind @ ..] = rest else {
+            return (at, rest);
+        };
+        let (end, left) = put_next(room, at, *byte, behind);
+        (at, rest) = put_word(room, end, left);
+    }
+    (at, rest)
+}
+
+fn put_each(room: &mut [u8], start: usize, span: &[u8]) -> usize
     requires { start + 2 * length span.now ≤ length room.old }
     ensures at { result ≤ start + 2 * length span.now }
     ensures room { length room.new ≡ length room.old }
@@ -106,6 +153,19 @@ pub(crate) fn put_rewritten(room: &mut [u8], start: usize, span: &[u8]) -> usize
         rest = left;
     }
     at
+}
+
+pub(crate) fn put_rewritten(room: &mut [u8], at: usize, span: &[u8]) -> usize
+    requires { at + 2 * length span.now ≤ length room.old }
+    ensures at { result ≤ at + 2 * length span.now }
+    ensures room { length room.new ≡ length room.old }
+    ensures written { take result room.new ≡ take at room.old ++ rewritten span.now }
+{
+    if span.len() < LONG_TEXT {
+        return put_each(room, at, span);
+    }
+    let (end, rest) = put_long(room, at, span);
+    put_each(room, end, rest)
 }
 
 fn put_in_quotes(room: &mut [u8], at: usize, span: &[u8]) -> usize

@@ -1,3 +1,4 @@
+pub mod BareBytes
 pub mod Texts
 pub mod Lawful
 pub mod LowerTexts

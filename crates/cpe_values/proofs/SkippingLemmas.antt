@@ -1,5 +1,5 @@
 -- What a front of a list says of the elements that are skipped.
-use Rattle.std.proofs.Common.{◌≡◌, ℕ, zero, suc, ◌<◌, ◌≤◌, Bool, false, List, [], ◌∷◌, length, take, drop, refl, ap, one-add, inl, inr, arith}
+use Rattle.std.proofs.Common.{◌≡◌, ℕ, zero, suc, ◌-◌, ◌<◌, ◌≤◌, Bool, true, false, List, [], ◌∷◌, ◌++◌, length, take, drop, refl, ap, sym, ◌∙◌, one-add, inl, inr, arith}
 use Rattle.std.specs.List.{prefix_len}
 use Rattle.std.proofs.lemmas.Bool.{cases_Bool}
 use Rattle.cpe_values.specs.Skipping.{skip_while}
@@ -45,3 +45,22 @@ skip_stops p c s e =
           absurd (omega (arith, ap length is, length-skip_while p s))
       | inr h ↦ h
     ]
+
+one_more : (n k : ℕ) → k ≤ n → suc n - k ≡ suc (n - k)
+one_more n k h = omega (arith, h)
+
+-- what copies each element that passes copies all that are skipped
+pub skipped_copied : (f : List ℕ → List ℕ) (p : ℕ → Bool) → ((c : ℕ) (s : List ℕ) → p c ≡ true → f (c ∷ s) ≡ c ∷ f s) → (s : List ℕ) → f s ≡ take (length s - length (skip_while p s)) s ++ f (skip_while p s)
+skipped_copied f p copies [] = refl
+skipped_copied f p copies (c ∷ s) =
+    elim (cases_Bool (p c)) [
+      | inl h ↦
+          let rest = skip_while p s in
+          let here : take (suc (length s) - length rest) (c ∷ s) ++ f rest ≡ c ∷ (take (length s - length rest) s ++ f rest) =
+          ap (λ (n : ℕ). take n (c ∷ s) ++ f rest) (one_more (length s) (length rest) (length-skip_while p s)) in
+          rw h (copies c s h ∙ ap (λ (u : List ℕ). c ∷ u) (skipped_copied f p copies s) ∙ sym here)
+      | inr h ↦ rw h (ap (λ (n : ℕ). take n (c ∷ s) ++ f (c ∷ s)) (nothing_left (length s)))
+    ]
+  where
+    nothing_left : (n : ℕ) → 0 ≡ suc n - suc n
+    nothing_left n = omega arith

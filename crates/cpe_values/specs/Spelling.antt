@@ -17,6 +17,10 @@ is_letter c = nat_le 65 c && nat_le c 90 || nat_le 97 c && nat_le c 122
 abbrev pub is_word : ℕ → Bool
 is_word c = is_letter c || is_digit c || c == 95
 
+-- a small letter, a digit or `_`, which stands as it is in either binding, and in lower case
+abbrev pub is_lower_word : ℕ → Bool
+is_lower_word c = nat_le 97 c && nat_le c 122 || is_digit c || c == 95
+
 -- what stands without a backslash in a body: in a formatted string `.` and `-` too
 abbrev pub is_bare : Style → ℕ → Bool
 is_bare style.Wfn c = is_word c

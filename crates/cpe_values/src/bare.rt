@@ -3,7 +3,7 @@ ghost use Rattle.std.specs.Prelude.{◌≡◌, ◌≤◌, ℕ, Bool, length, tak
 ghost use Rattle.std.specs.List.{prefix_len};
 ghost use Rattle.cpe_values.specs.Skipping.{skip_while};
 ghost use Rattle.cpe_values.specs.Lanes.{lanes_where, is_between};
-ghost use Rattle.cpe_values.specs.Spelling.{is_bare, is_letter};
+ghost use Rattle.cpe_values.specs.Spelling.{is_bare, is_letter, is_lower_word};
 ghost use Rattle.cpe_values.specs.declared.spelling.Style.TheVariants as style;
 
 use crate::{Style, is_bare_byte};
@@ -108,6 +108,29 @@ pub fn skip_word(bytes: &[u8]) -> &[u8]
     ensures { result.now ≡ skip_while (is_bare style.Wfn) bytes.now }
 {
     skip::<Word>(bytes)
+}
+
+// Those in lower case.
+struct LowerWord;
+
+impl Class for LowerWord {
+    ghost contains = { is_lower_word };
+
+    fn has(byte: u8) -> bool {
+        matches!(byte, b'a'..=b'z' | b'0'..=b'9' | b'_')
+    }
+
+    fn lanes(block: u8x16) -> u8x16 {
+        between(block, b'a', b'z') | between(block, b'0', b'9') | between(block, b'_', b'_')
+    }
+}
+
+/// What is left behind small letters, digits and `_`, which stand bare in a well-formed name and in lower case
+/// (NIST IR 7695, 5.3).
+pub fn skip_lower_word(bytes: &[u8]) -> &[u8]
+    ensures { result.now ≡ skip_while is_lower_word bytes.now }
+{
+    skip::<LowerWord>(bytes)
 }
 
 // The characters that stand bare in a formatted string.

@@ -1,18 +1,26 @@
 // Texts and values in lower case.
 ghost use Rattle.std.specs.Prelude.{◌≡◌, ◌↔◌, IsTrue, IfOk};
 ghost use Rattle.std.specs.Str.{str_to_ascii_lowercase};
+ghost use Rattle.cpe_values.specs.Forms.{form_parts};
 ghost use Rattle.cpe_values.specs.Lower.{lower_parts, lower_value};
 
-use crate::value::own_text;
+use crate::value::Form;
 use crate::{Memory, Pattern, Value};
-use std::alloc::{AllocError, Global};
+use std::alloc::Global;
 
-fn lower_body(alloc: Global, body: &[u8]) -> Result<Vec<u8>, AllocError>
-    ensures { IfOk result (λ v. v.items ≡ str_to_ascii_lowercase body.now) }
+fn make_lower_body(body: &mut Vec<u8>)
+    ensures { body.new.items ≡ str_to_ascii_lowercase body.old.items }
 {
-    body.iter()
-        .map(|byte| byte.to_ascii_lowercase())
-        .collect(alloc)
+    body.as_mut_slice().make_ascii_lowercase();
+}
+
+fn make_lower_form(form: &mut Form)
+    ensures { form_parts form.new ≡ lower_parts (form_parts form.old) }
+{
+    match form {
+        Form::Plain(body) => make_lower_body(body),
+        Form::Special(text) => make_lower_body(&mut text.body),
+    }
 }
 
 fn is_lower_body(body: &[u8]) -> bool
@@ -29,9 +37,16 @@ impl Pattern {
     pub fn lower(&self, alloc: Global) -> Result<Pattern, Memory>
         ensures { IfOk result (λ p. p ≡ lower_parts self.now) }
     {
-        self.lawful();
-        let body = lower_body(alloc, self.stem())?;
-        own_text(alloc, self.lead(), body, self.trail())
+        Ok(self.copy(alloc)?.into_lower())
+    }
+
+    /// The text with every letter in lower case, in the same memory: it takes none.
+    pub fn into_lower(self) -> Pattern
+        ensures { result ≡ lower_parts self }
+    {
+        let Pattern { mut form } = self;
+        make_lower_form(&mut form);
+        Pattern { form }
     }
 
     /// Whether two texts are the same but for the case of letters. It takes no memory.
@@ -59,10 +74,17 @@ impl Value {
     pub fn lower(&self, alloc: Global) -> Result<Value, Memory>
         ensures { IfOk result (λ v. v ≡ lower_value self.now) }
     {
+        Ok(self.copy(alloc)?.into_lower())
+    }
+
+    /// The value with every letter in lower case, in the same memory: it takes none.
+    pub fn into_lower(self) -> Value
+        ensures { result ≡ lower_value self }
+    {
         match self {
-            Value::Any => Ok(Value::Any),
-            Value::Na => Ok(Value::Na),
-            Value::Text(text) => Ok(Value::Text(text.lower(alloc)?)),
+            Value::Any => Value::Any,
+            Value::Na => Value::Na,
+            Value::Text(text) => Value::Text(text.into_lower()),
         }
     }
 

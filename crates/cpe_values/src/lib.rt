@@ -14,7 +14,7 @@ mod spelling;
 mod unspell;
 mod value;
 
-pub use bare::{skip_bare, skip_word};
+pub use bare::{skip_bare, skip_lower_word, skip_word};
 pub use borrowed::{TextRef, ValueRef};
 pub use memory::Memory;
 pub use spelling::{

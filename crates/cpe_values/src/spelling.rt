@@ -36,14 +36,29 @@ pub fn is_digit_byte(byte: u8) -> bool
     matches!(byte, b'0'..=b'9')
 }
 
+// 1 where a byte stands bare in a body in either style, 2 where in a formatted string alone, else 0. A table, since no branch is to
+// depend on the byte.
+#[rattlefmt::skip]
+const BARE: [u8; 256] = [
+    0, 0, 0, 0, 0, 0, 0, 0, 0, 0, 0, 0, 0, 0, 0, 0, 0, 0, 0, 0, 0, 0, 0, 0, 0, 0, 0, 0, 0, 0, 0, 0,
+    0, 0, 0, 0, 0, 0, 0, 0, 0, 0, 0, 0, 0, 2, 2, 0, 1, 1, 1, 1, 1, 1, 1, 1, 1, 1, 0, 0, 0, 0, 0, 0,
+    0, 1, 1, 1, 1, 1, 1, 1, 1, 1, 1, 1, 1, 1, 1, 1, 1, 1, 1, 1, 1, 1, 1, 1, 1, 1, 1, 0, 0, 0, 0, 1,
+    0, 1, 1, 1, 1, 1, 1, 1, 1, 1, 1, 1, 1, 1, 1, 1, 1, 1, 1, 1, 1, 1, 1, 1, 1, 1, 1, 0, 0, 0, 0, 0,
+    0, 0, 0, 0, 0, 0, 0, 0, 0, 0, 0, 0, 0, 0, 0, 0, 0, 0, 0, 0, 0, 0, 0, 0, 0, 0, 0, 0, 0, 0, 0, 0,
+    0, 0, 0, 0, 0, 0, 0, 0, 0, 0, 0, 0, 0, 0, 0, 0, 0, 0, 0, 0, 0, 0, 0, 0, 0, 0, 0, 0, 0, 0, 0, 0,
+    0, 0, 0, 0, 0, 0, 0, 0, 0, 0, 0, 0, 0, 0, 0, 0, 0, 0, 0, 0, 0, 0, 0, 0, 0, 0, 0, 0, 0, 0, 0, 0,
+    0, 0, 0, 0, 0, 0, 0, 0, 0, 0, 0, 0, 0, 0, 0, 0, 0, 0, 0, 0, 0, 0, 0, 0, 0, 0, 0, 0, 0, 0, 0, 0,
+];
+
 /// Whether a character of a body stands without a backslash.
+#[tactic(auto, using(crate::proofs::BareBytes::bare_in_both, crate::proofs::BareBytes::bare_in_one))]
 pub fn is_bare_byte(style: Style, byte: u8) -> bool
     ensures { result ≡ is_bare style byte }
 {
-    let word = is_letter_byte(byte) || is_digit_byte(byte) || byte == b'_';
+    let kind = BARE[usize::from(byte)];
     match style {
-        Style::Wfn => word,
-        Style::Formatted => word || byte == b'.' || byte == b'-',
+        Style::Wfn => kind == 1,
+        Style::Formatted => kind != 0,
     }
 }
 

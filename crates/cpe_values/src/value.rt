@@ -27,7 +27,7 @@ pub enum Edge {
 /// Contracts see it as these three parts. Its body is not empty, and a text without specials is not one hyphen.
 #[derive(Debug, Drop)]
 pub struct Pattern {
-    form: Form,
+    pub(crate) form: Form,
 }
 
 // Few texts have a special, and names, with eleven values each, are kept by the million: so the edges lie elsewhere.

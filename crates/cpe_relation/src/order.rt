@@ -1,0 +1,56 @@
+// One name asked of many targets, its attributes in the order in which they soonest decide.
+ghost use Rattle.std.specs.Prelude.{◌≡◌, ◌&&◌, Bool, IfOk, OnOk};
+ghost use Rattle.cpe_name.specs.declared.attribute.Attribute.{Attribute};
+ghost use Rattle.std.specs.List.{list_all};
+ghost use Rattle.cpe_relation.specs.NameRelation.{covers};
+ghost use Rattle.cpe_relation.specs.Attributes.{above_at};
+ghost use Rattle.cpe_relation.specs.Order.{IsOrder};
+
+use crate::names::is_above_at;
+use cpe_name::{ATTRIBUTES, Attribute, Wfn};
+use cpe_values::{Memory, Value};
+use std::alloc::Global;
+
+/// The attributes in the order in which they soonest decide whether the source covers a target: those for which it has
+/// ANY come last, and of the others the part, which most names share, stands behind what tells more.
+///
+/// # Errors
+/// Want of memory alone.
+pub fn deciding_order(alloc: Global, source: &Wfn) -> Result<Vec<Attribute>, Memory>
+    ensures { IfOk result (λ order. IsOrder order.items) }
+{
+    let mut order = Vec::with_capacity(alloc, ATTRIBUTES.len())?;
+    for which in ATTRIBUTES.iter() {
+        put(&mut order, *which, source.get(*which))?;
+    }
+    Ok(order)
+}
+
+// Puts an attribute last where it has ANY, and else first.
+fn put(order: &mut Vec<Attribute>, which: Attribute, value: &Value) -> Result<(), Memory>
+    ensures { OnOk result ((test : Attribute → Bool) → list_all test order.new.items ≡ (list_all test order.old.items && test which)) }
+{
+    match value {
+        Value::Any => order.push(which)?,
+        _ => order.insert(0, which)?,
+    }
+    Ok(())
+}
+
+/// Whether the source covers the target, as [`covers`](crate::covers) tells it, by the attributes in this order: the first
+/// that is neither SUPERSET nor EQUAL ends it. It takes no memory.
+#[tactic(auto, unfolding(crate::specs::Attributes::above_at, crate::specs::NameRelation::covers))]
+pub fn covers_in_order(order: &[Attribute], source: &Wfn, target: &Wfn) -> bool
+    requires { IsOrder order.now }
+    ensures { result ≡ covers source.now target.now }
+{
+    is_above_each_in(order, source, target)
+}
+
+fn is_above_each_in(order: &[Attribute], source: &Wfn, target: &Wfn) -> bool
+    ensures { result ≡ list_all (above_at source.now target.now) order.now }
+{
+    order
+        .iter()
+        .all(|which| is_above_at(source, target, *which))
+}
