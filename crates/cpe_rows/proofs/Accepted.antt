@@ -35,7 +35,7 @@ at_start = record {
   within = refl;
 }
 
-no_fault : (o : Option EditFault) (left next : Rows) → unless o left ≡ Ok next → (o ≡ None) × (left ≡ next)
+pub no_fault : (o : Option EditFault) (left next : Rows) → unless o left ≡ Ok next → (o ≡ None) × (left ≡ next)
 no_fault (Some f) left next h = let wrong : ⊥ = cc in absurd wrong
 no_fault None left next h = (refl, cc)
 

@@ -1,5 +1,5 @@
 -- Verdicts see no statements, so one that is put or dropped is the only change.
-use Rattle.std.proofs.Common.{◌≡◌, ℕ, ◌+◌, List, [], ◌∷◌, ◌++◌, map, length, Option, Some, None, refl, ap, ◌∙◌, append-nil}
+use Rattle.std.proofs.Common.{◌≡◌, ℕ, ◌+◌, List, [], ◌∷◌, ◌++◌, map, length, Some, None, refl, ap, ◌∙◌, append-nil}
 use Rattle.std.specs.Prelude.{position, find}
 use Rattle.cpe_rows.specs.Rows.{Rows, has_id}
 use Rattle.cpe_rows.specs.Evaluation.{test_truth}

@@ -6,3 +6,5 @@ pub mod Lists
 pub mod NameTests
 pub mod Reaches
 pub mod Within
+mod AcceptedItems
+mod AcceptedRows

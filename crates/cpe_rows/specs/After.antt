@@ -31,7 +31,7 @@ abbrev pub without_first : {A : Type 0} → (A → Bool) → List A → List A
 without_first passes [] = []
 without_first passes (x ∷ xs) = if passes x then xs else x ∷ without_first passes xs
 
--- a kept key has its result replaced in its place, a new one goes last
+-- the result stands where that of an equal key stood, or else behind all others
 abbrev pub with_check : CheckKey → Truth → List (CheckKey × Truth) → List (CheckKey × Truth)
 with_check k t [] = (k, t) ∷ []
 with_check k t (c ∷ cs) = if has_key k c then (c.0, t) ∷ cs else c ∷ with_check k t cs

@@ -13,6 +13,7 @@ pub mod Verdict
 pub mod Weight
 pub mod Limits
 pub mod Valid
+pub mod Served
 pub mod After
 pub mod Faults
 pub mod Step

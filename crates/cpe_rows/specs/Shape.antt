@@ -19,7 +19,7 @@ depth_step (Test-F.Logic operator negate of) = suc (largest of)
 depth_step (Test-F.Fact name) = 0
 depth_step (Test-F.Check key) = 0
 
--- a logical test without logical tests among its children has depth 1
+-- its levels of logic: one, and those of the deepest of its children
 abbrev pub depth_of : Test → ℕ
 depth_of = fold-Test ℕ depth_step
 

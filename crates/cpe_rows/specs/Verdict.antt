@@ -27,7 +27,7 @@ abbrev pub fact_truth : Rows → Mode → Values → Truth
 fact_truth rows Plain fact = truth (list_any (covers fact) rows.items)
 fact_truth rows Follow fact = truth (list_any (is_followed rows.entries fact) rows.items)
 
--- the kept result, or UNKNOWN where none is kept
+-- what is kept for the check; it is unknown as long as nothing is
 abbrev pub check_truth : Rows → CheckKey → Truth
 check_truth rows key = option_map_or (λ c. c.1) (find (has_key key) rows.checks) Unknown
 

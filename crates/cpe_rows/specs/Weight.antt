@@ -1,5 +1,5 @@
--- What the rows weigh: each entry, note, successor, item, statement, logical test, fact reference, check reference and kept
--- result of a check weighs 32 and its bytes. The bytes of a name are those of its formatted string.
+-- The weight of the rows, by which their memory is bounded: 32 for each row and for each part of one that is counted here, and
+-- one for each byte of its texts. A name counts by its formatted string.
 use Rattle.std.specs.Prelude.{ℕ, ◌+◌, List, [], ◌∷◌, length, map}
 use Rattle.std.specs.Option.{option_map_or}
 use Rattle.cpe_name.specs.declared.name.Values.{Values}

@@ -96,9 +96,9 @@ fn are_lower(names: &[Wfn]) -> bool
 }
 
 impl Edit {
-    /// Whether the edit is one that an engine takes: its names are in lower case, a new entry has no deprecation, the id of
-    /// a statement is 1 to 256 visible ASCII characters, and its test is a logical one of at most 32 levels, each with a
-    /// child. It takes no memory.
+    /// Whether the edit is in order: its names in lower case, no deprecation beside a new entry, an id of 1 to 256 visible ASCII
+    /// characters, and in a statement a logical test of at most 32 levels, none of them empty. Lawful rows stay lawful under
+    /// such edits ([`rows_stay_lawful`](crate::rows_stay_lawful)). It takes no memory.
     pub fn valid(&self) -> bool
         ensures { result ≡ is_valid_edit self.now }
     {
@@ -125,8 +125,7 @@ impl Edit {
 }
 
 impl Query {
-    /// Whether the query is one that an engine takes: its name is in lower case, and the id of a statement is 1 to 256
-    /// visible ASCII characters. It takes no memory.
+    /// Whether the query is in order: its name in lower case, or its id of 1 to 256 visible ASCII characters. It takes no memory.
     pub fn valid(&self) -> bool
         ensures { result ≡ is_valid_query self.now }
     {

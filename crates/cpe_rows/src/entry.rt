@@ -52,8 +52,8 @@ pub struct Provenance {
     pub notes: List<Note>,
 }
 
-/// That an entry is deprecated: one kind for all its successors. A removal has none, and the other kinds have 1 to 16, which
-/// are entries and all different.
+/// That an entry is deprecated, for one reason whatever the number of its successors: none where it was removed, and else up to
+/// 16 entries, no two alike.
 #[derive(Debug, Drop)]
 pub struct Deprecation {
     /// Why it is deprecated.

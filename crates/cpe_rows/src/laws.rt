@@ -15,6 +15,7 @@ ghost use Rattle.cpe_rows.specs.Accepted.{IsAccepted};
 ghost use Rattle.cpe_rows.specs.declared.truth.Truth.{Truth};
 ghost use Rattle.cpe_rows.specs.declared.entry.Entry.{Entry};
 ghost use Rattle.cpe_rows.specs.declared.statement.Statement.{Statement};
+ghost use Rattle.cpe_rows.specs.declared.test.CheckKey.{CheckKey};
 
 use crate::Edit;
 
@@ -24,10 +25,17 @@ pub fn chains_are_paths()
     ensures { (entries : List Entry) (n : Values) → IsDecided is_successor entries (is_named n) }
 {}
 
-/// Rows are lawful at the start, and an accepted entry leaves lawful rows.
+/// Rows are lawful at the start, and stay so by accepted edits of entries that are new, of items, of statements and of kept
+/// results.
 pub fn rows_stay_lawful()
     ensures start { IsLawful no_rows }
     ensures entry { (rows next : Rows) (e : Entry) → IsAccepted rows (Edit.Entry e) next → IsLawful next }
+    ensures item { (rows next : Rows) (n : Values) → IsAccepted rows (Edit.Item n) next → IsLawful next }
+    ensures dropped_item { (rows next : Rows) (n : Values) → IsAccepted rows (Edit.DropItem n) next → IsLawful next }
+    ensures statement { (rows next : Rows) (s : Statement) → IsAccepted rows (Edit.PutStatement s) next → IsLawful next }
+    ensures dropped_statement { (rows next : Rows) (id : List ℕ) → IsAccepted rows (Edit.DropStatement id) next → IsLawful next }
+    ensures check { (rows next : Rows) (k : CheckKey) (t : Truth) → IsAccepted rows (Edit.SetCheck k t) next → IsLawful next }
+    ensures dropped_check { (rows next : Rows) (k : CheckKey) → IsAccepted rows (Edit.DropCheck k) next → IsLawful next }
 {}
 
 /// An accepted entry changes the ends of no name, and is in no chain but its own.

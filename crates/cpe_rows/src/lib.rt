@@ -18,8 +18,6 @@ mod reply;
 mod room;
 mod statement;
 mod test;
-#[cfg(test)]
-mod tests;
 mod text;
 mod truth;
 

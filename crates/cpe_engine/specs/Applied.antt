@@ -1,0 +1,17 @@
+-- What an edit answers and leaves where it is applied.
+use Rattle.std.specs.Prelude.{◌≡◌, Result, Ok, Err, ⊤}
+use Rattle.cpe_rows.specs.Rows.{Rows}
+use Rattle.cpe_rows.specs.Step.{step}
+use Rattle.cpe_rows.specs.declared.edit.Edit.{Edit}
+use Rattle.cpe_rows.specs.declared.fault.EditFault.{EditFault}
+use Rattle.cpe_rows.specs.declared.fault.EditFault.TheVariants.{Memory}
+
+-- the fault is the step's, unless memory ran out
+abbrev pub Refuses : EditFault → Result Rows EditFault → Type 0
+Refuses Memory stepped = ⊤
+Refuses f stepped = stepped ≡ Err f
+
+-- the new rows are the step's; after a fault, want of memory too, they are the old ones
+abbrev pub Applied : Rows → Rows → Edit → Result ⊤ EditFault → Type 0
+Applied old new e (Ok done) = step old e ≡ Ok new
+Applied old new e (Err f) = (new ≡ old) × Refuses f (step old e)

@@ -1,0 +1,97 @@
+// Entries as an engine keeps them: what they have beside their names, by their names.
+ghost use Rattle.std.specs.Prelude.{◌≡◌, ◌++◌, ◌∷◌, [], IfOk, OnOk, OnErr, find, map, length, false, option_map};
+ghost use Rattle.std.specs.List.{list_any};
+ghost use Rattle.std.specs.Option.{option_map_or};
+ghost use Rattle.cpe_rows.specs.Rows.{is_named};
+ghost use Rattle.cpe_rows.specs.Answers.{state_of};
+ghost use Rattle.cpe_engine.specs.Kept.{entry_from};
+ghost use Rattle.cpe_rows.specs.declared.entry.Deprecation.{Deprecation};
+
+use cpe_name::Wfn;
+use cpe_rows::{Deprecation, Entry, Provenance, State, Text};
+use cpe_values::Memory;
+use indexmap::IndexMap;
+use std::alloc::Global;
+
+/// What an entry has beside its name.
+#[derive(Debug, Drop)]
+pub(crate) struct Details {
+    pub(crate) title: Text,
+    pub(crate) provenance: Provenance,
+    pub(crate) deprecation: Option<Deprecation>,
+}
+
+fn copy_of_deprecation(
+    alloc: Global,
+    deprecation: &Option<Deprecation>,
+) -> Result<Option<Deprecation>, Memory>
+    ensures { IfOk result (λ d. d ≡ deprecation.now) }
+{
+    match deprecation {
+        Some(deprecation) => Ok(Some(deprecation.copy(alloc)?)),
+        None => Ok(None),
+    }
+}
+
+/// A copy of the entry of a name and these details.
+pub(crate) fn entry_of(alloc: Global, name: &Wfn, details: &Details) -> Result<Entry, Memory>
+    ensures { IfOk result (λ e. e ≡ entry_from (name.now, details.now)) }
+{
+    Ok(Entry {
+        name: name.copy(alloc)?,
+        title: details.title.copy(alloc)?,
+        provenance: details.provenance.copy(alloc)?,
+        deprecation: copy_of_deprecation(alloc, &details.deprecation)?,
+    })
+}
+
+/// Whether an entry is active, or by which kind it is deprecated.
+pub(crate) fn state_of(details: &Details) -> State
+    ensures { result ≡ option_map_or (λ (d : Deprecation). State.Deprecated d.kind) details.now.deprecation State.Active }
+{
+    match &details.deprecation {
+        Some(deprecation) => State::Deprecated(deprecation.kind),
+        None => State::Active,
+    }
+}
+
+/// The entry of this name, without the name.
+pub(crate) fn find_details<'e>(
+    entries: &'e IndexMap<Wfn, Details>,
+    name: &Wfn,
+) -> Option<&'e Details>
+    ensures { option_map (λ d. entry_from (name.now, d.now)) result ≡ find (is_named name.now) (map entry_from entries.now.entries) }
+{
+    entries.get(name)
+}
+
+/// Whether an entry has this name.
+pub(crate) fn has_name(entries: &IndexMap<Wfn, Details>, name: &Wfn) -> bool
+    ensures { result ≡ list_any (is_named name.now) (map entry_from entries.now.entries) }
+{
+    entries.contains_key(name)
+}
+
+/// Puts an entry of a new name last. The entry is moved, not copied.
+///
+/// # Errors
+/// Want of memory alone; the entries are then as they were.
+pub(crate) fn put_last(entries: &mut IndexMap<Wfn, Details>, entry: Entry) -> Result<(), Memory>
+    requires { list_any (is_named entry.name) (map entry_from entries.old.entries) ≡ false }
+    ensures ok { OnOk result (map entry_from entries.new.entries ≡ map entry_from entries.old.entries ++ entry ∷ []) }
+    ensures err { OnErr result (map entry_from entries.new.entries ≡ map entry_from entries.old.entries) }
+{
+    let Entry {
+        name,
+        title,
+        provenance,
+        deprecation,
+    } = entry;
+    let details = Details {
+        title,
+        provenance,
+        deprecation,
+    };
+    entries.insert(name, details)?;
+    Ok(())
+}

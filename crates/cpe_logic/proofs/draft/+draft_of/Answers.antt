@@ -1,0 +1,58 @@
+use Rattle.std.proofs.Common.{◌≡◌, ◌<◌, map, length, get_or, not, codes, sym, ap, ◌∙◌, subst, arith, rules, take_all}
+use Rattle.std.proofs.Math.ListN.{get_or-map}
+use Rattle.cpe_members.specs.declared.member.RecordFault.TheVariants as fault
+use Rattle.cpe_members.specs.declared.member.Member.TheVariants as part
+use Rattle.std.specs.Prelude.{Ok}
+use Rattle.std.proofs.lemmas.List.{length-map}
+use Rattle.serde_json.specs.Data.{depth}
+use Rattle.serde_json.specs.Find.{get}
+use Rattle.serde_json.specs.View.{view}
+use Rattle.cpe_members.specs.Gives.{all_from, Fails, Gives}
+use Rattle.cpe_logic.specs.Tests.{draft_of, logic_in}
+use Rattle.cpe_members.proofs.AllFrom.{all_from-more, all_from_fails}
+use Rattle.cpe_logic.proofs.Depths.{below_depth}
+use Rattle.cpe_logic.proofs.Drafts.{draft_of-logic, logic_fails, looked_up, looked_up-items, looked_up-none}
+use Rattle.cpe_logic.proofs.draft.+draft_of.Goals as goal
+
+pub returns-in_default : goal.returns-in_default
+returns-in_default t c =
+    let d = view c.args.source.now in
+    let logic = draft_of-logic (λ v. view v.now) d c.get.result c.get.ensures (c.is_none.ensures ∙ ap not c.if-is_none.false) in
+    logic ∙ logic_fails d (fault.Member part.Test) (looked_up (get (codes "of") d)) (looked_up-none (get (codes "of") d) c.in_default.ensures)
+
+pub draft_of-requires : goal.draft_of-requires
+draft_of-requires t c =
+    let i = c.loop-item.item-index in
+    let items = c.in-Some.items.now in
+    let here : i < length (map view items) = omega (arith, length-map items view, c.loop-item-test.true) in
+    let falls : depth (get_or (map view items) i (view c.item-item.result)) < depth (view c.args.source.now) =
+    below_depth (codes "of") (view c.args.source.now) (map view items) i (view c.item-item.result) here c.in-Some.ensures in
+    let same : get_or (map view items) i (view c.item-item.result) ≡ view c.item-item.result = get_or-map view items i c.item-item.result ∙ ap view (sym c.item-item.is) in
+    let smaller : depth (view c.item-item.result) < depth (view c.args.source.now) = subst (λ d. depth d < depth (view c.args.source.now)) same falls in
+    search (rules, smaller)
+
+pub returns-in-Err : goal.returns-in-Err
+returns-in-Err t c =
+    let d = view c.args.source.now in
+    let fails = all_from_fails view (λ k. draft_of) 1 c.loop-item.item-index c.in-Some.items.now c.item-item.result c.loop-item-test.true
+    c.loop-item.of c.in-Err.fault c.loop-item.invariant (subst (λ v. Fails c.in-Err.fault (draft_of (view v))) c.item-item.is c.in-Err.ensures) in
+    let logic = draft_of-logic (λ v. view v.now) d c.get.result c.get.ensures (c.is_none.ensures ∙ ap not c.if-is_none.false) in
+    let children : Fails c.in-Err.fault (looked_up (get (codes "of") d)) =
+    subst (Fails c.in-Err.fault) (sym (looked_up-items (get (codes "of") d) (map view c.in-Some.items.now) c.in-Some.ensures)) fails in
+    subst (Fails c.in-Err.fault) (sym logic) (logic_fails d c.in-Err.fault (looked_up (get (codes "of") d)) children)
+
+pub loop-item-preserved : goal.loop-item-preserved
+loop-item-preserved t c =
+    let read = all_from-more view (λ k. draft_of) 1 c.loop-item.item-index c.in-Some.items.now c.item-item.result c.loop-item-test.true
+    c.loop-item.of c.in-Ok.draft c.loop-item.invariant (ap (λ v. draft_of (view v)) (sym c.item-item.is) ∙ c.in-Ok.ensures) in
+    cc (read, c.in_ok-push-in-Ok.ensures.ok)
+
+pub returns : goal.returns
+returns t c =
+    let d = view c.args.source.now in
+    let items = c.in-Some.items.now in
+    let logic = draft_of-logic (λ v. view v.now) d c.get.result c.get.ensures (c.is_none.ensures ∙ ap not c.if-is_none.false) in
+    let all : all_from (λ k. draft_of) 1 (map view items) ≡ Ok c.loop-item.of =
+    ap (λ vs. all_from (λ k. draft_of) 1 (map view vs)) (sym (take_all c.loop-item.item-index items c.loop-item-test.false)) ∙ c.loop-item.invariant in
+    let children = looked_up-items (get (codes "of") d) (map view items) c.in-Some.ensures ∙ all in
+    subst (Gives c.logic_of.result) (sym (logic ∙ ap (logic_in d) children)) c.logic_of.ensures

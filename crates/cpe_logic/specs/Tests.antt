@@ -1,0 +1,141 @@
+-- The test of a statement (NIST IR 7698), in three passes: its form at any depth, its depth, and its names in their order.
+use Rattle.std.specs.Prelude.{ℕ, ◌+◌, suc, List, [], ◌∷◌, codes, Option, Some, None, Result, Ok, Err, option_and_then, is_some, nat_le, if◌then◌else◌}
+use Rattle.std.specs.Ordering.{nat_cmp, match_ordering}
+use Rattle.std.specs.Cmp.Lexicographic.{slice_cmp}
+use Rattle.serde_json.specs.Data.{Data, null, boolean, number, string, array, object, Items, no_items, item, Members, no_members, member}
+use Rattle.serde_json.specs.Find.{get, as_str}
+use Rattle.cpe_rows.specs.Shape.{largest, most_depth}
+use Rattle.cpe_rows.specs.declared.test.Operator.{Operator}
+use Rattle.cpe_rows.specs.declared.test.CheckKey.{CheckKey}
+use Rattle.cpe_rows.specs.declared.test.Test as test
+use Rattle.cpe_members.specs.Gives.{◌>>=◌}
+use Rattle.cpe_members.specs.Words.{operator_of}
+use Rattle.cpe_members.specs.Forms.{required, member_at, flag_or_false}
+use Rattle.cpe_members.specs.Names.{read_name}
+use Rattle.cpe_members.specs.declared.member.RecordFault.{RecordFault}
+use Rattle.cpe_members.specs.declared.member.RecordFault.TheVariants as fault
+use Rattle.cpe_members.specs.declared.member.Member.TheVariants as part
+use Rattle.cpe_members.specs.declared.member.NameSpot.TheVariants as spot
+use Rattle.cpe_logic.specs.declared.draft.Draft.{Draft, Logic, Fact, Check}
+use Rattle.cpe_logic.specs.declared.draft.Draft.TheOpen.{Draft-F}
+use Rattle.cpe_logic.specs.declared.draft.Draft.TheFolds.{fold-Draft}
+
+-- ---- form
+
+-- the text at a key of a test
+abbrev pub part_in : List ℕ → Data → Result (List ℕ) RecordFault
+part_in key d = required part.Test (option_and_then as_str (get key d))
+
+-- `AND` or `OR`
+abbrev pub operator_in : Data → Result Operator RecordFault
+operator_in d = required part.Test (option_and_then operator_of (option_and_then as_str (get (codes "op") d)))
+
+-- at least one child
+abbrev pub some_of : {A : Type 0} → List A → Result (List A) RecordFault
+some_of [] = Err (fault.Member part.Test)
+some_of (x ∷ xs) = Ok (x ∷ xs)
+
+-- a check reference
+unfoldable pub key_in : Data → Result CheckKey RecordFault
+key_in d = do
+  system ← part_in (codes "system") d
+  href ← part_in (codes "href") d
+  id ← part_in (codes "id") d
+  Ok (record { system = system; href = href; id = id })
+
+-- a logical test, by what its children are
+unfoldable pub logic_in : Data → Result (List Draft) RecordFault → Result Draft RecordFault
+logic_in d children = do
+  all ← children
+  of ← some_of all
+  operator ← operator_in d
+  negate ← flag_or_false part.Test (codes "negate") d
+  Ok (Logic operator negate of)
+
+-- a fact reference, or else a check reference
+abbrev pub leaf_by : Option Data → Option Data → Result Draft RecordFault
+leaf_by (Some fact) check = required part.Test (as_str fact) >>= λ text. Ok (Fact text)
+leaf_by None (Some check) = key_in check >>= λ key. Ok (Check key)
+leaf_by None None = Err (fault.Member part.Test)
+
+abbrev pub leaf_in : Data → Result Draft RecordFault
+leaf_in d = leaf_by (get (codes "fact") d) (get (codes "check") d)
+
+-- where the member `op` is there, a logical test
+abbrev pub draft_by : Data → Result (List Draft) RecordFault → Result Draft RecordFault
+draft_by d children = if is_some (get (codes "op") d) then logic_in d children else leaf_in d
+
+abbrev mutual
+  -- the test that a value is, of this form at any depth
+  pub draft_of : Data → Result Draft RecordFault
+  draft_of null = Err (fault.Member part.Test)
+  draft_of (boolean b) = Err (fault.Member part.Test)
+  draft_of (number n) = Err (fault.Member part.Test)
+  draft_of (string s) = Err (fault.Member part.Test)
+  draft_of (array ds) = Err (fault.Member part.Test)
+  draft_of (object ms) = draft_by (object ms) (children_in ms)
+
+  -- the children: of the array that is looked up at the key `of`
+  pub children_in : Members → Result (List Draft) RecordFault
+  children_in no_members = Err (fault.Member part.Test)
+  children_in (member k d ms) = match_ordering (slice_cmp nat_cmp (codes "of") k) (children_in ms) (drafts_in d) (children_in ms)
+
+  pub drafts_in : Data → Result (List Draft) RecordFault
+  drafts_in null = Err (fault.Member part.Test)
+  drafts_in (boolean b) = Err (fault.Member part.Test)
+  drafts_in (number n) = Err (fault.Member part.Test)
+  drafts_in (string s) = Err (fault.Member part.Test)
+  drafts_in (array ds) = drafts_of ds
+  drafts_in (object ms) = Err (fault.Member part.Test)
+
+  pub drafts_of : Items → Result (List Draft) RecordFault
+  drafts_of no_items = Ok []
+  drafts_of (item d ds) = draft_of d >>= λ t. drafts_of ds >>= λ ts. Ok (t ∷ ts)
+
+-- the value itself, where it is a logical test
+abbrev pub is_logic : Data → Result Data RecordFault
+is_logic d = if is_some (get (codes "op") d) then Ok d else Err (fault.Member part.Test)
+
+-- ---- depth
+
+abbrev pub depth_step : Draft-F ℕ → ℕ
+depth_step (Draft-F.Logic operator negate of) = suc (largest of)
+depth_step (Draft-F.Fact text) = 0
+depth_step (Draft-F.Check key) = 0
+
+-- as deep as the test that it becomes: without logical tests among its children 1
+abbrev pub draft_depth : Draft → ℕ
+draft_depth = fold-Draft ℕ depth_step
+
+-- not too deep
+abbrev pub within_limit : Draft → Result Draft RecordFault
+within_limit t = if nat_le (draft_depth t) most_depth then Ok t else Err fault.TooDeep
+
+-- ---- names
+
+-- each in turn, from a count
+abbrev pub in_turn : {B : Type 0} → List (ℕ → Result (B × ℕ) RecordFault) → ℕ → Result (List B × ℕ) RecordFault
+in_turn [] n = Ok ([], n)
+in_turn (r ∷ rs) n = r n >>= λ x. in_turn rs x.1 >>= λ xs. Ok (x.0 ∷ xs.0, xs.1)
+
+abbrev pub name_step : Draft-F (ℕ → Result (test.Test × ℕ) RecordFault) → ℕ → Result (test.Test × ℕ) RecordFault
+name_step (Draft-F.Logic operator negate of) n = in_turn of n >>= λ r. Ok (test.Logic operator negate r.0, r.1)
+name_step (Draft-F.Fact text) n = read_name (spot.Fact n) text >>= λ w. Ok (test.Fact w, n + 1)
+name_step (Draft-F.Check key) n = Ok (test.Check key, n)
+
+-- the test with its names read, and the number of the next fact reference
+abbrev pub names_from : Draft → ℕ → Result (test.Test × ℕ) RecordFault
+names_from = fold-Draft (ℕ → Result (test.Test × ℕ) RecordFault) name_step
+
+-- ---- all three
+
+unfoldable pub test_in : Data → Result test.Test RecordFault
+test_in d = do
+  logic ← is_logic d
+  draft ← draft_of logic
+  shallow ← within_limit draft
+  read ← names_from shallow 1
+  Ok read.0
+
+abbrev pub test_at : Data → Result test.Test RecordFault
+test_at d = required part.Test (member_at part.Test d) >>= test_in

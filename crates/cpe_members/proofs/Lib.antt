@@ -1,0 +1,4 @@
+pub mod AllFrom
+pub mod Lists
+pub mod LowerNames
+pub mod YieldLemmas

@@ -1,0 +1,116 @@
+// The words of members.
+ghost use Rattle.std.specs.Prelude.{◌≡◌};
+ghost use Rattle.cpe_members.specs.Words.{kind_word, kind_of, note_kind_word, note_kind_of, mode_word, mode_of, operator_word, operator_of, truth_word, truth_of};
+
+use cpe_rows::{Kind, Mode, NoteKind, Operator, Truth};
+
+/// How the kind of a deprecation is written.
+pub fn kind_word(kind: Kind) -> &'static str
+    ensures { result.now ≡ kind_word kind }
+{
+    match kind {
+        Kind::NameCorrection => "NAME_CORRECTION",
+        Kind::NameRemoval => "NAME_REMOVAL",
+        Kind::AdditionalInformation => "ADDITIONAL_INFORMATION",
+    }
+}
+
+/// The kind of a deprecation that is written so, if there is one.
+pub fn kind_of(text: &str) -> Option<Kind>
+    ensures { result ≡ kind_of text.now }
+{
+    let kinds = [
+        Kind::NameCorrection,
+        Kind::NameRemoval,
+        Kind::AdditionalInformation,
+    ];
+    kinds.iter().copied().find(|kind| kind_word(*kind) == text)
+}
+
+/// How the kind of a note is written.
+pub fn note_kind_word(kind: NoteKind) -> &'static str
+    ensures { result.now ≡ note_kind_word kind }
+{
+    match kind {
+        NoteKind::OriginalRecord => "ORIGINAL_RECORD",
+        NoteKind::AuthorityChange => "AUTHORITY_CHANGE",
+        NoteKind::Deprecation => "DEPRECATION",
+        NoteKind::DeprecationModification => "DEPRECATION_MODIFICATION",
+    }
+}
+
+/// The kind of a note that is written so, if there is one.
+pub fn note_kind_of(text: &str) -> Option<NoteKind>
+    ensures { result ≡ note_kind_of text.now }
+{
+    let kinds = [
+        NoteKind::OriginalRecord,
+        NoteKind::AuthorityChange,
+        NoteKind::Deprecation,
+        NoteKind::DeprecationModification,
+    ];
+    kinds
+        .iter()
+        .copied()
+        .find(|kind| note_kind_word(*kind) == text)
+}
+
+fn mode_word(mode: Mode) -> &'static str
+    ensures { result.now ≡ mode_word mode }
+{
+    match mode {
+        Mode::Plain => "plain",
+        Mode::Follow => "follow",
+    }
+}
+
+/// The mode that is written so, if there is one.
+pub fn mode_of(text: &str) -> Option<Mode>
+    ensures { result ≡ mode_of text.now }
+{
+    let modes = [Mode::Plain, Mode::Follow];
+    modes.iter().copied().find(|mode| mode_word(*mode) == text)
+}
+
+fn operator_word(operator: Operator) -> &'static str
+    ensures { result.now ≡ operator_word operator }
+{
+    match operator {
+        Operator::And => "AND",
+        Operator::Or => "OR",
+    }
+}
+
+/// The operator that is written so, if there is one.
+pub fn operator_of(text: &str) -> Option<Operator>
+    ensures { result ≡ operator_of text.now }
+{
+    let operators = [Operator::And, Operator::Or];
+    operators
+        .iter()
+        .copied()
+        .find(|operator| operator_word(*operator) == text)
+}
+
+/// How a truth is written.
+pub fn truth_word(truth: Truth) -> &'static str
+    ensures { result.now ≡ truth_word truth }
+{
+    match truth {
+        Truth::True => "TRUE",
+        Truth::False => "FALSE",
+        Truth::Error => "ERROR",
+        Truth::Unknown => "UNKNOWN",
+    }
+}
+
+/// The truth that is written so, if there is one.
+pub fn truth_of(text: &str) -> Option<Truth>
+    ensures { result ≡ truth_of text.now }
+{
+    let truths = [Truth::True, Truth::False, Truth::Error, Truth::Unknown];
+    truths
+        .iter()
+        .copied()
+        .find(|truth| truth_word(*truth) == text)
+}

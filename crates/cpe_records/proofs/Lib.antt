@@ -1,0 +1,4 @@
+pub mod Line
+pub mod ServedRecords
+pub mod ValidLemmas
+pub mod ValidRecords

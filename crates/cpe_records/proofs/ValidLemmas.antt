@@ -1,0 +1,83 @@
+-- What is read is valid: names are in lower case, and an id has the form of one.
+use Rattle.std.proofs.Common.{◌≡◌, ℕ, List, Bool, true, false, ◌&&◌, if◌then◌else◌, refl}
+use Rattle.std.specs.Prelude.{Option, Some, None, option_and_then, is_none, codes}
+use Rattle.std.specs.List.{list_all}
+use Rattle.std.proofs.lemmas.Bool.{and_from}
+use Rattle.serde_json.specs.Data.{Data}
+use Rattle.serde_json.specs.Find.{as_str}
+use Rattle.cpe_rows.specs.Names.{is_lower}
+use Rattle.cpe_rows.specs.Valid.{is_id}
+use Rattle.cpe_rows.specs.declared.edit.Edit.{Edit}
+use Rattle.cpe_rows.specs.declared.edit.Query.{Query}
+use Rattle.cpe_rows.specs.declared.entry.Entry.{Entry}
+use Rattle.cpe_members.specs.Yields.{Yields}
+use Rattle.cpe_members.proofs.YieldLemmas.{then_yields, behind}
+use Rattle.cpe_members.proofs.LowerNames.{name_lower, successors_lower}
+use Rattle.cpe_members.specs.Words.{kind_of, truth_of}
+use Rattle.cpe_members.specs.Forms.{required, member_at, word_at, flag_or_false, tested}
+use Rattle.cpe_members.specs.Names.{name_at, successors_at}
+use Rattle.cpe_records.specs.Kinds.{id_at, description_in, entry_in, remark_in, change_in, deprecate_in, amend_in, restore_in, key_at, check_in, search_in}
+use Rattle.cpe_records.specs.Taken.{is_valid_record}
+use Rattle.cpe_records.specs.declared.read.Record.TheVariants as TheRecord
+use Rattle.cpe_records.specs.declared.kinds.Change.{Change}
+use Rattle.cpe_members.specs.declared.member.Member.TheVariants as member
+
+abbrev pub as_edit : Edit → Bool
+as_edit e = is_valid_record (TheRecord.Edit e)
+
+abbrev pub as_query : Query → Bool
+as_query q = is_valid_record (TheRecord.Query q)
+
+-- an entry without a deprecation, whose name is in lower case
+abbrev pub is_new : Entry → Bool
+is_new e = is_lower e.name && is_none e.deprecation
+
+pub entry_valid : (d : Data) → Yields is_new (entry_in d)
+unfolding entry_in
+entry_valid d = then_yields is_lower is_new (name_at d) _ (name_lower d) (λ n h. behind is_new (description_in d) _ (λ rest. and_from _ _ h refl))
+
+-- a change whose successors are in lower case
+abbrev are_lower : Change → Bool
+are_lower c = list_all is_lower c.deprecation.successors
+
+change_lower : (d : Data) → Yields are_lower (change_in d)
+unfolding change_in
+change_lower d =
+    behind are_lower (word_at kind_of member.Kind d) _
+    (λ kind. then_yields (list_all is_lower) are_lower (successors_at d) _ (successors_lower d) (λ ns k. behind are_lower (remark_in d) _ (λ remark. k)))
+
+pub deprecate_valid : (d : Data) → Yields as_edit (deprecate_in d)
+unfolding deprecate_in
+deprecate_valid d =
+    then_yields is_lower as_edit (name_at d) _ (name_lower d)
+    (λ n h. then_yields are_lower as_edit (change_in d) _ (change_lower d) (λ rest k. and_from _ _ h k))
+
+pub amend_valid : (d : Data) → Yields as_edit (amend_in d)
+unfolding amend_in
+amend_valid d =
+    then_yields is_lower as_edit (name_at d) _ (name_lower d)
+    (λ n h. then_yields are_lower as_edit (change_in d) _ (change_lower d) (λ rest k. and_from _ _ h k))
+
+pub restore_valid : (d : Data) → Yields as_edit (restore_in d)
+unfolding restore_in
+restore_valid d = then_yields is_lower as_edit (name_at d) _ (name_lower d) (λ n h. behind as_edit (remark_in d) _ (λ rest. h))
+
+pub check_valid : (d : Data) → Yields as_edit (check_in d)
+unfolding check_in
+check_valid d = behind as_edit (key_at d) _ (λ key. behind as_edit (word_at truth_of member.Result d) _ (λ t. refl))
+
+pub search_valid : (d : Data) → Yields as_query (search_in d)
+unfolding search_in
+search_valid d =
+    then_yields is_lower as_query (name_at d) _ (name_lower d) (λ n h. behind as_query (flag_or_false member.Active (codes "active") d) _ (λ a. h))
+
+tested_id : (s : List ℕ) (b : Bool) → is_id s ≡ b → Yields is_id (required member.Id (if b then Some s else None))
+tested_id s true e = e
+tested_id s false e = tt
+
+text_id : (o : Option (List ℕ)) → Yields is_id (required member.Id (option_and_then (tested is_id) o))
+text_id None = tt
+text_id (Some s) = tested_id s (is_id s) refl
+
+pub id_valid : (d : Data) → Yields is_id (id_at d)
+id_valid d = text_id (option_and_then as_str (member_at member.Id d))

@@ -1,0 +1,70 @@
+-- What is read of a line is valid.
+use Rattle.std.proofs.Common.{◌≡◌, ℕ, List, Bool, true, ◌&&◌, refl, subst}
+use Rattle.std.specs.Prelude.{IfOk, Result, Ok, Err, codes}
+use Rattle.std.proofs.lemmas.Bool.{and_from}
+use Rattle.serde_json.specs.Data.{Data}
+use Rattle.cpe_rows.specs.Names.{is_lower}
+use Rattle.cpe_rows.specs.Valid.{is_id, is_statement_test}
+use Rattle.cpe_members.specs.Gives.{Gives}
+use Rattle.cpe_records.specs.Verbs.{verb_of}
+use Rattle.cpe_members.specs.Forms.{word_at, text_or_empty}
+use Rattle.cpe_members.specs.Names.{name_at}
+use Rattle.cpe_logic.specs.Tests.{test_at}
+use Rattle.cpe_records.specs.Kinds.{id_at, entry_in, deprecate_in, amend_in, restore_in, key_at, check_in, search_in, statement_in, mode_at}
+use Rattle.cpe_rows.specs.declared.statement.Statement.{Statement}
+use Rattle.cpe_records.specs.Taken.{is_valid_record}
+use Rattle.cpe_records.specs.Reading.{record_by, record_of, json_of, value_of}
+use Rattle.cpe_records.specs.declared.read.Record.{Record}
+use Rattle.cpe_records.specs.declared.verb.Verb.{Verb}
+use Rattle.cpe_records.specs.declared.verb.Verb.TheVariants as verb
+use Rattle.cpe_members.specs.declared.member.Member.TheVariants as member
+use Rattle.cpe_members.specs.declared.member.RecordFault.{RecordFault}
+use Rattle.cpe_members.specs.Yields.{Yields}
+use Rattle.cpe_members.proofs.YieldLemmas.{then_yields, behind}
+use Rattle.cpe_members.proofs.LowerNames.{name_lower}
+use Rattle.cpe_records.proofs.ValidLemmas.{entry_valid, deprecate_valid, amend_valid, restore_valid, check_valid, search_valid, id_valid, is_new, as_edit, as_query}
+use Rattle.cpe_logic.proofs.StatementTests.{test_at_valid}
+
+-- its id and its test are those of a statement
+abbrev is_whole : Statement → Bool
+is_whole s = is_id s.id && is_statement_test s.test
+
+statement_valid : (d : Data) → Yields is_whole (statement_in d)
+unfolding statement_in
+statement_valid d =
+    then_yields is_id is_whole (id_at d) _ (id_valid d)
+    (λ i h. behind is_whole (text_or_empty member.Title (codes "title") d) _
+    (λ title. behind is_whole (mode_at d) _ (λ mode. then_yields is_statement_test is_whole (test_at d) _ (test_at_valid d) (λ t k. and_from _ _ h k))))
+
+pub record_valid : (v : Verb) (d : Data) → Yields is_valid_record (record_by v d)
+record_valid verb.Entry d = then_yields is_new is_valid_record (entry_in d) _ (entry_valid d) (λ e h. h)
+record_valid verb.Deprecate d = then_yields as_edit is_valid_record (deprecate_in d) _ (deprecate_valid d) (λ e h. h)
+record_valid verb.Amend d = then_yields as_edit is_valid_record (amend_in d) _ (amend_valid d) (λ e h. h)
+record_valid verb.Restore d = then_yields as_edit is_valid_record (restore_in d) _ (restore_valid d) (λ e h. h)
+record_valid verb.Item d = then_yields is_lower is_valid_record (name_at d) _ (name_lower d) (λ n h. h)
+record_valid verb.DropItem d = then_yields is_lower is_valid_record (name_at d) _ (name_lower d) (λ n h. h)
+record_valid verb.Statement d = then_yields is_whole is_valid_record (statement_in d) _ (statement_valid d) (λ s h. h)
+record_valid verb.DropStatement d = then_yields is_id is_valid_record (id_at d) _ (id_valid d) (λ i h. h)
+record_valid verb.Check d = then_yields as_edit is_valid_record (check_in d) _ (check_valid d) (λ e h. h)
+record_valid verb.DropCheck d = behind is_valid_record (key_at d) _ (λ k. refl)
+record_valid verb.Lookup d = then_yields is_lower is_valid_record (name_at d) _ (name_lower d) (λ n h. h)
+record_valid verb.Search d = then_yields as_query is_valid_record (search_in d) _ (search_valid d) (λ q h. h)
+record_valid verb.Items d = then_yields is_lower is_valid_record (name_at d) _ (name_lower d) (λ n h. h)
+record_valid verb.Chain d = then_yields is_lower is_valid_record (name_at d) _ (name_lower d) (λ n h. h)
+record_valid verb.Show d = then_yields is_lower is_valid_record (name_at d) _ (name_lower d) (λ n h. h)
+record_valid verb.Verdict d = then_yields is_id is_valid_record (id_at d) _ (id_valid d) (λ i h. h)
+
+-- what a line gives, if anything, is valid
+pub line_valid : (line : List ℕ) → Yields is_valid_record (record_of line)
+unfolding record_of
+line_valid line =
+    behind is_valid_record (json_of (value_of line)) _ (λ d. behind is_valid_record (word_at verb_of member.Do d) _ (λ v. record_valid v d))
+
+-- so what was read is valid
+pub read_valid : (line : List ℕ) (r : Record) → record_of line ≡ Ok r → is_valid_record r ≡ true
+read_valid line r e = subst (Yields is_valid_record) e (line_valid line)
+
+-- what a reader of the line answered is valid
+pub valid_by : (line : List ℕ) (r : Result Record RecordFault) → Gives r (record_of line) → IfOk r (λ x. is_valid_record x ≡ true)
+valid_by line (Ok x) h = read_valid line x h
+valid_by line (Err e) h = tt

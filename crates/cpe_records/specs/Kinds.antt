@@ -1,0 +1,111 @@
+-- The members of each kind of record, in the order in which they are tested.
+use Rattle.std.specs.Prelude.{ℕ, List, codes, None, Result, Ok, option_and_then}
+use Rattle.serde_json.specs.Data.{Data}
+use Rattle.serde_json.specs.Find.{as_str}
+use Rattle.cpe_rows.specs.Valid.{is_id}
+use Rattle.cpe_rows.specs.declared.entry.Entry.{Entry}
+use Rattle.cpe_rows.specs.declared.statement.Mode.{Mode}
+use Rattle.cpe_rows.specs.declared.statement.Mode.TheVariants.{Plain}
+use Rattle.cpe_rows.specs.declared.statement.Statement.{Statement}
+use Rattle.cpe_rows.specs.declared.test.CheckKey.{CheckKey}
+use Rattle.cpe_rows.specs.declared.edit.Edit.{Edit}
+use Rattle.cpe_rows.specs.declared.edit.Edit.TheVariants as edit
+use Rattle.cpe_rows.specs.declared.edit.Query.{Query}
+use Rattle.cpe_rows.specs.declared.edit.Query.TheVariants as query
+use Rattle.cpe_members.specs.Gives.{◌>>=◌}
+use Rattle.cpe_members.specs.Words.{kind_of, mode_of, truth_of}
+use Rattle.cpe_members.specs.Forms.{required, or_default, tested, member_at, text_at, word_at, text_or_empty, flag_or_false, date_at}
+use Rattle.cpe_members.specs.Names.{name_at, successors_at}
+use Rattle.cpe_members.specs.Provenance.{provenance_or_empty}
+use Rattle.cpe_logic.specs.Tests.{test_at}
+use Rattle.cpe_records.specs.declared.kinds.Description.{Description}
+use Rattle.cpe_records.specs.declared.kinds.Remark.{Remark}
+use Rattle.cpe_records.specs.declared.kinds.Change.{Change}
+use Rattle.cpe_members.specs.declared.member.Member.TheVariants as member
+use Rattle.cpe_members.specs.declared.member.RecordFault.{RecordFault}
+
+-- ---- forms of single members
+
+abbrev pub comment_at : Data → Result (List ℕ) RecordFault
+comment_at = text_or_empty member.Comment (codes "comment")
+
+-- 1 to 256 visible characters
+abbrev pub id_at : Data → Result (List ℕ) RecordFault
+id_at = word_at (tested is_id) member.Id
+
+abbrev pub mode_at : Data → Result Mode RecordFault
+mode_at d = required member.Mode (or_default Plain (λ e. option_and_then mode_of (as_str e)) (member_at member.Mode d))
+
+-- ---- kinds
+
+-- an entry, behind its name
+unfoldable pub description_in : Data → Result Description RecordFault
+description_in d = do
+  title ← text_or_empty member.Title (codes "title") d
+  provenance ← provenance_or_empty (member_at member.Provenance d)
+  Ok (record { title = title; provenance = provenance })
+
+unfoldable pub entry_in : Data → Result Entry RecordFault
+entry_in d = do
+  name ← name_at d
+  rest ← description_in d
+  Ok (record { name = name; title = rest.title; provenance = rest.provenance; deprecation = None })
+
+unfoldable pub remark_in : Data → Result Remark RecordFault
+remark_in d = do
+  date ← date_at member.Date d
+  comment ← comment_at d
+  Ok (record { date = date; comment = comment })
+
+-- a deprecation, behind its name
+unfoldable pub change_in : Data → Result Change RecordFault
+change_in d = do
+  kind ← word_at kind_of member.Kind d
+  successors ← successors_at d
+  remark ← remark_in d
+  Ok (record { deprecation = record { kind = kind; successors = successors }; remark = remark })
+
+unfoldable pub deprecate_in : Data → Result Edit RecordFault
+deprecate_in d = do
+  name ← name_at d
+  rest ← change_in d
+  Ok (edit.Deprecate name rest.deprecation rest.remark.date rest.remark.comment)
+
+unfoldable pub amend_in : Data → Result Edit RecordFault
+amend_in d = do
+  name ← name_at d
+  rest ← change_in d
+  Ok (edit.Amend name rest.deprecation rest.remark.date rest.remark.comment)
+
+unfoldable pub restore_in : Data → Result Edit RecordFault
+restore_in d = do
+  name ← name_at d
+  rest ← remark_in d
+  Ok (edit.Restore name rest.date rest.comment)
+
+unfoldable pub statement_in : Data → Result Statement RecordFault
+statement_in d = do
+  id ← id_at d
+  title ← text_or_empty member.Title (codes "title") d
+  mode ← mode_at d
+  test ← test_at d
+  Ok (record { id = id; title = title; mode = mode; test = test })
+
+unfoldable pub key_at : Data → Result CheckKey RecordFault
+key_at d = do
+  system ← text_at member.System d
+  href ← text_at member.Href d
+  id ← text_at member.Id d
+  Ok (record { system = system; href = href; id = id })
+
+unfoldable pub check_in : Data → Result Edit RecordFault
+check_in d = do
+  key ← key_at d
+  result ← word_at truth_of member.Result d
+  Ok (edit.SetCheck key result)
+
+unfoldable pub search_in : Data → Result Query RecordFault
+search_in d = do
+  name ← name_at d
+  active ← flag_or_false member.Active (codes "active") d
+  Ok (query.Search name active)

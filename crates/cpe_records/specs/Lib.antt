@@ -1,0 +1,4 @@
+pub mod Verbs
+pub mod Kinds
+pub mod Reading
+pub mod Taken

@@ -1,0 +1,274 @@
+// The members of each kind of record, in the order in which they are tested. Each kind is read in a frame of its own: one
+// frame for all would be cleared for each record.
+ghost use Rattle.std.specs.Prelude.{◌≡◌, Err, option_and_then};
+ghost use Rattle.serde_json.specs.View.{view};
+ghost use Rattle.serde_json.specs.Find.{as_str};
+ghost use Rattle.cpe_rows.specs.Valid.{is_id};
+ghost use Rattle.cpe_members.specs.Words.{kind_of, mode_of, truth_of};
+ghost use Rattle.cpe_members.specs.Gives.{Gives};
+ghost use Rattle.cpe_members.specs.Forms.{word_at};
+ghost use Rattle.cpe_records.specs.Kinds.{comment_at, id_at, mode_at, description_in, entry_in, remark_in, change_in, deprecate_in, amend_in, restore_in, statement_in, key_at, check_in, search_in};
+
+use cpe_logic::test_at;
+use cpe_members::{
+    Member, RecordFault, date_at, flag_or_false, kind_of, mode_of, name_at, provenance_or_empty,
+    successors_at, text_at, text_of, text_or_empty, truth_of,
+};
+use cpe_name::Wfn;
+use cpe_rows::{
+    CheckKey, Date, Deprecation, Edit, Entry, Kind, Mode, Provenance, Query, Statement, Text,
+    Truth, is_id,
+};
+use serde_json::Value;
+use std::alloc::Global;
+
+/// What a record says of an entry beside its name.
+#[derive(Debug, Drop)]
+struct Description {
+    title: Text,
+    provenance: Provenance,
+}
+
+/// What a record says of a change.
+#[derive(Debug, Drop)]
+struct Remark {
+    date: Date,
+    comment: Text,
+}
+
+/// What a record says of a deprecation beside the name of the entry.
+#[derive(Debug, Drop)]
+struct Change {
+    deprecation: Deprecation,
+    remark: Remark,
+}
+
+fn kind_at(source: &Value) -> Result<Kind, RecordFault>
+    ensures { Gives result (word_at kind_of Member.Kind (view source.now)) }
+{
+    match text_of(source, Member::Kind) {
+        Some(text) => kind_of(text).ok_or(RecordFault::Member(Member::Kind)),
+        None => Err(RecordFault::Member(Member::Kind)),
+    }
+}
+
+fn result_at(source: &Value) -> Result<Truth, RecordFault>
+    ensures { Gives result (word_at truth_of Member.Result (view source.now)) }
+{
+    match text_of(source, Member::Result) {
+        Some(text) => truth_of(text).ok_or(RecordFault::Member(Member::Result)),
+        None => Err(RecordFault::Member(Member::Result)),
+    }
+}
+
+fn comment_at(alloc: Global, source: &Value) -> Result<Text, RecordFault>
+    ensures { Gives result (comment_at (view source.now)) }
+{
+    text_or_empty(alloc, source, Member::Comment, "comment")
+}
+
+/// The id of a statement.
+#[inline(never)]
+pub(crate) fn id_at(alloc: Global, source: &Value) -> Result<Text, RecordFault>
+    ensures { Gives result (id_at (view source.now)) }
+{
+    match text_of(source, Member::Id) {
+        Some(text) => {
+            if is_id(text) {
+                Ok(Text::new(alloc, text)?)
+            } else {
+                Err(RecordFault::Member(Member::Id))
+            }
+        }
+        None => Err(RecordFault::Member(Member::Id)),
+    }
+}
+
+fn mode_in(source: &Value) -> Option<Mode>
+    ensures { result ≡ option_and_then mode_of (as_str (view source.now)) }
+{
+    let text = source.as_str()?;
+    mode_of(text)
+}
+
+fn mode_at(source: &Value) -> Result<Mode, RecordFault>
+    ensures { Gives result (mode_at (view source.now)) }
+{
+    match source.get(Member::Mode.key()) {
+        Some(value) => mode_in(value).ok_or(RecordFault::Member(Member::Mode)),
+        None => Ok(Mode::Plain),
+    }
+}
+
+// The fault, and the name is let go. Where it is let go beside other facts, its eleven values hide them from the proof.
+fn refused<T>(_name: Wfn, fault: RecordFault) -> Result<T, RecordFault>
+    ensures { result ≡ Err fault }
+{
+    Err(fault)
+}
+
+#[tactic(auto, unfolding(crate::specs::Kinds::description_in))]
+fn description_in(alloc: Global, source: &Value) -> Result<Description, RecordFault>
+    ensures { Gives result (description_in (view source.now)) }
+{
+    let title = text_or_empty(alloc, source, Member::Title, "title")?;
+    let provenance = provenance_or_empty(alloc, source.get("provenance"))?;
+    Ok(Description { title, provenance })
+}
+
+/// An entry.
+#[tactic(auto, unfolding(crate::specs::Kinds::entry_in))]
+#[inline(never)]
+pub(crate) fn entry_in(alloc: Global, source: &Value) -> Result<Entry, RecordFault>
+    ensures { Gives result (entry_in (view source.now)) }
+{
+    let name = name_at(alloc, source)?;
+    match description_in(alloc, source) {
+        Ok(Description { title, provenance }) => Ok(Entry {
+            name,
+            title,
+            provenance,
+            deprecation: None,
+        }),
+        Err(fault) => refused(name, fault),
+    }
+}
+
+#[tactic(auto, unfolding(crate::specs::Kinds::remark_in))]
+fn remark_in(alloc: Global, source: &Value) -> Result<Remark, RecordFault>
+    ensures { Gives result (remark_in (view source.now)) }
+{
+    let date = date_at(source, Member::Date)?;
+    let comment = comment_at(alloc, source)?;
+    Ok(Remark { date, comment })
+}
+
+#[tactic(auto, unfolding(crate::specs::Kinds::change_in))]
+fn change_in(alloc: Global, source: &Value) -> Result<Change, RecordFault>
+    ensures { Gives result (change_in (view source.now)) }
+{
+    let kind = kind_at(source)?;
+    let successors = successors_at(alloc, source)?;
+    let remark = remark_in(alloc, source)?;
+    Ok(Change {
+        deprecation: Deprecation { kind, successors },
+        remark,
+    })
+}
+
+/// A deprecation of an entry.
+#[tactic(auto, unfolding(crate::specs::Kinds::deprecate_in))]
+#[inline(never)]
+pub(crate) fn deprecate_in(alloc: Global, source: &Value) -> Result<Edit, RecordFault>
+    ensures { Gives result (deprecate_in (view source.now)) }
+{
+    let name = name_at(alloc, source)?;
+    match change_in(alloc, source) {
+        Ok(
+            Change {
+                deprecation,
+                remark: Remark { date, comment },
+            },
+        ) => Ok(Edit::Deprecate {
+            name,
+            deprecation,
+            date,
+            comment,
+        }),
+        Err(fault) => refused(name, fault),
+    }
+}
+
+/// Another deprecation of an entry.
+#[tactic(auto, unfolding(crate::specs::Kinds::amend_in))]
+#[inline(never)]
+pub(crate) fn amend_in(alloc: Global, source: &Value) -> Result<Edit, RecordFault>
+    ensures { Gives result (amend_in (view source.now)) }
+{
+    let name = name_at(alloc, source)?;
+    match change_in(alloc, source) {
+        Ok(
+            Change {
+                deprecation,
+                remark: Remark { date, comment },
+            },
+        ) => Ok(Edit::Amend {
+            name,
+            deprecation,
+            date,
+            comment,
+        }),
+        Err(fault) => refused(name, fault),
+    }
+}
+
+/// That an entry is active again.
+#[tactic(auto, unfolding(crate::specs::Kinds::restore_in))]
+#[inline(never)]
+pub(crate) fn restore_in(alloc: Global, source: &Value) -> Result<Edit, RecordFault>
+    ensures { Gives result (restore_in (view source.now)) }
+{
+    let name = name_at(alloc, source)?;
+    match remark_in(alloc, source) {
+        Ok(Remark { date, comment }) => Ok(Edit::Restore {
+            name,
+            date,
+            comment,
+        }),
+        Err(fault) => refused(name, fault),
+    }
+}
+
+/// A statement.
+#[tactic(auto, unfolding(crate::specs::Kinds::statement_in))]
+#[inline(never)]
+pub(crate) fn statement_in(alloc: Global, source: &Value) -> Result<Statement, RecordFault>
+    ensures { Gives result (statement_in (view source.now)) }
+{
+    let id = id_at(alloc, source)?;
+    let title = text_or_empty(alloc, source, Member::Title, "title")?;
+    let mode = mode_at(source)?;
+    let test = test_at(alloc, source)?;
+    Ok(Statement {
+        id,
+        title,
+        mode,
+        test,
+    })
+}
+
+/// What names a check.
+#[tactic(auto, unfolding(crate::specs::Kinds::key_at))]
+#[inline(never)]
+pub(crate) fn key_at(alloc: Global, source: &Value) -> Result<CheckKey, RecordFault>
+    ensures { Gives result (key_at (view source.now)) }
+{
+    let system = text_at(alloc, source, Member::System)?;
+    let href = text_at(alloc, source, Member::Href)?;
+    let id = text_at(alloc, source, Member::Id)?;
+    Ok(CheckKey { system, href, id })
+}
+
+/// The result of a check.
+#[tactic(auto, unfolding(crate::specs::Kinds::check_in))]
+#[inline(never)]
+pub(crate) fn check_in(alloc: Global, source: &Value) -> Result<Edit, RecordFault>
+    ensures { Gives result (check_in (view source.now)) }
+{
+    let key = key_at(alloc, source)?;
+    let result = result_at(source)?;
+    Ok(Edit::SetCheck { key, result })
+}
+
+/// A search for entries.
+#[tactic(auto, unfolding(crate::specs::Kinds::search_in))]
+#[inline(never)]
+pub(crate) fn search_in(alloc: Global, source: &Value) -> Result<Query, RecordFault>
+    ensures { Gives result (search_in (view source.now)) }
+{
+    let name = name_at(alloc, source)?;
+    match flag_or_false(source, Member::Active, "active") {
+        Ok(active_only) => Ok(Query::Search { name, active_only }),
+        Err(fault) => refused(name, fault),
+    }
+}

@@ -1,0 +1,122 @@
+-- An accepted item leaves lawful rows, and so does one that is dropped.
+use Rattle.std.proofs.Common.{◌≡◌, ℕ, suc, List, [], ◌∷◌, Bool, true, false, not, nat_lt, cond, length, Option, Some, None, refl, ◌∙◌, subst, ◌≤◌, arith}
+use Rattle.std.specs.List.{list_any, list_all}
+use Rattle.std.proofs.lemmas.Bool.{or_from, or_parts, and_from, and_parts, not_from_false, not-true}
+use Rattle.std.proofs.lemmas.Bool.Decides.{nat_tests}
+use Rattle.cpe_name.specs.declared.name.Values.{Values}
+use Rattle.cpe_rows.specs.Names.{is_same, is_lower, has_wildcards}
+use Rattle.cpe_rows.specs.Rows.{Rows, is_item}
+use Rattle.cpe_rows.specs.Limits.{limited, exceeds, most}
+use Rattle.cpe_rows.specs.After.{after, without_first}
+use Rattle.cpe_rows.specs.Faults.{when, full, faults}
+use Rattle.cpe_rows.specs.Step.{first_some}
+use Rattle.cpe_rows.specs.Lawful.{IsLawful, is_item_name, are_different}
+use Rattle.cpe_rows.specs.Accepted.{IsAccepted}
+use Rattle.cpe_rows.specs.declared.edit.Edit.TheVariants as edit
+use Rattle.cpe_rows.specs.declared.fault.EditFault.{EditFault}
+use Rattle.cpe_rows.specs.declared.fault.EditFault.TheVariants as fault
+use Rattle.cpe_rows.specs.declared.fault.Which.{Which}
+use Rattle.cpe_rows.specs.declared.fault.Which.TheVariants as limit
+use Rattle.cpe_rows.proofs.Accepted.{no_fault}
+use Rattle.cpe_rows.proofs.Lists.{not_found, not_element, all_with_last, different_with_last}
+use Rattle.cpe_rows.proofs.NameTests.{not_same}
+
+none_of : (a b : Bool) (f g : EditFault) (o : Option EditFault) → first_some (when a f ∷ when b g ∷ o ∷ []) ≡ None → (a ≡ false) × (b ≡ false) × (o ≡ None)
+none_of true b f g o e = let wrong : ⊥ = cc in absurd wrong
+none_of false true f g o e = let wrong : ⊥ = cc in absurd wrong
+none_of false false f g (Some x) e = let wrong : ⊥ = cc in absurd wrong
+none_of false false f g None e = (refl, refl, refl)
+
+module _ (rows next : Rows) (n : Values) (h : IsAccepted rows (edit.Item n) next) where
+  abbrev left : Rows
+  left = after rows (edit.Item n)
+
+  result : (first_some (faults rows (edit.Item n)) ≡ None) × (left ≡ next)
+  result = no_fault (first_some (faults rows (edit.Item n))) left next h.accepted
+
+  refused_by : (has_wildcards n ≡ false) × (is_item rows n ≡ false) × (full left ≡ None)
+  refused_by = none_of (has_wildcards n) (is_item rows n) fault.Wildcards fault.Exists (full left) result.0
+
+  named : is_item_name n ≡ true
+  named = and_from (is_lower n) (not (has_wildcards n)) h.valid (not_from_false (has_wildcards n) refused_by.0)
+
+  stays : IsLawful left
+  stays = record {
+    dictionary = h.lawful.dictionary;
+    item_names = all_with_last is_item_name rows.items n named ∙ h.lawful.item_names;
+    items_differ = different_with_last is_same rows.items n (λ a m. not_same n a (not_element (is_same n) rows.items refused_by.1 a m)) ∙ h.lawful.items_differ;
+    lawful_statements = h.lawful.lawful_statements;
+    ids_differ = h.lawful.ids_differ;
+    keys_differ = h.lawful.keys_differ;
+    within = not_found fault.Full (exceeds left) limited refused_by.2;
+  }
+
+  pub lawful_with : IsLawful next
+  lawful_with = subst IsLawful result.1 stays
+
+module _ {A : Type 0} (p : A → Bool) where
+  pub all_but_first : (q : A → Bool) (xs : List A) → list_all q xs ≡ true → list_all q (without_first p xs) ≡ true
+  all_but_first q [] h = refl
+  all_but_first q (x ∷ xs) h = let parts = and_parts (q x) (list_all q xs) h in go (p x) parts.0 parts.1 (all_but_first q xs parts.1) where
+    go : (b : Bool) → q x ≡ true → list_all q xs ≡ true → list_all q (without_first p xs) ≡ true → list_all q (cond b xs (x ∷ without_first p xs)) ≡ true
+    go true one all later = all
+    go false one all later = and_from (q x) (list_all q (without_first p xs)) one later
+
+  none_but_first : (q : A → Bool) (xs : List A) → list_any q xs ≡ false → list_any q (without_first p xs) ≡ false
+  none_but_first q [] h = refl
+  none_but_first q (x ∷ xs) h = let parts = or_parts (q x) (list_any q xs) h in go (p x) parts.0 parts.1 (none_but_first q xs parts.1) where
+    go : (b : Bool) → q x ≡ false → list_any q xs ≡ false → list_any q (without_first p xs) ≡ false → list_any q (cond b xs (x ∷ without_first p xs)) ≡ false
+    go true one none later = none
+    go false one none later = or_from (q x) (list_any q (without_first p xs)) one later
+
+  pub different_but_first : (same : A → A → Bool) (xs : List A) → are_different same xs ≡ true → are_different same (without_first p xs) ≡ true
+  different_but_first same [] h = refl
+  different_but_first same (x ∷ xs) h =
+      let parts = and_parts (not (list_any (same x) xs)) (are_different same xs) h in
+      let apart = not_from_false (list_any (same x) (without_first p xs)) (none_but_first (same x) xs (not-true (list_any (same x) xs) parts.0)) in
+      go (p x) parts.1 apart (different_but_first same xs parts.1) where
+        go : (b : Bool) → are_different same xs ≡ true → not (list_any (same x) (without_first p xs)) ≡ true → are_different same (without_first p xs) ≡ true
+            → are_different same (cond b xs (x ∷ without_first p xs)) ≡ true
+        go true all apart later = all
+        go false all apart later = and_from (not (list_any (same x) (without_first p xs))) (are_different same (without_first p xs)) apart later
+
+  pub no_more_but_first : (xs : List A) → length (without_first p xs) ≤ length xs
+  no_more_but_first [] = grind arith
+  no_more_but_first (x ∷ xs) = go (p x) (no_more_but_first xs) where
+    go : (b : Bool) → length (without_first p xs) ≤ length xs → length (cond b xs (x ∷ without_first p xs)) ≤ suc (length xs)
+    go true t = grind arith
+    go false t = grind arith
+
+-- what isn't above a limit stays so with less
+pub not_above : (m n k : ℕ) → k ≤ n → nat_lt m n ≡ false → nat_lt m k ≡ false
+not_above m n k t h = grind (arith, nat_tests)
+
+module _ (rows next : Rows) (n : Values) (h : IsAccepted rows (edit.DropItem n) next) where
+  abbrev without : Rows
+  without = after rows (edit.DropItem n)
+
+  -- what is limited beside the entries and the items
+  abbrev others : List Which
+  others = limit.Statements ∷ limit.Facts ∷ limit.Checks ∷ []
+
+  still_within : list_any (exceeds without) limited ≡ false
+  still_within =
+      let entries = or_parts (exceeds rows limit.Entries) (list_any (exceeds rows) (limit.Items ∷ others)) h.lawful.within in
+      let items = or_parts (exceeds rows limit.Items) (list_any (exceeds rows) others) entries.1 in
+      or_from (exceeds without limit.Entries) (list_any (exceeds without) (limit.Items ∷ others)) entries.0
+      (or_from (exceeds without limit.Items) (list_any (exceeds without) others)
+      (not_above (most limit.Items) (length rows.items) (length without.items) (no_more_but_first (is_same n) rows.items) items.0) items.1)
+
+  still_lawful : IsLawful without
+  still_lawful = record {
+    dictionary = h.lawful.dictionary;
+    item_names = all_but_first (is_same n) is_item_name rows.items h.lawful.item_names;
+    items_differ = different_but_first (is_same n) is_same rows.items h.lawful.items_differ;
+    lawful_statements = h.lawful.lawful_statements;
+    ids_differ = h.lawful.ids_differ;
+    keys_differ = h.lawful.keys_differ;
+    within = still_within;
+  }
+
+  pub lawful_without : IsLawful next
+  lawful_without = subst IsLawful (no_fault (first_some (faults rows (edit.DropItem n))) without next h.accepted).1 still_lawful
