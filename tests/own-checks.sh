@@ -42,6 +42,11 @@ needs() {
     done
 }
 
+# bounds WHAT: whether the address space can be bounded here, as the check of this name needs.
+bounds() {
+    (ulimit -v 65536) 2> /dev/null || { skip "$1" 'the address space can not be bounded'; return 1; }
+}
+
 # letters COUNT: the letter a, so many times.
 letters() { printf "%$1s" '' | tr ' ' a; }
 
@@ -67,12 +72,14 @@ answers() {
     judge "$what" $? "$wanted" "$output"
 }
 
-# One byte a write, so that lines come in pieces.
+# answers_in_pieces INPUT OUTPUT WORD..: one byte a write, so that lines come in pieces.
 answers_in_pieces() {
-    what='an input that comes in single bytes'
+    input=$1 output=$2
+    shift 2
+    what="an input that comes in single bytes: $*"
     needs "$what" dd || return
-    dd bs=1 < examples/mixed.txt 2> /dev/null | limited "$program" unbind > "$room/out" 2> "$room/error"
-    judge "$what" $? 1 examples/mixed.out
+    dd bs=1 < "$input" 2> /dev/null | limited "$program" "$@" > "$room/out" 2> "$room/error"
+    judge "$what" $? 1 "$output"
 }
 
 # A line of 65,536 bytes is read; one byte more, a carriage return too, makes it long.
@@ -133,16 +140,19 @@ answers_usage() {
     answers 'an empty word' examples/names.txt "$room/usage.out" 2 ''
 }
 
-# The next line is sent only when the answer to the one before is there.
+# answers_at_once INPUT OUTPUT STATUS WORD..: of two lines the next is sent only when the answer to the one before is there.
 answers_at_once() {
-    what='an answer comes before the next line is sent'
+    input=$1 output=$2 wanted=$3
+    shift 3
+    what="an answer comes before the next line is sent: $*"
     needs "$what" mkfifo timeout || return
+    rm -f "$room/to" "$room/from"
     mkfifo "$room/to" "$room/from"
-    timeout 60 "$program" unbind < "$room/to" > "$room/from" 2> "$room/error" &
+    timeout 60 "$program" "$@" < "$room/to" > "$room/from" 2> "$room/error" &
     child=$!
     exec 3> "$room/to" 4< "$room/from"
     : > "$room/out"
-    head -n 2 examples/names.txt > "$room/sent"
+    head -n 2 "$input" > "$room/sent"
     while IFS= read -r line; do
         # (where the program is gone, the answer that lacks tells it)
         (trap '' PIPE; printf '%s\n' "$line" >&3) 2> /dev/null
@@ -151,8 +161,8 @@ answers_at_once() {
     exec 3>&- 4<&-
     wait "$child"
     status=$?
-    head -n 2 examples/names.out > "$room/wanted"
-    judge "$what" "$status" 0 "$room/wanted"
+    head -n 2 "$output" > "$room/wanted"
+    judge "$what" "$status" "$wanted" "$room/wanted"
 }
 
 # repeated TIMES FILE: the file, so many times, with a newline behind its last line.
@@ -252,15 +262,17 @@ fails_in_mid_read() {
     fi
 }
 
-# A reader that goes away makes a write fail: status 4, and no word about it.
+# fails_where_the_reader_goes INPUT OUTPUT WORD..: a reader that goes away makes a write fail: status 4, and no word about it.
 fails_where_the_reader_goes() {
-    what='a reader that goes away ends the program with status 4'
+    input=$1 output=$2
+    shift 2
+    what="a reader that goes away ends the program with status 4: $*"
     needs "$what" awk || return
-    repeated 20000 examples/names.txt | {
-        "$program" unbind 2> "$room/error"
+    repeated 20000 "$input" | {
+        "$program" "$@" 2> "$room/error"
         echo $? > "$room/status"
     } | head -n 1 > "$room/out"
-    head -n 1 examples/names.out > "$room/wanted"
+    head -n 1 "$output" > "$room/wanted"
     judge "$what" "$(cat "$room/status")" 4 "$room/wanted"
 }
 
@@ -269,21 +281,212 @@ fails_on_words_that_are_no_text() {
     judge 'a word that is no text ends with status 7' $? 7 /dev/null
 }
 
+# fails_on_closed_streams INPUT WORD..
 fails_on_closed_streams() {
-    limited "$program" unbind <&- > "$room/out" 2> "$room/error"
-    judge 'a closed standard input ends with status 3' $? 3 /dev/null
-    limited "$program" unbind < examples/names.txt >&- 2> "$room/error"
+    input=$1
+    shift
+    limited "$program" "$@" <&- > "$room/out" 2> "$room/error"
+    judge "a closed standard input ends with status 3: $*" $? 3 /dev/null
+    limited "$program" "$@" < "$input" >&- 2> "$room/error"
     status=$?
     : > "$room/out"
-    judge 'a closed standard output ends with status 4' "$status" 4 /dev/null
+    judge "a closed standard output ends with status 4: $*" "$status" 4 /dev/null
 }
 
-# each CHECK: the check under each command, on its example.
+# ---- resolve, which keeps entries
+
+# dictionary lines|answers ENTRIES: records that add so many entries, a refused one behind each tenth of them, and then
+# questions; or the answers to them, made here from the numbers of the entries alone.
+dictionary() {
+    awk -v answers="$([ "$1" = answers ] && echo 1)" -v count="$2" '
+        function fs(n) { return "cpe:2.3:a:v:p" int(n / 100) ":" n % 100 ":*:*:*:*:*:*:*" }
+        function uri(n) { return "cpe:/a:v:p" int(n / 100) ":" n % 100 }
+        function record(text) { number++; if (!answers) print text }
+        function answer(text) { if (answers) print text }
+        function refused(text, reason) { record(text); answer("refused " number " " reason) }
+        function ask(verb, name) { record("{\"do\":\"" verb "\",\"name\":\"" name "\"}") }
+        function add(n,   more) {
+            if (n % 3 == 0) more = ",\"provenance\":{\"submitter\":\"s" n "\"}"
+            record("{\"do\":\"entry\",\"name\":\"" (n % 2 ? uri(n) : fs(n)) "\",\"title\":\"No. " n "\"" more "}")
+        }
+        function spoil(n) {
+            if (n % 60 == 9) refused("{\"do\":\"entry\",\"name\":\"" toupper(uri(n)) "\",\"title\":\"another\"}", "exists")
+            if (n % 60 == 19) refused("<entry name=\"" uri(n) "\"/>", "json")
+            if (n % 60 == 29) refused("{\"do\":\"chain\",\"name\":\"" uri(n) "\"}", "member do")
+            if (n % 60 == 39) refused("{\"do\":\"entry\",\"name\":\"" uri(n + 1) "\",\"title\":null}", "member title")
+            if (n % 60 == 49) refused("{\"do\":\"entry\",\"name\":\"cpe:/a:v::" n "\"}", "not-identifier")
+            if (n % 60 == 59) refused("{\"do\":\"entry\",\"name\":\"" uri(n + 1) "%02\"}", "wildcards")
+        }
+        function shown(n) {
+            return "{\"deprecation\":null,\"name\":\"" fs(n) "\",\"provenance\":{\"authority\":\"\",\"changes\":[],\"submitter\":\"" \
+                (n % 3 == 0 ? "s" n : "") "\"},\"title\":\"No. " n "\"}"
+        }
+        function found(name, first, step, last,   n, all) {
+            for (n = first; n <= last; n += step) all++
+            answer("search " name " " all + 0)
+            for (n = first; n <= last; n += step) answer("entry " fs(n) " active")
+        }
+        BEGIN {
+            for (n = 0; n < count; n++) {
+                add(n)
+                if (n % 10 == 9) spoil(n)
+            }
+            for (n = 0; n < count + 40; n += 37) {
+                ask("lookup", n % 2 ? fs(n) : uri(n))
+                answer("lookup " fs(n) (n < count ? " active" : " absent"))
+                ask("show", uri(n))
+                answer("show " (n < count ? shown(n) : fs(n) " absent"))
+            }
+            last = count - 1
+            ask("search", "cpe:/a:v:p7")
+            found("cpe:2.3:a:v:p7:*:*:*:*:*:*:*:*", 700, 1, last < 799 ? last : 799)
+            ask("search", "cpe:/a:v::42")
+            found("cpe:2.3:a:v:*:42:*:*:*:*:*:*:*", 42, 100, last)
+            ask("search", "cpe:2.3:*:*:*p0:?:*:*:*:*:*:*:*")
+            answer("refused " number " name name 17")
+            ask("search", "cpe:2.3:*:*:*p0:?1:*:*:*:*:*:*:*")
+            found("cpe:2.3:*:*:*p0:?1:*:*:*:*:*:*:*", 1, 10, 99)
+            ask("search", "cpe:/o")
+            found("cpe:2.3:o:*:*:*:*:*:*:*:*:*:*", 0, 1, -1)
+        }' < /dev/null
+}
+
+# How many entries are kept at no great cost each: 100,000 of them, in 512 MiB of address space.
+answers_dictionary() {
+    what='100,000 entries, and questions to them: resolve'
+    needs "$what" awk mkfifo || return
+    bounds "$what" || return
+    rm -f "$room/wanted.pipe"
+    mkfifo "$room/wanted.pipe"
+    dictionary answers 100000 > "$room/wanted.pipe" &
+    dictionary lines 100000 | {
+        (ulimit -v 524288 && limited "$program" resolve) 2> "$room/error"
+        echo $? > "$room/status"
+    } | cmp - "$room/wanted.pipe" > "$room/out" 2>&1
+    wait
+    judge "$what" "$(cat "$room/status")" 1 /dev/null
+}
+
+# fails_with_entries WHAT STATUS WANTED ENTRIES: whether the output is a front of the answers to that dictionary.
+fails_with_entries() {
+    size=$(wc -c < "$room/out")
+    dictionary answers "$4" | head -c "$size" > "$room/wanted"
+    judge "$1" "$2" "$3" "$room/wanted"
+}
+
+# In 16 MiB of address space there is no room for so many entries: a front of the answers stands, and no word about it.
+fails_for_want_of_memory() {
+    what='where memory runs out the status is 5: resolve'
+    needs "$what" awk wc || return
+    bounds "$what" || return
+    dictionary lines 100000 > "$room/many"
+    (ulimit -v 16384 && limited "$program" resolve) < "$room/many" > "$room/out" 2> "$room/error"
+    fails_with_entries "$what" $? 5 100000
+    [ -s "$room/out" ] || fail "$what" 'nothing was written'
+}
+
+fails_in_mid_write_with_entries() {
+    what='a write that fails in mid-stream ends with status 4: resolve, with entries'
+    needs "$what" awk wc || return
+    dictionary lines 20000 > "$room/many"
+    (
+        trap '' XFSZ
+        ulimit -f 128 && exec "$program" resolve < "$room/many" > "$room/out" 2> "$room/error"
+    )
+    fails_with_entries "$what" $? 4 20000
+    [ -s "$room/out" ] || fail "$what" 'nothing was written'
+}
+
+# The front of a line that is torn off is no line, also where it is a whole record.
+fails_in_mid_read_with_entries() {
+    what='a read that fails in mid-stream ends with status 3: resolve, with entries'
+    needs "$what" awk python3 || return
+    dictionary lines 4000 > "$room/many"
+    printf '{"do":"lookup","name":"cpe:/a:v:p0:0"}' >> "$room/many"
+    dictionary answers 4000 > "$room/wanted"
+    limited python3 tests/failing_read.py "$room/many" "$program" resolve > "$room/out" 2> "$room/error"
+    status=$?
+    if [ "$status" = 77 ]; then
+        skip "$what" 'no pipe here is large enough'
+    else
+        judge "$what" "$status" 3 "$room/wanted"
+    fi
+}
+
+# Records about the greatest length of a line, and nesting as deep as a line is long.
+answers_long_records() {
+    front='{"do":"entry","name":"cpe:/a:v:p","title":"'
+    room_of_title=$((65536 - ${#front} - 2))
+    show='{"do":"show","name":"cpe:/a:v:p"}'
+    {
+        printf '%s%s"}\n%s\n' "$front" "$(letters $((room_of_title + 1)))" "$show"
+        printf '%s%s"}\r\n%s\n' "$front" "$(letters "$room_of_title")" "$show"
+        printf '%s%s"}\n%s\n' "$front" "$(letters "$room_of_title")" "$show"
+        printf '%s%s\n' "$show" "$(letters $((65536 - ${#show})) | tr a ' ')"
+        printf '%s %s\n' "$show" "$(letters $((65536 - ${#show})) | tr a ' ')"
+        letters 65536 | tr a '['
+        printf '\n'
+        letters 65537 | tr a '['
+        printf '\n%s' "$(letters 65536 | tr a '{')"
+    } > "$room/long.jsonl"
+    shown="show {\"deprecation\":null,\"name\":\"cpe:2.3:a:v:p:*:*:*:*:*:*:*:*\",\"provenance\":{\"authority\":\"\",\"changes\":[],\"submitter\":\"\"},\"title\":\"$(letters "$room_of_title")\"}"
+    {
+        printf 'refused 1 long\nshow cpe:2.3:a:v:p:*:*:*:*:*:*:*:* absent\n'
+        printf 'refused 3 long\nshow cpe:2.3:a:v:p:*:*:*:*:*:*:*:* absent\n'
+        printf '%s\n%s\nrefused 8 long\nrefused 9 json\nrefused 10 long\nrefused 11 json\n' "$shown" "$shown"
+    } > "$room/long.out"
+    answers 'records about the greatest length' "$room/long.jsonl" "$room/long.out" 1 resolve
+}
+
+# spelled TIMES TEXT: the text, so many times; a backslash of it is written twice.
+spelled() { awk -v times="$1" -v text="$2" 'BEGIN { while (times--) printf "%s", text }' < /dev/null; }
+
+# A tilde is one byte of a URI, two of a formatted string, three of its JSON: answers of two and of three pages.
+answers_long_names() {
+    what='names that are longer when they are written: resolve'
+    needs "$what" awk || return
+    name="cpe:/a:v:$(spelled 65000 '~')"
+    written="cpe:2.3:a:v:$(spelled 65000 '\\~'):*:*:*:*:*:*:*:*"
+    {
+        printf '{"do":"show","name":"%s"}\n{"do":"entry","name":"%s"}\n' "$name" "$name"
+        printf '{"do":"lookup","name":"%s"}\n{"do":"show","name":"%s"}\n{"do":"search","name":"cpe:/a:v"}\n' "$name" "$name"
+    } > "$room/long.jsonl"
+    {
+        printf 'show %s absent\nlookup %s active\n' "$written" "$written"
+        printf 'show {"deprecation":null,"name":"cpe:2.3:a:v:%s:*:*:*:*:*:*:*:*",' "$(spelled 65000 '\\\\~')"
+        printf '"provenance":{"authority":"","changes":[],"submitter":""},"title":""}\n'
+        printf 'search cpe:2.3:a:v:*:*:*:*:*:*:*:*:* 1\nentry %s active\n' "$written"
+    } > "$room/long.out"
+    answers "$what" "$room/long.jsonl" "$room/long.out" 0 resolve
+}
+
+checks_of_resolve() {
+    answers 'a dictionary' examples/dictionary.jsonl examples/dictionary.out 1 resolve
+    answers 'an empty input: resolve' /dev/null /dev/null 0 resolve
+    answers 'a word too many: resolve' examples/dictionary.jsonl "$room/usage.out" 2 resolve names
+    answers_in_pieces examples/dictionary.jsonl examples/dictionary.out resolve
+    answers_vectors resolve resolve
+    answers_long_records
+    answers_long_names
+    answers_at_once tests/vectors/resolve/questions.in tests/vectors/resolve/questions.out 1 resolve
+    answers_dictionary
+    fails_for_want_of_memory
+    fails_on_a_full_device examples/dictionary.jsonl resolve
+    fails_in_mid_write_with_entries
+    fails_in_mid_read_with_entries
+    answers 'a read that fails ends with status 3: resolve' . /dev/null 3 resolve
+    fails_where_the_reader_goes examples/dictionary.jsonl examples/dictionary.out resolve
+    fails_on_closed_streams examples/dictionary.jsonl resolve
+}
+
+# each CHECK: the check under each command, on its example; under resolve on lines that may be repeated, since they
+# change nothing.
 each() {
     "$1" examples/mixed.txt examples/mixed.out unbind
     "$1" examples/wfn.txt examples/wfn.out bind fs
     "$1" examples/wfn.txt examples/wfn-uris.out bind uri
     "$1" examples/pairs.txt examples/pairs.out compare
+    "$1" tests/vectors/resolve/questions.in tests/vectors/resolve/questions.out resolve
 }
 
 for tool in cmp diff head tr cut grep basename; do
@@ -293,7 +496,7 @@ answers 'the real names' examples/names.txt examples/names.out 0 unbind
 answers 'the mixed lines' examples/mixed.txt examples/mixed.out 1 unbind
 answers 'the pairs of names' examples/pairs.txt examples/pairs.out 1 compare
 answers 'an empty input' /dev/null /dev/null 0 unbind
-answers_in_pieces
+answers_in_pieces examples/mixed.txt examples/mixed.out unbind
 answers_long_lines
 answers_bindings
 answers_vectors unbind unbind
@@ -301,7 +504,7 @@ answers_vectors bind-fs bind fs
 answers_vectors bind-uri bind uri
 answers_vectors compare compare
 answers_usage
-answers_at_once
+answers_at_once examples/names.txt examples/names.out 0 unbind
 each answers_at_volume
 fails_on_a_full_device examples/names.txt unbind
 fails_on_a_full_device examples/wfn.txt bind fs
@@ -314,9 +517,10 @@ answers 'a read that fails ends with status 3: unbind' . /dev/null 3 unbind
 answers 'a read that fails ends with status 3: bind fs' . /dev/null 3 bind fs
 answers 'a read that fails ends with status 3: bind uri' . /dev/null 3 bind uri
 answers 'a read that fails ends with status 3: compare' . /dev/null 3 compare
-fails_where_the_reader_goes
+fails_where_the_reader_goes examples/names.txt examples/names.out unbind
 fails_on_words_that_are_no_text
-fails_on_closed_streams
+fails_on_closed_streams examples/names.txt unbind
+checks_of_resolve
 
 [ "$skipped" = 0 ] || printf 'OWN CHECKS SKIPPED, which show nothing here:\n%s' "$missing"
 echo "own checks: $passed passed, $failed failed, $skipped skipped"

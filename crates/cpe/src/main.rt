@@ -4,6 +4,7 @@
 ghost use Rattle.std.specs.Prelude.{◌≡◌, ◌<◌};
 
 use cpe_command::run;
+use cpe_engine::Engine;
 use cpe_io::{StdSink, StdSource};
 use cpe_steps::Steps;
 use std::env;
@@ -33,5 +34,14 @@ fn status_of<L: Ledger>(rt: &HostRuntime, words: &[String], blank: Blank) -> u8
     let mut steps = Steps::<L>::new(blank);
     let mut source = StdSource::new(rt.stdin());
     let mut sink = StdSink::new(rt.stdout());
-    run(rt.alloc(), words, &mut source, &mut sink, &mut steps).number()
+    let mut engine = Engine::new(rt.alloc());
+    run(
+        rt.alloc(),
+        words,
+        &mut source,
+        &mut sink,
+        &mut engine,
+        &mut steps,
+    )
+    .number()
 }

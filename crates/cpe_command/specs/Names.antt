@@ -6,12 +6,11 @@ use Rattle.std.specs.Fmt.{decimal}
 use Rattle.cpe_fs.specs.Bound.{bound}
 use Rattle.cpe_uri.specs.Bound.{bound_uri}
 use Rattle.cpe_uri.specs.EitherBinding.{unbound_any}
-use Rattle.cpe_session.specs.Session.{Session, stateless}
+use Rattle.cpe_session.specs.Session.{Session, printed, stateless}
 use Rattle.cpe_command.specs.declared.names.NameCommand.{NameCommand}
 use Rattle.cpe_command.specs.declared.names.NameCommand.TheVariants.{Unbind, BindFs, BindUri}
 use Rattle.cpe_command.specs.declared.names.NameReason.{NameReason}
 use Rattle.cpe_command.specs.declared.names.NameReason.TheVariants.{Wfn, Name}
-use Rattle.cpe_command.specs.Puts.{as_line, printed}
 
 -- or the place of a text that no name has
 abbrev pub or_place : Result (List ℕ) ℕ → Result (List ℕ) NameReason
@@ -28,6 +27,11 @@ abbrev pub other_form : NameCommand → List ℕ → Result (List ℕ) NameReaso
 other_form Unbind text = or_place (unbound_any text)
 other_form BindFs text = or_wfn (bound text)
 other_form BindUri text = or_wfn (bound_uri text)
+
+-- as a line
+abbrev pub as_line : {Why : Type 0} → Result (List ℕ) Why → Result (List ℕ) Why
+as_line (Ok text) = Ok (text ++ codes "\n")
+as_line (Err why) = Err why
 
 abbrev pub name_reason_text : NameReason → List ℕ
 name_reason_text Wfn = codes "wfn"

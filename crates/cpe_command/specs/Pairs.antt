@@ -4,7 +4,7 @@ use Rattle.std.specs.declared.option.Option.{Option}
 use Rattle.std.specs.List.{flat_map}
 use Rattle.std.specs.Fmt.{decimal}
 use Rattle.cpe_io.specs.Halves.{halves}
-use Rattle.cpe_session.specs.Session.{Session, stateless}
+use Rattle.cpe_session.specs.Session.{Session, printed, stateless}
 use Rattle.cpe_name.specs.declared.name.Values.{Values}
 use Rattle.cpe_uri.specs.EitherBinding.{read_any}
 use Rattle.cpe_relation.specs.declared.relation.Relation.{Relation}
@@ -12,7 +12,6 @@ use Rattle.cpe_relation.specs.declared.relation.Relation.TheVariants.{Disjoint, 
 use Rattle.cpe_relation.specs.NameRelation.{relations, name_relation}
 use Rattle.cpe_command.specs.declared.pairs.PairReason.{PairReason}
 use Rattle.cpe_command.specs.declared.pairs.PairReason.TheVariants.{Pair, Source, Target}
-use Rattle.cpe_command.specs.Puts.{printed}
 
 abbrev pub relation_text : Relation → List ℕ
 relation_text Disjoint = codes "DISJOINT"

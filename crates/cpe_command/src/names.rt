@@ -1,18 +1,14 @@
 // What a line of one name says.
 ghost use Rattle.std.specs.Prelude.{◌≡◌, ◌≤◌, ◌+◌, ◌*◌, Some, None, IfOk, MatchResult, length, take};
-ghost use Rattle.cpe_command.specs.Names.{other_form, name_reason_text, name_session};
-ghost use Rattle.cpe_command.specs.Puts.{Puts, as_line};
+ghost use Rattle.cpe_session.specs.Pages.{Puts};
+ghost use Rattle.cpe_command.specs.Names.{as_line, other_form, name_reason_text};
 
-use crate::place::push_place;
 use cpe_fs::write_bound;
-use cpe_io::{Sink, SinkFault};
 use cpe_room::put_byte;
-use cpe_session::{Page, Reason, Speaker};
-use cpe_steps::Steps;
+use cpe_session::{Page, Reason, Stateless};
 use cpe_uri::{UNBOUND_FRAME, write_bound_uri, write_unbound_any};
 use std::alloc::{AllocError, Global};
 use std::mem::replace;
-use std::sync::ledger::Ledger;
 
 /// What each line is written as, which is one name in some form.
 #[derive(Clone, Copy, Debug, PartialEq, Eq)]
@@ -37,79 +33,41 @@ pub enum NameReason {
 impl Reason for NameReason {
     ghost text = { name_reason_text };
 
-    fn push(&self, page: &mut Page) -> Result<(), AllocError> {
+    fn push(&self, alloc: Global, page: &mut Page) -> Result<(), AllocError> {
+        let _ = alloc;
         match self {
             NameReason::Wfn => page.push(b"wfn"),
-            NameReason::Name(place) => push_place(page, b"name ", *place),
+            NameReason::Name(place) => page.push_numbered(b"name ", *place as u64),
         }
     }
 }
 
-impl Speaker for NameCommand {
-    type State = ();
-
+impl Stateless for NameCommand {
     type Reason = NameReason;
 
-    ghost session = { name_session };
+    ghost says = { λ command text. as_line (other_form command text) };
 
-    fn is_quiet(&self) -> bool {
-        false
-    }
-
-    fn say<L: Ledger>(
+    // In one room.
+    fn say(
         &self,
         alloc: Global,
-        state: &mut (),
         page: &mut Page,
-        number: u64,
         text: &[u8],
-        steps: &mut Steps<L>,
     ) -> Result<Option<NameReason>, AllocError> {
-        let _ = state;
-        let _ = number;
-        let _ = steps;
-        say_name(alloc, page, *self, text)
-    }
-
-    fn say_end<K: Sink, L: Ledger>(
-        &self,
-        alloc: Global,
-        state: &(),
-        page: &mut Page,
-        sink: &mut K,
-        steps: &mut Steps<L>,
-    ) -> Result<(), SinkFault> {
-        let _ = alloc;
-        let _ = state;
-        let _ = page;
-        let _ = sink;
-        let _ = steps;
-        Ok(())
-    }
-}
-
-// Puts the line of the other form behind what is gathered, in one room, or tells why there is none.
-fn say_name(
-    alloc: Global,
-    page: &mut Page,
-    command: NameCommand,
-    text: &[u8],
-) -> Result<Option<NameReason>, AllocError>
-    ensures { IfOk result (Puts (as_line (other_form command text.now)) page.old page.new) }
-{
-    let most = text
-        .len()
-        .saturating_mul(3)
-        .saturating_add(UNBOUND_FRAME + 1);
-    let (mut room, used) = replace(page, Page::new(alloc)).into_room(most)?;
-    match write_line(command, &mut room, used, text) {
-        Ok(end) => {
-            *page = Page::from_room(room, end);
-            Ok(None)
-        }
-        Err(reason) => {
-            *page = Page::from_room(room, used);
-            Ok(Some(reason))
+        let most = text
+            .len()
+            .saturating_mul(3)
+            .saturating_add(UNBOUND_FRAME + 1);
+        let (mut room, used) = replace(page, Page::new(alloc)).into_room(most)?;
+        match write_line(*self, &mut room, used, text) {
+            Ok(end) => {
+                *page = Page::from_room(room, end);
+                Ok(None)
+            }
+            Err(reason) => {
+                *page = Page::from_room(room, used);
+                Ok(Some(reason))
+            }
         }
     }
 }

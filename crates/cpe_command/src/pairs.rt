@@ -2,24 +2,21 @@
 ghost use Rattle.std.specs.Prelude.{◌≡◌, ◌≤◌, ◌+◌, ◌*◌, ◌∷◌, ◌++◌, Ok, IfOk, OnOk, codes, length, take};
 ghost use Rattle.std.specs.List.{flat_map};
 ghost use Rattle.cpe_io.specs.Halves.{halves};
+ghost use Rattle.cpe_session.specs.Pages.{Puts};
 ghost use Rattle.cpe_name.specs.Names.{attributes};
 ghost use Rattle.cpe_name.specs.Borrowed.{name_lent};
 ghost use Rattle.cpe_uri.specs.EitherBinding.{IsUriOrFs, read_any};
 ghost use Rattle.cpe_relation.specs.NameRelation.{relation_of};
-ghost use Rattle.cpe_command.specs.Pairs.{relation_text, relation_line, to_target, from_source, compared, pair_reason_text, pair_session};
-ghost use Rattle.cpe_command.specs.Puts.{Puts};
+ghost use Rattle.cpe_command.specs.Pairs.{relation_text, relation_line, to_target, from_source, compared, pair_reason_text};
 
-use crate::place::push_place;
-use cpe_io::{Sink, SinkFault, cut_in_halves};
+use cpe_io::cut_in_halves;
 use cpe_name::{ATTRIBUTES, Attribute, NameRef, Wfn};
 use cpe_relation::{Relation, Relations, compare_lent};
 use cpe_room::{put, put_byte};
-use cpe_session::{Page, Reason, Speaker};
-use cpe_steps::Steps;
+use cpe_session::{Page, Reason, Stateless};
 use cpe_uri::{UriFault, lend_any, unbind_any};
 use std::alloc::{AllocError, Global};
 use std::mem::replace;
-use std::sync::ledger::Ledger;
 
 // The bytes of the longest word that stands for a relation, and of the space before it.
 const WORD: usize = 10;
@@ -42,69 +39,31 @@ pub enum PairReason {
 impl Reason for PairReason {
     ghost text = { pair_reason_text };
 
-    fn push(&self, page: &mut Page) -> Result<(), AllocError> {
+    fn push(&self, alloc: Global, page: &mut Page) -> Result<(), AllocError> {
+        let _ = alloc;
         match self {
             PairReason::Pair => page.push(b"pair"),
-            PairReason::Source(place) => push_place(page, b"source ", *place),
-            PairReason::Target(place) => push_place(page, b"target ", *place),
+            PairReason::Source(place) => page.push_numbered(b"source ", *place as u64),
+            PairReason::Target(place) => page.push_numbered(b"target ", *place as u64),
         }
     }
 }
 
-impl Speaker for Compare {
-    type State = ();
-
+impl Stateless for Compare {
     type Reason = PairReason;
 
-    ghost session = { λ _. pair_session };
+    ghost says = { λ _ text. compared (halves text) };
 
-    fn is_quiet(&self) -> bool {
-        false
-    }
-
-    fn say<L: Ledger>(
+    fn say(
         &self,
         alloc: Global,
-        state: &mut (),
         page: &mut Page,
-        number: u64,
         text: &[u8],
-        steps: &mut Steps<L>,
     ) -> Result<Option<PairReason>, AllocError> {
-        let _ = state;
-        let _ = number;
-        let _ = steps;
-        say_relations(alloc, page, text)
-    }
-
-    fn say_end<K: Sink, L: Ledger>(
-        &self,
-        alloc: Global,
-        state: &(),
-        page: &mut Page,
-        sink: &mut K,
-        steps: &mut Steps<L>,
-    ) -> Result<(), SinkFault> {
-        let _ = alloc;
-        let _ = state;
-        let _ = page;
-        let _ = sink;
-        let _ = steps;
-        Ok(())
-    }
-}
-
-// Puts how the source relates to the target, or tells why the line is refused.
-fn say_relations(
-    alloc: Global,
-    page: &mut Page,
-    line: &[u8],
-) -> Result<Option<PairReason>, AllocError>
-    ensures { IfOk result (Puts (compared (halves line.now)) page.old page.new) }
-{
-    match cut_in_halves(line) {
-        Some((source, target)) => say_from_source(alloc, page, source, target),
-        None => Ok(Some(PairReason::Pair)),
+        match cut_in_halves(text) {
+            Some((source, target)) => say_from_source(alloc, page, source, target),
+            None => Ok(Some(PairReason::Pair)),
+        }
     }
 }
 

@@ -1,20 +1,24 @@
-//! Tests of the libraries below the program through their public calls, of what no contract says: that a call answers with ample
-//! memory, and examples made from outside. They stand apart from the crates that they try, since a crate with tests is proved twice.
+//! Tests of the libraries below the sessions through their public calls, of what no contract says: that a call answers with ample
+//! memory, and that definitions mean what is meant, by values made from outside. Most of these are in `tests/vectors` at the top of
+//! the repository, the examples of NIST IR 7695 and the table of NIST IR 7696 among them.
+//!
+//! The tests stand apart from the crates that they try, since a crate with tests is proved twice. What is tried stands in functions
+//! without clauses: a test that knew the clauses of what it calls would take long to prove.
 #![tactic(auto)]
 
 #[cfg(test)]
-mod bare_characters;
+mod bytes;
 #[cfg(test)]
-mod canonical_uris;
-#[cfg(test)]
-mod formatted_strings;
+mod calls;
 #[cfg(test)]
 mod names;
 #[cfg(test)]
 mod readme;
 #[cfg(test)]
-mod searches;
+mod relations;
 #[cfg(test)]
-mod uris;
+mod rows;
+#[cfg(test)]
+mod texts;
 #[cfg(test)]
 mod values;

@@ -1,14 +1,20 @@
-use cpe_name::{Attribute, NameFault, Values, Wfn, WfnFault, read_wfn, write_wfn};
-use cpe_values::{Edge, Pattern, Value, ValueFault};
+// Names that are made, changed, lowered, and read and written in each form.
+use crate::calls::{both, has_fs, has_text, has_uri, of_either, of_fs, of_text, of_uri};
+use cpe_fs::fs_len;
+use cpe_name::{Attribute, NameFault, Values, Wfn, WfnFault, read_wfn};
+use cpe_uri::{UriFault, unbind_uri};
+use cpe_values::{Edge, Pattern, Value};
 use std::alloc::Global;
-use std::test::Fail;
 
-fn plain(alloc: Global, body: &[u8]) -> Result<Value, ValueFault> {
-    Ok(Value::Text(Pattern::new(alloc, Edge::None, body, Edge::None)?))
+fn plain(alloc: Global, body: &[u8]) -> Value {
+    match Pattern::new(alloc, Edge::None, body, Edge::None) {
+        Ok(text) => Value::Text(text),
+        Err(_) => Value::Any,
+    }
 }
 
-fn values(part: Value, language: Value) -> Values {
-    Values {
+fn made(part: Value, language: Value) -> Result<Wfn, NameFault> {
+    Wfn::new(Values {
         part,
         vendor: Value::Na,
         product: Value::Any,
@@ -20,336 +26,150 @@ fn values(part: Value, language: Value) -> Values {
         target_sw: Value::Any,
         target_hw: Value::Any,
         other: Value::Any,
+    })
+}
+
+fn is_made(alloc: Global, part: &[u8], language: &[u8], text: &[u8]) -> bool {
+    match made(plain(alloc, part), plain(alloc, language)) {
+        Ok(name) => has_text(alloc, &name, text),
+        Err(_) => false,
     }
 }
 
-fn is_written(alloc: Global, name: &Wfn, text: &[u8]) -> Result<bool, Fail> {
-    let written = write_wfn(alloc, name)?;
-    Ok(written.as_slice() == text)
+fn is_not_made(alloc: Global, part: &[u8], language: &[u8], fault: NameFault) -> bool {
+    made(plain(alloc, part), plain(alloc, language)).err() == Some(fault)
 }
 
 #[test]
-fn a_name_is_written_whole(rt: HostRuntime) -> Result<(), Fail> {
+fn a_name_is_made_of_values(rt: HostRuntime) {
     let alloc = rt.alloc();
-    let mut given = values(plain(alloc, b"a")?, plain(alloc, b"en-US")?);
-    given.version = Value::Text(Pattern::new(alloc, Edge::Star, b"8.0", Edge::Marks(2))?);
-    let name = Wfn::new(given)?;
-    assert!(rt; matches!(name.get(Attribute::Vendor), Value::Na));
-    assert!(rt;
-        is_written(
-            alloc,
-            &name,
-            b"wfn:[part=\"a\",vendor=NA,product=ANY,version=\"*8\\.0??\",update=ANY,edition=ANY,language=\"en\\-US\",sw_edition=ANY,target_sw=ANY,target_hw=ANY,other=ANY]"
-        )?
-    );
-    Ok(())
-}
-
-fn is_part(alloc: Global, part: &[u8]) -> Result<bool, Fail> {
-    Ok(Wfn::new(values(plain(alloc, part)?, Value::Na)).is_ok())
-}
-
-fn is_bad_part(alloc: Global, part: Value) -> bool {
-    matches!(Wfn::new(values(part, Value::Na)), Err(NameFault::BadPart))
-}
-
-#[test]
-fn a_part_is_one_of_three_letters(rt: HostRuntime) -> Result<(), Fail> {
-    let alloc = rt.alloc();
-    assert!(rt; is_part(alloc, b"a")? && is_part(alloc, b"h")? && is_part(alloc, b"o")?);
-    assert!(rt; is_bad_part(alloc, plain(alloc, b"A")?));
-    assert!(rt; is_bad_part(alloc, plain(alloc, b"x")?));
-    assert!(rt; is_bad_part(alloc, plain(alloc, b"ao")?));
-    Ok(())
-}
-
-fn is_language(alloc: Global, language: &[u8]) -> Result<bool, Fail> {
-    Ok(Wfn::new(values(Value::Any, plain(alloc, language)?)).is_ok())
-}
-
-#[test]
-fn a_language_is_letters_and_perhaps_a_region(rt: HostRuntime) -> Result<(), Fail> {
-    assert!(rt; is_language(rt.alloc(), b"en")?);
-    assert!(rt; is_language(rt.alloc(), b"ENG")?);
-    assert!(rt; is_language(rt.alloc(), b"en-us")?);
-    assert!(rt; is_language(rt.alloc(), b"eng-GB")?);
-    assert!(rt; is_language(rt.alloc(), b"es-419")?);
-    assert!(rt; is_language(rt.alloc(), b"spa-419")?);
-    Ok(())
-}
-
-#[test]
-fn other_texts_are_no_language(rt: HostRuntime) -> Result<(), Fail> {
-    assert!(rt; !is_language(rt.alloc(), b"e")?);
-    assert!(rt; !is_language(rt.alloc(), b"e1")?);
-    assert!(rt; !is_language(rt.alloc(), b"engl")?);
-    assert!(rt; !is_language(rt.alloc(), b"en-")?);
-    assert!(rt; !is_language(rt.alloc(), b"en-u")?);
-    assert!(rt; !is_language(rt.alloc(), b"en-41")?);
-    assert!(rt; !is_language(rt.alloc(), b"en-4199")?);
-    assert!(rt; !is_language(rt.alloc(), b"en_us")?);
-    Ok(())
-}
-
-#[test]
-fn specials_suit_neither_part_nor_language(rt: HostRuntime) -> Result<(), Fail> {
-    let part = Value::Text(Pattern::new(rt.alloc(), Edge::None, b"a", Edge::Star)?);
-    let answer = Wfn::new(values(part, plain(rt.alloc(), b"english")?));
-    assert!(rt; matches!(answer, Err(NameFault::BadPart)));
-    let language = Value::Text(Pattern::new(rt.alloc(), Edge::Marks(1), b"en", Edge::None)?);
-    let answer = Wfn::new(values(Value::Any, language));
-    assert!(rt; matches!(answer, Err(NameFault::BadLanguage)));
-    Ok(())
-}
-
-// Whether a value is refused for an attribute, and the name left as it was.
-fn stays(alloc: Global, which: Attribute, value: Value, fault: NameFault) -> Result<bool, Fail> {
-    let mut name = Wfn::any();
-    name.set(Attribute::Other, plain(alloc, b"x")?)?;
-    let before = name.copy(alloc)?;
-    Ok(name.set(which, value) == Err(fault) && name == before && name != Wfn::any())
-}
-
-#[test]
-fn a_name_is_changed_or_left_as_it_was(rt: HostRuntime) -> Result<(), Fail> {
-    let alloc = rt.alloc();
-    assert!(rt;
-        stays(
-            alloc,
-            Attribute::Part,
-            plain(alloc, b"x")?,
-            NameFault::BadPart
-        )?
-    );
-    assert!(rt;
-        stays(
-            alloc,
-            Attribute::Language,
-            plain(alloc, b"e")?,
-            NameFault::BadLanguage
-        )?
-    );
-    let mut name = Wfn::any();
-    name.set(Attribute::Part, plain(alloc, b"o")?)?;
-    name.set(Attribute::Other, plain(alloc, b"x")?)?;
-    assert!(rt;
-        is_written(
-            alloc,
-            &name,
-            b"wfn:[part=\"o\",vendor=ANY,product=ANY,version=ANY,update=ANY,edition=ANY,language=ANY,sw_edition=ANY,target_sw=ANY,target_hw=ANY,other=\"x\"]"
-        )?
-    );
-    Ok(())
-}
-
-#[test]
-fn a_wildcard_in_any_attribute_is_found(rt: HostRuntime) -> Result<(), Fail> {
-    let mut name = Wfn::any();
-    assert!(rt; !name.has_wildcards());
-    let other = Value::Text(Pattern::new(rt.alloc(), Edge::None, b"a", Edge::Marks(2))?);
-    name.set(Attribute::Other, other)?;
-    assert!(rt; name.has_wildcards());
-    Ok(())
-}
-
-// Texts of names, each with the output text. They are written by hand from NIST IR 7695, 5.3.
-fn is_read_as(alloc: Global, text: &[u8], want: &[u8]) -> Result<bool, Fail> {
-    let name = read_wfn(alloc, text)?;
-    is_written(alloc, &name, want)
-}
-
-#[test]
-fn a_missing_attribute_is_any(rt: HostRuntime) -> Result<(), Fail> {
-    assert!(rt;
-        is_read_as(
-            rt.alloc(),
-            b"wfn:[]",
-            b"wfn:[part=ANY,vendor=ANY,product=ANY,version=ANY,update=ANY,edition=ANY,language=ANY,sw_edition=ANY,target_sw=ANY,target_hw=ANY,other=ANY]"
-        )?
-    );
-    Ok(())
-}
-
-#[test]
-fn a_name_is_read_from_its_text(rt: HostRuntime) -> Result<(), Fail> {
-    assert!(rt;
-        is_read_as(
-            rt.alloc(),
-            b"wfn:[part=\"a\",vendor=\"foo\\\\bar\",product=\"big\\$money_2010\",sw_edition=\"special\",target_sw=\"ipod_touch\",target_hw=\"80gb\"]",
-            b"wfn:[part=\"a\",vendor=\"foo\\\\bar\",product=\"big\\$money_2010\",version=ANY,update=ANY,edition=ANY,language=ANY,sw_edition=\"special\",target_sw=\"ipod_touch\",target_hw=\"80gb\",other=ANY]"
-        )?
-    );
-    Ok(())
-}
-
-#[test]
-fn attributes_come_in_any_order(rt: HostRuntime) -> Result<(), Fail> {
-    assert!(rt;
-        is_read_as(
-            rt.alloc(),
-            b"wfn:[version=\"8\\.*\",   part=\"a\", vendor=NA,language=\"en\\-US\"]",
-            b"wfn:[part=\"a\",vendor=NA,product=ANY,version=\"8\\.*\",update=ANY,edition=ANY,language=\"en\\-US\",sw_edition=ANY,target_sw=ANY,target_hw=ANY,other=ANY]"
-        )?
-    );
-    Ok(())
-}
-
-#[test]
-fn specials_stand_around_quoted_characters(rt: HostRuntime) -> Result<(), Fail> {
-    assert!(rt;
-        is_read_as(
-            rt.alloc(),
-            b"wfn:[other=\"*\\-\",update=\"??\\?\\\"??\",language=\"spa\\-419\",edition=ANY]",
-            b"wfn:[part=ANY,vendor=ANY,product=ANY,version=ANY,update=\"??\\?\\\"??\",edition=ANY,language=\"spa\\-419\",sw_edition=ANY,target_sw=ANY,target_hw=ANY,other=\"*\\-\"]"
-        )?
-    );
-    Ok(())
-}
-
-#[test]
-fn all_eleven_are_read(rt: HostRuntime) -> Result<(), Fail> {
     let text =
-        b"wfn:[part=NA,vendor=ANY,product=\"_\",version=NA,update=\"\\-\\-\",edition=\"Z\",language=NA,sw_edition=\"0\",target_sw=\"\\~\",target_hw=\"\\!\",other=NA]";
-    assert!(rt; is_read_as(rt.alloc(), text, text)?);
-    Ok(())
+        b"wfn:[part=\"a\",vendor=NA,product=ANY,version=ANY,update=ANY,edition=ANY,language=\"en\\-US\",sw_edition=ANY,target_sw=ANY,target_hw=ANY,other=ANY]";
+    assert!(rt; is_made(alloc, b"a", b"en-US", text));
+    assert!(rt; is_not_made(alloc, b"x", b"english", NameFault::BadPart));
+    assert!(rt; is_not_made(alloc, b"a", b"english", NameFault::BadLanguage));
 }
 
-// Whether no name has a text.
-fn is_no_wfn(alloc: Global, text: &[u8]) -> bool {
-    matches!(read_wfn(alloc, text), Err(WfnFault::NotWfn))
+fn is_set(name: &mut Wfn, which: Attribute, value: Value) -> bool {
+    name.set(which, value).is_ok()
 }
 
-#[test]
-fn brackets_stand_around_the_list_alone(rt: HostRuntime) {
-    let alloc = rt.alloc();
-    assert!(rt; is_no_wfn(alloc, b""));
-    assert!(rt; is_no_wfn(alloc, b"wfn:["));
-    assert!(rt; is_no_wfn(alloc, b"WFN:[]"));
-    assert!(rt; is_no_wfn(alloc, b"wfn:[ ]"));
-    assert!(rt; is_no_wfn(alloc, b"wfn:[]]"));
-    assert!(rt; is_no_wfn(alloc, b"wfn:[part=\"a\"]x"));
+fn is_na(name: &Wfn, which: Attribute) -> bool {
+    matches!(name.get(which), Value::Na)
 }
 
-#[test]
-fn one_comma_stands_between_two_attributes(rt: HostRuntime) {
-    let alloc = rt.alloc();
-    assert!(rt; is_no_wfn(alloc, b"wfn:[part=\"a\",]"));
-    assert!(rt; is_no_wfn(alloc, b"wfn:[part=\"a\",,vendor=NA]"));
-    assert!(rt; is_no_wfn(alloc, b"wfn:[part=\"a\"vendor=NA]"));
+fn is_copied(alloc: Global, name: &Wfn) -> bool {
+    match name.copy(alloc) {
+        Ok(copy) => copy == *name,
+        Err(_) => false,
+    }
 }
 
 #[test]
-fn an_attribute_comes_once(rt: HostRuntime) {
+fn a_name_is_changed_or_left_as_it_was(rt: HostRuntime) {
     let alloc = rt.alloc();
-    assert!(rt; is_no_wfn(alloc, b"wfn:[part=\"a\",part=\"h\"]"));
-    assert!(rt; is_no_wfn(alloc, b"wfn:[part=\"a\",part=\"a\"]"));
-    assert!(rt; is_no_wfn(alloc, b"wfn:[vendor=ANY,part=NA,vendor=ANY]"));
+    let mut name = Wfn::any();
+    assert!(rt; is_set(&mut name, Attribute::Other, Value::Na));
+    assert!(rt; !is_set(&mut name, Attribute::Part, plain(alloc, b"x")));
+    assert!(rt; is_na(&name, Attribute::Other) && !is_na(&name, Attribute::Part));
+    assert!(rt; is_copied(alloc, &name));
+}
+
+fn has_some(name: &Wfn) -> bool {
+    name.has_wildcards()
+}
+
+fn has_wildcards(alloc: Global, text: &[u8]) -> bool {
+    match of_text(alloc, text) {
+        Some(name) => has_some(&name),
+        None => false,
+    }
 }
 
 #[test]
-fn spaces_stand_behind_a_comma_alone(rt: HostRuntime) {
-    let alloc = rt.alloc();
-    assert!(rt; is_no_wfn(alloc, b"wfn:[part=\"a\" ,vendor=NA]"));
-    assert!(rt; is_no_wfn(alloc, b"wfn:[ part=\"a\"]"));
-    assert!(rt; is_no_wfn(alloc, b"wfn:[part=\"a\" ]"));
-    assert!(rt; is_no_wfn(alloc, b"wfn:[part =\"a\"]"));
-    assert!(rt; is_no_wfn(alloc, b"wfn:[part= \"a\"]"));
-    assert!(rt; is_no_wfn(alloc, b"wfn:[part=\"a\",\tvendor=NA]"));
+fn a_wildcard_is_no_quoted_character(rt: HostRuntime) {
+    assert!(rt; has_wildcards(rt.alloc(), b"wfn:[other=\"a??\"]"));
+    assert!(rt; !has_wildcards(rt.alloc(), b"wfn:[other=\"\\*\"]"));
+}
+
+fn lowered(alloc: Global, name: &Wfn) -> Option<Wfn> {
+    name.lower(alloc).ok()
+}
+
+fn is_lower(name: &Wfn) -> bool {
+    name.is_lower()
+}
+
+fn is_lowered_to(alloc: Global, name: &Wfn, lower: &[u8]) -> bool {
+    match lowered(alloc, name) {
+        Some(name) => is_lower(&name) && has_fs(alloc, &name, lower),
+        None => false,
+    }
+}
+
+fn lowers(alloc: Global, fs: &[u8], lower: &[u8]) -> bool {
+    match of_fs(alloc, fs) {
+        Some(name) => !is_lower(&name) && is_lowered_to(alloc, &name, lower),
+        None => false,
+    }
+}
+
+fn is_same(name: &Wfn, other: &Wfn) -> bool {
+    name.same(other)
+}
+
+fn are_same(alloc: Global, fs: &[u8], other: &[u8]) -> bool {
+    match both(alloc, fs, other) {
+        Some((name, other)) => is_same(&name, &other),
+        None => false,
+    }
 }
 
 #[test]
-fn attributes_and_logical_values_have_their_names(rt: HostRuntime) {
+fn a_name_in_lower_case_is_the_same(rt: HostRuntime) {
     let alloc = rt.alloc();
-    assert!(rt; is_no_wfn(alloc, b"wfn:[Part=\"a\"]"));
-    assert!(rt; is_no_wfn(alloc, b"wfn:[parts=\"a\"]"));
-    assert!(rt; is_no_wfn(alloc, b"wfn:[part=a]"));
-    assert!(rt; is_no_wfn(alloc, b"wfn:[part=any]"));
-    assert!(rt; is_no_wfn(alloc, b"wfn:[part=ANYx]"));
+    let fs = b"cpe:2.3:a:Foo\\\\Bar:\\@A\\[Z\\`:*:*:*:EN-US:*:*:X64:A*";
+    let lower = b"cpe:2.3:a:foo\\\\bar:\\@a\\[z\\`:*:*:*:en-us:*:*:x64:a*";
+    let brace = b"cpe:2.3:a:foo\\\\bar:\\@a\\{z\\`:*:*:*:en-us:*:*:x64:a*";
+    assert!(rt; lowers(alloc, fs, lower));
+    assert!(rt; are_same(alloc, fs, lower));
+    assert!(rt; !are_same(alloc, fs, brace));
+}
+
+fn is_refused(alloc: Global, text: &[u8]) -> bool {
+    read_wfn(alloc, text).err() == Some(WfnFault::NotWfn)
+}
+
+fn is_no_uri(alloc: Global, uri: &[u8], place: usize) -> bool {
+    unbind_uri(alloc, uri).err() == Some(UriFault::At(place))
+}
+
+const TEXT: &[u8] =
+    b"wfn:[part=\"a\",vendor=NA,product=\"??b\\.r??\",version=ANY,update=ANY,edition=ANY,language=\"fr\\-ca\",sw_edition=ANY,target_sw=\"b*\",target_hw=ANY,other=ANY]";
+
+const FS: &[u8] = b"cpe:2.3:a:-:??b.r??:*:*:*:fr-ca:*:b*:*:*";
+
+const URI: &[u8] = b"cpe:/a:-:%01%01b.r%01%01:::~~~b%02~~:fr-ca";
+
+fn is_bound(alloc: Global, name: Option<Wfn>) -> bool {
+    match name {
+        Some(name) => {
+            has_text(alloc, &name, TEXT)
+                && has_fs(alloc, &name, FS)
+                && has_uri(alloc, &name, URI)
+                && fs_len(&name) == 40
+        }
+        None => false,
+    }
 }
 
 #[test]
-fn part_and_language_have_their_shapes(rt: HostRuntime) {
+fn a_name_comes_back_from_each_form(rt: HostRuntime) {
     let alloc = rt.alloc();
-    assert!(rt; is_no_wfn(alloc, b"wfn:[part=\"x\"]"));
-    assert!(rt; is_no_wfn(alloc, b"wfn:[part=\"a*\"]"));
-    assert!(rt; is_no_wfn(alloc, b"wfn:[language=\"englisch\"]"));
-    assert!(rt; is_no_wfn(alloc, b"wfn:[language=\"en-US\"]"));
-    assert!(rt; is_no_wfn(alloc, b"wfn:[language=\"en\\-1a\"]"));
-}
-
-#[test]
-fn characters_are_quoted_where_they_have_to_be(rt: HostRuntime) {
-    let alloc = rt.alloc();
-    assert!(rt; is_no_wfn(alloc, b"wfn:[vendor=\"a.b\"]"));
-    assert!(rt; is_no_wfn(alloc, b"wfn:[vendor=\"\\a\"]"));
-    assert!(rt; is_no_wfn(alloc, b"wfn:[vendor=\"a\\ b\"]"));
-    assert!(rt; is_no_wfn(alloc, b"wfn:[vendor=\"a]"));
-}
-
-#[test]
-fn a_text_has_characters_between_its_specials(rt: HostRuntime) {
-    let alloc = rt.alloc();
-    assert!(rt; is_no_wfn(alloc, b"wfn:[vendor=\"\"]"));
-    assert!(rt; is_no_wfn(alloc, b"wfn:[vendor=\"\\-\"]"));
-    assert!(rt; is_no_wfn(alloc, b"wfn:[vendor=\"*\"]"));
-    assert!(rt; is_no_wfn(alloc, b"wfn:[vendor=\"a*b\"]"));
-}
-
-fn is_lowered_to(alloc: Global, text: &[u8], lower: &[u8]) -> Result<bool, Fail> {
-    let name = read_wfn(alloc, text)?;
-    let lowered = name.lower(alloc)?;
-    Ok(lowered == read_wfn(alloc, lower)? && lowered.is_lower())
-}
-
-fn is_lower(alloc: Global, text: &[u8]) -> Result<bool, Fail> {
-    let name = read_wfn(alloc, text)?;
-    Ok(name.is_lower())
-}
-
-fn are_same(alloc: Global, text: &[u8], other: &[u8]) -> Result<bool, Fail> {
-    let name = read_wfn(alloc, text)?;
-    let other = read_wfn(alloc, other)?;
-    Ok(name.same(&other))
-}
-
-// Whether a text is that of the same name as another, but with letters in upper case.
-fn differ_in_case(alloc: Global, text: &[u8], lower: &[u8]) -> Result<bool, Fail> {
-    Ok(
-        is_lowered_to(alloc, text, lower)?
-            && are_same(alloc, text, lower)?
-            && !is_lower(alloc, text)?,
-    )
-}
-
-#[test]
-fn a_name_in_lower_case_is_the_same(rt: HostRuntime) -> Result<(), Fail> {
-    let alloc = rt.alloc();
-    assert!(rt; is_lowered_to(alloc, b"wfn:[]", b"wfn:[]")? && is_lower(alloc, b"wfn:[]")?);
-    assert!(rt;
-        differ_in_case(
-            alloc,
-            b"wfn:[part=\"a\",vendor=\"Foo\\\\Bar\",language=\"EN\\-US\",other=\"A*\"]",
-            b"wfn:[part=\"a\",vendor=\"foo\\\\bar\",language=\"en\\-us\",other=\"a*\"]"
-        )?
-    );
-    assert!(rt;
-        differ_in_case(
-            alloc,
-            b"wfn:[part=NA,product=\"??\\@A\\[Z\\`\",update=\"_0\\{\",target_hw=\"X64\"]",
-            b"wfn:[part=NA,product=\"??\\@a\\[z\\`\",update=\"_0\\{\",target_hw=\"x64\"]"
-        )?
-    );
-    Ok(())
-}
-
-#[test]
-fn other_names_are_not_the_same(rt: HostRuntime) -> Result<(), Fail> {
-    let alloc = rt.alloc();
-    assert!(rt; !are_same(alloc, b"wfn:[]", b"wfn:[other=NA]")?);
-    assert!(rt; !are_same(alloc, b"wfn:[part=\"a\"]", b"wfn:[part=\"h\"]")?);
-    assert!(rt; !are_same(alloc, b"wfn:[vendor=\"a\"]", b"wfn:[product=\"a\"]")?);
-    assert!(rt; !are_same(alloc, b"wfn:[vendor=\"a\"]", b"wfn:[vendor=\"a*\"]")?);
-    assert!(rt; !are_same(alloc, b"wfn:[vendor=\"\\[\"]", b"wfn:[vendor=\"\\{\"]")?);
-    assert!(rt; !are_same(alloc, b"wfn:[other=\"na\"]", b"wfn:[other=NA]")?);
-    Ok(())
+    assert!(rt; is_bound(alloc, of_text(alloc, TEXT)));
+    assert!(rt; is_bound(alloc, of_fs(alloc, FS)));
+    assert!(rt; is_bound(alloc, of_uri(alloc, URI)));
+    assert!(rt; is_bound(alloc, of_either(alloc, URI)));
+    assert!(rt; is_bound(alloc, of_either(alloc, FS)));
+    assert!(rt; is_refused(alloc, FS) && is_no_uri(alloc, b"cpe:/a:%2D:p", 10));
 }

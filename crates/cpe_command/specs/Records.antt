@@ -1,0 +1,52 @@
+-- What a line of a record says under `resolve`, and what it makes of the rows (NIST IR 7697).
+use Rattle.std.specs.Prelude.{ℕ, List, [], ◌∷◌, false, Some, None, Ok, Err}
+use Rattle.std.specs.declared.option.Option.{Option}
+use Rattle.std.specs.declared.result.Result.{Result}
+use Rattle.cpe_session.specs.Session.{Session, Saying}
+use Rattle.cpe_rows.specs.Rows.{Rows}
+use Rattle.cpe_rows.specs.Step.{step}
+use Rattle.cpe_rows.specs.Answers.{answer}
+use Rattle.cpe_rows.specs.declared.fault.EditFault.{EditFault}
+use Rattle.cpe_records.specs.Reading.{record_of}
+use Rattle.cpe_records.specs.declared.read.Record.{Record}
+use Rattle.cpe_records.specs.declared.read.Record.TheVariants.{Edit, Query}
+use Rattle.cpe_members.specs.declared.member.RecordFault.{RecordFault}
+use Rattle.cpe_replies.specs.Replies.{reply_text}
+use Rattle.cpe_replies.specs.Reasons.{record_fault_text, edit_fault_text}
+
+-- an accepted edit writes nothing
+abbrev pub by_step : Result Rows EditFault → Saying Rows
+by_step (Ok rows) = Ok ([], rows)
+by_step (Err fault) = Err (edit_fault_text fault)
+
+-- an edit is applied, and a query is answered
+abbrev pub by_record : Rows → Result Record RecordFault → Saying Rows
+by_record rows (Ok (Edit edit)) = by_step (step rows edit)
+by_record rows (Ok (Query query)) = Ok (reply_text (answer rows query), rows)
+by_record rows (Err fault) = Err (record_fault_text fault)
+
+abbrev pub record_session : Session Rows
+record_session = record {
+  says = λ rows number text. by_record rows (record_of text);
+  quiet = false;
+  ends = λ rows. [];
+  cost = λ rows number text. 0;
+  end_cost = λ rows. 0;
+}
+
+-- the rows that a step leaves; a refused one leaves them as they were
+abbrev pub stepped : Rows → Result Rows EditFault → Rows
+stepped rows (Ok now) = now
+stepped rows (Err fault) = rows
+
+-- the rows that a record leaves
+abbrev pub edited : Rows → Result Record RecordFault → Rows
+edited rows (Ok (Edit edit)) = stepped rows (step rows edit)
+edited rows (Ok (Query query)) = rows
+edited rows (Err fault) = rows
+
+-- the rows that a line leaves; one without bytes, or one that is too long, is no record
+abbrev pub line_edited : Rows → Option (List ℕ) → Rows
+line_edited rows None = rows
+line_edited rows (Some []) = rows
+line_edited rows (Some (x ∷ xs)) = edited rows (record_of (x ∷ xs))

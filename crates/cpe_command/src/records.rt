@@ -1,0 +1,112 @@
+// What a line of a record says.
+ghost use Rattle.std.specs.Prelude.{◌≡◌, ◌++◌, ℕ, List, true, None, IfOk};
+ghost use Rattle.std.specs.Option.{option_map};
+ghost use Rattle.cpe_session.specs.Pages.{IsSaid, StepsWithin};
+ghost use Rattle.cpe_rows.specs.Step.{step};
+ghost use Rattle.cpe_rows.specs.Answers.{answer};
+ghost use Rattle.cpe_rows.specs.Served.{is_served_edit, is_served_query};
+ghost use Rattle.cpe_replies.specs.Replies.{reply_text};
+ghost use Rattle.cpe_replies.specs.Reasons.{reason_text};
+ghost use Rattle.cpe_command.specs.Records.{by_step, record_session};
+
+use cpe_engine::Engine;
+use cpe_io::{Sink, SinkFault};
+use cpe_members::RecordFault;
+use cpe_records::{Record, read_record};
+use cpe_replies::{RecordReason, push_reply};
+use cpe_rows::{Edit, EditFault, Query};
+use cpe_session::{Page, Speaker};
+use cpe_steps::Steps;
+use std::alloc::{AllocError, Global};
+use std::sync::ledger::Ledger;
+
+/// Each line is a record: an edit is applied to the rows that the engine keeps, and a query is answered from them.
+#[derive(Clone, Copy, Debug, PartialEq, Eq)]
+pub struct Resolve;
+
+impl Speaker for Resolve {
+    type State = Engine;
+
+    type Reason = RecordReason;
+
+    ghost session = { λ _. record_session };
+
+    fn is_quiet(&self) -> bool {
+        false
+    }
+
+    fn say<L: Ledger>(
+        &self,
+        alloc: Global,
+        state: &mut Engine,
+        page: &mut Page,
+        number: u64,
+        text: &[u8],
+        steps: &mut Steps<L>,
+    ) -> Result<Option<RecordReason>, AllocError> {
+        let _ = number;
+        match read_record(alloc, text) {
+            Ok(Record::Edit(edit)) => say_edit(state, edit, steps),
+            Ok(Record::Query(query)) => say_answer(alloc, state, page, query, steps),
+            Err(RecordFault::Memory) => Err(AllocError),
+            Err(fault) => Ok(Some(RecordReason::Unread(fault))),
+        }
+    }
+
+    fn say_end<K: Sink, L: Ledger>(
+        &self,
+        alloc: Global,
+        state: &Engine,
+        page: &mut Page,
+        sink: &mut K,
+        steps: &mut Steps<L>,
+    ) -> Result<(), SinkFault> {
+        let _ = alloc;
+        let _ = state;
+        let _ = page;
+        let _ = sink;
+        let _ = steps;
+        Ok(())
+    }
+}
+
+// Applies an edit, or tells why it can't be applied. Nothing is written for one that was.
+#[inline(never)]
+fn say_edit<L: Ledger>(
+    engine: &mut Engine,
+    edit: Edit,
+    steps: &mut Steps<L>,
+) -> Result<Option<RecordReason>, AllocError>
+    requires { is_served_edit edit ≡ true }
+    ensures said { IfOk result (λ refused.
+        (page : List ℕ) → IsSaid (by_step (step engine.old edit)) engine.old engine.new page page (option_map reason_text refused)) }
+    ensures counts { StepsWithin steps.old steps.new 0 }
+{
+    match engine.apply(edit, steps) {
+        Ok(()) => Ok(None),
+        Err(EditFault::Memory) => Err(AllocError),
+        Err(fault) => Ok(Some(RecordReason::Refused(fault))),
+    }
+}
+
+// Puts the answer to a query behind what is gathered.
+#[inline(never)]
+fn say_answer<L: Ledger>(
+    alloc: Global,
+    engine: &Engine,
+    page: &mut Page,
+    query: Query,
+    steps: &mut Steps<L>,
+) -> Result<Option<RecordReason>, AllocError>
+    requires { is_served_query query ≡ true }
+    ensures said { IfOk result (λ refused. (refused ≡ None) × (page.new ≡ page.old ++ reply_text (answer engine.now query))) }
+    ensures counts { StepsWithin steps.old steps.new 0 }
+{
+    match engine.answer(alloc, query, steps) {
+        Ok(reply) => {
+            push_reply(alloc, page, &reply)?;
+            Ok(None)
+        }
+        Err(_) => Err(AllocError),
+    }
+}

@@ -1,0 +1,57 @@
+-- The lines that answer a query. A name is written as its formatted string.
+use Rattle.std.specs.Prelude.{ℕ, List, ◌++◌, length, codes, Option, Some, None, option_map}
+use Rattle.std.specs.List.{flat_map}
+use Rattle.std.specs.Option.{option_map_or}
+use Rattle.std.specs.Fmt.{decimal}
+use Rattle.cpe_name.specs.declared.name.Values.{Values}
+use Rattle.cpe_fs.specs.Grammar.{fs_text}
+use Rattle.cpe_rows.specs.declared.entry.Entry.{Entry}
+use Rattle.cpe_rows.specs.declared.reply.State.{State}
+use Rattle.cpe_rows.specs.declared.reply.State.TheVariants.{Active, Deprecated}
+use Rattle.cpe_rows.specs.declared.reply.Row.{Row}
+use Rattle.cpe_rows.specs.declared.reply.Reply.{Reply}
+use Rattle.cpe_rows.specs.declared.reply.Reply.TheVariants.{Lookup, Search, Items, Chain, Show, Verdict}
+use Rattle.cpe_members.specs.Words.{kind_word, truth_word}
+use Rattle.cpe_entry_text.specs.Written.{entry_text}
+
+-- `active`, or the kind of the deprecation
+abbrev pub state_word : State → List ℕ
+state_word Active = codes "active"
+state_word (Deprecated kind) = kind_word kind
+
+-- a name as it is written
+unfoldable pub name_text : Values → List ℕ
+name_text name = fs_text name
+
+-- a word, and a name behind it
+abbrev pub name_line : List ℕ → Values → List ℕ
+name_line word name = word ++ name_text name ++ codes "\n"
+
+-- the same, and the state of its entry
+abbrev pub row_line : List ℕ → Row → List ℕ
+row_line word row = word ++ name_text row.name ++ codes " " ++ state_word row.state ++ codes "\n"
+
+-- a line that tells how many follow
+abbrev pub count_line : List ℕ → Values → ℕ → List ℕ
+count_line word name count = word ++ name_text name ++ codes " " ++ decimal count ++ codes "\n"
+
+-- how many entries a chain has, and how many ends
+abbrev pub chain_line : Values → ℕ → ℕ → List ℕ
+chain_line name links ends = codes "chain " ++ name_text name ++ codes " " ++ decimal links ++ codes " " ++ decimal ends ++ codes "\n"
+
+-- a line of what was found, or `absent`
+abbrev pub found_line : List ℕ → Option (List ℕ) → List ℕ
+found_line asked found = asked ++ codes " " ++ option_map_or (λ text. text) found (codes "absent") ++ codes "\n"
+
+-- the entry, or its name where there is none
+abbrev pub shown : Values → Option Entry → List ℕ
+shown name (Some entry) = codes "show " ++ entry_text entry ++ codes "\n"
+shown name None = codes "show " ++ name_text name ++ codes " absent\n"
+
+abbrev pub reply_text : Reply → List ℕ
+reply_text (Lookup name state) = found_line (codes "lookup " ++ name_text name) (option_map state_word state)
+reply_text (Search name rows) = count_line (codes "search ") name (length rows) ++ flat_map (row_line (codes "entry ")) rows
+reply_text (Items name items) = count_line (codes "items ") name (length items) ++ flat_map (name_line (codes "item ")) items
+reply_text (Chain name links ends) = chain_line name (length links) (length ends) ++ flat_map (row_line (codes "step ")) links ++ flat_map (name_line (codes "end ")) ends
+reply_text (Show name entry) = shown name entry
+reply_text (Verdict id truth) = found_line (codes "verdict " ++ id) (option_map truth_word truth)

@@ -1,0 +1,117 @@
+// Why the line of a record is refused.
+ghost use Rattle.std.specs.Prelude.{◌≡◌, ◌++◌, OnOk, codes};
+ghost use Rattle.std.specs.Fmt.{decimal};
+ghost use Rattle.cpe_replies.specs.Replies.{name_text};
+ghost use Rattle.cpe_replies.specs.Reasons.{record_fault_text, which_word, edit_fault_text, reason_text};
+
+use crate::row::push_name;
+use cpe_members::{Member, NameSpot, RecordFault};
+use cpe_name::Wfn;
+use cpe_rows::{EditFault, Which};
+use cpe_session::{Page, Reason};
+use std::alloc::{AllocError, Global};
+
+/// Why the line of a record is refused.
+#[derive(Debug, Drop)]
+pub enum RecordReason {
+    /// It is no record.
+    Unread(RecordFault),
+    /// Its edit can't be applied to the rows.
+    Refused(EditFault),
+}
+
+impl Reason for RecordReason {
+    ghost text = { reason_text };
+
+    fn push(&self, alloc: Global, page: &mut Page) -> Result<(), AllocError> {
+        match self {
+            RecordReason::Unread(fault) => push_record_fault(page, fault),
+            RecordReason::Refused(fault) => push_edit_fault(alloc, page, fault),
+        }
+    }
+}
+
+fn push_record_fault(page: &mut Page, fault: &RecordFault) -> Result<(), AllocError>
+    ensures { OnOk result (page.new ≡ page.old ++ record_fault_text fault.now) }
+{
+    match fault {
+        RecordFault::Json => page.push(b"json"),
+        RecordFault::Member(member) => push_member(page, *member),
+        RecordFault::Name(spot, place) => push_spot(page, *spot, *place),
+        RecordFault::TooDeep => page.push(b"deep"),
+        RecordFault::Memory => Ok(()),
+    }
+}
+
+fn push_member(page: &mut Page, member: Member) -> Result<(), AllocError>
+    ensures { OnOk result (page.new ≡ page.old ++ record_fault_text (RecordFault.Member member)) }
+{
+    page.push(b"member ")?;
+    page.push(member.key().as_bytes())
+}
+
+fn push_spot(page: &mut Page, spot: NameSpot, place: usize) -> Result<(), AllocError>
+    ensures { OnOk result (page.new ≡ page.old ++ record_fault_text (RecordFault.Name spot place)) }
+{
+    page.push(b"name ")?;
+    match spot {
+        NameSpot::Name => page.push(b"name")?,
+        NameSpot::Successor(number) => page.push_numbered(b"successor ", u64::from(number))?,
+        NameSpot::Fact(number) => page.push_numbered(b"fact ", u64::from(number))?,
+    }
+    page.push_numbered(b" ", place as u64)
+}
+
+// A word, and the place of a successor.
+fn push_place(page: &mut Page, word: &[u8], place: u32) -> Result<(), AllocError>
+    ensures { OnOk result (page.new ≡ page.old ++ (word.now ++ decimal place)) }
+{
+    page.push_numbered(word, u64::from(place))
+}
+
+fn which_word(which: Which) -> &'static [u8]
+    ensures { result.now ≡ which_word which }
+{
+    match which {
+        Which::Entries => b"entries",
+        Which::Items => b"items",
+        Which::Statements => b"statements",
+        Which::Facts => b"facts",
+        Which::Checks => b"checks",
+        Which::Weight => b"weight",
+    }
+}
+
+fn push_edit_fault(alloc: Global, page: &mut Page, fault: &EditFault) -> Result<(), AllocError>
+    ensures { OnOk result (page.new ≡ page.old ++ edit_fault_text fault.now) }
+{
+    match fault {
+        EditFault::NotIdentifier => page.push(b"not-identifier"),
+        EditFault::Wildcards => page.push(b"wildcards"),
+        EditFault::Exists => page.push(b"exists"),
+        EditFault::Unknown => page.push(b"unknown"),
+        EditFault::AlreadyDeprecated => page.push(b"already-deprecated"),
+        EditFault::NotDeprecated => page.push(b"not-deprecated"),
+        EditFault::BadCount => page.push(b"count"),
+        EditFault::UnknownSuccessor(place) => push_place(page, b"unknown-successor ", *place),
+        EditFault::RepeatedSuccessor(place) => push_place(page, b"repeated-successor ", *place),
+        EditFault::Cycle(place) => push_place(page, b"cycle ", *place),
+        EditFault::TooWide(name) => push_too_wide(alloc, page, name),
+        EditFault::Full(which) => push_full(page, *which),
+        EditFault::Memory => Ok(()),
+    }
+}
+
+fn push_too_wide(alloc: Global, page: &mut Page, name: &Wfn) -> Result<(), AllocError>
+    ensures { OnOk result (page.new ≡ page.old ++ (codes "too-wide " ++ name_text name.now)) }
+{
+    page.push(b"too-wide ")?;
+    push_name(alloc, page, name)
+}
+
+fn push_full(page: &mut Page, which: Which) -> Result<(), AllocError>
+    ensures { OnOk result (page.new ≡ page.old ++ (codes "full " ++ which_word which)) }
+{
+    page.push(b"full ")?;
+    page.push(which_word(which))
+}

@@ -1,0 +1,138 @@
+// The answers to queries as lines.
+ghost use Rattle.std.specs.Prelude.{◌≡◌, ◌++◌, OnOk, codes, option_map};
+ghost use Rattle.cpe_replies.specs.Replies.{state_word, name_text, count_line, chain_line, found_line, shown, reply_text};
+ghost use Rattle.cpe_members.specs.Words.{truth_word};
+ghost use Rattle.cpe_entry_text.specs.Written.{entry_text};
+
+use crate::row::{push_name, push_names, push_rows, push_state};
+use cpe_entry_text::append_entry;
+use cpe_members::truth_word;
+use cpe_name::Wfn;
+use cpe_rows::{Entry, Reply, State, Truth};
+use cpe_session::Page;
+use std::alloc::{AllocError, Global};
+use std::mem::replace;
+
+/// Puts the lines of an answer behind what is gathered.
+///
+/// # Errors
+/// Want of memory alone. What is gathered may be lost then.
+pub fn push_reply(alloc: Global, page: &mut Page, reply: &Reply) -> Result<(), AllocError>
+    ensures { OnOk result (page.new ≡ page.old ++ reply_text reply.now) }
+{
+    match reply {
+        Reply::Lookup { name, state } => push_lookup(alloc, page, name, *state),
+        Reply::Search { name, rows } => {
+            push_count(alloc, page, b"search ", name, rows.len())?;
+            push_rows(alloc, page, b"entry ", rows.as_slice())
+        }
+        Reply::Items { name, rows } => {
+            push_count(alloc, page, b"items ", name, rows.len())?;
+            push_names(alloc, page, b"item ", rows.as_slice())
+        }
+        Reply::Chain { name, links, ends } => {
+            push_chain(alloc, page, name, links.len(), ends.len())?;
+            push_rows(alloc, page, b"step ", links.as_slice())?;
+            push_names(alloc, page, b"end ", ends.as_slice())
+        }
+        Reply::Show { name, entry } => push_shown(alloc, page, name, entry),
+        Reply::Verdict { id, truth } => push_verdict(page, id.as_str(), *truth),
+    }
+}
+
+// A line that tells how many follow.
+fn push_count(
+    alloc: Global,
+    page: &mut Page,
+    word: &[u8],
+    name: &Wfn,
+    count: usize,
+) -> Result<(), AllocError>
+    ensures { OnOk result (page.new ≡ page.old ++ count_line word.now name.now count) }
+{
+    page.push(word)?;
+    push_name(alloc, page, name)?;
+    page.push_numbered(b" ", count as u64)?;
+    page.push(b"\n")
+}
+
+fn push_chain(
+    alloc: Global,
+    page: &mut Page,
+    name: &Wfn,
+    links: usize,
+    ends: usize,
+) -> Result<(), AllocError>
+    ensures { OnOk result (page.new ≡ page.old ++ chain_line name.now links ends) }
+{
+    page.push(b"chain ")?;
+    push_name(alloc, page, name)?;
+    page.push_numbered(b" ", links as u64)?;
+    page.push_numbered(b" ", ends as u64)?;
+    page.push(b"\n")
+}
+
+fn push_lookup(
+    alloc: Global,
+    page: &mut Page,
+    name: &Wfn,
+    state: Option<State>,
+) -> Result<(), AllocError>
+    ensures { OnOk result (page.new ≡ page.old ++ found_line (codes "lookup " ++ name_text name.now) (option_map state_word state)) }
+{
+    page.push(b"lookup ")?;
+    push_name(alloc, page, name)?;
+    page.push(b" ")?;
+    match state {
+        Some(state) => push_state(page, state)?,
+        None => page.push(b"absent")?,
+    }
+    page.push(b"\n")
+}
+
+fn push_shown(
+    alloc: Global,
+    page: &mut Page,
+    name: &Wfn,
+    entry: &Option<Entry>,
+) -> Result<(), AllocError>
+    ensures { OnOk result (page.new ≡ page.old ++ shown name.now entry.now) }
+{
+    page.push(b"show ")?;
+    match entry {
+        Some(entry) => {
+            push_entry(alloc, page, entry)?;
+            page.push(b"\n")
+        }
+        None => {
+            push_name(alloc, page, name)?;
+            page.push(b" absent\n")
+        }
+    }
+}
+
+fn push_entry(alloc: Global, page: &mut Page, entry: &Entry) -> Result<(), AllocError>
+    ensures { OnOk result (page.new ≡ page.old ++ entry_text entry.now) }
+{
+    let bytes = replace(page, Page::new(alloc)).into_bytes();
+    match append_entry(alloc, bytes, entry) {
+        Ok(bytes) => {
+            *page = Page::from_bytes(bytes);
+            Ok(())
+        }
+        Err(_) => Err(AllocError),
+    }
+}
+
+fn push_verdict(page: &mut Page, id: &str, truth: Option<Truth>) -> Result<(), AllocError>
+    ensures { OnOk result (page.new ≡ page.old ++ found_line (codes "verdict " ++ id.now) (option_map truth_word truth)) }
+{
+    page.push(b"verdict ")?;
+    page.push(id.as_bytes())?;
+    page.push(b" ")?;
+    match truth {
+        Some(truth) => page.push(truth_word(truth).as_bytes())?,
+        None => page.push(b"absent")?,
+    }
+    page.push(b"\n")
+}

@@ -1,0 +1,90 @@
+// Names and entries in short, as lines.
+ghost use Rattle.std.specs.Prelude.{◌≡◌, ◌++◌, OnOk};
+ghost use Rattle.std.specs.List.{flat_map};
+ghost use Rattle.cpe_replies.specs.Replies.{state_word, name_text, name_line, row_line};
+
+use cpe_fs::append_fs;
+use cpe_members::kind_word;
+use cpe_name::Wfn;
+use cpe_rows::{Row, State};
+use cpe_session::Page;
+use std::alloc::{AllocError, Global};
+use std::mem::replace;
+
+/// Puts the formatted string of a name behind what is gathered.
+#[tactic(auto, unfolding(crate::specs::Replies::name_text))]
+pub(crate) fn push_name(alloc: Global, page: &mut Page, name: &Wfn) -> Result<(), AllocError>
+    ensures { OnOk result (page.new ≡ page.old ++ name_text name.now) }
+{
+    let bytes = replace(page, Page::new(alloc)).into_bytes();
+    match append_fs(bytes, name) {
+        Ok(bytes) => {
+            *page = Page::from_bytes(bytes);
+            Ok(())
+        }
+        Err(_) => Err(AllocError),
+    }
+}
+
+fn state_word(state: State) -> &'static str
+    ensures { result.now ≡ state_word state }
+{
+    match state {
+        State::Active => "active",
+        State::Deprecated(kind) => kind_word(kind),
+    }
+}
+
+pub(crate) fn push_state(page: &mut Page, state: State) -> Result<(), AllocError>
+    ensures { OnOk result (page.new ≡ page.old ++ state_word state) }
+{
+    page.push(state_word(state).as_bytes())
+}
+
+fn push_name_line(alloc: Global, page: &mut Page, word: &[u8], name: &Wfn) -> Result<(), AllocError>
+    ensures { OnOk result (page.new ≡ page.old ++ name_line word.now name.now) }
+{
+    page.push(word)?;
+    push_name(alloc, page, name)?;
+    page.push(b"\n")
+}
+
+fn push_row_line(alloc: Global, page: &mut Page, word: &[u8], row: &Row) -> Result<(), AllocError>
+    ensures { OnOk result (page.new ≡ page.old ++ row_line word.now row.now) }
+{
+    page.push(word)?;
+    push_name(alloc, page, &row.name)?;
+    page.push(b" ")?;
+    push_state(page, row.state)?;
+    page.push(b"\n")
+}
+
+/// A line for each name.
+pub(crate) fn push_names(
+    alloc: Global,
+    page: &mut Page,
+    word: &[u8],
+    names: &[Wfn],
+) -> Result<(), AllocError>
+    ensures { OnOk result (page.new ≡ page.old ++ flat_map (name_line word.now) names.now) }
+{
+    for name in names {
+        push_name_line(alloc, page, word, name)?;
+    }
+    Ok(())
+}
+
+/// A line for each entry.
+pub(crate) fn push_rows(
+    alloc: Global,
+    page: &mut Page,
+    word: &[u8],
+    rows: &[Row],
+) -> Result<(), AllocError>
+    ensures { OnOk result (page.new ≡ page.old ++ flat_map (row_line word.now) rows.now) }
+{
+    for row in rows {
+        push_row_line(alloc, page, word, row)?;
+    }
+    Ok(())
+}

@@ -1,0 +1,63 @@
+// Tables: texts of many rows.
+ghost use Rattle.std.specs.Prelude.{◌≡◌, ◌<◌, ◌++◌, ℕ, List, OnOk};
+ghost use Rattle.cpe_io.specs.Causes.{HasSinkCause};
+ghost use Rattle.cpe_io.specs.Writes.{AppendsFront};
+ghost use Rattle.cpe_session.specs.Pages.{Pours};
+ghost use Rattle.cpe_session.specs.Table.{rows_text};
+
+use crate::page::Page;
+use cpe_io::{Sink, SinkFault};
+use std::alloc::{AllocError, Global};
+
+/// A text of rows, each of which can be written alone.
+pub trait Table {
+    /// How many rows there are.
+    ghost count: { Self → ℕ };
+
+    /// The text of each, by its number from 0.
+    ghost text: { Self → ℕ → List ℕ };
+
+    fn len(&self) -> usize
+        ensures { result ≡ count self.now };
+
+    /// Puts the text of a row behind what is gathered.
+    fn put(&self, alloc: Global, k: usize, page: &mut Page) -> Result<(), AllocError>
+        requires { k < count self.now }
+        ensures { OnOk result (page.new ≡ page.old ++ text self.now k) };
+}
+
+/// Puts all rows of a table behind what is gathered, and gives full pages to the sink on the way.
+pub fn pour_table<R: Table, K: Sink>(
+    alloc: Global,
+    table: &R,
+    page: &mut Page,
+    sink: &mut K,
+) -> Result<(), SinkFault>
+    ensures ok { OnOk result (Pours (K.held sink.old) (K.held sink.new) page.old page.new (rows_text (R.text table.now) (R.count table.now))) }
+    ensures front { AppendsFront (K.held sink.old) (K.held sink.new) (page.old ++ rows_text (R.text table.now) (R.count table.now)) }
+    ensures cause { HasSinkCause (K.faults sink.old) (K.faults sink.new) result }
+{
+    let count = table.len();
+    for k in 0..count {
+        pour_row(alloc, table, k, page, sink)?;
+    }
+    Ok(())
+}
+
+fn pour_row<R: Table, K: Sink>(
+    alloc: Global,
+    table: &R,
+    k: usize,
+    page: &mut Page,
+    sink: &mut K,
+) -> Result<(), SinkFault>
+    requires { k < R.count table.now }
+    ensures ok { OnOk result (Pours (K.held sink.old) (K.held sink.new) page.old page.new (R.text table.now k)) }
+    ensures front { AppendsFront (K.held sink.old) (K.held sink.new) (page.old ++ R.text table.now k) }
+    ensures cause { HasSinkCause (K.faults sink.old) (K.faults sink.new) result }
+{
+    if table.put(alloc, k, page).is_err() {
+        return Err(SinkFault::Memory);
+    }
+    page.flush_if_full(sink)
+}

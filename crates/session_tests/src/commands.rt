@@ -1,0 +1,153 @@
+// Runs over memory, whose bytes come and go in pieces, and where reads and writes fail. More lines and their answers are in
+// tests/ of the repository.
+ghost use Rattle.std.specs.Prelude.{◌≡◌, ◌<◌};
+
+use cpe_command::{Status, run};
+use cpe_engine::Engine;
+use cpe_io::{MemSink, MemSource};
+use cpe_steps::Steps;
+use std::alloc::{AllocError, Global};
+use std::marker::Brand;
+use std::sync::ledger::{Blank, Ledger};
+use std::test::Fail;
+
+fn words_of(alloc: Global, words: &[&str]) -> Result<Vec<String>, AllocError> {
+    let mut owned = Vec::new(alloc);
+    for word in words {
+        owned.push(String::from_str(alloc, word)?)?;
+    }
+    Ok(owned)
+}
+
+fn run_over<L: Ledger>(
+    alloc: Global,
+    words: &[String],
+    source: &mut MemSource,
+    sink: &mut MemSink,
+    blank: Blank,
+) -> Status
+    requires name { blank.name ≡ L.name }
+    requires parts { blank.parts ≡ L.parts }
+    requires some { 0 < blank.parts }
+{
+    let mut engine = Engine::new(alloc);
+    let mut steps = Steps::<L>::new(blank);
+    run(alloc, words, source, sink, &mut engine, &mut steps)
+}
+
+// Whether a run ends so. A read gives two bytes at most, a write takes seven, and these fail.
+fn ends(
+    alloc: Global,
+    words: &[&str],
+    input: &[u8],
+    read_fails: &[u64],
+    write_fails: &[u64],
+    status: Status,
+    output: &[u8],
+) -> Result<bool, Fail> {
+    let words = words_of(alloc, words)?;
+    let mut source = MemSource::new(alloc, input, &[2], read_fails)?;
+    let mut sink = MemSink::new(alloc, 7, write_fails)?;
+    let ended = run_over::<Brand>(alloc, &words, &mut source, &mut sink, Blank::new(1));
+    Ok(ended == status && sink.bytes() == output)
+}
+
+fn answers(
+    alloc: Global,
+    words: &[&str],
+    input: &[u8],
+    status: Status,
+    output: &[u8],
+) -> Result<bool, Fail> {
+    ends(alloc, words, input, &[], &[], status, output)
+}
+
+#[test]
+fn each_command_answers_its_lines(rt: HostRuntime) -> Result<(), Fail> {
+    let alloc = rt.alloc();
+    let some = Status::SomeRefused;
+    let text = b"wfn:[part=\"a\",vendor=\"v\",product=\"p\",edition=\"e\"]\ncpe:/\r\n";
+    assert!(rt;
+        answers(
+            alloc,
+            &["unbind"],
+            b"\n\r\ncpe:2.3:a",
+            some,
+            b"refused 3 name 9\n"
+        )?
+    );
+    let fs = b"cpe:2.3:a:v:p:*:*:e:*:*:*:*:*\nrefused 2 wfn\n";
+    assert!(rt; answers(alloc, &["bind", "fs"], text, some, fs)?);
+    let uri = b"cpe:/a:v:p:::e\nrefused 2 wfn\n";
+    assert!(rt; answers(alloc, &["bind", "uri"], text, some, uri)?);
+    let refused = b"refused 1 pair\nrefused 2 source 0\nrefused 3 target 5\n";
+    assert!(rt;
+        answers(
+            alloc,
+            &["compare"],
+            b"x\n cpe:/\ncpe:/ cpe:/x",
+            some,
+            refused
+        )?
+    );
+    Ok(())
+}
+
+fn is_usage(alloc: Global, words: &[&str]) -> Result<bool, Fail> {
+    let usage =
+        b"usage: cpe bind fs|bind uri|unbind|compare|resolve|evaluate|watch|make N|drill N\n";
+    answers(alloc, words, b"cpe:/", Status::Usage, usage)
+}
+
+#[test]
+fn other_words_get_the_usage_line(rt: HostRuntime) -> Result<(), Fail> {
+    assert!(rt; is_usage(rt.alloc(), &[])?);
+    assert!(rt; is_usage(rt.alloc(), &["bind"])?);
+    assert!(rt; is_usage(rt.alloc(), &["unbind", "uri"])?);
+    assert!(rt; is_usage(rt.alloc(), &["Compare"])?);
+    Ok(())
+}
+
+const TWO: &[u8] = b"cpe:/ cpe:/\nx\n";
+
+const ALL_EQUAL: &[u8] =
+    b"EQUAL EQUAL EQUAL EQUAL EQUAL EQUAL EQUAL EQUAL EQUAL EQUAL EQUAL EQUAL\n";
+
+#[test]
+fn a_whole_line_is_answered_before_a_fault(rt: HostRuntime) -> Result<(), Fail> {
+    let alloc = rt.alloc();
+    assert!(rt;
+        ends(
+            alloc,
+            &["compare"],
+            TWO,
+            &[6],
+            &[],
+            Status::ReadFault,
+            ALL_EQUAL
+        )?
+    );
+    assert!(rt; ends(alloc, &["compare"], TWO, &[], &[0], Status::WriteFault, b"")?);
+    assert!(rt;
+        ends(
+            alloc,
+            &["compare"],
+            TWO,
+            &[],
+            &[1],
+            Status::WriteFault,
+            b"EQUAL E"
+        )?
+    );
+    Ok(())
+}
+
+#[test]
+fn records_are_answered_from_the_entries_so_far(rt: HostRuntime) -> Result<(), Fail> {
+    let input =
+        b"{\"do\":\"search\",\"name\":\"cpe:/a\"}\n{\"do\":\"entry\",\"name\":\"CPE:/a:v:P\"}\n{\"do\":\"lookup\",\"name\":\"cpe:/a:v:p\"}\n[]";
+    let output =
+        b"search cpe:2.3:a:*:*:*:*:*:*:*:*:*:* 0\nlookup cpe:2.3:a:v:p:*:*:*:*:*:*:*:* active\nrefused 4 member do\n";
+    assert!(rt; answers(rt.alloc(), &["resolve"], input, Status::SomeRefused, output)?);
+    Ok(())
+}
