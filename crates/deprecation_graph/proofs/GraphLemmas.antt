@@ -1,0 +1,264 @@
+-- A graph before and after a change of one node, and with one node more.
+use Rattle.std.proofs.Common.{◌≡◌, ◌≢◌, ◌↔◌, ◌⊎◌, ℕ, zero, suc, ◌+◌, ◌<◌, ◌≤◌, Bool, true, false, not, eqb, cond, List, [], ◌∷◌, ◌++◌, length, get_or, refl, sym, ap, subst, ◌∙◌, inl, inr, arith, Option, Some, None, slice_get, slice_set, IsTrue}
+use Rattle.std.specs.List.{All, Contains, find, filter, position_from, range_with_len}
+use Rattle.std.proofs.lemmas.Bool.{cases_eq, cases_Bool, cases_lt, both_ways, ne_eqb, not_from_false, le-ltb, ltb-false}
+use Rattle.std.specs.List.Sorted.{IsStrictlyIncreasing}
+use Rattle.std.proofs.lemmas.List.{length-set, length_push, length-append}
+use Rattle.std.proofs.lemmas.Option.{slice_get_past}
+use Rattle.std.proofs.lemmas.List.Elements.{Contains-append_left, Contains-append_right, Contains-get_or}
+use Rattle.deprecation_graph.specs.declared.limits.TheConstants.{MOST_ENDS, MOST_NODES}
+use Rattle.deprecation_graph.specs.Paths.{HasEdge, IsPathFrom, last_from, Leads, IsClosed, IsAcyclic}
+use Rattle.deprecation_graph.specs.Chains.{reaches, chain_of}
+use Rattle.deprecation_graph.specs.Graph.{Node, next_or_none, active_or_not, next_in, active_in, ends_in, successors, node_of, changed, NamesNodes, IsLawful}
+use Rattle.deprecation_graph.specs.Faults.{cycle_in, is_wide, wide_in, first_fault, change_fault}
+use Rattle.deprecation_graph.proofs.Rising.{Contains-cases, Contains-rest, Contains-filter, Contains-range, length-le_rising, length-filter_one, same_rising}
+use Rattle.deprecation_graph.proofs.PathLemmas.{Leads-self, Leads-below}
+use Rattle.deprecation_graph.proofs.ChainLemmas.{reaches-leads, leads-reaches, Contains-chain, Contains-ends, ends_rising}
+use Rattle.deprecation_graph.proofs.ChangeLemmas.{old_or_through, others_alike, acyclic_after}
+
+-- ---- a node that is written, and one that is put last
+
+slice_get-set_same : (nodes : List Node) (a : ℕ) (n : Node) → a < length nodes → slice_get (slice_set nodes a n) a ≡ Some n
+slice_get-set_same [] a n lt = absurd (omega arith)
+slice_get-set_same (x ∷ xs) zero n lt = refl
+slice_get-set_same (x ∷ xs) (suc a) n lt = slice_get-set_same xs a n (omega arith)
+
+slice_get-set_other : (nodes : List Node) (a b : ℕ) (n : Node) → b ≢ a → slice_get (slice_set nodes a n) b ≡ slice_get nodes b
+slice_get-set_other [] a b n ne = refl
+slice_get-set_other (x ∷ xs) zero zero n ne = absurd (ne refl)
+slice_get-set_other (x ∷ xs) zero (suc b) n ne = refl
+slice_get-set_other (x ∷ xs) (suc a) zero n ne = refl
+slice_get-set_other (x ∷ xs) (suc a) (suc b) n ne = slice_get-set_other xs a b n (λ e. ne (ap suc e))
+
+pub slice_get-push_other : (nodes : List Node) (b : ℕ) (n : Node) → b ≢ length nodes → slice_get (nodes ++ n ∷ []) b ≡ slice_get nodes b
+slice_get-push_other [] zero n ne = absurd (ne refl)
+slice_get-push_other [] (suc b) n ne = refl
+slice_get-push_other (x ∷ xs) zero n ne = refl
+slice_get-push_other (x ∷ xs) (suc b) n ne = slice_get-push_other xs b n (λ e. ne (ap suc e))
+
+pub slice_get-push_last : (nodes : List Node) (n : Node) → slice_get (nodes ++ n ∷ []) (length nodes) ≡ Some n
+slice_get-push_last [] n = refl
+slice_get-push_last (x ∷ xs) n = slice_get-push_last xs n
+
+pub next_in-changed : (nodes : List Node) (a : ℕ) (to : Option (List ℕ)) → a < length nodes → next_in (changed nodes a to) a ≡ successors to
+next_in-changed nodes a to lt = ap next_or_none (slice_get-set_same nodes a (node_of to) lt) ∙ next_of to
+  where
+    next_of : (o : Option (List ℕ)) → next_or_none (Some (node_of o)) ≡ successors o
+    next_of None = refl
+    next_of (Some ys) = refl
+
+pub next_in-other : (nodes : List Node) (a : ℕ) (to : Option (List ℕ)) (b : ℕ) → b ≢ a → next_in (changed nodes a to) b ≡ next_in nodes b
+next_in-other nodes a to b ne = ap next_or_none (slice_get-set_other nodes a b (node_of to) ne)
+
+active_in-changed : (nodes : List Node) (a : ℕ) (to : Option (List ℕ)) → a < length nodes → active_in (changed nodes a to) a ≡ (node_of to).active
+active_in-changed nodes a to lt = ap active_or_not (slice_get-set_same nodes a (node_of to) lt)
+
+active_in-other : (nodes : List Node) (a : ℕ) (to : Option (List ℕ)) (b : ℕ) → b ≢ a → active_in (changed nodes a to) b ≡ active_in nodes b
+active_in-other nodes a to b ne = ap active_or_not (slice_get-set_other nodes a b (node_of to) ne)
+
+-- ---- tests that find nothing
+
+pub find-None : (p : ℕ → Bool) (xs : List ℕ) → ((x : ℕ) → Contains xs x → p x ≡ false) → find p xs ≡ None
+find-None p [] h = refl
+find-None p (x ∷ xs) h = ap (λ (b : Bool). cond b (Some x) (find p xs)) (h x (0, omega arith, refl)) ∙ find-None p xs (λ y c. h y (Contains-rest y x xs c))
+
+find-none_at : (p : ℕ → Bool) (xs : List ℕ) (x : ℕ) → find p xs ≡ None → Contains xs x → p x ≡ false
+find-none_at p [] x e c = absurd (omega (arith, c.1))
+find-none_at p (y ∷ ys) x e c = go (p y) refl e (Contains-cases x y ys c) (find-none_at p ys x)
+  where
+    go : (b : Bool) → p y ≡ b → cond b (Some y) (find p ys) ≡ None → (x ≡ y) ⊎ Contains ys x → (find p ys ≡ None → Contains ys x → p x ≡ false) → p x ≡ false
+    go true f e' r rest = absurd cc
+    go false f e' (inl same) rest = ap p same ∙ f
+    go false f e' (inr d) rest = rest e' d
+
+position_from-none_at : (p : ℕ → Bool) (k : ℕ) (xs : List ℕ) (x : ℕ) → position_from p k xs ≡ None → Contains xs x → p x ≡ false
+position_from-none_at p k [] x e c = absurd (omega (arith, c.1))
+position_from-none_at p k (y ∷ ys) x e c = go (p y) refl e (Contains-cases x y ys c) (position_from-none_at p (k + 1) ys x)
+  where
+    go : (b : Bool) → p y ≡ b → cond b (Some k) (position_from p (k + 1) ys) ≡ None → (x ≡ y) ⊎ Contains ys x → (position_from p (k + 1) ys ≡ None → Contains ys x → p x ≡ false) → p x ≡ false
+    go true f e' r rest = absurd cc
+    go false f e' (inl same) rest = ap p same ∙ f
+    go false f e' (inr d) rest = rest e' d
+
+first_fault-none : (cycle wide : Option ℕ) → first_fault cycle wide ≡ None → (cycle ≡ None) × (wide ≡ None)
+first_fault-none (Some k) wide e = absurd cc
+first_fault-none None (Some n) e = absurd cc
+first_fault-none None None e = (refl, refl)
+
+-- ---- a change
+
+module _ (nodes : List Node) (a : ℕ) (to : Option (List ℕ)) (ok : IsLawful nodes) (change : NamesNodes nodes a to) where
+  -- counted before the change, as the search does
+  pub closed_after : IsClosed (next_in (changed nodes a to)) (length nodes)
+  closed_after x y lt edge = elim (cases_eq x a) [
+    | inl e ↦ change.next y (subst (λ (ys : List ℕ). Contains ys y) (ap (next_in (changed nodes a to)) e ∙ next_in-changed nodes a to change.node) edge)
+    | inr ne ↦ ok.closed x y lt (subst (λ (ys : List ℕ). Contains ys y) (next_in-other nodes a to x ne) edge)
+  ]
+
+  edge_is_successor : (y : ℕ) → HasEdge (next_in (changed nodes a to)) a y → Contains (successors to) y
+  edge_is_successor y edge = subst (λ (ys : List ℕ). Contains ys y) (next_in-changed nodes a to change.node) edge
+
+  -- no new successor leads to the node
+  away_from_node : cycle_in nodes a (successors to) ≡ None → (y : ℕ) → HasEdge (next_in (changed nodes a to)) a y → Leads (next_in nodes) y a → ⊥
+  away_from_node none y edge l =
+      let c = edge_is_successor y edge in
+      both_ways (reaches (next_in nodes) (length nodes) y a) (position_from-none_at (λ b. reaches (next_in nodes) (length nodes) b a) 1 (successors to) y none c) (leads-reaches (next_in nodes) (length nodes) y a ok.closed (change.next y c) l)
+
+  bare_after : (x : ℕ) → active_in (changed nodes a to) x ≡ true → next_in (changed nodes a to) x ≡ []
+  bare_after x e = elim (cases_eq x a) [
+    | inl same ↦ ap (next_in (changed nodes a to)) same ∙ next_in-changed nodes a to change.node ∙ none to (sym (active_in-changed nodes a to change.node) ∙ ap (active_in (changed nodes a to)) (sym same) ∙ e)
+    | inr ne ↦ next_in-other nodes a to x ne ∙ ok.bare x (sym (active_in-other nodes a to x ne) ∙ e)
+  ]
+    where
+      none : (o : Option (List ℕ)) → (node_of o).active ≡ true → successors o ≡ []
+      none None h = refl
+      none (Some ys) h = absurd cc
+
+  -- what `check` allows leaves a lawful graph
+  pub lawful_after : change_fault nodes a to ≡ None → IsLawful (changed nodes a to)
+  lawful_after allowed =
+      let none = first_fault-none (cycle_in nodes a (successors to)) (wide_in (changed nodes a to)) allowed in
+      let same = length-set nodes a (node_of to) in
+      record {
+        few = omega (arith, same, ok.few);
+        closed = subst (IsClosed (next_in (changed nodes a to))) (sym same) closed_after;
+        bare = bare_after;
+        acyclic = acyclic_after (next_in nodes) (next_in (changed nodes a to)) a (next_in-other nodes a to) ok.acyclic (away_from_node none.0);
+        narrow = λ x lt. ltb-false MOST_ENDS (length (ends_in (changed nodes a to) x)) (find-none_at (is_wide (changed nodes a to)) (range_with_len 0 (length (changed nodes a to))) x none.1 ((Contains-range (length (changed nodes a to)) x).1 lt));
+      }
+
+  Contains-ends_after : (x y : ℕ) → x < length nodes → Contains (ends_in (changed nodes a to) x) y ↔ (Leads (next_in (changed nodes a to)) x y × (active_in (changed nodes a to) y ≡ true))
+  Contains-ends_after x y lt =
+      let same = length-set nodes a (node_of to) in
+      Contains-ends (next_in (changed nodes a to)) (active_in (changed nodes a to)) (length (changed nodes a to)) x (subst (IsClosed (next_in (changed nodes a to))) (sym same) closed_after) (omega (arith, same)) y
+
+  Contains-ends_before : (x y : ℕ) → x < length nodes → Contains (ends_in nodes x) y ↔ (Leads (next_in nodes) x y × (active_in nodes y ≡ true))
+  Contains-ends_before x y lt = Contains-ends (next_in nodes) (active_in nodes) (length nodes) x ok.closed lt y
+
+  -- who didn't lead to the node has the ends that it had
+  pub same_ends : (x : ℕ) → x < length nodes → (Leads (next_in nodes) x a → ⊥) → ends_in (changed nodes a to) x ≡ ends_in nodes x
+  same_ends x lt away = same_rising (ends_in (changed nodes a to) x) (ends_in nodes x) (ends_rising (next_in (changed nodes a to)) (active_in (changed nodes a to)) (length (changed nodes a to)) x) (ends_rising (next_in nodes) (active_in nodes) (length nodes) x) (λ y. (
+    λ c. let h = (Contains-ends_after x y lt).0 c in let l = (alike y).1 h.0 in (Contains-ends_before x y lt).1 (l, sym (active_in-other nodes a to y (other y l)) ∙ h.1),
+    λ c. let h = (Contains-ends_before x y lt).0 c in (Contains-ends_after x y lt).1 ((alike y).0 h.0, active_in-other nodes a to y (other y h.0) ∙ h.1),
+  ))
+    where
+      alike : (y : ℕ) → Leads (next_in nodes) x y ↔ Leads (next_in (changed nodes a to)) x y
+      alike y = others_alike (next_in nodes) (next_in (changed nodes a to)) a (next_in-other nodes a to) x y away
+
+      other : (y : ℕ) → Leads (next_in nodes) x y → y ≢ a
+      other y l e = away (subst (Leads (next_in nodes) x) e l)
+
+  -- where an active node gets one end at most, each of its sources loses it for that one
+  fewer_ends : active_in nodes a ≡ true → length (ends_in (changed nodes a to) a) ≤ 1 → (x : ℕ) → x < length nodes → Leads (next_in nodes) x a → length (ends_in (changed nodes a to) x) ≤ length (ends_in nodes x)
+  fewer_ends was few x lt source =
+      let lost = length-filter_one a (ends_in nodes x) ((Contains-ends_before x a lt).1 (source, was)) in
+      omega (arith, lost, few, length-append (ends_in (changed nodes a to) a) (filter other (ends_in nodes x)), length-le_rising (ends_in (changed nodes a to) x) (ends_in (changed nodes a to) a ++ filter other (ends_in nodes x)) (ends_rising (next_in (changed nodes a to)) (active_in (changed nodes a to)) (length (changed nodes a to)) x) among)
+    where
+      other : ℕ → Bool
+      other y = not (eqb y a)
+
+      among : (y : ℕ) → Contains (ends_in (changed nodes a to) x) y → Contains (ends_in (changed nodes a to) a ++ filter (λ z. not (eqb z a)) (ends_in nodes x)) y
+      among y c = go ((Contains-ends_after x y lt).0 c)
+        where
+          new : Leads (next_in (changed nodes a to)) a y → active_in (changed nodes a to) y ≡ true → Contains (ends_in (changed nodes a to) a ++ filter (λ z. not (eqb z a)) (ends_in nodes x)) y
+          new l e = Contains-append_left (ends_in (changed nodes a to) a) (filter (λ z. not (eqb z a)) (ends_in nodes x)) y ((Contains-ends_after a y change.node).1 (l, e))
+
+          go : Leads (next_in (changed nodes a to)) x y × (active_in (changed nodes a to) y ≡ true) → Contains (ends_in (changed nodes a to) a ++ filter (λ z. not (eqb z a)) (ends_in nodes x)) y
+          go h = elim (old_or_through (next_in nodes) (next_in (changed nodes a to)) a (next_in-other nodes a to) x y h.0) [
+            | inr k ↦ new k.1 h.1
+            | inl l ↦ elim (cases_eq y a) [
+              | inl same ↦ new (subst (Leads (next_in (changed nodes a to)) a) (sym same) (Leads-self a)) h.1
+              | inr ne ↦ Contains-append_right (ends_in (changed nodes a to) a) (filter (λ z. not (eqb z a)) (ends_in nodes x)) y
+                  ((Contains-filter (λ z. not (eqb z a)) y (ends_in nodes x)).1 ((Contains-ends_before x y lt).1 (l, sym (active_in-other nodes a to y ne) ∙ h.1), not_from_false (eqb y a) (ne_eqb y a ne)))
+            ]
+          ]
+
+  -- a change of an active node to one end at most makes no node too wide
+  pub narrow_change : active_in nodes a ≡ true → length (ends_in (changed nodes a to) a) ≤ 1 → wide_in (changed nodes a to) ≡ None
+  narrow_change was few = find-None (is_wide (changed nodes a to)) (range_with_len 0 (length (changed nodes a to))) (λ x c.
+      let lt : x < length nodes = omega (arith, (Contains-range (length (changed nodes a to)) x).0 c, length-set nodes a (node_of to)) in
+      le-ltb MOST_ENDS (length (ends_in (changed nodes a to) x)) (narrow x lt (cases_Bool (reaches (next_in nodes) (length nodes) x a))))
+    where
+      narrow : (x : ℕ) → x < length nodes → (reaches (next_in nodes) (length nodes) x a ≡ true) ⊎ (reaches (next_in nodes) (length nodes) x a ≡ false) → length (ends_in (changed nodes a to) x) ≤ MOST_ENDS
+      narrow x lt (inl source) = omega (arith, ok.narrow x lt, fewer_ends was few x lt (reaches-leads (next_in nodes) (length nodes) x a source))
+      narrow x lt (inr away) = omega (arith, ok.narrow x lt, ap length (same_ends x lt (λ l. both_ways (reaches (next_in nodes) (length nodes) x a) away (leads-reaches (next_in nodes) (length nodes) x a ok.closed lt l))))
+
+-- ---- one node more
+
+next_in-push : (nodes : List Node) (x : ℕ) → next_in (nodes ++ node_of None ∷ []) x ≡ next_in nodes x
+next_in-push nodes x = elim (cases_eq x (length nodes)) [
+  | inl e ↦ ap (next_in (nodes ++ node_of None ∷ [])) e ∙ ap next_or_none (slice_get-push_last nodes (node_of None)) ∙ sym (ap next_or_none (slice_get_past nodes x (omega arith)))
+  | inr ne ↦ ap next_or_none (slice_get-push_other nodes x (node_of None) ne)
+]
+
+-- the successors as a whole
+pub same_next : (nodes : List Node) → next_in (nodes ++ node_of None ∷ []) ≡ next_in nodes
+same_next nodes = λ i x. next_in-push nodes x i
+
+-- from past the last node no path leads on
+pub leads_alone : (nodes : List Node) (x y : ℕ) → length nodes ≤ x → Leads (next_in nodes) x y → x ≡ y
+leads_alone nodes x y past l = go l.path l.steps l.ends
+  where
+    go : (p : List ℕ) → IsPathFrom (next_in nodes) x p → last_from x p ≡ y → x ≡ y
+    go [] s e = e
+    go (z ∷ p) s e = absurd (omega (arith, s.0.1, ap (λ (n : Option Node). length (next_or_none n)) (slice_get_past nodes x past)))
+
+module _ (nodes : List Node) (ok : IsLawful nodes) where
+  pub closed_push : IsClosed (next_in nodes) (length (nodes ++ node_of None ∷ []))
+  closed_push x y lt edge = elim (cases_lt x (length nodes)) [
+    | inl below ↦ omega (arith, ok.closed x y below edge, length_push nodes (node_of None))
+    | inr past ↦ absurd (omega (arith, edge.1, ap (λ (n : Option Node). length (next_or_none n)) (slice_get_past nodes x past)))
+  ]
+
+  Contains-ends_push : (x y : ℕ) → x < length (nodes ++ node_of None ∷ []) → Contains (ends_in (nodes ++ node_of None ∷ []) x) y → Leads (next_in nodes) x y × (active_in (nodes ++ node_of None ∷ []) y ≡ true)
+  Contains-ends_push x y lt c =
+      let h = (Contains-ends (next_in (nodes ++ node_of None ∷ [])) (active_in (nodes ++ node_of None ∷ [])) (length (nodes ++ node_of None ∷ [])) x (subst (λ (next : ℕ → List ℕ). IsClosed next (length (nodes ++ node_of None ∷ []))) (sym (same_next nodes)) closed_push) lt y).0 c in
+      (subst (λ (next : ℕ → List ℕ). Leads next x y) (same_next nodes) h.0, h.1)
+
+  narrow_push : (x : ℕ) → x < length (nodes ++ node_of None ∷ []) → length (ends_in (nodes ++ node_of None ∷ []) x) ≤ MOST_ENDS
+  narrow_push x lt = elim (cases_lt x (length nodes)) [
+    | inl below ↦ omega (
+      arith,
+      ok.narrow x below,
+      length-le_rising (ends_in (nodes ++ node_of None ∷ []) x) (ends_in nodes x) rising (λ y c.
+          let h = Contains-ends_push x y lt c in
+          let in_nodes : y < length nodes = Leads-below ok.closed below h.0 in
+          (Contains-ends (next_in nodes) (active_in nodes) (length nodes) x ok.closed below y).1 (h.0, sym (ap active_or_not (slice_get-push_other nodes y (node_of None) (λ e. omega arith))) ∙ h.1)),
+    )
+    | inr past ↦ omega (arith, length-le_rising (ends_in (nodes ++ node_of None ∷ []) x) (x ∷ []) rising (λ y c. (0, omega arith, leads_alone nodes x y past (Contains-ends_push x y lt c).0)))
+  ]
+    where
+      rising : IsStrictlyIncreasing (ends_in (nodes ++ node_of None ∷ []) x)
+      rising = ends_rising (next_in (nodes ++ node_of None ∷ [])) (active_in (nodes ++ node_of None ∷ [])) (length (nodes ++ node_of None ∷ [])) x
+
+  pub lawful_push : length nodes < MOST_NODES → IsLawful (nodes ++ node_of None ∷ [])
+  lawful_push room = record {
+    few = omega (arith, length_push nodes (node_of None));
+    closed = subst (λ (next : ℕ → List ℕ). IsClosed next (length (nodes ++ node_of None ∷ []))) (sym (same_next nodes)) closed_push;
+    bare = λ x e. next_in-push nodes x ∙ bare x e (cases_eq x (length nodes));
+    acyclic = subst IsAcyclic (sym (same_next nodes)) ok.acyclic;
+    narrow = narrow_push;
+  }
+    where
+      bare : (x : ℕ) → active_in (nodes ++ node_of None ∷ []) x ≡ true → (x ≡ length nodes) ⊎ (x ≢ length nodes) → next_in nodes x ≡ []
+      bare x e (inl same) = ap next_or_none (slice_get_past nodes x (omega arith))
+      bare x e (inr ne) = ok.bare x (sym (ap active_or_not (slice_get-push_other nodes x (node_of None) ne)) ∙ e)
+
+-- ---- numbers below the count
+
+pub All-below : (xs : List ℕ) (n : ℕ) → ((x : ℕ) → Contains xs x → x < n) → All (λ x. x < n) xs
+All-below xs n h = λ k d lt. h (get_or xs k d) (Contains-get_or xs k d lt)
+
+pub successors_below : (nodes : List Node) (a : ℕ) (to : Option (List ℕ)) (xs : List ℕ) → NamesNodes nodes a to → xs ≡ successors to → All (λ x. x < length nodes) xs
+successors_below nodes a to xs change e = subst (All (λ x. x < length nodes)) (sym e) (All-below (successors to) (length nodes) change.next)
+
+pub chain_below : (next : ℕ → List ℕ) (count a : ℕ) → IsClosed next count → a < count → All (λ x. x < count) (chain_of next count a)
+chain_below next count a ok lt = All-below (chain_of next count a) count (λ x c. Leads-below ok lt ((Contains-chain next count a ok lt x).0 c))
+
+-- ---- the nodes behind a graph's value
+
+pub led_to_is : (read value : List Node) (a b : ℕ) {led : Bool} → read ≡ value → IsClosed (next_in read) (length read) → a < length value → led ≡ reaches (next_in read) (length read) a b → IsTrue led ↔ Leads (next_in value) a b
+led_to_is read value a b {led} e ok lt f =
+    let closed : IsClosed (next_in value) (length value) = subst (λ (nodes : List Node). IsClosed (next_in nodes) (length nodes)) e ok in
+    let same : led ≡ reaches (next_in value) (length value) a b = f ∙ ap (λ (nodes : List Node). reaches (next_in nodes) (length nodes) a b) e in
+    (λ t. reaches-leads (next_in value) (length value) a b (sym same ∙ t), λ l. same ∙ leads-reaches (next_in value) (length value) a b closed lt l)

@@ -1,0 +1,12 @@
+pub mod Rising
+pub mod PathLemmas
+pub mod ChainLemmas
+pub mod SearchLemmas
+pub mod GraphLemmas
+pub mod ChangeLemmas
+pub mod LawLemmas
+pub mod HeadLemmas
+pub mod MirrorLemmas
+pub mod KeptLemmas
+pub mod StoredLemmas
+pub mod CountLemmas

@@ -1,0 +1,123 @@
+-- A search finds exactly what paths lead to.
+use Rattle.std.proofs.Common.{◌≡◌, ◌⊎◌, ℕ, ◌+◌, ◌-◌, ◌<◌, ◌≤◌, true, false, List, [], ◌∷◌, ◌++◌, length, take, get_or, sym, ap, subst, ◌∙◌, inl, inr, arith}
+use Rattle.std.specs.List.{Contains}
+use Rattle.std.specs.Ordering.{nat_cmp}
+use Rattle.std.specs.BTreeSet as set
+use Rattle.std.specs.BTreeSet.{BTreeSet}
+use Rattle.std.specs.Cmp.{nat_cmp_total}
+use Rattle.std.proofs.lemmas.Bool.{cases_Bool, both_ways}
+use Rattle.std.proofs.lemmas.List.{take_more, length_push}
+use Rattle.std.proofs.lemmas.List.Elements.{Contains-append_left, Contains-append_right, Contains-append_cases, Contains-push, Contains-push_cases}
+use Rattle.std.proofs.lemmas.Map.Keys.{IsStrictlyIncreasing-from_sorted}
+use Rattle.std.proofs.lemmas.Map.Lookups.{exact_unsigned}
+use Rattle.std.proofs.lemmas.Map.Views.{btree_set_contains_iff}
+use Rattle.deprecation_graph.specs.Paths.{HasEdge, Leads, IsClosed}
+use Rattle.deprecation_graph.specs.Chains.{reaches, chain_of}
+use Rattle.deprecation_graph.specs.Searches.{has, Visits, IsReached}
+use Rattle.deprecation_graph.proofs.Rising.{length-le_range}
+use Rattle.deprecation_graph.proofs.PathLemmas.{Leads-then, Leads-forth, Leads-below}
+use Rattle.deprecation_graph.proofs.ChainLemmas.{chain_is, reaches-leads, leads-reaches}
+
+-- ---- visits, one after the other
+
+pub Visits-none : (s : BTreeSet ℕ) (todo : List ℕ) → Visits s s todo todo []
+Visits-none s todo = record {
+  kept = λ x h. h;
+  visited = λ x c. absurd (omega (arith, c.1));
+  only = λ x h. inl h;
+  waits = λ x c. c;
+  fresh = λ x h. inl h;
+  found = λ x c. inl c;
+  work = omega arith;
+}
+
+pub Visits-then : {s m n : BTreeSet ℕ} {todo more most ys zs : List ℕ} → Visits s m todo more ys → Visits m n more most zs → Visits s n todo most (ys ++ zs)
+Visits-then {s} {m} {n} {todo} {more} {most} {ys} {zs} h k = record {
+  kept = λ x e. k.kept x (h.kept x e);
+  visited = λ x c. elim (Contains-append_cases ys zs x c) [ inl d ↦ k.kept x (h.visited x d) | inr d ↦ k.visited x d ];
+  only = λ x e. elim (k.only x e) [
+    | inl f ↦ elim (h.only x f) [ inl g ↦ inl g | inr c ↦ inr (Contains-append_left ys zs x c) ]
+    | inr c ↦ inr (Contains-append_right ys zs x c)
+  ];
+  waits = λ x c. k.waits x (h.waits x c);
+  fresh = λ x e. elim (k.fresh x e) [
+    | inl f ↦ elim (h.fresh x f) [ inl g ↦ inl g | inr c ↦ inr (k.waits x c) ]
+    | inr c ↦ inr c
+  ];
+  found = λ x c. elim (k.found x c) [
+    | inl d ↦ elim (h.found x d) [ inl e ↦ inl e | inr e ↦ inr (k.kept x e) ]
+    | inr e ↦ inr e
+  ];
+  work = omega (arith, h.work, k.work);
+}
+
+-- a loop's step: the next number of a list
+pub Visits-more : {s m n : BTreeSet ℕ} {todo more most : List ℕ} (ys : List ℕ) (i d : ℕ) → i < length ys → Visits s m todo more (take i ys) → Visits m n more most (get_or ys i d ∷ []) → Visits s n todo most (take (i + 1) ys)
+Visits-more {s} {m} {n} {todo} {more} {most} ys i d lt h k = subst (Visits s n todo most) (sym (take_more ys i d lt)) (Visits-then h k)
+
+-- ---- the search
+
+module _ (next : ℕ → List ℕ) (start : ℕ) where
+  -- what is found is led to, and what was looked into has its successors found
+  pub record Explores (found : BTreeSet ℕ) (todo : List ℕ) : Type 0 where
+    pub started : has found start ≡ true
+    pub led : (x : ℕ) → has found x ≡ true → Leads next start x
+    pub waiting : (x : ℕ) → Contains todo x → has found x ≡ true
+    pub closed : (x : ℕ) → has found x ≡ true → Contains todo x ⊎ ((y : ℕ) → HasEdge next x y → has found y ≡ true)
+
+  -- the last of what is to do is looked into
+  pub explore_step : {s n : BTreeSet ℕ} {todo more : List ℕ} (at : ℕ) → Explores s (todo ++ at ∷ []) → Visits s n todo more (next at) → Explores n more
+  explore_step {s} {n} {todo} {more} at h v = record {
+    started = v.kept start h.started;
+    led = λ x e. elim (v.only x e) [ inl f ↦ h.led x f | inr edge ↦ Leads-then (h.led at (h.waiting at (Contains-push todo at))) edge ];
+    waiting = λ x c. elim (v.found x c) [ inl d ↦ v.kept x (h.waiting x (Contains-append_left todo (at ∷ []) x d)) | inr e ↦ e ];
+    closed = λ x e. elim (v.fresh x e) [
+      | inl f ↦ elim (h.closed x f) [
+        | inl c ↦ elim (Contains-push_cases todo at x c) [ inl d ↦ inl (v.waits x d) | inr same ↦ inr (λ y edge. v.visited y (subst (λ (z : ℕ). HasEdge next z y) (sym same) edge)) ]
+        | inr all ↦ inr (λ y edge. v.kept y (all y edge))
+      ]
+      | inr c ↦ inl c
+    ];
+  }
+
+  explored : {s : BTreeSet ℕ} → Explores s [] → (x : ℕ) → Leads next start x → has s x ≡ true
+  explored {s} h x l = Leads-forth (λ z. has s z ≡ true) (λ a c edge e. elim (h.closed a e) [ inl d ↦ absurd (omega (arith, d.1)) | inr all ↦ all c edge ]) l h.started
+
+  pub explore_end : {s : BTreeSet ℕ} → set.IsOrdered nat_cmp s → Explores s [] → IsReached next start s
+  explore_end {s} ordered h = record { ordered = ordered; members = λ x. (h.led x, explored h x) }
+
+pub has_iff : (s : BTreeSet ℕ) (x : ℕ) → (has s x ≡ true → Contains s.keys x) × (Contains s.keys x → has s x ≡ true)
+has_iff s x = let h = btree_set_contains_iff nat_cmp_total exact_unsigned s x in (h.0, h.1)
+
+-- what is found is no more than the nodes
+pub found_few : (next : ℕ → List ℕ) (count start : ℕ) (s : BTreeSet ℕ) (todo : List ℕ) → IsClosed next count → start < count → set.IsOrdered nat_cmp s → Explores next start s todo → length s.keys ≤ count
+found_few next count start s todo ok lt ordered h =
+    length-le_range s.keys count (IsStrictlyIncreasing-from_sorted s.keys ordered) (λ x c. Leads-below ok lt (h.led x ((has_iff s x).1 c)))
+
+pub reached_is_chain : (next : ℕ → List ℕ) (count start : ℕ) (s : BTreeSet ℕ) → IsClosed next count → start < count → IsReached next start s → s.keys ≡ chain_of next count start
+reached_is_chain next count start s ok lt h = chain_is next count start s.keys ok lt (record {
+  rising = IsStrictlyIncreasing-from_sorted s.keys h.ordered;
+  members = λ x. (λ c. (h.members x).0 ((has_iff s x).1 c), λ l. (has_iff s x).0 ((h.members x).1 l));
+})
+
+-- ---- a turn of the search: the last number is taken from what waits, and its successors are visited
+
+pub turn_below : (next : ℕ → List ℕ) (count start at : ℕ) (todo : List ℕ) {s : BTreeSet ℕ} {waits : List ℕ} → IsClosed next count → start < count → waits ≡ todo ++ at ∷ [] → Explores next start s waits → at < count
+turn_below next count start at todo {s} {waits} ok lt e h = Leads-below ok lt (h.led at (h.waiting at (subst (λ (xs : List ℕ). Contains xs at) (sym e) (Contains-push todo at))))
+
+pub turn_explores : (next : ℕ → List ℕ) (start at : ℕ) {s n : BTreeSet ℕ} {waits todo more ys : List ℕ} → waits ≡ todo ++ at ∷ [] → ys ≡ next at → Explores next start s waits → Visits s n todo more ys → Explores next start n more
+turn_explores next start at {s} {n} {waits} {todo} {more} {ys} e f h v = explore_step next start at (subst (Explores next start s) e h) (subst (Visits s n todo more) f v)
+
+-- what is left to do falls: nodes that aren't found, and numbers that wait
+pub turn_smaller : (count at : ℕ) {s n : BTreeSet ℕ} {waits todo more ys : List ℕ} → length n.keys ≤ count → waits ≡ todo ++ at ∷ [] → Visits s n todo more ys → count + length more - length n.keys < count + length waits - length s.keys
+turn_smaller count at {s} {n} {waits} {todo} {more} {ys} few e v = omega (arith, few, v.work, ap length e, length_push todo at)
+
+-- the set answers whether a path leads
+pub reached_answer : (next : ℕ → List ℕ) (count a b : ℕ) (s : BTreeSet ℕ) → IsClosed next count → a < count → IsReached next a s → has s b ≡ reaches next count a b
+reached_answer next count a b s ok lt h = go (cases_Bool (has s b)) (cases_Bool (reaches next count a b))
+  where
+    go : (has s b ≡ true) ⊎ (has s b ≡ false) → (reaches next count a b ≡ true) ⊎ (reaches next count a b ≡ false) → has s b ≡ reaches next count a b
+    go (inl e) (inl f) = e ∙ sym f
+    go (inr e) (inr f) = e ∙ sym f
+    go (inl e) (inr f) = absurd (both_ways (reaches next count a b) f (leads-reaches next count a b ok lt ((h.members b).0 e)))
+    go (inr e) (inl f) = absurd (both_ways (has s b) e ((h.members b).1 (reaches-leads next count a b f)))

@@ -1,0 +1,162 @@
+-- The rooms of a graph, and what its changes do to them.
+use Rattle.std.proofs.Common.{◌≡◌, ℕ, zero, suc, ◌+◌, ◌-◌, ◌<◌, ◌≤◌, Bool, true, false, List, [], ◌∷◌, ◌++◌, length, get_or, refl, sym, ap, subst, ◌∙◌, arith, slice_set, Option, Some, None, is_none, is_some, not, vec_capacity, Bor}
+use Rattle.std.specs.List.{All, Contains}
+use Rattle.std.specs.Option.{option_copied}
+use Rattle.std.proofs.lemmas.List.{length_push}
+use Rattle.std.proofs.lemmas.List.Elements.{Contains-get_or}
+use Rattle.std.proofs.lemmas.List.Sums.{sum_by-cons, sum_by-set, sum_by_push}
+use Rattle.std.proofs.lemmas.Option.{slice_get-get_or}
+use Rattle.deprecation_graph.specs.declared.limits.TheConstants.{MOST_NODES, MOST_EDGES}
+use Rattle.deprecation_graph.specs.Graph.{Node, next_or_none, next_in, node_of, successors, changed, edge_count, IsLawful}
+use Rattle.deprecation_graph.proofs.GraphLemmas.{lawful_push}
+use Rattle.deprecation_graph.specs.declared.kept.Kept.{Kept}
+use Rattle.deprecation_graph.specs.Indexed.{list_of, size_of}
+use Rattle.deprecation_graph.specs.Mirror.{times, IsMirror}
+use Rattle.deprecation_graph.specs.Kept.{nodes_of, nodes_in, IsKept, IsStored, Regrows, HasRoom, KeepsRoom}
+use Rattle.deprecation_graph.proofs.MirrorLemmas.{mirror_moved, list_of-set, set-set}
+use Rattle.deprecation_graph.proofs.KeptLemmas.{length-nodes_of, push-nodes, set-nodes, same_steps, kept_closed, closed_lists, closed_before}
+use Rattle.deprecation_graph.proofs.CountLemmas.{mirror_size}
+
+pub count_nodes : (kept : Kept) → IsKept kept → length (nodes_in kept) ≡ length kept.active.items
+count_nodes kept ok = length-nodes_of kept.active.items kept.next.lists ok.next
+
+-- both sides take as much of a pool
+pub kept_size : (kept : Kept) → IsKept kept → size_of kept.before.lists ≡ size_of kept.next.lists
+kept_size kept ok =
+    let count : length kept.before.lists ≡ length kept.next.lists = ok.before ∙ sym ok.next in
+    mirror_size kept.next.lists kept.before.lists ok.mirror count (closed_lists kept None ok (kept_closed kept ok)) (λ b a lt c. omega (arith, count, closed_before kept ok b a (omega (arith, count)) c))
+
+pub node_in : (kept : Kept) (value : List Node) (a : ℕ) → IsKept kept → nodes_in kept ≡ value → a < length value → a < length kept.active.items
+node_in kept value a ok e lt = omega (arith, ap length e, count_nodes kept ok)
+
+pub size_nodes : (marks : List Bool) (lists : List (List ℕ)) → length lists ≡ length marks → size_of lists ≡ length marks + edge_count (nodes_of marks lists)
+size_nodes [] [] e = refl
+size_nodes [] (xs ∷ lists) e = absurd (omega arith)
+size_nodes (a ∷ marks) [] e = absurd (omega arith)
+size_nodes (a ∷ marks) (xs ∷ lists) e =
+    omega (arith, sum_by-cons (λ (ys : List ℕ). length ys + 1) xs lists, sum_by-cons (λ (n : Node). length n.next) (record { active = a; next = xs }) (nodes_of marks lists), size_nodes marks lists (omega arith))
+
+-- ---- the same with more room
+
+kept_moved : (old new : Kept) → IsKept old → new.active.items ≡ old.active.items → new.next.lists ≡ old.next.lists → new.before.lists ≡ old.before.lists → IsKept new
+kept_moved old new ok marks next before = record {
+  next = ap length next ∙ ok.next ∙ sym (ap length marks);
+  before = ap length before ∙ ok.before ∙ sym (ap length marks);
+  mirror = mirror_moved old.next.lists old.before.lists new.next.lists new.before.lists next before ok.mirror;
+  lawful = subst IsLawful (sym (same_nodes old new marks next)) ok.lawful;
+}
+  where
+    same_nodes : (o n : Kept) → n.active.items ≡ o.active.items → n.next.lists ≡ o.next.lists → nodes_in n ≡ nodes_in o
+    same_nodes o n m l = ap (λ (ms : List Bool). nodes_of ms n.next.lists) m ∙ ap (nodes_of o.active.items) l
+
+pub regrown_nodes : (old new : Kept) → Regrows old new → nodes_in new ≡ nodes_in old
+regrown_nodes old new r = ap (λ (ms : List Bool). nodes_of ms new.next.lists) r.marks ∙ ap (nodes_of old.active.items) r.next
+
+pub stored_regrown : (old new : Kept) (rn re rn' re' : ℕ) → IsStored old rn re → Regrows old new → HasRoom new rn' re' → length old.active.items + rn' ≤ MOST_NODES → edge_count (nodes_in old) + re' ≤ MOST_EDGES → IsStored new rn' re'
+stored_regrown old new rn re rn' re' s r h few_nodes few_edges =
+    let same = ap edge_count (regrown_nodes old new r) in
+    record {
+      sound = kept_moved old new s.sound r.marks r.next r.before;
+      marks = h.capacity;
+      next_room = h.next_room;
+      before_room = h.before_room;
+      next_spare = h.next_spare;
+      before_spare = h.before_spare;
+      few_nodes = omega (arith, few_nodes, ap length r.marks);
+      few_edges = omega (arith, few_edges, same);
+    }
+
+-- ---- a node more
+
+list_of-push : (lists : List (List ℕ)) (i : ℕ) → list_of (lists ++ [] ∷ []) i ≡ list_of lists i
+list_of-push [] zero = refl
+list_of-push [] (suc i) = refl
+list_of-push (xs ∷ lists) zero = refl
+list_of-push (xs ∷ lists) (suc i) = list_of-push lists i
+
+mirror_push : (next before : List (List ℕ)) → IsMirror next before → IsMirror (next ++ [] ∷ []) (before ++ [] ∷ [])
+mirror_push next before m a b = ap (times a) (list_of-push before b) ∙ m a b ∙ sym (ap (times b) (list_of-push next a))
+
+-- what an addition changes
+pub record Adds (old new : Kept) : Type 0 where
+  pub marks : new.active.items ≡ old.active.items ++ true ∷ []
+  pub next : new.next.lists ≡ old.next.lists ++ [] ∷ []
+  pub before : new.before.lists ≡ old.before.lists ++ [] ∷ []
+  pub capacity : vec_capacity new.active ≡ vec_capacity old.active
+  pub next_room : new.next.room + 1 ≡ old.next.room
+  pub before_room : new.before.room + 1 ≡ old.before.room
+  pub next_spare : new.next.spare + 1 ≡ old.next.spare
+  pub before_spare : new.before.spare + 1 ≡ old.before.spare
+
+pub added_nodes : (old new : Kept) → IsKept old → Adds old new → nodes_in new ≡ nodes_in old ++ node_of None ∷ []
+added_nodes old new ok a = ap (λ (ms : List Bool). nodes_of ms new.next.lists) a.marks ∙ ap (nodes_of (old.active.items ++ true ∷ [])) a.next ∙ push-nodes old.active.items old.next.lists true [] ok.next
+
+pub stored_added : (old new : Kept) (rn re : ℕ) → IsStored old rn re → 1 ≤ rn → Adds old new → IsStored new (rn - 1) re
+stored_added old new rn re s room a =
+    let count : length new.active.items ≡ length old.active.items + 1 = ap length a.marks ∙ length_push old.active.items true in
+    let edges : edge_count (nodes_in new) ≡ edge_count (nodes_in old) = ap edge_count (added_nodes old new s.sound a) ∙ sum_by_push (λ (n : Node). length n.next) (nodes_in old) (node_of None) ∙ omega arith in
+    record {
+      sound = record {
+        next = omega (arith, count, ap length a.next, length_push old.next.lists [], s.sound.next);
+        before = omega (arith, count, ap length a.before, length_push old.before.lists [], s.sound.before);
+        mirror = mirror_moved (old.next.lists ++ [] ∷ []) (old.before.lists ++ [] ∷ []) new.next.lists new.before.lists a.next a.before (mirror_push old.next.lists old.before.lists s.sound.mirror);
+        lawful = subst IsLawful (sym (added_nodes old new s.sound a)) (lawful_push (nodes_in old) s.sound.lawful (omega (arith, count_nodes old s.sound, s.few_nodes, room)));
+      };
+      marks = omega (arith, s.marks, count, a.capacity, room);
+      next_room = omega (arith, s.next_room, a.next_room);
+      before_room = omega (arith, s.before_room, a.before_room);
+      next_spare = omega (arith, s.next_spare, a.next_spare, room);
+      before_spare = omega (arith, s.before_spare, a.before_spare, room);
+      few_nodes = omega (arith, s.few_nodes, count, room);
+      few_edges = omega (arith, s.few_edges, edges);
+    }
+
+-- ---- a node changed
+
+pub list_below : (kept : Kept) (a n : ℕ) → IsKept kept → a < length (nodes_in kept) → n ≡ length kept.active.items → All (λ x. x < n) (list_of kept.next.lists a)
+list_below kept a n ok lt e = λ k d within.
+    let c = Contains-get_or (list_of kept.next.lists a) k d within in
+    omega (arith, ok.lawful.closed a (get_or (list_of kept.next.lists a) k d) lt (subst (λ (next : ℕ → List ℕ). Contains (next a) (get_or (list_of kept.next.lists a) k d)) (sym (same_steps kept None ok.next)) c), count_nodes kept ok)
+
+-- the list is emptied, and filled anew
+pub relinked : (old mid new : List (List ℕ)) (a : ℕ) (ys : List ℕ) → a < length old → mid ≡ slice_set old a [] → new ≡ slice_set mid a (list_of mid a ++ ys) → new ≡ slice_set old a ys
+relinked old mid new a ys lt e f =
+    let empty : list_of mid a ≡ [] = ap (λ (ls : List (List ℕ)). list_of ls a) e ∙ list_of-set old a [] lt in
+    f ∙ ap (λ (xs : List ℕ). slice_set mid a (xs ++ ys)) empty ∙ ap (λ (ls : List (List ℕ)). slice_set ls a ys) e ∙ set-set old a [] ys
+
+mark_of : (to : Option (List ℕ)) → is_none to ≡ (node_of to).active
+mark_of None = refl
+mark_of (Some ys) = refl
+
+list_of_change : (to : Option (List ℕ)) → successors to ≡ (node_of to).next
+list_of_change None = refl
+list_of_change (Some ys) = refl
+
+pub changed_nodes : (kept : Kept) (marks : List Bool) (lists : List (List ℕ)) (a : ℕ) (b : Bool) (ys : List ℕ) (to : Option (List ℕ)) → IsKept kept → marks ≡ slice_set kept.active.items a b → b ≡ is_none to → lists ≡ slice_set kept.next.lists a ys → ys ≡ successors to → nodes_of marks lists ≡ changed (nodes_in kept) a to
+changed_nodes kept marks lists a b ys to ok e f g h =
+    ap (λ (ms : List Bool). nodes_of ms lists) (e ∙ ap (slice_set kept.active.items a) (f ∙ mark_of to))
+    ∙ ap (nodes_of (slice_set kept.active.items a (node_of to).active)) (g ∙ ap (slice_set kept.next.lists a) (h ∙ list_of_change to))
+    ∙ sym (set-nodes kept.active.items kept.next.lists a (node_of to) ok.next)
+
+pub stored_changed : (old new : Kept) (rn re : ℕ) (a : ℕ) (to : Option (List ℕ)) (value : List Node) → IsStored old rn re → IsKept new → nodes_in old ≡ value → a < length value → nodes_in new ≡ changed (nodes_in old) a to → KeepsRoom old new (successors to) (next_in (nodes_in old) a) → length (successors to) ≤ re → IsStored new rn (re - length (successors to))
+stored_changed old new rn re a to value s ok same lt e k room =
+    let edges = sum_by-set (λ (n : Node). length n.next) (nodes_in old) a (node_of to) (node_of None) (omega (arith, ap length same)) in
+    let count : edge_count (nodes_in new) ≡ edge_count (changed (nodes_in old) a to) = ap edge_count e in
+    let was : length (next_in (nodes_in old) a) ≡ length (get_or (nodes_in old) a (node_of None)).next = ap (λ (n : Option Node). length (next_or_none n)) (slice_get-get_or (nodes_in old) a (node_of None) (omega (arith, ap length same))) in
+    let now : length (successors to) ≡ length (node_of to).next = ap length (list_of_change to) in
+    record {
+      sound = ok;
+      marks = omega (arith, s.marks, k.count, k.capacity);
+      next_room = omega (arith, s.next_room, k.next_room);
+      before_room = omega (arith, s.before_room, k.before_room);
+      next_spare = omega (arith, s.next_spare, k.next_spare, room);
+      before_spare = omega (arith, s.before_spare, k.before_spare, room);
+      few_nodes = omega (arith, s.few_nodes, k.count);
+      few_edges = omega (arith, s.few_edges, edges, count, was, now, room);
+    }
+
+pub none_answer : (next : Option (Bor (List ℕ))) (r : Bool) → is_some next ≡ not r → r ≡ is_none (option_copied next)
+none_answer None true e = refl
+none_answer None false e = absurd cc
+none_answer (Some xs) true e = absurd cc
+none_answer (Some xs) false e = refl

@@ -1,0 +1,76 @@
+-- How the nodes are kept. No public clause speaks of it.
+use Rattle.deprecation_graph.specs.declared.limits.TheConstants.{MOST_NODES, MOST_EDGES}
+use Rattle.std.specs.Prelude.{◌≡◌, ℕ, ◌+◌, ◌≤◌, Bool, is_none, vec_capacity, List, [], ◌∷◌, length, slice_set, Option, Some, None}
+use Rattle.std.specs.Option.{option_copied}
+use Rattle.deprecation_graph.specs.Graph.{Node, successors, changed, edge_count, IsLawful}
+use Rattle.deprecation_graph.specs.Mirror.{IsMirror}
+use Rattle.deprecation_graph.specs.declared.kept.Kept.{Kept}
+use Rattle.deprecation_graph.specs.declared.kept.Change.{Change}
+
+-- the nodes with these marks and these successors
+abbrev pub nodes_of : List Bool → List (List ℕ) → List Node
+nodes_of [] lists = []
+nodes_of (a ∷ marks) [] = []
+nodes_of (a ∷ marks) (xs ∷ lists) = record { active = a; next = xs } ∷ nodes_of marks lists
+
+abbrev pub nodes_in : Kept → List Node
+nodes_in kept = nodes_of kept.active.items kept.next.lists
+
+-- the same after a change, if there is one
+abbrev pub nodes_after : Kept → Option Change → List Node
+nodes_after kept None = nodes_in kept
+nodes_after kept (Some c) = changed (nodes_in kept) c.node (option_copied c.next)
+
+abbrev pub lists_after : List (List ℕ) → Option Change → List (List ℕ)
+lists_after lists None = lists
+lists_after lists (Some c) = slice_set lists c.node (successors (option_copied c.next))
+
+-- the marks of the active nodes after a change, if there is one
+abbrev pub marks_after : List Bool → Option Change → List Bool
+marks_after marks None = marks
+marks_after marks (Some c) = slice_set marks c.node (is_none (option_copied c.next))
+
+-- as many lists as nodes, kept both ways
+pub record IsKept (kept : Kept) : Type 0 where
+  pub next : length kept.next.lists ≡ length kept.active.items
+  pub before : length kept.before.lists ≡ length kept.active.items
+  pub mirror : IsMirror kept.next.lists kept.before.lists
+  pub lawful : IsLawful (nodes_in kept)
+
+-- what is so of a whole graph: its rooms are there, and its numbers are small
+pub record IsStored (kept : Kept) (room_nodes room_edges : ℕ) : Type 0 where
+  pub sound : IsKept kept
+  pub marks : length kept.active.items + room_nodes ≤ vec_capacity kept.active
+  pub next_room : room_nodes ≤ kept.next.room
+  pub before_room : room_nodes ≤ kept.before.room
+  pub next_spare : room_nodes + room_edges ≤ kept.next.spare
+  pub before_spare : room_nodes + room_edges ≤ kept.before.spare
+  pub few_nodes : length kept.active.items + room_nodes ≤ MOST_NODES
+  pub few_edges : edge_count (nodes_in kept) + room_edges ≤ MOST_EDGES
+
+-- the same marks and lists, with no less room
+pub record Regrows (old new : Kept) : Type 0 where
+  pub marks : new.active.items ≡ old.active.items
+  pub next : new.next.lists ≡ old.next.lists
+  pub before : new.before.lists ≡ old.before.lists
+  pub capacity : vec_capacity old.active ≤ vec_capacity new.active
+  pub next_room : old.next.room ≤ new.next.room
+  pub before_room : old.before.room ≤ new.before.room
+  pub next_spare : old.next.spare ≤ new.next.spare
+  pub before_spare : old.before.spare ≤ new.before.spare
+
+pub record HasRoom (kept : Kept) (nodes edges : ℕ) : Type 0 where
+  pub capacity : length kept.active.items + nodes ≤ vec_capacity kept.active
+  pub next_room : nodes ≤ kept.next.room
+  pub before_room : nodes ≤ kept.before.room
+  pub next_spare : nodes + edges ≤ kept.next.spare
+  pub before_spare : nodes + edges ≤ kept.before.spare
+
+-- what a change of one node's list takes and gives back
+pub record KeepsRoom (old new : Kept) (taken given : List ℕ) : Type 0 where
+  pub count : length new.active.items ≡ length old.active.items
+  pub capacity : vec_capacity new.active ≡ vec_capacity old.active
+  pub next_room : new.next.room ≡ old.next.room
+  pub before_room : new.before.room ≡ old.before.room
+  pub next_spare : new.next.spare + length taken ≡ old.next.spare + length given
+  pub before_spare : new.before.spare + length taken ≡ old.before.spare + length given

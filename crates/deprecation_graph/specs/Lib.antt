@@ -1,0 +1,10 @@
+pub mod Paths
+pub mod Chains
+pub mod Graph
+pub mod Faults
+pub mod Laws
+pub mod Searches
+pub mod Indexed
+pub mod Heads
+pub mod Mirror
+pub mod Kept

@@ -1,0 +1,171 @@
+// Ends, sources, and whether a change of one node is allowed.
+ghost use Rattle.std.specs.Prelude.{◌≡◌, ◌<◌, ◌≤◌, length, slice_index_or, true, false, None, filter, find, IfOk};
+ghost use Rattle.std.specs.List.{All};
+ghost use Rattle.std.specs.Option.{option_copied};
+ghost use Rattle.deprecation_graph.specs.Paths.{IsClosed};
+ghost use Rattle.deprecation_graph.specs.Chains.{reaches};
+ghost use Rattle.deprecation_graph.specs.Graph.{next_in, chain_in, ends_in, sources_in, changed, NamesNodes, IsChange};
+ghost use Rattle.deprecation_graph.specs.Faults.{cycle_in, is_wide, wide_in, change_fault, IsVerdict};
+ghost use Rattle.deprecation_graph.specs.Kept.{marks_after, nodes_in, nodes_after, IsKept};
+
+use crate::fault::GraphFault;
+use crate::kept::{Change, Kept, is_active_after, successors};
+use crate::limits::{MOST_ENDS, MOST_SUCCESSORS};
+use crate::search::{find_reached, keys};
+use std::alloc::{AllocError, Global};
+
+/// Whether a path leads from the first node to the second.
+pub(crate) fn is_led_to(alloc: Global, kept: &Kept, from: u32, to: u32) -> Result<bool, AllocError>
+    requires kept { IsKept kept.now }
+    requires from { from < length kept.now.active.items }
+    ensures { IfOk result (λ led. led ≡ reaches (next_in (nodes_in kept.now)) (length (nodes_in kept.now)) from to) }
+{
+    let found = find_reached(alloc, &kept.next, None, from)?;
+    Ok(found.contains(&to))
+}
+
+/// The nodes to which a path leads.
+pub(crate) fn find_chain(
+    alloc: Global,
+    kept: &Kept,
+    change: Option<Change>,
+    start: u32,
+) -> Result<Vec<u32>, AllocError>
+    requires kept { IsKept kept.now }
+    requires closed { IsClosed (next_in (nodes_after kept.now change)) (length kept.now.active.items) }
+    requires start { start < length kept.now.active.items }
+    ensures { IfOk result (λ chain. chain.items ≡ chain_in (nodes_after kept.now change.entry) start) }
+{
+    let found = find_reached(alloc, &kept.next, change, start)?;
+    keys(alloc, &found)
+}
+
+/// The nodes from which a path leads to this one: a search along the predecessors.
+pub(crate) fn find_sources(alloc: Global, kept: &Kept, node: u32) -> Result<Vec<u32>, AllocError>
+    requires kept { IsKept kept.now }
+    requires node { node < length kept.now.active.items }
+    ensures { IfOk result (λ sources. sources.items ≡ sources_in (nodes_in kept.now) node) }
+{
+    let found = find_reached(alloc, &kept.before, None, node)?;
+    keys(alloc, &found)
+}
+
+// The active ones of these nodes.
+fn keep_active(
+    alloc: Global,
+    active: &[bool],
+    change: Option<Change>,
+    chain: &[u32],
+) -> Result<Vec<u32>, AllocError>
+    requires { All (λ node. node < length active.now) chain.now }
+    ensures { IfOk result (λ ends. ends.items ≡ filter (λ node. slice_index_or (marks_after active.now change.entry) node false) chain.now) }
+{
+    let mut ends = Vec::new(alloc);
+    for node in chain {
+        if is_active_after(active, change, *node) {
+            ends.push(*node)?;
+        }
+    }
+    Ok(ends)
+}
+
+/// The ends of a node, after the change if there is one.
+pub(crate) fn find_ends(
+    alloc: Global,
+    kept: &Kept,
+    change: Option<Change>,
+    start: u32,
+) -> Result<Vec<u32>, AllocError>
+    requires kept { IsKept kept.now }
+    requires closed { IsClosed (next_in (nodes_after kept.now change)) (length kept.now.active.items) }
+    requires start { start < length kept.now.active.items }
+    ensures { IfOk result (λ ends. ends.items ≡ ends_in (nodes_after kept.now change.entry) start) }
+{
+    let chain = find_chain(alloc, kept, change, start)?;
+    keep_active(alloc, &kept.active, change, &chain)
+}
+
+// The first of these successors from which a path leads to the node, counted from 1.
+fn find_cycle(
+    alloc: Global,
+    kept: &Kept,
+    node: u32,
+    next: &[u32],
+) -> Result<Option<u32>, AllocError>
+    requires kept { IsKept kept.now }
+    requires next { All (λ successor. successor < length kept.now.active.items) next.now }
+    requires few { length next.now ≤ MOST_SUCCESSORS }
+    ensures { IfOk result (λ found. found ≡ cycle_in (nodes_in kept.now) node next.now) }
+{
+    let mut place = 0;
+    for successor in next {
+        place += 1;
+        if is_led_to(alloc, kept, *successor, node)? {
+            return Ok(Some(place));
+        }
+    }
+    Ok(None)
+}
+
+// Whether the change is one of an active node to one end at most. Each source of the node then loses an end for each that
+// it gets, so no node gets too wide, and none need be asked.
+fn is_narrow(alloc: Global, kept: &Kept, change: Change) -> Result<bool, AllocError>
+    requires kept { IsKept kept.now }
+    requires change { NamesNodes (nodes_in kept.now) change.node (option_copied change.next) }
+    ensures { IfOk result (λ narrow. narrow ≡ true → wide_in (changed (nodes_in kept.now) change.entry.node (option_copied change.entry.next)) ≡ None) }
+{
+    if !is_active_after(&kept.active, None, change.node) {
+        return Ok(false);
+    }
+    let ends = find_ends(alloc, kept, Some(change), change.node)?;
+    Ok(ends.len() <= 1)
+}
+
+// The first of these nodes that has too many ends after the change.
+fn find_wide_among(
+    alloc: Global,
+    kept: &Kept,
+    change: Change,
+    nodes: &[u32],
+) -> Result<Option<u32>, AllocError>
+    requires kept { IsKept kept.now }
+    requires change { NamesNodes (nodes_in kept.now) change.node (option_copied change.next) }
+    requires nodes { All (λ node. node < length kept.now.active.items) nodes.now }
+    ensures { IfOk result (λ found. found ≡ find (is_wide (changed (nodes_in kept.now) change.entry.node (option_copied change.entry.next))) nodes.now) }
+{
+    for node in nodes {
+        let ends = find_ends(alloc, kept, Some(change), *node)?;
+        if ends.len() > MOST_ENDS {
+            return Ok(Some(*node));
+        }
+    }
+    Ok(None)
+}
+
+// The least node with too many ends after the change: only the sources of the changed node can have more than before.
+fn find_wide(alloc: Global, kept: &Kept, change: Change) -> Result<Option<u32>, AllocError>
+    requires kept { IsKept kept.now }
+    requires change { NamesNodes (nodes_in kept.now) change.node (option_copied change.next) }
+    ensures { IfOk result (λ found. found ≡ wide_in (changed (nodes_in kept.now) change.entry.node (option_copied change.entry.next))) }
+{
+    let sources = find_sources(alloc, kept, change.node)?;
+    find_wide_among(alloc, kept, change, &sources)
+}
+
+/// The first fault of the change.
+pub(crate) fn check_change(alloc: Global, kept: &Kept, change: Change) -> Result<(), GraphFault>
+    requires kept { IsKept kept.now }
+    requires change { IsChange (nodes_in kept.now) change.node (option_copied change.next) }
+    ensures { IsVerdict result (change_fault (nodes_in kept.now) change.entry.node (option_copied change.entry.next)) }
+{
+    if let Some(place) = find_cycle(alloc, kept, change.node, successors(change.next))? {
+        return Err(GraphFault::Cycle(place));
+    }
+    if is_narrow(alloc, kept, change)? {
+        return Ok(());
+    }
+    if let Some(node) = find_wide(alloc, kept, change)? {
+        return Err(GraphFault::TooWide(node));
+    }
+    Ok(())
+}

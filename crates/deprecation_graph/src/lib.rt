@@ -1,0 +1,28 @@
+//! A graph of deprecations (NIST IR 7697): which nodes replace a node, and at which active ones it ends.
+//!
+//! Nodes are numbers from 0 without gaps. A node is active, or it is inactive and has a list of successors, which may be
+//! empty. A path is a list of nodes in which each is a successor of the one before. The chain of a node is what paths
+//! lead to from it, itself included; its ends are the active nodes of its chain; its sources are the nodes whose chain
+//! has it. There is never a cycle, and no node has more than [`MOST_ENDS`] ends: [`DeprecationGraph::check`] tells whether
+//! a change keeps it so, and [`DeprecationGraph::set_edges`] makes a change that is allowed, without memory.
+//!
+//! Edges are kept both ways. A search costs what it finds, and not the number of nodes.
+//!
+//! Laws are stated as functions that do nothing: [`chains_are_paths`], [`changes_are_local`], [`additions_are_local`].
+#![tactic(auto)]
+
+mod changes;
+mod check;
+mod fault;
+mod graph;
+mod kept;
+mod laws;
+mod limits;
+mod lists;
+mod mirror;
+mod search;
+
+pub use fault::{GraphFault, Memory};
+pub use graph::DeprecationGraph;
+pub use laws::{additions_are_local, chains_are_paths, changes_are_local};
+pub use limits::{MOST_EDGES, MOST_ENDS, MOST_NODES, MOST_SUCCESSORS};

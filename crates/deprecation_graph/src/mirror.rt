@@ -1,0 +1,82 @@
+// Edges that are kept both ways: the successors of each node, and its predecessors.
+ghost use Rattle.std.specs.Prelude.{◌≡◌, ◌+◌, ◌++◌, ◌∷◌, [], ◌<◌, ◌≤◌, length, slice_set};
+ghost use Rattle.std.specs.List.{Contains, All};
+ghost use Rattle.deprecation_graph.specs.Indexed.{list_of, without};
+ghost use Rattle.deprecation_graph.specs.Mirror.{IsMirror};
+
+use crate::lists::Lists;
+
+// Adds an edge.
+fn link(next: &mut Lists, before: &mut Lists, from: u32, to: u32)
+    requires from { from < length next.old.lists }
+    requires to { to < length before.old.lists }
+    requires next_spare { 1 ≤ next.old.spare }
+    requires before_spare { 1 ≤ before.old.spare }
+    requires mirror { IsMirror next.old.lists before.old.lists }
+    ensures next { next.new.lists ≡ slice_set next.old.lists from (list_of next.old.lists from ++ to ∷ []) }
+    ensures before { before.new.lists ≡ slice_set before.old.lists to (list_of before.old.lists to ++ from ∷ []) }
+    ensures mirror { IsMirror next.new.lists before.new.lists }
+    ensures next_spare { next.new.spare + 1 ≡ next.old.spare }
+    ensures before_spare { before.new.spare + 1 ≡ before.old.spare }
+    ensures next_room { next.new.room ≡ next.old.room }
+    ensures before_room { before.new.room ≡ before.old.room }
+{
+    next.push(from as usize, to);
+    before.push(to as usize, from);
+}
+
+// Takes out an edge.
+fn unlink(next: &mut Lists, before: &mut Lists, from: u32, to: u32)
+    requires from { from < length next.old.lists }
+    requires to { to < length before.old.lists }
+    requires there { Contains (list_of next.old.lists from) to }
+    requires mirror { IsMirror next.old.lists before.old.lists }
+    ensures next { next.new.lists ≡ slice_set next.old.lists from (without to (list_of next.old.lists from)) }
+    ensures before { before.new.lists ≡ slice_set before.old.lists to (without from (list_of before.old.lists to)) }
+    ensures mirror { IsMirror next.new.lists before.new.lists }
+    ensures next_spare { next.new.spare ≡ next.old.spare + 1 }
+    ensures before_spare { before.new.spare ≡ before.old.spare + 1 }
+    ensures next_room { next.new.room ≡ next.old.room }
+    ensures before_room { before.new.room ≡ before.old.room }
+{
+    next.remove(from as usize, to);
+    before.remove(to as usize, from);
+}
+
+/// Takes out all edges from a number.
+pub(crate) fn unlink_all(next: &mut Lists, before: &mut Lists, from: u32)
+    requires from { from < length next.old.lists }
+    requires closed { All (λ to. to < length before.old.lists) (list_of next.old.lists from) }
+    requires mirror { IsMirror next.old.lists before.old.lists }
+    ensures next { next.new.lists ≡ slice_set next.old.lists from [] }
+    ensures before { length before.new.lists ≡ length before.old.lists }
+    ensures mirror { IsMirror next.new.lists before.new.lists }
+    ensures next_spare { next.new.spare ≡ next.old.spare + length (list_of next.old.lists from) }
+    ensures before_spare { before.new.spare ≡ before.old.spare + length (list_of next.old.lists from) }
+    ensures next_room { next.new.room ≡ next.old.room }
+    ensures before_room { before.new.room ≡ before.old.room }
+{
+    while let Some(to) = next.first(from as usize) {
+        unlink(next, before, from, to);
+    }
+}
+
+/// Adds edges from a number to these.
+pub(crate) fn link_all(next: &mut Lists, before: &mut Lists, from: u32, all: &[u32])
+    requires from { from < length next.old.lists }
+    requires closed { All (λ to. to < length before.old.lists) all.now }
+    requires mirror { IsMirror next.old.lists before.old.lists }
+    requires next_spare { length all.now ≤ next.old.spare }
+    requires before_spare { length all.now ≤ before.old.spare }
+    ensures next { next.new.lists ≡ slice_set next.old.lists from (list_of next.old.lists from ++ all.now) }
+    ensures before { length before.new.lists ≡ length before.old.lists }
+    ensures mirror { IsMirror next.new.lists before.new.lists }
+    ensures next_spare { next.new.spare + length all.now ≡ next.old.spare }
+    ensures before_spare { before.new.spare + length all.now ≡ before.old.spare }
+    ensures next_room { next.new.room ≡ next.old.room }
+    ensures before_room { before.new.room ≡ before.old.room }
+{
+    for to in all {
+        link(next, before, from, *to);
+    }
+}

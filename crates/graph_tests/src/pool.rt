@@ -1,0 +1,79 @@
+// A pool: a list is made, grows, loses a value, and is dropped.
+ghost use Rattle.std.specs.Prelude.{◌≤◌, IfOk};
+ghost use Rattle.list_pool.specs.Pool.{IsLive};
+
+use list_pool::{ListName, Memory, Pool};
+use std::alloc::Global;
+
+// A pool with room for three.
+fn three(alloc: Global) -> Result<Pool, Memory>
+    ensures { IfOk result (λ pool. 3 ≤ pool.spare) }
+{
+    let mut pool = Pool::new(alloc);
+    pool.reserve(3)?;
+    Ok(pool)
+}
+
+// Whether the only value of the list is this one.
+fn is_alone(pool: &Pool, list: ListName, value: u32) -> bool
+    requires { IsLive pool.now.lists list.0 }
+{
+    match pool.first(list) {
+        Some(cell) => pool.value(cell) == value && pool.next(cell).is_none(),
+        None => false,
+    }
+}
+
+// A list of 7 and 9 loses the 7.
+fn keeps_the_nine(alloc: Global) -> bool {
+    let Ok(mut pool) = three(alloc) else {
+        return false;
+    };
+    let Some(list) = pool.make_list() else {
+        return false;
+    };
+    pool.push(list, 7);
+    pool.push(list, 9);
+    pool.remove_value(list, 7) && is_alone(&pool, list, 9)
+}
+
+// What was taken out makes room again: a pool of three slots takes a list's first, second and third value in turn.
+fn slots_are_used_again(alloc: Global) -> bool {
+    let Ok(mut pool) = three(alloc) else {
+        return false;
+    };
+    let Some(list) = pool.make_list() else {
+        return false;
+    };
+    pool.push(list, 7);
+    pool.push(list, 9);
+    let taken = pool.remove_value(list, 7);
+    if !taken {
+        return false;
+    }
+    pool.push(list, 11);
+    pool.remove_value(list, 9) && is_alone(&pool, list, 11)
+}
+
+fn a_dropped_list_is_not_live(alloc: Global) -> bool {
+    let Ok(mut pool) = three(alloc) else {
+        return false;
+    };
+    let Some(list) = pool.make_list() else {
+        return false;
+    };
+    pool.push(list, 7);
+    pool.drop_list(list);
+    !pool.live(list)
+}
+
+#[test]
+fn a_value_is_taken_out(rt: HostRuntime) {
+    assert!(rt; keeps_the_nine(rt.alloc()));
+}
+
+#[test]
+fn room_comes_back(rt: HostRuntime) {
+    assert!(rt; slots_are_used_again(rt.alloc()));
+    assert!(rt; a_dropped_list_is_not_live(rt.alloc()));
+}

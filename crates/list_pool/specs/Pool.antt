@@ -1,0 +1,83 @@
+-- What a contract sees of a `Pool`.
+use Rattle.std.specs.Prelude.{◌≡◌, ◌≢◌, ℕ, ◌+◌, ◌==◌, List, length, [], ◌∷◌, ◌++◌, Option, Some, None, is_some, IsSome, Bool, true, false, cond, count_by, slice_get, slice_index_or}
+use Rattle.std.specs.List.{sum_by}
+use Rattle.std.specs.Option.{option_map}
+
+-- a cell of a list: its name and its value
+abbrev pub Row : Type 0
+Row = ℕ × ℕ
+
+-- the list of each name, or nothing where the name is not live; and how many cells and lists may be added with no memory
+pub record Lists : Type 0 where
+  pub lists : List (Option (List Row))
+  pub spare : ℕ
+
+-- the list of a name, if it is live
+abbrev pub find_list : List (Option (List Row)) → ℕ → Option (List Row)
+find_list ls name = slice_index_or ls name None
+
+abbrev pub IsLive : List (Option (List Row)) → ℕ → Type 0
+IsLive ls name = IsSome (find_list ls name)
+
+abbrev pub rows_or_none : Option (List Row) → List Row
+rows_or_none None = []
+rows_or_none (Some xs) = xs
+
+-- the list of a live name
+abbrev pub list_at : List (Option (List Row)) → ℕ → List Row
+list_at ls name = rows_or_none (find_list ls name)
+
+-- a list takes a slot, and one more for each of its values
+abbrev pub slots_of : Option (List Row) → ℕ
+slots_of None = 0
+slots_of (Some xs) = length xs + 1
+
+-- the number of live lists and their lengths
+abbrev pub pool_size : List (Option (List Row)) → ℕ
+pool_size ls = sum_by slots_of ls
+
+abbrev pub live_count : List (Option (List Row)) → ℕ
+live_count ls = count_by is_some ls
+
+-- this name has this list afterwards, and every other name keeps what it had
+pub record Updates (old new : List (Option (List Row))) (name : ℕ) (list : Option (List Row)) : Type 0 where
+  pub changed : find_list new name ≡ list
+  pub others : (other : ℕ) → other ≢ name → find_list new other ≡ find_list old other
+
+-- the cell at a position of a list
+abbrev pub cell_at : List (Option (List Row)) → ℕ → ℕ → Option ℕ
+cell_at ls name k = option_map (λ (x : Row). x.0) (slice_get (list_at ls name) k)
+
+-- the value at a position of a list
+abbrev pub value_at : List (Option (List Row)) → ℕ → ℕ → Option ℕ
+value_at ls name k = option_map (λ (x : Row). x.1) (slice_get (list_at ls name) k)
+
+-- a cell that was on no list goes last with the value
+abbrev pub Pushes : List (Option (List Row)) → List (Option (List Row)) → ℕ → ℕ → Type 0
+Pushes old new name value =
+    (cell : ℕ) × ((other k : ℕ) → cell_at old other k ≡ Some cell → ⊥) × Updates old new name (Some (list_at old name ++ (cell, value) ∷ []))
+
+-- the cell stands at a position of a live list
+abbrev pub IsCell : List (Option (List Row)) → ℕ → Type 0
+IsCell ls cell = (name : ℕ) × (k : ℕ) × (cell_at ls name k ≡ Some cell)
+
+-- what stands behind the cell, wherever it stands
+abbrev pub NextIs : List (Option (List Row)) → ℕ → Option ℕ → Type 0
+NextIs ls cell next = (name k : ℕ) → cell_at ls name k ≡ Some cell → next ≡ cell_at ls name (k + 1)
+
+abbrev pub ValueIs : List (Option (List Row)) → ℕ → ℕ → Type 0
+ValueIs ls cell value = (name k : ℕ) → cell_at ls name k ≡ Some cell → value_at ls name k ≡ Some value
+
+-- some cell has the value
+abbrev pub has_value : ℕ → List Row → Bool
+has_value value [] = false
+has_value value (x ∷ xs) = cond (x.1 == value) true (has_value value xs)
+
+-- the list without its first cell of this value
+abbrev pub without_first : ℕ → List Row → List Row
+without_first value [] = []
+without_first value (x ∷ xs) = cond (x.1 == value) xs (x ∷ without_first value xs)
+
+-- no cell stands at two positions, of one list or of two
+abbrev pub AreApart : List (Option (List Row)) → Type 0
+AreApart ls = (a i b j cell : ℕ) → cell_at ls a i ≡ Some cell → cell_at ls b j ≡ Some cell → (a ≡ b) × (i ≡ j)
