@@ -24,6 +24,12 @@ pair-refused pairs that are spoilt: one third each has not exactly one space, a 
 pair-long    pairs whose lines have nearly 65,536 bytes: a product, and a part of it between asterisks
 pair-equal   the same of bytes that are all equal but the last of the part, which doesn't stand
              in the product: the worst for a search that tries each place
+entry        records of `resolve` that add an entry each: names of the sample and, behind them, the
+             same names in other versions, no two alike; a third of them with a provenance
+asked        as many such records, and then 1,000 lookups and 1,000 shows of these names and of others
+searched     as many such records, and then 100 searches
+asked-often  as many such records, and then 60,000 lines: one third each is a lookup, a show, and an
+             entry that is there already
 edges        lines about the greatest length, long ones and odd line ends, and names whose
              attributes stand in other ways (LINES is not read); only for the comparison
              of outputs
@@ -51,6 +57,8 @@ ATTRIBUTES = b"part vendor product version update edition language sw_edition ta
 # None of these stands between the quotes of a value, behind a whole character.
 QUOTE_FAULTS = (b".", b"-", b"!", b'"', b"\\a", b"\\_", b" ", b"\x7f", b"\xc3\xa9")
 BAD_PARTS = (b'"x"', b'"A"', b'"ah"', b'"*"', b'""', b"a")
+# How many lines stand behind the entries of `asked` (twice), `searched` and `asked-often`.
+ASKED, SEARCHED, ASKED_OFTEN = 1000, 100, 60_000
 
 
 class Draw:
@@ -318,6 +326,98 @@ def equal_pair_lines(count):
         yield long_pair(b"a" * (room - room // 4), 0, room // 4, b"b")
 
 
+def spelled(text):
+    """The JSON of a text in which no control character stands."""
+    return b'"' + re.sub(rb'["\\]', rb"\\\g<0>", text) + b'"'
+
+
+def record(verb, name, more=b""):
+    return b'{"do":"%s","name":%s%s}' % (verb, spelled(name), more)
+
+
+def in_another_version(draw, name):
+    components = components_of(name)
+    components[3] = b"%d.%d.%d" % (draw.between(0, 19), draw.between(0, 29), draw.between(0, 99))
+    return PREFIX + b":".join(components)
+
+
+def entry_names(draw, count):
+    """So many names, no two alike."""
+    seen, names = {}, sorted(sample(), key=lambda _: draw.random())
+    for name in itertools.islice(itertools.cycle(names), count):
+        while name in seen:
+            name = in_another_version(draw, name)
+        seen[name] = None
+    return list(seen)
+
+
+def title_of(name):
+    """Such as `Microsoft Internet Explorer 8.0.6001 Beta`."""
+    texts = [re.sub(rb"\\(.)", rb"\1", it) for it in components_of(name)[1:] if it not in (b"*", b"-")]
+    words = b" ".join(texts).replace(b"_", b" ").split(b" ")
+    return b" ".join(it[:1].upper() + it[1:] for it in words)
+
+
+def entry(draw, name, number):
+    more = b',"title":' + spelled(title_of(name))
+    if number % 3 == 0:
+        date = b"%d-%02d-%02d" % (draw.between(2007, 2024), draw.between(1, 12), draw.between(1, 28))
+        note = b'{"kind":"ORIGINAL_RECORD","date":"%s","comment":"taken over from the vendor\'s list"}' % date
+        more += b',"provenance":{"submitter":%s,"authority":"nvd.nist.gov","changes":[%s]}' % (spelled(components_of(name)[1]), note)
+    return record(b"entry", name, more)
+
+
+def entry_lines(count):
+    draw = Draw()
+    return [entry(draw, it, number) for number, it in enumerate(entry_names(draw, count))]
+
+
+def asked_name(draw, names):
+    """A name that is an entry's, or in one of eight cases another version of it; in either binding."""
+    name = draw.one_of(names)
+    if draw.between(0, 7) == 0:
+        name = in_another_version(draw, name)
+    return uri_of(name) if draw.between(0, 2) == 0 else name
+
+
+def asked_lines(count):
+    yield from entry_lines(count)
+    draw = Draw()
+    names = entry_names(draw, count)
+    for verb in (b"lookup", b"show"):
+        for _ in range(ASKED):
+            yield record(verb, asked_name(draw, names))
+
+
+def often_asked_lines(count):
+    entries = entry_lines(count)
+    yield from entries
+    draw = Draw()
+    names = entry_names(draw, count)
+    for number in range(ASKED_OFTEN):
+        if number % 3 == 2:
+            yield draw.one_of(entries)
+        else:
+            yield record((b"lookup", b"show")[number % 3], asked_name(draw, names))
+
+
+def searched_lines(count):
+    """Searches, one third each for a product, for the front of a product's text, and for a part of one."""
+    yield from entry_lines(count)
+    draw = Draw()
+    names = entry_names(draw, count)
+    for number in range(SEARCHED):
+        part, vendor, product = components_of(draw.one_of(names))[:3]
+        characters = re.findall(rb"\\.|.", product)
+        if number % 3 == 0:
+            name = PREFIX + b":".join((part, vendor, product)) + b":*" * 8
+        elif number % 3 == 1:
+            name = PREFIX + b"*:*:" + b"".join(characters[:5]) + b"*" + b":*" * 8
+        else:
+            name = PREFIX + part + b":*:*" + b"".join(characters[len(characters) // 3 :][:5]) + b"*" + b":*" * 8
+        yield record(b"search", name, b',"active":true' * (number % 2))
+
+
 def wfn_edges():
     """Texts about the greatest length, and such whose attributes stand in other ways than in `wfn`."""
     room = LONGEST - len(b'wfn:[product=""]')
@@ -409,6 +509,10 @@ MODES = {
     "pair-refused": refused_pair_lines,
     "pair-long": long_pair_lines,
     "pair-equal": equal_pair_lines,
+    "entry": entry_lines,
+    "asked": asked_lines,
+    "searched": searched_lines,
+    "asked-often": often_asked_lines,
 }
 
 

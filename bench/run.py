@@ -1,9 +1,9 @@
 #!/usr/bin/env python3
-"""Measures `cpe unbind`, `cpe bind fs`, `cpe bind uri` and `cpe compare` against unproved Rust programs that
-write the same, on the same input.
+"""Measures `cpe unbind`, `cpe bind fs`, `cpe bind uri`, `cpe compare` and `cpe resolve` against unproved
+Rust programs that write the same, on the same input.
 
-Prints a table for each command and input: seconds, the ratio to `cpe`, and peak memory.
-README.md beside this file says how to read it.
+Prints a table for each command and input: seconds, the ratio to `cpe`, and peak memory; and for
+`cpe resolve` what a line takes by the number of entries. README.md beside this file says how to read it.
 """
 import argparse
 import fcntl
@@ -25,14 +25,19 @@ TOP = HERE.parent
 BUILD = TOP / "build" / "bench"
 # The commands, each with the twins that answer as it does; and what copies only.
 UNBIND, BIND_FS, BIND_URI, COMPARE = "cpe unbind", "cpe bind fs", "cpe bind uri", "cpe compare"
+RESOLVE = "cpe resolve"
 BIND_TWINS = ["bind_tuned", "bind_plain"]
 TWINS = {
     UNBIND: ["unbind_tuned", "unbind_plain"],
     BIND_FS: BIND_TWINS,
     BIND_URI: BIND_TWINS,
     COMPARE: ["compare_tuned", "compare_plain"],
+    RESOLVE: ["resolve_tuned"],
 }
 COPIES = ["lines"]
+# (it reads records as JSON and writes them again)
+JQ = "jq -c ."
+VECTORS = TOP / "tests" / "vectors" / "resolve"
 USAGE = 2
 PIECE = 1 << 16
 
@@ -49,7 +54,7 @@ def built_twins():
     BUILD.mkdir(parents=True, exist_ok=True)
     found = {}
     readers = list((HERE / "twins").glob("reading_*.rs"))
-    for name in [*TWINS[UNBIND], *BIND_TWINS, *TWINS[COMPARE], *COPIES]:
+    for name in [*TWINS[UNBIND], *BIND_TWINS, *TWINS[COMPARE], *TWINS[RESOLVE], *COPIES]:
         source, program = HERE / "twins" / f"{name}.rs", BUILD / name
         if is_older(program, source, *readers):
             # (the processor that Rattle builds for, too)
@@ -166,6 +171,34 @@ def measure_memory(ours, counts):
         print(f"{count:>10,} lines{in_kib(peak(ours, made('valid', count))):>10} KiB")
 
 
+def measure_rows(programs, counts, rounds):
+    """What a line takes by the number of entries there are: one that adds an entry, and one that asks for one."""
+    print(f"\n{RESOLVE}, microseconds a line by the number of entries, best of {rounds} and more, the start of the program taken off")
+    print(f"{'program':<14}{'entries':>10}{'an entry':>10}{'a question':>12}")
+    for count in counts:
+        # (a run over few entries is short, and bears noise worse)
+        often = rounds * max(1, 20_000 // count)
+        starts, added = [best_times(programs, it, often) for it in (pathlib.Path(os.devnull), made("entry", count))]
+        asked = best_times(programs, made("asked-often", count), rounds)
+        for name in programs:
+            entry = (added[name] - starts[name]) / count
+            question = (asked[name] - added[name]) / make_lines.ASKED_OFTEN
+            print(f"{name:<14}{count:>10,}{entry * 1e6:>10.2f}{question * 1e6:>12.2f}", flush=True)
+
+
+def measure_dictionary(programs, count, rounds):
+    """What a search over so many entries takes, and what an entry takes of memory."""
+    empty, entries = pathlib.Path(os.devnull), made("entry", count)
+    added, searched = [best_times(programs, it, rounds) for it in (entries, made("searched", count))]
+    print(f"\n{RESOLVE}, {count:,} entries, best of {rounds}")
+    print(f"{'program':<14}{'ms a search':>12}{'bytes an entry':>16}")
+    for name, words in programs.items():
+        search = (searched[name] - added[name]) / make_lines.SEARCHED
+        before, behind = peak(words, empty), peak(words, entries)
+        taken = "-" if None in (before, behind) else f"{(behind - before) * 1024 / count:,.0f}"
+        print(f"{name:<14}{search * 1e3:>12.2f}{taken:>16}", flush=True)
+
+
 def knows(words):
     """Whether the program has this command; where it hasn't, it answers its usage line."""
     run = subprocess.run(words, stdin=subprocess.DEVNULL, stdout=subprocess.PIPE)
@@ -212,6 +245,22 @@ def parts_of(program, others, lines):
         yield COMPARE, compare, inputs, [*edges, made("pair-edges", 0)]
     else:
         print(f"the program has no command {COMPARE}: that part is left out")
+    resolve = side_by_side(program, RESOLVE, others)
+    if knows(resolve[RESOLVE]):
+        if JQ in others:
+            resolve[JQ] = others[JQ]
+        else:
+            print("jq is not on PATH: it is left out")
+        count = entries_of(lines)
+        inputs = [made("entry", count), made("asked", count), made("searched", count)]
+        yield RESOLVE, resolve, inputs, sorted(VECTORS.glob("*.in"))
+    else:
+        print(f"the program has no command {RESOLVE}: that part is left out")
+
+
+def entries_of(lines):
+    """As many entries as a real dictionary has, where the other inputs have 1,000,000 lines."""
+    return max(1, lines * 128_650 // 1_000_000)
 
 
 def said():
@@ -229,7 +278,10 @@ def said():
 
 def main():
     given = said()
-    parts = list(parts_of(given.program.resolve(), built_twins(), given.lines))
+    others = built_twins()
+    if shutil.which("jq"):
+        others[JQ] = JQ.split()
+    parts = list(parts_of(given.program.resolve(), others, given.lines))
     for command, programs, paths, edges in parts:
         check_twins(command, programs, [*paths, *edges])
     print(f"load before: {os.getloadavg()[0]:.1f} on {os.cpu_count()} processors")
@@ -237,6 +289,11 @@ def main():
         for path in paths:
             measure(command, programs, path, given.rounds)
     measure_memory([given.program.resolve(), "unbind"], [given.lines // 100, given.lines // 10, given.lines])
+    for command, programs, _, _ in parts:
+        if command == RESOLVE:
+            answering = {name: programs[name] for name in (RESOLVE, *TWINS[RESOLVE]) if name in programs}
+            measure_rows(answering, [given.lines // 1000, given.lines // 100, given.lines // 10], given.rounds)
+            measure_dictionary(answering, entries_of(given.lines), given.rounds)
     print(f"\nload behind: {os.getloadavg()[0]:.1f}")
 
 
