@@ -22,7 +22,7 @@ use Rattle.cpe_name.specs.Text.{value_text}
 use Rattle.cpe_name.specs.Scanning.{slot}
 use Rattle.cpe_name.specs.Spans.{texts, or_any, AreWritten}
 use Rattle.cpe_name.proofs.Items.{between_is}
-use Rattle.cpe_name.proofs.WholeTexts.{value_found, good_value, each_text}
+use Rattle.cpe_name.proofs.WholeTexts.{made_of_value, good_value, each_text}
 use Rattle.cpe_fs.specs.Grammar.{component, fs_text}
 use Rattle.cpe_fs.specs.Unquoting.{begins_bare, unquoted, component_from, keyed, written_string}
 
@@ -139,8 +139,7 @@ unfolding component_from
 none_component = refl
 
 component_is : (u : List ℕ) (v : Value) → IsValue v → or_any u ≡ value_text v → component_from u ≡ component v
-component_is [] v good is = none_component ∙ ap component (value_found v [] good is)
-component_is (c ∷ u) v good is = ap component_from is ∙ text_component v
+component_is = made_of_value component_from component none_component text_component
 
 -- ---- names
 

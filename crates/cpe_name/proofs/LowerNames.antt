@@ -16,6 +16,7 @@ use Rattle.cpe_name.specs.declared.attribute.Attribute.{Attribute}
 use Rattle.cpe_name.specs.declared.attribute.Attribute.TheVariants.{Part, Vendor, Product, Version, Update, Edition, Language, SwEdition, TargetSw, TargetHw, Other}
 use Rattle.cpe_name.specs.Names.{attributes, value_of, Suits, IsName}
 use Rattle.cpe_name.specs.Lower.{lower_name}
+use Rattle.cpe_name.proofs.WholeTexts.{value_named}
 use Rattle.cpe_name.specs.Shapes.{is_part_letter, is_part_body, is_part, is_region, is_language_body, is_language}
 
 -- ---- bytes
@@ -107,6 +108,9 @@ lower_suits TargetHw v is = lower_lawful_value v is
 lower_suits Other v is = lower_lawful_value v is
 
 -- ---- names
+
+pub lower_at : (w : Values) (a : Attribute) → value_of (lower_name w) a ≡ lower_value (value_of w a)
+lower_at w a = value_named (λ b. lower_value (value_of w b)) a
 
 -- a name in lower case is a name
 pub lower_lawful : (w : Values) → IsName w → IsName (lower_name w)

@@ -46,6 +46,11 @@ value_by f TargetSw = refl
 value_by f TargetHw = refl
 value_by f Other = refl
 
+-- the value of each attribute is the one that was named for it
+pub value_named : (f : Attribute → Value) (a : Attribute) → value_of (named (map f attributes)) a ≡ f a
+unfolding values_by
+value_named f a = value_by f a
+
 -- a value that suits the attribute and has the text, which is ANY where none is given
 record Has (a : Attribute) (u : List ℕ) : Type 0 where
   value : Value
@@ -108,6 +113,11 @@ from_any (c ∷ u) = refl
 -- a value is found from its text
 pub value_found : (v : Value) (u : List ℕ) → IsValue v → or_any u ≡ value_text v → value_from u ≡ v
 value_found v u good is = from_any u ∙ ap value_from is ∙ value_back v good
+
+-- what is made of each value's text, and of nothing where that is ANY, is made of what stands for the value
+pub made_of_value : (from : List ℕ → List ℕ) (made : Value → List ℕ) → from [] ≡ made value.Any → ((w : Value) → from (value_text w) ≡ made w) → (u : List ℕ) (v : Value) → IsValue v → or_any u ≡ value_text v → from u ≡ made v
+made_of_value from made none each [] v good is = none ∙ ap made (value_found v [] good is)
+made_of_value from made none each (c ∷ u) v good is = ap from is ∙ each v
 
 by_same : (f g : Attribute → List ℕ) (rest : List (Attribute × ℕ)) → AllByRecursion (λ b. f b ≡ g b) (names rest) → flat_map (later_by f) rest ≡ flat_map (later_by g) rest
 by_same f g [] h = refl

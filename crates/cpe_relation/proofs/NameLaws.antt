@@ -9,6 +9,7 @@ use Rattle.cpe_name.specs.declared.attribute.Attribute.{Attribute}
 use Rattle.cpe_name.specs.declared.attribute.Attribute.TheVariants.{Part, Vendor, Product, Version, Update, Edition, Language, SwEdition, TargetSw, TargetHw, Other}
 use Rattle.cpe_name.specs.Names.{attributes, value_of, named}
 use Rattle.cpe_name.specs.Lower.{lower_name}
+use Rattle.cpe_name.proofs.LowerNames.{lower_at}
 use Rattle.cpe_relation.specs.declared.relation.Relation.{Relation}
 use Rattle.cpe_relation.specs.declared.relation.Relation.TheVariants.{Disjoint, Equal, Subset, Superset, Undefined}
 use Rattle.cpe_relation.specs.Table.{relation}
@@ -114,24 +115,11 @@ covers_one a b h k = ap named (lowered_same a b attributes h k)
 
 -- ---- letter case
 
-lower_of : (a : Values) (w : Attribute) → value_of (lower_name a) w ≡ lower_value (value_of a w)
-lower_of a Part = refl
-lower_of a Vendor = refl
-lower_of a Product = refl
-lower_of a Version = refl
-lower_of a Update = refl
-lower_of a Edition = refl
-lower_of a Language = refl
-lower_of a SwEdition = refl
-lower_of a TargetSw = refl
-lower_of a TargetHw = refl
-lower_of a Other = refl
-
 between_lower : (a b : Values) (ws : List Attribute) → between (lower_name a) (lower_name b) ws ≡ between a b ws
 between_lower a b [] = refl
 between_lower a b (w ∷ ws) =
     let is : relation (value_of (lower_name a) w) (value_of (lower_name b) w) ≡ relation (value_of a w) (value_of b w) =
-    ap (λ (x : Value). relation x (value_of (lower_name b) w)) (lower_of a w) ∙ ap (λ (x : Value). relation (lower_value (value_of a w)) x) (lower_of b w) ∙ relation_lower (value_of a w) (value_of b w) in
+    ap (λ (x : Value). relation x (value_of (lower_name b) w)) (lower_at a w) ∙ ap (λ (x : Value). relation (lower_value (value_of a w)) x) (lower_at b w) ∙ relation_lower (value_of a w) (value_of b w) in
     ap (λ (x : Relation). x ∷ between (lower_name a) (lower_name b) ws) is ∙ ap (λ (r : List Relation). relation (value_of a w) (value_of b w) ∷ r) (between_lower a b ws)
 
 pub relations_lower : (a b : Values) → relations (lower_name a) (lower_name b) ≡ relations a b

@@ -1,35 +1,34 @@
 -- Which bytes stand bare, whatever the style.
-use Rattle.std.proofs.Common.{◌≡◌, ℕ, true, false, eqb, refl, arith}
+use Rattle.std.proofs.Common.{◌≡◌, ℕ, Bool, true, false, eqb, refl, arith}
 use Rattle.std.proofs.lemmas.Bool.Decides.{nat_tests}
 use Rattle.cpe_values.specs.declared.spelling.Style.{Style}
 use Rattle.cpe_values.specs.declared.spelling.Style.TheVariants as style
 use Rattle.cpe_values.specs.Parts.{is_character}
 use Rattle.cpe_values.specs.Spelling.{is_bare}
 
+in_both : (here : Style) (byte : ℕ) (bare : Bool) → is_bare style.Wfn byte ≡ bare → is_bare style.Formatted byte ≡ bare → is_bare here byte ≡ bare
+in_both style.Wfn byte bare wfn formatted = wfn
+in_both style.Formatted byte bare wfn formatted = formatted
+
 -- a letter stands bare
 pub letter_bare : (here : Style) → is_bare here 97 ≡ true
-letter_bare style.Wfn = refl
-letter_bare style.Formatted = refl
+letter_bare here = in_both here 97 true refl refl
 
 -- an exclamation mark doesn't
 pub bang_not_bare : (here : Style) → is_bare here 33 ≡ false
-bang_not_bare style.Wfn = refl
-bang_not_bare style.Formatted = refl
+bang_not_bare here = in_both here 33 false refl refl
 
 -- nor does an asterisk
 pub star_not_bare : (here : Style) → is_bare here 42 ≡ false
-star_not_bare style.Wfn = refl
-star_not_bare style.Formatted = refl
+star_not_bare here = in_both here 42 false refl refl
 
 -- nor a question mark
 pub mark_not_bare : (here : Style) → is_bare here 63 ≡ false
-mark_not_bare style.Wfn = refl
-mark_not_bare style.Formatted = refl
+mark_not_bare here = in_both here 63 false refl refl
 
 -- nor a backslash
 pub slash_not_bare : (here : Style) → is_bare here 92 ≡ false
-slash_not_bare style.Wfn = refl
-slash_not_bare style.Formatted = refl
+slash_not_bare here = in_both here 92 false refl refl
 
 -- what stands bare is printable
 pub bare_character : (here : Style) (c : ℕ) → is_bare here c ≡ true → is_character c ≡ true

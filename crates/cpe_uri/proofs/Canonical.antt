@@ -18,12 +18,15 @@ use Rattle.cpe_values.specs.Lower.{lower_parts, lower_value}
 use Rattle.cpe_values.specs.Values.{IsValue}
 use Rattle.cpe_name.specs.declared.name.Values.{Values}
 use Rattle.cpe_name.specs.declared.attribute.Attribute.{Attribute}
-use Rattle.cpe_name.specs.declared.attribute.Attribute.TheVariants.{Part, Vendor, Product, Version, Update, Edition, Language, SwEdition, TargetSw, TargetHw, Other}
+use Rattle.cpe_name.specs.declared.attribute.Attribute.TheVariants.{Part, Vendor, Product, Version, Update, Edition, Language}
 use Rattle.cpe_name.specs.Names.{named, attributes, value_of, IsName}
 use Rattle.cpe_name.specs.Lower.{lower_name, IsLower}
+use Rattle.cpe_name.proofs.LowerNames.{lower_at}
+use Rattle.cpe_name.proofs.WholeTexts.{good_value}
 use Rattle.cpe_uri.specs.Spelling.{edge_codes, text_codes, hex_digit, character, component, is_hex, hex_value, has_percent_form, spells, Spelled, Stands}
 use Rattle.cpe_uri.specs.Canon.{is_any, extended, packed, edition_component, components, trimmed, canon}
 use Rattle.cpe_uri.specs.Grammar.{is_tilde, begins_with_tilde, Fields, EditionStands, Uri}
+use Rattle.cpe_uri.proofs.Texts.{edge_lower}
 
 -- ---- codes
 
@@ -75,15 +78,6 @@ edge_are_codes edge.None = refl
 edge_are_codes edge.Star = refl
 edge_are_codes (edge.Marks n) = marks_codes n
 
-marks_low : (n : ℕ) → map to_ascii_lowercase (replicate n 1) ≡ replicate n 1
-marks_low zero = refl
-marks_low (suc n) = ap (λ (u : List ℕ). 1 ∷ u) (marks_low n)
-
-edge_low : (e : Edge) → map to_ascii_lowercase (edge_codes e) ≡ edge_codes e
-edge_low edge.None = refl
-edge_low edge.Star = refl
-edge_low (edge.Marks n) = marks_low n
-
 body_codes : (b : List ℕ) → list_all is_character b ≡ true → list_all is_code b ≡ true
 body_codes [] h = refl
 body_codes (c ∷ b) h =
@@ -98,7 +92,7 @@ text_are_codes t is =
 
 -- the codes of the specials are their own lower case
 codes_low : (t : Parts) → map to_ascii_lowercase (text_codes t) ≡ text_codes (lower_parts t)
-codes_low t = rw (map-append to_ascii_lowercase (edge_codes t.lead ++ t.body) (edge_codes t.trail), map-append to_ascii_lowercase (edge_codes t.lead) t.body, edge_low t.lead, edge_low t.trail) refl
+codes_low t = rw (map-append to_ascii_lowercase (edge_codes t.lead ++ t.body) (edge_codes t.trail), map-append to_ascii_lowercase (edge_codes t.lead) t.body, edge_lower t.lead, edge_lower t.trail) refl
 
 -- the canonical spelling of a value is an accepted one of the value in lower case
 pub value_stands : (v : Value) → IsValue v → Stands (lower_value v) (component v)
@@ -162,38 +156,12 @@ any_low value.Na h = absurd cc
 any_low (value.Text t) h = absurd cc
 
 -- each value of a name is one
-pub good_value : (w : Values) → IsName w → (a : Attribute) → IsValue (value_of w a)
-good_value w n Part = n.0.0
-good_value w n Vendor = n.1.0
-good_value w n Product = n.1.1.0
-good_value w n Version = n.1.1.1.0
-good_value w n Update = n.1.1.1.1.0
-good_value w n Edition = n.1.1.1.1.1.0
-good_value w n Language = n.1.1.1.1.1.1.0.0
-good_value w n SwEdition = n.1.1.1.1.1.1.1.0
-good_value w n TargetSw = n.1.1.1.1.1.1.1.1.0
-good_value w n TargetHw = n.1.1.1.1.1.1.1.1.1.0
-good_value w n Other = n.1.1.1.1.1.1.1.1.1.1.0
-
-low_value : (w : Values) (a : Attribute) → value_of (lower_name w) a ≡ lower_value (value_of w a)
-low_value w Part = refl
-low_value w Vendor = refl
-low_value w Product = refl
-low_value w Version = refl
-low_value w Update = refl
-low_value w Edition = refl
-low_value w Language = refl
-low_value w SwEdition = refl
-low_value w TargetSw = refl
-low_value w TargetHw = refl
-low_value w Other = refl
-
 module _ (w : Values) (name : IsName w) where
   stands : (a : Attribute) → Stands (value_of (lower_name w) a) (component (value_of w a))
-  stands a = subst (λ (v : Value). Stands v (component (value_of w a))) (sym (low_value w a)) (value_stands (value_of w a) (good_value w name a))
+  stands a = subst (λ (v : Value). Stands v (component (value_of w a))) (sym (lower_at w a)) (value_stands (value_of w a) (good_value w a name))
 
   untilded : (a : Attribute) → list_all (λ c. not (is_tilde c)) (component (value_of w a)) ≡ true
-  untilded a = quiet_untilded (component (value_of w a)) (value_quiet (value_of w a) (good_value w name a))
+  untilded a = quiet_untilded (component (value_of w a)) (value_quiet (value_of w a) (good_value w a name))
 
   fields_stand : (which : List Attribute) → Fields (lower_name w) which (flat_map (λ a. 126 ∷ component (value_of w a)) which)
   fields_stand [] = refl
@@ -203,7 +171,7 @@ module _ (w : Values) (name : IsName w) where
   others_any [] h = tt
   others_any (a ∷ rest) h =
       let p = and_parts (is_any (value_of w a)) (list_all (λ b. is_any (value_of w b)) rest) h in
-      (low_value w a ∙ any_low (value_of w a) p.0, others_any rest p.1)
+      (lower_at w a ∙ any_low (value_of w a) p.0, others_any rest p.1)
 
   edition_stands : EditionStands (lower_name w) (edition_component w)
   edition_stands = elim (cases_Bool (list_all (λ a. is_any (value_of w a)) extended)) [
@@ -325,12 +293,12 @@ lower_is_lower w = ap named (again attributes)
     again : (which : List Attribute) → map (λ a. lower_value (value_of (lower_name w) a)) which ≡ map (λ a. lower_value (value_of w a)) which
     again [] = refl
     again (a ∷ rest) =
-        let same : lower_value (value_of (lower_name w) a) ≡ lower_value (value_of w a) = ap lower_value (low_value w a) ∙ value_again (value_of w a) in
+        let same : lower_value (value_of (lower_name w) a) ≡ lower_value (value_of w a) = ap lower_value (lower_at w a) ∙ value_again (value_of w a) in
         cc (same, again rest)
 
 module _ (w : Values) (name : IsName w) where
   uncoloned : (a : Attribute) → Uncoloned (component (value_of w a))
-  uncoloned a = quiet_uncoloned (component (value_of w a)) (value_quiet (value_of w a) (good_value w name a))
+  uncoloned a = quiet_uncoloned (component (value_of w a)) (value_quiet (value_of w a) (good_value w a name))
 
   packed_uncoloned : (which : List Attribute) → Uncoloned (flat_map (λ a. 126 ∷ component (value_of w a)) which)
   packed_uncoloned [] = refl

@@ -17,7 +17,7 @@ use Rattle.cpe_uri.specs.declared.text.Stage.{Stage}
 use Rattle.cpe_uri.specs.declared.text.Stage.TheVariants.{Start, Na, Hyphen, LeadStar, LeadMarks, Body, TrailMarks, TrailStar}
 use Rattle.cpe_uri.specs.declared.text.State.{State}
 use Rattle.cpe_uri.specs.declared.text.State.TheVariants.{Whole, Percent, Half}
-use Rattle.cpe_uri.specs.TextMachine.{begins_body, after_mark, after_star, after_character, takes_character, takes_special, takes_digit, is_start, next, is_over, stands_bare, after_bare, after_percent, after_digit, after_code, step, may_end, is_in_body, read_from}
+use Rattle.cpe_uri.specs.TextMachine.{begins_body, after_mark, after_star, after_character, takes_character, takes_special, takes_digit, is_start, next, is_over, stands_bare, after_bare, after_percent, after_digit, after_code, step, may_end, is_in_body, ends_component, read_from}
 use Rattle.cpe_uri.proofs.Stages.{some_stage, no_stage, stage_is, no_stage_is, run, run_then, NextCase, mark, star, plain, next_case}
 
 -- ---- which way a test goes
@@ -70,6 +70,23 @@ module _ (packed : Bool) where
   skip_in_body (Whole TrailStar) s h = absurd cc
   skip_in_body (Percent q) s h = absurd cc
   skip_in_body (Half q n) s h = absurd cc
+
+  body_ended : (s : List ℕ) → ends_component s ≡ true → read_from packed (Whole Body) s ≡ Ok s
+  body_ended [] h = refl
+  body_ended (c ∷ s) h = let e : c ≡ 58 = eqb-true c 58 h in rw e refl
+
+  -- a body ends with its component
+  pub ended_body : (q : State) (s : List ℕ) → is_in_body q ≡ true → ends_component s ≡ true → read_from packed q s ≡ Ok s
+  ended_body (Whole Start) s h e = absurd cc
+  ended_body (Whole Na) s h e = absurd cc
+  ended_body (Whole Hyphen) s h e = absurd cc
+  ended_body (Whole LeadStar) s h e = absurd cc
+  ended_body (Whole (LeadMarks n)) s h e = absurd cc
+  ended_body (Whole Body) s h e = body_ended s e
+  ended_body (Whole (TrailMarks n)) s h e = absurd cc
+  ended_body (Whole TrailStar) s h e = absurd cc
+  ended_body (Percent q) s h e = absurd cc
+  ended_body (Half q n) s h e = absurd cc
 
   body_begins : (c : ℕ) → is_bare style.Formatted c ≡ true → eqb c 45 ≡ false → step packed (Whole Start) c ≡ Some (Whole Body)
   body_begins c h k = rw (bare_no_percent c h, h, bare_no_mark c h, bare_no_star c h, bare_character c h, k) refl

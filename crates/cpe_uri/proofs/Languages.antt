@@ -113,25 +113,21 @@ record Head (passes : ℕ → Bool) (t s : List ℕ) : Type 0 where
   passed : passes byte ≡ true
   spelled : Spelled t rest
 
-letter_head : (c : ℕ) (t s : List ℕ) → is_letter c ≡ true → Spelled (c ∷ t) s → Head is_letter t s
-letter_head c t s h spelled =
-    let o = word_bare c spelled.0 (or_left _ _ (or_left _ _ h)) spelled.3 in record {
+head_spelled : (passes : ℕ → Bool) → ((d : ℕ) → passes (to_ascii_lowercase d) ≡ true → passes d ≡ true) → (c : ℕ) (t s : List ℕ) → is_word c ≡ true → passes c ≡ true → Spelled (c ∷ t) s → Head passes t s
+head_spelled passes from_lower c t s word h spelled =
+    let o = word_bare c spelled.0 word spelled.3 in record {
       byte = o.byte;
       rest = spelled.1;
       is = spelled.2 ∙ ap (λ (u : List ℕ). u ++ spelled.1) o.is;
-      passed = letter_from_lower o.byte (ap is_letter o.code ∙ h);
+      passed = from_lower o.byte (ap passes o.code ∙ h);
       spelled = spelled.4;
     }
 
+letter_head : (c : ℕ) (t s : List ℕ) → is_letter c ≡ true → Spelled (c ∷ t) s → Head is_letter t s
+letter_head c t s h = head_spelled is_letter letter_from_lower c t s (or_left _ _ (or_left _ _ h)) h
+
 digit_head : (c : ℕ) (t s : List ℕ) → is_digit c ≡ true → Spelled (c ∷ t) s → Head is_digit t s
-digit_head c t s h spelled =
-    let o = word_bare c spelled.0 (or_left _ _ (or_right _ _ h)) spelled.3 in record {
-      byte = o.byte;
-      rest = spelled.1;
-      is = spelled.2 ∙ ap (λ (u : List ℕ). u ++ spelled.1) o.is;
-      passed = digit_from_lower o.byte (ap is_digit o.code ∙ h);
-      spelled = spelled.4;
-    }
+digit_head c t s h = head_spelled is_digit digit_from_lower c t s (or_left _ _ (or_right _ _ h)) h
 
 -- the spellings of a code of a region are such codes
 code_spelled : (u s : List ℕ) → CodeCase u → Spelled u s → CodeCase s

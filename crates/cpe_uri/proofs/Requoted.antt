@@ -25,7 +25,7 @@ use Rattle.cpe_name.specs.Text.{value_text}
 use Rattle.cpe_name.specs.Scanning.{slot}
 use Rattle.cpe_name.specs.Spans.{texts, or_any, AreWritten}
 use Rattle.cpe_name.proofs.Items.{between_is}
-use Rattle.cpe_name.proofs.WholeTexts.{value_found, good_value, each_text}
+use Rattle.cpe_name.proofs.WholeTexts.{value_found, made_of_value, good_value, each_text}
 use Rattle.cpe_uri.specs.Spelling.{edge_codes, text_codes, character, component}
 use Rattle.cpe_uri.specs.Canon.{is_any, extended, packed, edition_component, trimmed, canon}
 use Rattle.cpe_uri.specs.Requoting.{quotes, spelled, requoted, component_from, says_any, first_from, behind, packed_from, edition_from, untrimmed_from, uri_from}
@@ -145,8 +145,7 @@ unfolding component_from
 none_component = refl
 
 component_is : (u : List ℕ) (v : Value) → IsValue v → or_any u ≡ value_text v → component_from u ≡ component v
-component_is [] v good is = none_component ∙ ap component (value_found v [] good is)
-component_is (c ∷ u) v good is = ap component_from is ∙ text_component v
+component_is = made_of_value component_from component none_component text_component
 
 text_says_any : (v : Value) → says_any (value_text v) ≡ is_any v
 text_says_any value.Any = refl

@@ -1,6 +1,6 @@
 -- What stands in a URI, rewritten, is the spelling of its text in a well-formed name.
 use Rattle.std.specs.Prelude.{if◌then◌else◌, ◌==◌}
-use Rattle.std.proofs.Common.{◌≡◌, ℕ, zero, suc, ◌+◌, ◌-◌, ◌*◌, ◌<◌, ◌≤◌, ◌%◌, true, false, not, ◌&&◌, ◌||◌, eqb, List, [], ◌∷◌, ◌++◌, length, take, drop, get_or, replicate, refl, sym, ap, subst, ◌∙◌, inl, inr, append_assoc, arith}
+use Rattle.std.proofs.Common.{◌≡◌, ℕ, zero, suc, ◌+◌, ◌-◌, ◌*◌, ◌<◌, ◌≤◌, ◌%◌, true, false, not, ◌&&◌, ◌||◌, eqb, List, [], ◌∷◌, ◌++◌, length, take, drop, get_or, slice_index, replicate, refl, sym, ap, subst, ◌∙◌, inl, inr, append_assoc, arith}
 use Rattle.std.specs.Char.{to_ascii_lowercase}
 use Rattle.std.specs.List.{flat_map, list_all}
 use Rattle.std.proofs.lemmas.List.{append-nil, take_all}
@@ -27,6 +27,12 @@ bare_rewritten b (d ∷ []) h = refl
 bare_rewritten b (d ∷ e ∷ s) h = rw h refl
 
 -- and so is a percent sign without two bytes behind it
+pub bare_at : (s : List ℕ) → 1 ≤ length s → eqb (slice_index s 0) 37 ≡ false → rewritten s ≡ bare_text (slice_index s 0) ++ rewritten (take (length s - 1) (drop 1 s))
+bare_at [] some h = absurd (omega (arith, some))
+bare_at (c ∷ s) some h =
+    let n : length (c ∷ s) - 1 ≡ length s = omega arith in
+    bare_rewritten c s h ∙ ap (λ (u : List ℕ). bare_text c ++ rewritten u) (sym (take_all (length (c ∷ s) - 1) s (omega (arith, n))))
+
 pub cut_rewritten : (s : List ℕ) → length s < 2 → rewritten (37 ∷ s) ≡ bare_text 37 ++ rewritten s
 unfolding rewritten
 cut_rewritten [] h = refl

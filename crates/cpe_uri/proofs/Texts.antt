@@ -59,18 +59,21 @@ module _ (packed : Bool) where
     go (Some t) is = (t, is, rw is at e)
     go None is = absurd (no_stage_is end (rw is at e))
 
+  -- a text, cut behind the spelling of its first code
+  cut_behind : (c : ℕ) (cs s r : List ℕ) (h : Spelled (c ∷ cs) s) → NoTilde packed s → (s ++ r ≡ h.0 ++ (h.1 ++ r)) × NoTilde packed h.0 × NoTilde packed h.1
+  cut_behind c cs s r h none =
+      (ap (λ (w : List ℕ). w ++ r) h.2 ∙ append_assoc h.0 h.1 r, λ is. (all_parts h.0 h.1 (ap no_tilde (sym h.2) ∙ none is)).0, λ is. (all_parts h.0 h.1 (ap no_tilde (sym h.2) ∙ none is)).1)
+
   rest_read : (q : Stage) (cs s r : List ℕ) (end : Stage) → is_start q ≡ false → Spelled cs s → NoTilde packed s → run q cs ≡ Some end → read_from packed (Whole q) (s ++ r) ≡ read_from packed (Whole end) r
   rest_read q [] s r end later spelled none e = ap (λ (u : List ℕ). read_from packed (Whole q) (u ++ r)) spelled ∙ ap (λ (p : Stage). read_from packed (Whole p) r) (stage_is q end e)
   rest_read q (c ∷ cs) s r end later spelled none e =
       let so = next_of q c cs end e in
       let u = spelled.0 in
       let v = spelled.1 in
-      let whole : s ++ r ≡ u ++ (v ++ r) = ap (λ (w : List ℕ). w ++ r) spelled.2 ∙ append_assoc u v r in
-      let front : NoTilde packed u = λ is. (all_parts u v (ap no_tilde (sym spelled.2) ∙ none is)).0 in
-      let back : NoTilde packed v = λ is. (all_parts u v (ap no_tilde (sym spelled.2) ∙ none is)).1 in
-      ap (read_from packed (Whole q)) whole
-      ∙ unit_read packed q so.0 c u (v ++ r) spelled.3 front so.1 (λ lone. both_ways (is_start q) later lone.0)
-      ∙ rest_read so.0 cs v r end (later_next q so.0 c so.1) spelled.4 back so.2
+      let cut = cut_behind c cs s r spelled none in
+      ap (read_from packed (Whole q)) cut.0
+      ∙ unit_read packed q so.0 c u (v ++ r) spelled.3 cut.1 so.1 (λ lone. both_ways (is_start q) later lone.0)
+      ∙ rest_read so.0 cs v r end (later_next q so.0 c so.1) spelled.4 cut.2 so.2
 
   -- a hyphen that stands bare in front, and something behind it
   hyphen_read : (cs s r : List ℕ) (end : Stage) → Spelled cs s → NoTilde packed s → run Hyphen cs ≡ Some end → is_over end ≡ true → read_from packed (Whole Na) (s ++ r) ≡ read_from packed (Whole end) r
@@ -98,20 +101,18 @@ module _ (packed : Bool) where
       let so = next_of Start c cs end e in
       let u = spelled.0 in
       let v = spelled.1 in
-      let whole : s ++ r ≡ u ++ (v ++ r) = ap (λ (w : List ℕ). w ++ r) spelled.2 ∙ append_assoc u v r in
-      let front : NoTilde packed u = λ is. (all_parts u v (ap no_tilde (sym spelled.2) ∙ none is)).0 in
-      let back : NoTilde packed v = λ is. (all_parts u v (ap no_tilde (sym spelled.2) ∙ none is)).1 in
+      let cut = cut_behind c cs s r spelled none in
       elim (is_hyphen u) [
         | inl lone ↦
             let code : c ≡ 45 = hyphen_code c u lone spelled.3 in
             let from : run Hyphen cs ≡ Some end = ap (λ (d : ℕ). run Start (d ∷ cs)) (sym code) ∙ e in
-            ap (read_from packed (Whole Start)) (whole ∙ ap (λ (w : List ℕ). w ++ (v ++ r)) lone)
+            ap (read_from packed (Whole Start)) (cut.0 ∙ ap (λ (w : List ℕ). w ++ (v ++ r)) lone)
             ∙ went packed (Whole Start) (Whole Na) 45 (v ++ r) refl
-            ∙ hyphen_read cs v r end spelled.4 back from over
+            ∙ hyphen_read cs v r end spelled.4 cut.2 from over
         | inr other ↦
-            ap (read_from packed (Whole Start)) whole
-            ∙ unit_read packed Start so.0 c u (v ++ r) spelled.3 front so.1 (λ lone. other lone.1)
-            ∙ rest_read so.0 cs v r end (later_next Start so.0 c so.1) spelled.4 back so.2
+            ap (read_from packed (Whole Start)) cut.0
+            ∙ unit_read packed Start so.0 c u (v ++ r) spelled.3 cut.1 so.1 (λ lone. other lone.1)
+            ∙ rest_read so.0 cs v r end (later_next Start so.0 c so.1) spelled.4 cut.2 so.2
       ]
 
   some_codes : (t : Parts) → IsText t → text_codes t ≢ []
@@ -165,7 +166,7 @@ none_taken true s e is = taken_no_tilde (Whole Start) s e
 none_taken false s e is = absurd cc
 
 -- codes of small letters are those of a text in lower case
-edge_lower : (e : Edge) → map to_ascii_lowercase (edge_codes e) ≡ edge_codes e
+pub edge_lower : (e : Edge) → map to_ascii_lowercase (edge_codes e) ≡ edge_codes e
 edge_lower edge.None = refl
 edge_lower edge.Star = refl
 edge_lower (edge.Marks n) = marks_lower n where

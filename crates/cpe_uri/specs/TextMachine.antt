@@ -1,5 +1,5 @@
 -- How a component of a URI is read byte by byte: a machine, as the code goes over it. Of the public words `read_uri` alone rests on it.
-use Rattle.std.specs.Prelude.{ℕ, ◌+◌, ◌*◌, Bool, true, false, not, ◌&&◌, ◌||◌, ◌==◌, nat_le, nat_lt, if◌then◌else◌, Option, Some, None, is_some, List, length, Result, Ok, Err}
+use Rattle.std.specs.Prelude.{ℕ, ◌+◌, ◌*◌, Bool, true, false, not, ◌&&◌, ◌||◌, ◌==◌, nat_le, nat_lt, if◌then◌else◌, Option, Some, None, is_some, List, [], ◌∷◌, length, Result, Ok, Err}
 use Rattle.std.specs.Option.{option_map}
 use Rattle.cpe_grammar.specs.Scanners.{Scanner}
 use Rattle.cpe_grammar.specs.Machines.{machine}
@@ -129,6 +129,11 @@ is_in_body (Whole (TrailMarks n)) = false
 is_in_body (Whole TrailStar) = false
 is_in_body (Percent q) = false
 is_in_body (Half q h) = false
+
+-- a component that may end does so here
+abbrev pub ends_component : List ℕ → Bool
+ends_component [] = true
+ends_component (c ∷ s) = c == 58
 
 -- what is left, where the component may end, or how much was left where it may not
 abbrev pub finished : State → List ℕ → Result (List ℕ) ℕ

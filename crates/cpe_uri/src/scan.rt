@@ -46,6 +46,7 @@ fn part_piece(bytes: &[u8]) -> Result<(&[u8], &[u8]), usize>
     Ok((front_of(bytes, rest), rest))
 }
 
+#[inline(always)]
 fn text_piece(packed: bool, bytes: &[u8]) -> Result<(&[u8], &[u8]), usize>
     ensures told { Tells (λ x. x.1.now) result (text_end packed bytes.now) }
     ensures found { IfOk result (λ x. x.0.now ≡ front_before bytes.now x.1.now) }

@@ -5,7 +5,7 @@ ghost use Rattle.cpe_values.specs.Parts.{is_character};
 ghost use Rattle.cpe_uri.specs.Spelling.{is_hex, hex_value, has_percent_form};
 ghost use Rattle.cpe_uri.specs.declared.text.Stage.TheVariants.{Start};
 ghost use Rattle.cpe_uri.specs.declared.text.State.TheVariants.{Whole};
-ghost use Rattle.cpe_uri.specs.TextMachine.{after_mark, after_star, takes_character, is_start, after_character, next, is_over, stands_bare, takes_special, takes_digit, after_bare, after_percent, after_digit, after_code, step, may_end, is_in_body, begins_body, finished, read_from, text_end};
+ghost use Rattle.cpe_uri.specs.TextMachine.{after_mark, after_star, takes_character, is_start, after_character, next, is_over, stands_bare, takes_special, takes_digit, after_bare, after_percent, after_digit, after_code, step, may_end, is_in_body, begins_body, ends_component, finished, read_from, text_end};
 
 use crate::spelling::hex_value;
 use cpe_values::{Style, is_bare_byte, skip_bare};
@@ -237,6 +237,12 @@ fn is_in_body(state: State) -> bool
     matches!(state, State::Whole(Stage::Body))
 }
 
+fn ends_component(bytes: &[u8]) -> bool
+    ensures { result ≡ ends_component bytes.now }
+{
+    matches!(bytes, [] | [b':', ..])
+}
+
 // Bare characters lead from a body to a body, and are passed over many at a time.
 #[inline(always)]
 #[tactic(auto, using(crate::proofs::Components::skip_in_body, crate::proofs::Components::skip_within))]
@@ -262,11 +268,12 @@ fn begin(bytes: &[u8]) -> (State, &[u8])
     }
 }
 
-#[tactic(auto, unfolding(crate::specs::TextMachine::text_end))]
-pub(crate) fn scan_text(packed: bool, bytes: &[u8]) -> Result<&[u8], usize>
-    ensures { Tells (λ rest. rest.now) result (text_end packed bytes.now) }
+#[inline(never)]
+fn scan_from(packed: bool, start: State, bytes: &[u8]) -> Result<&[u8], usize>
+    ensures { Tells (λ rest. rest.now) result (read_from packed start bytes.now) }
 {
-    let (mut state, mut rest) = begin(bytes);
+    let mut state = start;
+    let mut rest = bytes;
     while let [byte, tail @ ..] = rest {
         let Some(next) = step(packed, state, *byte) else {
             return finish(state, rest);
@@ -275,4 +282,17 @@ pub(crate) fn scan_text(packed: bool, bytes: &[u8]) -> Result<&[u8], usize>
         rest = skip_from(next, tail);
     }
     finish(state, rest)
+}
+
+// Behind its bare characters most often a colon ends a component, or the text.
+#[inline(always)]
+#[tactic(auto, unfolding(crate::specs::TextMachine::text_end))]
+pub(crate) fn scan_text(packed: bool, bytes: &[u8]) -> Result<&[u8], usize>
+    ensures { Tells (λ rest. rest.now) result (text_end packed bytes.now) }
+{
+    let (state, rest) = begin(bytes);
+    if is_in_body(state) && ends_component(rest) {
+        return Ok(rest);
+    }
+    scan_from(packed, state, rest)
 }

@@ -120,8 +120,7 @@ fn put_word<'a>(room: &mut [u8], at: usize, bytes: &'a [u8]) -> (usize, &'a [u8]
 }
 
 // A long text up to its last bytes: words are copied, and only what stands between them goes form by form.
-#[inline(never)]
-fn put_long<'a>(room: &mut [u8], start: usize, span: &'a [u8]) -> (usize, &'a [u8])
+fn put_words<'a>(room: &mut [u8], start: usize, span: &'a [u8]) -> (usize, &'a [u8])
     requires { start + 2 * length span.now ≤ length room.old }
     ensures at { result.0 + 2 * length result.1.now ≤ start + 2 * length span.now }
     ensures room { length room.new ≡ length room.old }
@@ -139,20 +138,51 @@ fn put_long<'a>(room: &mut [u8], start: usize, span: &'a [u8]) -> (usize, &'a [u
     (at, rest)
 }
 
+// Up to a percent sign, byte by byte.
+#[inline(always)]
+fn put_run<'a>(room: &mut [u8], start: usize, bytes: &'a [u8]) -> (usize, &'a [u8])
+    requires { start + 2 * length bytes.now ≤ length room.old }
+    ensures at { result.0 + 2 * length result.1.now ≤ start + 2 * length bytes.now }
+    ensures shorter { length result.1.now ≤ length bytes.now }
+    ensures room { length room.new ≡ length room.old }
+    ensures written { take result.0 room.new ++ rewritten result.1.now ≡ take start room.old ++ rewritten bytes.now }
+{
+    let mut at = start;
+    let mut rest = bytes;
+    while let [byte, behind @ ..] = rest {
+        if *byte == b'%' {
+            return (at, rest);
+        }
+        at = put_bare(room, at, *byte);
+        rest = behind;
+    }
+    (at, rest)
+}
+
+#[inline(always)]
 fn put_each(room: &mut [u8], start: usize, span: &[u8]) -> usize
     requires { start + 2 * length span.now ≤ length room.old }
     ensures at { result ≤ start + 2 * length span.now }
     ensures room { length room.new ≡ length room.old }
     ensures written { take result room.new ≡ take start room.old ++ rewritten span.now }
 {
-    let mut at = start;
-    let mut rest = span;
+    let (mut at, mut rest) = put_run(room, start, span);
     while let [byte, behind @ ..] = rest {
         let (end, left) = put_next(room, at, *byte, behind);
-        at = end;
-        rest = left;
+        (at, rest) = put_run(room, end, left);
     }
     at
+}
+
+#[inline(never)]
+fn put_long(room: &mut [u8], at: usize, span: &[u8]) -> usize
+    requires { at + 2 * length span.now ≤ length room.old }
+    ensures at { result ≤ at + 2 * length span.now }
+    ensures room { length room.new ≡ length room.old }
+    ensures written { take result room.new ≡ take at room.old ++ rewritten span.now }
+{
+    let (end, rest) = put_words(room, at, span);
+    put_each(room, end, rest)
 }
 
 pub(crate) fn put_rewritten(room: &mut [u8], at: usize, span: &[u8]) -> usize
@@ -162,12 +192,13 @@ pub(crate) fn put_rewritten(room: &mut [u8], at: usize, span: &[u8]) -> usize
     ensures written { take result room.new ≡ take at room.old ++ rewritten span.now }
 {
     if span.len() < LONG_TEXT {
-        return put_each(room, at, span);
+        put_each(room, at, span)
+    } else {
+        put_long(room, at, span)
     }
-    let (end, rest) = put_long(room, at, span);
-    put_each(room, end, rest)
 }
 
+#[inline(never)]
 fn put_in_quotes(room: &mut [u8], at: usize, span: &[u8]) -> usize
     requires { at + 2 * length span.now + 2 ≤ length room.old }
     ensures at { result ≤ at + 2 * length span.now + 2 }
@@ -179,6 +210,7 @@ fn put_in_quotes(room: &mut [u8], at: usize, span: &[u8]) -> usize
     put_byte(room, at, b'"')
 }
 
+#[inline(always)]
 #[tactic(auto, unfolding(crate::specs::Rewriting::span_text))]
 fn put_span(room: &mut [u8], at: usize, span: &[u8]) -> usize
     requires { at + 2 * length span.now + 3 ≤ length room.old }

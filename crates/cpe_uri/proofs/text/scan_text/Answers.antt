@@ -1,9 +1,15 @@
-use Rattle.std.proofs.Common.{◌∙◌, sym}
-use Rattle.cpe_uri.proofs.Components.{went_at}
+use Rattle.std.proofs.Common.{sym, subst, ◌∙◌}
+use Rattle.cpe_grammar.specs.Scanners.{Tells}
+use Rattle.cpe_uri.specs.TextMachine.{text_end}
+use Rattle.cpe_uri.proofs.Components.{ended_body}
 use Rattle.cpe_uri.proofs.text.scan_text.Goals as goal
 
-pub loop-rest-preserved : goal.loop-rest-preserved
-loop-rest-preserved c = c.skip_from-rest.ensures.same c.args.packed ∙ went_at c.args.packed c.loop-rest.state c.in-Some.next c.loop-rest.rest.now c.in-len1-up.len_at_least (sym c.in-Some.ensures) ∙ c.loop-rest.invariant
+pub returns-then-ends_component : goal.returns-then-ends_component
+unfolding text_end
+returns-then-ends_component c =
+    sym (c.begin-state.ensures.same c.args.packed)
+    ∙ ended_body c.args.packed c.begin-state.result.0 c.begin-state.result.1.now (sym c.is_in_body.ensures ∙ c.if-is_in_body.true) (sym c.ends_component.ensures ∙ c.if-ends_component.true)
 
-pub loop-rest-init : goal.loop-rest-init
-loop-rest-init c = c.begin-state.ensures.same c.args.packed
+pub returns : goal.returns
+unfolding text_end
+returns c = subst (Tells (λ rest. rest.now) c.scan_from.result) (c.begin-state.ensures.same c.args.packed) c.scan_from.ensures
