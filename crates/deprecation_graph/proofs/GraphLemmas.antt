@@ -6,15 +6,15 @@ use Rattle.std.specs.List.Sorted.{IsStrictlyIncreasing}
 use Rattle.std.proofs.lemmas.List.{length-set, length_push, length-append}
 use Rattle.std.proofs.lemmas.Option.{slice_get_past}
 use Rattle.std.proofs.lemmas.List.Elements.{Contains-append_left, Contains-append_right, Contains-get_or}
-use Rattle.deprecation_graph.specs.declared.limits.TheConstants.{MOST_ENDS, MOST_NODES}
+use Rattle.deprecation_graph.specs.declared.limits.TheConstants.{MOST_ENDS, MOST_SUCCESSORS, MOST_NODES}
 use Rattle.deprecation_graph.specs.Paths.{HasEdge, IsPathFrom, last_from, Leads, IsClosed, IsAcyclic}
 use Rattle.deprecation_graph.specs.Chains.{reaches, chain_of}
 use Rattle.deprecation_graph.specs.Graph.{Node, next_or_none, active_or_not, next_in, active_in, ends_in, successors, node_of, changed, NamesNodes, IsLawful}
 use Rattle.deprecation_graph.specs.Faults.{cycle_in, is_wide, wide_in, first_fault, change_fault}
 use Rattle.deprecation_graph.proofs.Rising.{Contains-cases, Contains-rest, Contains-filter, Contains-range, length-le_rising, length-filter_one, same_rising}
-use Rattle.deprecation_graph.proofs.PathLemmas.{Leads-self, Leads-below}
+use Rattle.deprecation_graph.proofs.PathLemmas.{Leads-self, Leads-trans, Leads-last, Leads-below}
 use Rattle.deprecation_graph.proofs.ChainLemmas.{reaches-leads, leads-reaches, Contains-chain, Contains-ends, ends_rising}
-use Rattle.deprecation_graph.proofs.ChangeLemmas.{old_or_through, others_alike, acyclic_after}
+use Rattle.deprecation_graph.proofs.ChangeLemmas.{old_or_through, others_alike, still_leads, acyclic_after}
 
 -- ---- a node that is written, and one that is put last
 
@@ -62,7 +62,7 @@ pub find-None : (p : ℕ → Bool) (xs : List ℕ) → ((x : ℕ) → Contains x
 find-None p [] h = refl
 find-None p (x ∷ xs) h = ap (λ (b : Bool). cond b (Some x) (find p xs)) (h x (0, omega arith, refl)) ∙ find-None p xs (λ y c. h y (Contains-rest y x xs c))
 
-find-none_at : (p : ℕ → Bool) (xs : List ℕ) (x : ℕ) → find p xs ≡ None → Contains xs x → p x ≡ false
+pub find-none_at : (p : ℕ → Bool) (xs : List ℕ) (x : ℕ) → find p xs ≡ None → Contains xs x → p x ≡ false
 find-none_at p [] x e c = absurd (omega (arith, c.1))
 find-none_at p (y ∷ ys) x e c = go (p y) refl e (Contains-cases x y ys c) (find-none_at p ys x)
   where
@@ -99,9 +99,8 @@ module _ (nodes : List Node) (a : ℕ) (to : Option (List ℕ)) (ok : IsLawful n
   edge_is_successor y edge = subst (λ (ys : List ℕ). Contains ys y) (next_in-changed nodes a to change.node) edge
 
   -- no new successor leads to the node
-  away_from_node : cycle_in nodes a (successors to) ≡ None → (y : ℕ) → HasEdge (next_in (changed nodes a to)) a y → Leads (next_in nodes) y a → ⊥
-  away_from_node none y edge l =
-      let c = edge_is_successor y edge in
+  away_from_node : cycle_in nodes a (successors to) ≡ None → (y : ℕ) → Contains (successors to) y → Leads (next_in nodes) y a → ⊥
+  away_from_node none y c l =
       both_ways (reaches (next_in nodes) (length nodes) y a) (position_from-none_at (λ b. reaches (next_in nodes) (length nodes) b a) 1 (successors to) y none c) (leads-reaches (next_in nodes) (length nodes) y a ok.closed (change.next y c) l)
 
   bare_after : (x : ℕ) → active_in (changed nodes a to) x ≡ true → next_in (changed nodes a to) x ≡ []
@@ -123,11 +122,11 @@ module _ (nodes : List Node) (a : ℕ) (to : Option (List ℕ)) (ok : IsLawful n
         few = omega (arith, same, ok.few);
         closed = subst (IsClosed (next_in (changed nodes a to))) (sym same) closed_after;
         bare = bare_after;
-        acyclic = acyclic_after (next_in nodes) (next_in (changed nodes a to)) a (next_in-other nodes a to) ok.acyclic (away_from_node none.0);
+        acyclic = acyclic_after (next_in nodes) (next_in (changed nodes a to)) a (next_in-other nodes a to) ok.acyclic (λ y edge. away_from_node none.0 y (edge_is_successor y edge));
         narrow = λ x lt. ltb-false MOST_ENDS (length (ends_in (changed nodes a to) x)) (find-none_at (is_wide (changed nodes a to)) (range_with_len 0 (length (changed nodes a to))) x none.1 ((Contains-range (length (changed nodes a to)) x).1 lt));
       }
 
-  Contains-ends_after : (x y : ℕ) → x < length nodes → Contains (ends_in (changed nodes a to) x) y ↔ (Leads (next_in (changed nodes a to)) x y × (active_in (changed nodes a to) y ≡ true))
+  pub Contains-ends_after : (x y : ℕ) → x < length nodes → Contains (ends_in (changed nodes a to) x) y ↔ (Leads (next_in (changed nodes a to)) x y × (active_in (changed nodes a to) y ≡ true))
   Contains-ends_after x y lt =
       let same = length-set nodes a (node_of to) in
       Contains-ends (next_in (changed nodes a to)) (active_in (changed nodes a to)) (length (changed nodes a to)) x (subst (IsClosed (next_in (changed nodes a to))) (sym same) closed_after) (omega (arith, same)) y
@@ -182,6 +181,67 @@ module _ (nodes : List Node) (a : ℕ) (to : Option (List ℕ)) (ok : IsLawful n
       narrow : (x : ℕ) → x < length nodes → (reaches (next_in nodes) (length nodes) x a ≡ true) ⊎ (reaches (next_in nodes) (length nodes) x a ≡ false) → length (ends_in (changed nodes a to) x) ≤ MOST_ENDS
       narrow x lt (inl source) = omega (arith, ok.narrow x lt, fewer_ends was few x lt (reaches-leads (next_in nodes) (length nodes) x a source))
       narrow x lt (inr away) = omega (arith, ok.narrow x lt, ap length (same_ends x lt (λ l. both_ways (reaches (next_in nodes) (length nodes) x a) away (leads-reaches (next_in nodes) (length nodes) x a ok.closed lt l))))
+
+  -- a source ends at what each node that leads to it ends at
+  pub fewer_than_above : (x y : ℕ) → x < length nodes → y < length nodes → Leads (next_in nodes) x y → Leads (next_in nodes) y a → length (ends_in (changed nodes a to) y) ≤ length (ends_in (changed nodes a to) x)
+  fewer_than_above x y ltx lty l source = length-le_rising (ends_in (changed nodes a to) y) (ends_in (changed nodes a to) x) (ends_rising (next_in (changed nodes a to)) (active_in (changed nodes a to)) (length (changed nodes a to)) y) (λ z c.
+      let h = (Contains-ends_after y z lty).0 c in
+      (Contains-ends_after x z ltx).1 (Leads-trans (still_leads (next_in nodes) (next_in (changed nodes a to)) a (next_in-other nodes a to) ok.acyclic x y source l) h.0, h.1))
+
+  -- ---- the ends of the changed node
+
+  -- a path from it has no step, or leads on from a new successor
+  new_path : (y : ℕ) → Leads (next_in (changed nodes a to)) a y → (a ≡ y) ⊎ ((b : ℕ) × Contains (successors to) b × Leads (next_in (changed nodes a to)) b y)
+  new_path y l = go l.path l.steps l.ends
+    where
+      go : (p : List ℕ) → IsPathFrom (next_in (changed nodes a to)) a p → last_from a p ≡ y → (a ≡ y) ⊎ ((b : ℕ) × Contains (successors to) b × Leads (next_in (changed nodes a to)) b y)
+      go [] s e = inl e
+      go (b ∷ p) s e = inr (b, edge_is_successor b s.0, record { path = p; steps = s.1; ends = e })
+
+  few_among : (xs : List ℕ) → length xs ≤ MOST_ENDS → ((y : ℕ) → Leads (next_in (changed nodes a to)) a y → active_in (changed nodes a to) y ≡ true → Contains xs y) → length (ends_in (changed nodes a to) a) ≤ MOST_ENDS
+  few_among xs few among = omega (
+    arith,
+    few,
+    length-le_rising (ends_in (changed nodes a to) a) xs (ends_rising (next_in (changed nodes a to)) (active_in (changed nodes a to)) (length (changed nodes a to)) a) (λ y c.
+        let h = (Contains-ends_after a y change.node).0 c in among y h.0 h.1),
+  )
+
+  -- with one successor its ends are the ends of that one
+  pub one_is_narrow : cycle_in nodes a (successors to) ≡ None → length (successors to) ≤ 1 → length (ends_in (changed nodes a to) a) ≤ MOST_ENDS
+  one_is_narrow none few = go (successors to) refl few
+    where
+      inactive : (o : Option (List ℕ)) (b : ℕ) → successors o ≡ b ∷ [] → (node_of o).active ≡ false
+      inactive None b e = absurd cc
+      inactive (Some ys) b e = refl
+
+      go : (ys : List ℕ) → successors to ≡ ys → length ys ≤ 1 → length (ends_in (changed nodes a to) a) ≤ MOST_ENDS
+      go [] e few' = few_among (a ∷ []) (omega arith) (λ y l _. elim (new_path y l) [
+        | inl same ↦ (0, omega arith, same)
+        | inr h ↦ absurd (omega (arith, h.1.1, ap length e))
+      ])
+      go (b ∷ (c ∷ ys)) e few' = absurd (omega arith)
+      go (b ∷ []) e few' =
+          let here : Contains (successors to) b = subst (λ (xs : List ℕ). Contains xs b) (sym e) (0, omega arith, refl) in
+          let below = change.next b here in
+          few_among (ends_in (changed nodes a to) b) (omega (arith, ok.narrow b below, ap length (same_ends b below (away_from_node none b here)))) (λ y l h. elim (new_path y l) [
+            | inl same ↦ absurd (both_ways (active_in (changed nodes a to) a) (active_in-changed nodes a to change.node ∙ inactive to b e) (ap (active_in (changed nodes a to)) same ∙ h))
+            | inr k ↦ (Contains-ends_after b y below).1 (subst (λ (x : ℕ). Leads (next_in (changed nodes a to)) x y) (only k.0 (subst (λ (xs : List ℕ). Contains xs k.0) e k.1)) k.2, h)
+          ])
+        where
+          only : (x : ℕ) → Contains (b ∷ []) x → x ≡ b
+          only x d = elim (Contains-cases x b [] d) [ inl same ↦ same | inr f ↦ absurd (omega (arith, f.1)) ]
+
+  -- active successors are its ends
+  pub active_are_narrow : cycle_in nodes a (successors to) ≡ None → length (successors to) ≤ MOST_SUCCESSORS → ((y : ℕ) → Contains (successors to) y → active_in nodes y ≡ true) → length (ends_in (changed nodes a to) a) ≤ MOST_ENDS
+  active_are_narrow none few all = few_among (a ∷ successors to) (omega (arith, few)) (λ y l _. elim (new_path y l) [
+    | inl same ↦ (0, omega arith, same)
+    | inr h ↦ Contains-rest y a (successors to) (subst (Contains (successors to)) (Leads-last (bare h.0 h.1) h.2) h.1)
+  ])
+    where
+      bare : (b : ℕ) → Contains (successors to) b → (y : ℕ) → HasEdge (next_in (changed nodes a to)) b y → ⊥
+      bare b c y edge =
+          let away : b ≢ a = λ e. away_from_node none b c (subst (Leads (next_in nodes) b) e (Leads-self b)) in
+          omega (arith, edge.1, ap length (next_in-other nodes a to b away ∙ ok.bare b (all b c)))
 
 -- ---- one node more
 

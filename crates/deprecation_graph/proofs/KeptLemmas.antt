@@ -1,25 +1,21 @@
 -- The nodes by their marks and lists.
-use Rattle.std.proofs.Common.{◌≡◌, ℕ, zero, suc, ◌<◌, Bool, true, false, List, [], ◌∷◌, ◌++◌, length, get_or, refl, sym, ap, subst, ◌∙◌, arith, slice_set, Option, Some, None, is_none, cond, ◌⊎◌, inl, inr}
-use Rattle.std.specs.List.{All, Contains, filter, find, range_with_len}
-use Rattle.std.specs.BTreeSet.{BTreeSet}
+use Rattle.std.proofs.Common.{◌≡◌, ℕ, zero, suc, ◌<◌, Bool, true, false, List, [], ◌∷◌, ◌++◌, length, get_or, refl, sym, ap, subst, ◌∙◌, arith, slice_get, slice_set, Option, Some, None, is_none, cond, eqb, ◌⊎◌, inl, inr}
+use Rattle.std.specs.List.{All, Contains, list_any, filter, find, range_with_len}
 use Rattle.std.proofs.lemmas.Bool.{both_ways, cases_Bool, ltb-true}
-use Rattle.std.proofs.lemmas.Map.Keys.{IsStrictlyIncreasing-from_sorted}
 use Rattle.std.specs.Option.{option_copied}
 use Rattle.std.proofs.lemmas.List.{length-set}
-use Rattle.deprecation_graph.specs.Paths.{Leads, IsClosed}
+use Rattle.deprecation_graph.specs.Paths.{HasEdge, Leads, IsClosed}
 use Rattle.deprecation_graph.specs.declared.limits.TheConstants.{MOST_ENDS}
-use Rattle.deprecation_graph.specs.Chains.{reaches, chain_of, sources_of}
-use Rattle.deprecation_graph.specs.Searches.{has, IsReached}
+use Rattle.deprecation_graph.specs.Chains.{reaches, chain_of, sources_of, IsChain}
 use Rattle.deprecation_graph.specs.Faults.{is_wide, wide_in}
 use Rattle.deprecation_graph.specs.Graph.{Node, next_in, active_in, chain_in, ends_in, sources_in, successors, node_of, changed, NamesNodes, IsLawful}
 use Rattle.deprecation_graph.proofs.Rising.{same_rising, Contains-rest, Contains-range}
-use Rattle.deprecation_graph.proofs.ChainLemmas.{Contains-sources, sources_rising, leads-reaches}
-use Rattle.deprecation_graph.proofs.SearchLemmas.{has_iff, reached_is_chain, reached_answer}
-use Rattle.deprecation_graph.proofs.GraphLemmas.{same_ends, closed_after, chain_below, All-below}
-use Rattle.deprecation_graph.proofs.PathLemmas.{Leads-self, Leads-then, Leads-back, Leads-below}
+use Rattle.deprecation_graph.proofs.ChainLemmas.{chain_is, chain_answer, Contains-sources, sources_rising, leads-reaches, reaches_apart}
+use Rattle.deprecation_graph.proofs.GraphLemmas.{same_ends, closed_after, chain_below, All-below, successors_below}
+use Rattle.deprecation_graph.proofs.PathLemmas.{Leads-self, Leads-then, Leads-back, Leads-below, Leads-first, Leads-last}
 use Rattle.deprecation_graph.specs.declared.kept.Kept.{Kept}
 use Rattle.deprecation_graph.specs.declared.kept.Change.{Change}
-use Rattle.deprecation_graph.specs.Indexed.{list_of}
+use Rattle.deprecation_graph.specs.Indexed.{list_of, has_none}
 use Rattle.deprecation_graph.specs.Mirror.{IsMirror}
 use Rattle.deprecation_graph.specs.Kept.{nodes_of, nodes_in, nodes_after, lists_after, marks_after, IsKept}
 use Rattle.deprecation_graph.proofs.MirrorLemmas.{mirror_other_side, mirror_this_side}
@@ -102,9 +98,9 @@ same_marks kept (Some c) e = λ i x. active_in-changed_nodes kept.active.items k
 pub closed_lists : (kept : Kept) (change : Option Change) → IsKept kept → IsClosed (next_in (nodes_after kept change)) (length kept.active.items) → IsClosed (list_of (lists_after kept.next.lists change)) (length kept.next.lists)
 closed_lists kept change ok closed = subst (λ (n : ℕ). IsClosed (list_of (lists_after kept.next.lists change)) n) (sym ok.next) (subst (λ (next : ℕ → List ℕ). IsClosed next (length kept.active.items)) (same_steps kept change ok.next) closed)
 
-pub kept_chain : (kept : Kept) (change : Option Change) (a : ℕ) (found : BTreeSet ℕ) → IsKept kept → IsClosed (next_in (nodes_after kept change)) (length kept.active.items) → a < length kept.active.items → IsReached (list_of (lists_after kept.next.lists change)) a found → found.keys ≡ chain_in (nodes_after kept change) a
+pub kept_chain : (kept : Kept) (change : Option Change) (a : ℕ) (found : List ℕ) → IsKept kept → IsClosed (next_in (nodes_after kept change)) (length kept.active.items) → a < length kept.active.items → IsChain (list_of (lists_after kept.next.lists change)) a found → found ≡ chain_in (nodes_after kept change) a
 kept_chain kept change a found ok closed lt h =
-    reached_is_chain (list_of (lists_after kept.next.lists change)) (length kept.next.lists) a found (closed_lists kept change ok closed) (omega (arith, ok.next)) h
+    chain_is (list_of (lists_after kept.next.lists change)) (length kept.next.lists) a found (closed_lists kept change ok closed) (omega (arith, ok.next)) h
     ∙ ap (λ (n : ℕ). chain_of (list_of (lists_after kept.next.lists change)) n a) (ok.next ∙ sym (length-nodes_after kept change ok.next))
     ∙ ap (λ (next : ℕ → List ℕ). chain_of next (length (nodes_after kept change)) a) (sym (same_steps kept change ok.next))
 
@@ -112,7 +108,7 @@ pub kept_ends : (kept : Kept) (change : Option Change) (a : ℕ) (chain : List �
 kept_ends kept change a chain ok e =
     ap (λ (p : ℕ → Bool). filter p chain) (sym (same_marks kept change ok.next)) ∙ ap (filter (active_in (nodes_after kept change))) e
 
-list_within : (lists : List (List ℕ)) (a x : ℕ) → Contains (list_of lists a) x → a < length lists
+pub list_within : (lists : List (List ℕ)) (a x : ℕ) → Contains (list_of lists a) x → a < length lists
 list_within [] a x c = absurd (omega (arith, c.1))
 list_within (xs ∷ lists) zero x c = omega arith
 list_within (xs ∷ lists) (suc a) x c = omega (arith, list_within lists a x c)
@@ -120,25 +116,41 @@ list_within (xs ∷ lists) (suc a) x c = omega (arith, list_within lists a x c)
 pub closed_before : (kept : Kept) → IsKept kept → IsClosed (list_of kept.before.lists) (length kept.before.lists)
 closed_before kept ok a b lt edge = omega (arith, ok.next, ok.before, list_within kept.next.lists b a (mirror_this_side kept.next.lists kept.before.lists b a ok.mirror edge))
 
-pub kept_sources : (kept : Kept) (a : ℕ) (found : BTreeSet ℕ) → IsKept kept → a < length kept.active.items → IsReached (list_of kept.before.lists) a found → found.keys ≡ sources_in (nodes_in kept) a
+pub kept_sources : (kept : Kept) (a : ℕ) (found : List ℕ) → IsKept kept → a < length kept.active.items → IsChain (list_of kept.before.lists) a found → found ≡ sources_in (nodes_in kept) a
 kept_sources kept a found ok lt h =
     let count : length (nodes_in kept) ≡ length kept.active.items = length-nodes_of kept.active.items kept.next.lists ok.next in
     let steps = same_steps kept None ok.next in
-    same_rising found.keys (sources_in (nodes_in kept) a) (IsStrictlyIncreasing-from_sorted found.keys h.ordered) (sources_rising (next_in (nodes_in kept)) (length (nodes_in kept)) a) (λ x.
+    same_rising found (sources_in (nodes_in kept) a) h.rising (sources_rising (next_in (nodes_in kept)) (length (nodes_in kept)) a) (λ x.
     let members = Contains-sources (next_in (nodes_in kept)) (length (nodes_in kept)) a ok.lawful.closed x in (
       λ c.
-          let l = (h.members x).0 ((has_iff found x).1 c) in
+          let l = (h.members x).0 c in
           members.1 (omega (arith, Leads-below (closed_before kept ok) (omega (arith, ok.before)) l, ok.before, count), subst (λ (next : ℕ → List ℕ). Leads next x a) (sym steps) (leads_forwards kept.next.lists kept.before.lists ok.mirror l)),
       λ c.
           let m = members.0 c in
-          (has_iff found x).0 ((h.members x).1 (leads_backwards kept.next.lists kept.before.lists ok.mirror (subst (λ (next : ℕ → List ℕ). Leads next x a) steps m.1))),
+          (h.members x).1 (leads_backwards kept.next.lists kept.before.lists ok.mirror (subst (λ (next : ℕ → List ℕ). Leads next x a) steps m.1)),
     ))
 
--- the answer of a search, where a path is sought
-pub kept_answer : (kept : Kept) (a b : ℕ) (found : BTreeSet ℕ) → IsKept kept → a < length kept.active.items → IsReached (list_of kept.next.lists) a found → has found b ≡ reaches (next_in (nodes_in kept)) (length (nodes_in kept)) a b
+-- whether a node is found, where a path is sought
+pub kept_answer : (kept : Kept) (a b : ℕ) (found : List ℕ) → IsKept kept → a < length kept.active.items → IsChain (list_of kept.next.lists) a found → list_any (λ x. eqb x b) found ≡ reaches (next_in (nodes_in kept)) (length (nodes_in kept)) a b
 kept_answer kept a b found ok lt h =
-    let count : length (nodes_in kept) ≡ length kept.active.items = length-nodes_of kept.active.items kept.next.lists ok.next in
-    reached_answer (next_in (nodes_in kept)) (length (nodes_in kept)) a b found ok.lawful.closed (omega (arith, count)) (subst (λ (next : ℕ → List ℕ). IsReached next a found) (sym (same_steps kept None ok.next)) h)
+    chain_answer (next_in (nodes_in kept)) (length (nodes_in kept)) a b found ok.lawful.closed (omega (arith, length-nodes_of kept.active.items kept.next.lists ok.next)) (subst (λ (next : ℕ → List ℕ). IsChain next a found) (sym (same_steps kept None ok.next)) h)
+
+-- ---- what the edges at a node tell
+
+nothing_in : (xs : List ℕ) (x : ℕ) → is_none (slice_get xs 0) ≡ true → Contains xs x → ⊥
+nothing_in [] x e c = omega (arith, c.1)
+nothing_in (y ∷ ys) x e c = absurd cc
+
+no_successor : (kept : Kept) (a : ℕ) → IsKept kept → has_none kept.next.lists a ≡ true → (y : ℕ) → HasEdge (next_in (nodes_in kept)) a y → ⊥
+no_successor kept a ok e y edge = nothing_in (list_of kept.next.lists a) y e (subst (λ (next : ℕ → List ℕ). HasEdge next a y) (same_steps kept None ok.next) edge)
+
+pub no_predecessor : (kept : Kept) (a : ℕ) → IsKept kept → has_none kept.before.lists a ≡ true → (x : ℕ) → HasEdge (next_in (nodes_in kept)) x a → ⊥
+no_predecessor kept a ok e x edge =
+    nothing_in (list_of kept.before.lists a) x e (mirror_other_side kept.next.lists kept.before.lists x a ok.mirror (subst (λ (next : ℕ → List ℕ). HasEdge next x a) (same_steps kept None ok.next) edge))
+
+pub kept_apart : (kept : Kept) (a b : ℕ) → IsKept kept → (has_none kept.next.lists a ≡ true) ⊎ (has_none kept.before.lists b ≡ true) → reaches (next_in (nodes_in kept)) (length (nodes_in kept)) a b ≡ eqb a b
+kept_apart kept a b ok (inl e) = reaches_apart (next_in (nodes_in kept)) (length (nodes_in kept)) a b (Leads-last (no_successor kept a ok e))
+kept_apart kept a b ok (inr e) = reaches_apart (next_in (nodes_in kept)) (length (nodes_in kept)) a b (Leads-first (no_predecessor kept b ok e))
 
 -- ---- the least wide node is a source
 
@@ -182,3 +194,10 @@ kept_ends_read kept change a marks chain ends ok e f g = g ∙ ap (λ (m : List 
 
 pub kept_sources_below : (kept : Kept) (a : ℕ) (sources : List ℕ) → IsKept kept → sources ≡ sources_in (nodes_in kept) a → All (λ x. x < length kept.active.items) sources
 kept_sources_below kept a sources ok e = subst (All (λ x. x < length kept.active.items)) (sym e) (All-below (sources_in (nodes_in kept) a) (length kept.active.items) (λ x c. omega (arith, ((Contains-sources (next_in (nodes_in kept)) (length (nodes_in kept)) a ok.lawful.closed x).0 c).0, length-nodes_of kept.active.items kept.next.lists ok.next)))
+
+pub kept_successors : (kept : Kept) (a : ℕ) (to : Option (List ℕ)) (xs : List ℕ) → IsKept kept → NamesNodes (nodes_in kept) a to → xs ≡ successors to → All (λ x. x < length kept.active.items) xs
+kept_successors kept a to xs ok change e = subst (λ (n : ℕ). All (λ x. x < n) xs) (length-nodes_of kept.active.items kept.next.lists ok.next) (successors_below (nodes_in kept) a to xs change e)
+
+pub one_below : (a n : ℕ) → a < n → All (λ x. x < n) (a ∷ [])
+one_below a n lt zero d h = lt
+one_below a n lt (suc k) d h = absurd (omega arith)

@@ -2,11 +2,13 @@ pub mod Rising
 pub mod PathLemmas
 pub mod ChainLemmas
 pub mod SearchLemmas
+pub mod FewLemmas
 pub mod GraphLemmas
 pub mod ChangeLemmas
 pub mod LawLemmas
 pub mod HeadLemmas
 pub mod MirrorLemmas
 pub mod KeptLemmas
+pub mod RootLemmas
 pub mod StoredLemmas
 pub mod CountLemmas

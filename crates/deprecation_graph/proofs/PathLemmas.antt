@@ -30,5 +30,16 @@ module _ {next : ℕ → List ℕ} where
   pub Leads-forth : {b : ℕ} (P : ℕ → Type 0) → ((a c : ℕ) → HasEdge next a c → P a → P c) → {a : ℕ} → Leads next a b → P a → P b
   Leads-forth {b} P step l = Leads-back (λ x. P x → P b) (λ h. h) (λ x y edge _ r h. r (step x y edge h)) l
 
+  -- a path to what nothing has as a successor, and one from what has none, has no step
+  pub Leads-first : {a b : ℕ} → ((x : ℕ) → HasEdge next x b → ⊥) → Leads next a b → a ≡ b
+  Leads-first {a} {b} none l = Leads-back (λ x. x ≡ b) refl (λ x y edge _ same. absurd (none x (subst (HasEdge next x) same edge))) l
+
+  pub Leads-last : {a b : ℕ} → ((y : ℕ) → HasEdge next a y → ⊥) → Leads next a b → a ≡ b
+  Leads-last {a} {b} none l = go l.path l.steps l.ends
+    where
+      go : (p : List ℕ) → IsPathFrom next a p → last_from a p ≡ b → a ≡ b
+      go [] s e = e
+      go (y ∷ p) s e = absurd (none y s.0)
+
   pub Leads-below : {count a b : ℕ} → IsClosed next count → a < count → Leads next a b → b < count
   Leads-below {count} {a} {b} closed lt l = Leads-forth (λ x. x < count) (λ x y edge h. closed x y h edge) l lt

@@ -1,22 +1,20 @@
 -- A search finds exactly what paths lead to.
-use Rattle.std.proofs.Common.{◌≡◌, ◌⊎◌, ℕ, ◌+◌, ◌-◌, ◌<◌, ◌≤◌, true, false, List, [], ◌∷◌, ◌++◌, length, take, get_or, sym, ap, subst, ◌∙◌, inl, inr, arith}
+use Rattle.std.proofs.Common.{◌≡◌, ◌⊎◌, ℕ, ◌+◌, ◌-◌, ◌<◌, ◌≤◌, true, List, [], ◌∷◌, ◌++◌, length, take, get_or, sym, ap, subst, inl, inr, arith}
 use Rattle.std.specs.List.{Contains}
 use Rattle.std.specs.Ordering.{nat_cmp}
 use Rattle.std.specs.BTreeSet as set
 use Rattle.std.specs.BTreeSet.{BTreeSet}
 use Rattle.std.specs.Cmp.{nat_cmp_total}
-use Rattle.std.proofs.lemmas.Bool.{cases_Bool, both_ways}
 use Rattle.std.proofs.lemmas.List.{take_more, length_push}
 use Rattle.std.proofs.lemmas.List.Elements.{Contains-append_left, Contains-append_right, Contains-append_cases, Contains-push, Contains-push_cases}
 use Rattle.std.proofs.lemmas.Map.Keys.{IsStrictlyIncreasing-from_sorted}
 use Rattle.std.proofs.lemmas.Map.Lookups.{exact_unsigned}
 use Rattle.std.proofs.lemmas.Map.Views.{btree_set_contains_iff}
 use Rattle.deprecation_graph.specs.Paths.{HasEdge, Leads, IsClosed}
-use Rattle.deprecation_graph.specs.Chains.{reaches, chain_of}
+use Rattle.deprecation_graph.specs.Chains.{IsChain}
 use Rattle.deprecation_graph.specs.Searches.{has, Visits, IsReached}
 use Rattle.deprecation_graph.proofs.Rising.{length-le_range}
 use Rattle.deprecation_graph.proofs.PathLemmas.{Leads-then, Leads-forth, Leads-below}
-use Rattle.deprecation_graph.proofs.ChainLemmas.{chain_is, reaches-leads, leads-reaches}
 
 -- ---- visits, one after the other
 
@@ -86,7 +84,7 @@ module _ (next : ℕ → List ℕ) (start : ℕ) where
   pub explore_end : {s : BTreeSet ℕ} → set.IsOrdered nat_cmp s → Explores s [] → IsReached next start s
   explore_end {s} ordered h = record { ordered = ordered; members = λ x. (h.led x, explored h x) }
 
-pub has_iff : (s : BTreeSet ℕ) (x : ℕ) → (has s x ≡ true → Contains s.keys x) × (Contains s.keys x → has s x ≡ true)
+has_iff : (s : BTreeSet ℕ) (x : ℕ) → (has s x ≡ true → Contains s.keys x) × (Contains s.keys x → has s x ≡ true)
 has_iff s x = let h = btree_set_contains_iff nat_cmp_total exact_unsigned s x in (h.0, h.1)
 
 -- what is found is no more than the nodes
@@ -94,11 +92,11 @@ pub found_few : (next : ℕ → List ℕ) (count start : ℕ) (s : BTreeSet ℕ)
 found_few next count start s todo ok lt ordered h =
     length-le_range s.keys count (IsStrictlyIncreasing-from_sorted s.keys ordered) (λ x c. Leads-below ok lt (h.led x ((has_iff s x).1 c)))
 
-pub reached_is_chain : (next : ℕ → List ℕ) (count start : ℕ) (s : BTreeSet ℕ) → IsClosed next count → start < count → IsReached next start s → s.keys ≡ chain_of next count start
-reached_is_chain next count start s ok lt h = chain_is next count start s.keys ok lt (record {
+pub reached_is_chain : (next : ℕ → List ℕ) (start : ℕ) (s : BTreeSet ℕ) → IsReached next start s → IsChain next start s.keys
+reached_is_chain next start s h = record {
   rising = IsStrictlyIncreasing-from_sorted s.keys h.ordered;
   members = λ x. (λ c. (h.members x).0 ((has_iff s x).1 c), λ l. (has_iff s x).0 ((h.members x).1 l));
-})
+}
 
 -- ---- a turn of the search: the last number is taken from what waits, and its successors are visited
 
@@ -111,13 +109,3 @@ turn_explores next start at {s} {n} {waits} {todo} {more} {ys} e f h v = explore
 -- what is left to do falls: nodes that aren't found, and numbers that wait
 pub turn_smaller : (count at : ℕ) {s n : BTreeSet ℕ} {waits todo more ys : List ℕ} → length n.keys ≤ count → waits ≡ todo ++ at ∷ [] → Visits s n todo more ys → count + length more - length n.keys < count + length waits - length s.keys
 turn_smaller count at {s} {n} {waits} {todo} {more} {ys} few e v = omega (arith, few, v.work, ap length e, length_push todo at)
-
--- the set answers whether a path leads
-pub reached_answer : (next : ℕ → List ℕ) (count a b : ℕ) (s : BTreeSet ℕ) → IsClosed next count → a < count → IsReached next a s → has s b ≡ reaches next count a b
-reached_answer next count a b s ok lt h = go (cases_Bool (has s b)) (cases_Bool (reaches next count a b))
-  where
-    go : (has s b ≡ true) ⊎ (has s b ≡ false) → (reaches next count a b ≡ true) ⊎ (reaches next count a b ≡ false) → has s b ≡ reaches next count a b
-    go (inl e) (inl f) = e ∙ sym f
-    go (inr e) (inr f) = e ∙ sym f
-    go (inl e) (inr f) = absurd (both_ways (reaches next count a b) f (leads-reaches next count a b ok lt ((h.members b).0 e)))
-    go (inr e) (inl f) = absurd (both_ways (has s b) e ((h.members b).1 (reaches-leads next count a b f)))

@@ -1,6 +1,7 @@
 -- How the nodes are kept. No public clause speaks of it.
 use Rattle.deprecation_graph.specs.declared.limits.TheConstants.{MOST_NODES, MOST_EDGES}
-use Rattle.std.specs.Prelude.{◌≡◌, ℕ, ◌+◌, ◌≤◌, Bool, is_none, vec_capacity, List, [], ◌∷◌, length, slice_set, Option, Some, None}
+use Rattle.std.specs.Prelude.{◌≡◌, ◌⊎◌, ℕ, ◌+◌, ◌≤◌, Bool, true, false, is_none, vec_capacity, List, [], ◌∷◌, length, slice_index_or, slice_set, Option, Some, None}
+use Rattle.std.specs.List.{list_all}
 use Rattle.std.specs.Option.{option_copied}
 use Rattle.deprecation_graph.specs.Graph.{Node, successors, changed, edge_count, IsLawful}
 use Rattle.deprecation_graph.specs.Mirror.{IsMirror}
@@ -29,6 +30,10 @@ lists_after lists (Some c) = slice_set lists c.node (successors (option_copied c
 abbrev pub marks_after : List Bool → Option Change → List Bool
 marks_after marks None = marks
 marks_after marks (Some c) = slice_set marks c.node (is_none (option_copied c.next))
+
+-- one node or none, or active ones alone
+abbrev pub AreFew : List Bool → List ℕ → Type 0
+AreFew marks nodes = (length nodes ≤ 1) ⊎ (list_all (λ node. slice_index_or marks node false) nodes ≡ true)
 
 -- as many lists as nodes, kept both ways
 pub record IsKept (kept : Kept) : Type 0 where

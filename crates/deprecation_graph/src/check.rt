@@ -1,27 +1,43 @@
 // Ends, sources, and whether a change of one node is allowed.
-ghost use Rattle.std.specs.Prelude.{◌≡◌, ◌<◌, ◌≤◌, length, slice_index_or, true, false, None, filter, find, IfOk};
-ghost use Rattle.std.specs.List.{All};
+ghost use Rattle.std.specs.Prelude.{◌≡◌, ◌==◌, ◌<◌, ◌≤◌, length, slice_index_or, true, false, None, filter, find, IfOk};
+ghost use Rattle.std.specs.List.{All, list_all};
 ghost use Rattle.std.specs.Option.{option_copied};
 ghost use Rattle.deprecation_graph.specs.Paths.{IsClosed};
 ghost use Rattle.deprecation_graph.specs.Chains.{reaches};
-ghost use Rattle.deprecation_graph.specs.Graph.{next_in, chain_in, ends_in, sources_in, changed, NamesNodes, IsChange};
+ghost use Rattle.deprecation_graph.specs.Graph.{next_in, chain_in, ends_in, sources_in, successors as successors_of, changed, NamesNodes, IsChange};
 ghost use Rattle.deprecation_graph.specs.Faults.{cycle_in, is_wide, wide_in, change_fault, IsVerdict};
-ghost use Rattle.deprecation_graph.specs.Kept.{marks_after, nodes_in, nodes_after, IsKept};
+ghost use Rattle.deprecation_graph.specs.Indexed.{has_none};
+ghost use Rattle.deprecation_graph.specs.Kept.{marks_after, nodes_in, nodes_after, AreFew, IsKept};
 
 use crate::fault::GraphFault;
 use crate::kept::{Change, Kept, is_active_after, successors};
 use crate::limits::{MOST_ENDS, MOST_SUCCESSORS};
-use crate::search::{find_reached, keys};
+use crate::search::find_all;
 use std::alloc::{AllocError, Global};
+
+// Whether nothing has the second node as a successor, or the first has none: no path with a step then leads from it to the
+// second.
+fn is_apart(kept: &Kept, from: u32, to: u32) -> bool
+    requires kept { IsKept kept.now }
+    requires from { from < length kept.now.active.items }
+    requires to { to < length kept.now.active.items }
+    ensures { result ≡ true → reaches (next_in (nodes_in kept.now)) (length (nodes_in kept.now)) from to ≡ (from == to) }
+{
+    kept.before.is_empty(to as usize) || kept.next.is_empty(from as usize)
+}
 
 /// Whether a path leads from the first node to the second.
 pub(crate) fn is_led_to(alloc: Global, kept: &Kept, from: u32, to: u32) -> Result<bool, AllocError>
     requires kept { IsKept kept.now }
     requires from { from < length kept.now.active.items }
+    requires to { to < length kept.now.active.items }
     ensures { IfOk result (λ led. led ≡ reaches (next_in (nodes_in kept.now)) (length (nodes_in kept.now)) from to) }
 {
-    let found = find_reached(alloc, &kept.next, None, from)?;
-    Ok(found.contains(&to))
+    if is_apart(kept, from, to) {
+        return Ok(from == to);
+    }
+    let chain = find_all(alloc, &kept.next, None, from)?;
+    Ok(chain.contains(&to))
 }
 
 /// The nodes to which a path leads.
@@ -36,8 +52,7 @@ pub(crate) fn find_chain(
     requires start { start < length kept.now.active.items }
     ensures { IfOk result (λ chain. chain.items ≡ chain_in (nodes_after kept.now change.entry) start) }
 {
-    let found = find_reached(alloc, &kept.next, change, start)?;
-    keys(alloc, &found)
+    find_all(alloc, &kept.next, change, start)
 }
 
 /// The nodes from which a path leads to this one: a search along the predecessors.
@@ -46,8 +61,7 @@ pub(crate) fn find_sources(alloc: Global, kept: &Kept, node: u32) -> Result<Vec<
     requires node { node < length kept.now.active.items }
     ensures { IfOk result (λ sources. sources.items ≡ sources_in (nodes_in kept.now) node) }
 {
-    let found = find_reached(alloc, &kept.before, None, node)?;
-    keys(alloc, &found)
+    find_all(alloc, &kept.before, None, node)
 }
 
 // The active ones of these nodes.
@@ -93,6 +107,7 @@ fn find_cycle(
     next: &[u32],
 ) -> Result<Option<u32>, AllocError>
     requires kept { IsKept kept.now }
+    requires node { node < length kept.now.active.items }
     requires next { All (λ successor. successor < length kept.now.active.items) next.now }
     requires few { length next.now ≤ MOST_SUCCESSORS }
     ensures { IfOk result (λ found. found ≡ cycle_in (nodes_in kept.now) node next.now) }
@@ -142,14 +157,85 @@ fn find_wide_among(
     Ok(None)
 }
 
-// The least node with too many ends after the change: only the sources of the changed node can have more than before.
-fn find_wide(alloc: Global, kept: &Kept, change: Change) -> Result<Option<u32>, AllocError>
+// Those of these nodes that are successors of none.
+fn keep_roots(alloc: Global, kept: &Kept, sources: &[u32]) -> Result<Vec<u32>, AllocError>
+    requires { All (λ source. source < length kept.now.before.lists) sources.now }
+    ensures { IfOk result (λ roots. roots.items ≡ filter (has_none kept.now.before.lists) sources.now) }
+{
+    let mut roots = Vec::new(alloc);
+    for source in sources {
+        if kept.before.is_empty(*source as usize) {
+            roots.push(*source)?;
+        }
+    }
+    Ok(roots)
+}
+
+// The least node with too many ends after the change: only the sources of the changed node can have more than before. What a
+// source ends at, each node that leads to it ends at too; so where no source that is a successor of none is too wide, none is.
+fn find_wide_source(alloc: Global, kept: &Kept, change: Change) -> Result<Option<u32>, AllocError>
     requires kept { IsKept kept.now }
     requires change { NamesNodes (nodes_in kept.now) change.node (option_copied change.next) }
     ensures { IfOk result (λ found. found ≡ wide_in (changed (nodes_in kept.now) change.entry.node (option_copied change.entry.next))) }
 {
     let sources = find_sources(alloc, kept, change.node)?;
+    let roots = keep_roots(alloc, kept, &sources)?;
+    if find_wide_among(alloc, kept, change, &roots)?.is_none() {
+        return Ok(None);
+    }
     find_wide_among(alloc, kept, change, &sources)
+}
+
+// Whether each of these successors is active.
+fn are_active(active: &[bool], next: &[u32]) -> bool
+    requires { All (λ node. node < length active.now) next.now }
+    ensures { result ≡ list_all (λ node. slice_index_or active.now node false) next.now }
+{
+    for successor in next {
+        if !active[*successor as usize] {
+            return false;
+        }
+    }
+    true
+}
+
+// Whether it is seen without a search that a node with these successors has few ends: with one it has the ends of that one,
+// and with active ones alone it has these.
+fn are_few(kept: &Kept, next: &[u32]) -> bool
+    requires { All (λ node. node < length kept.now.active.items) next.now }
+    ensures { result ≡ true → AreFew kept.now.active.items next.now }
+{
+    next.len() <= 1 || are_active(&kept.active, next)
+}
+
+// The least node with too many ends after the change of a node that is a successor of none: it alone can get so many.
+fn find_wide_root(alloc: Global, kept: &Kept, change: Change) -> Result<Option<u32>, AllocError>
+    requires kept { IsKept kept.now }
+    requires change { IsChange (nodes_in kept.now) change.node (option_copied change.next) }
+    requires root { has_none kept.now.before.lists change.node ≡ true }
+    requires acyclic { cycle_in (nodes_in kept.now) change.node (successors_of (option_copied change.next)) ≡ None }
+    ensures { IfOk result (λ found. found ≡ wide_in (changed (nodes_in kept.now) change.entry.node (option_copied change.entry.next))) }
+{
+    if are_few(kept, successors(change.next)) {
+        return Ok(None);
+    }
+    find_wide_among(alloc, kept, change, &[change.node])
+}
+
+// The least node with too many ends after the change.
+fn find_wide(alloc: Global, kept: &Kept, change: Change) -> Result<Option<u32>, AllocError>
+    requires kept { IsKept kept.now }
+    requires change { IsChange (nodes_in kept.now) change.node (option_copied change.next) }
+    requires acyclic { cycle_in (nodes_in kept.now) change.node (successors_of (option_copied change.next)) ≡ None }
+    ensures { IfOk result (λ found. found ≡ wide_in (changed (nodes_in kept.now) change.entry.node (option_copied change.entry.next))) }
+{
+    if kept.before.is_empty(change.node as usize) {
+        return find_wide_root(alloc, kept, change);
+    }
+    if is_narrow(alloc, kept, change)? {
+        return Ok(None);
+    }
+    find_wide_source(alloc, kept, change)
 }
 
 /// The first fault of the change.
@@ -160,9 +246,6 @@ pub(crate) fn check_change(alloc: Global, kept: &Kept, change: Change) -> Result
 {
     if let Some(place) = find_cycle(alloc, kept, change.node, successors(change.next))? {
         return Err(GraphFault::Cycle(place));
-    }
-    if is_narrow(alloc, kept, change)? {
-        return Ok(());
     }
     if let Some(node) = find_wide(alloc, kept, change)? {
         return Err(GraphFault::TooWide(node));

@@ -93,9 +93,14 @@ impl DeprecationGraph {
 
     /// Whether the node may get these successors and be inactive, or with `None` be active. The graph stays.
     ///
-    /// It searches the chain of each successor, up to the first from which a path leads to the node. Then, where the node is
-    /// active, it searches its chain as it would be; has that one end at most, no node can get too wide. Else it
-    /// searches the node's sources, and the chain of each of them, up to the first that would be too wide.
+    /// Where the node is a successor of none, it costs no search if it gets one successor, none, or active ones alone, and else
+    /// one of the chain that it would have.
+    ///
+    /// Where the node is a successor of another, the chain of each new successor that has some itself is searched, up to the
+    /// first from which a path leads to the node. Then, where the node is active, the chain that it would have is searched; has
+    /// that one end at most, no node can get too wide. Else the node's sources are searched, and the chain that each of them
+    /// would have which is a successor of none, up to the first that is too wide. Only where one is, the chain that each source
+    /// would have is searched, up to the least that is too wide.
     ///
     /// # Errors
     ///
@@ -127,7 +132,7 @@ impl DeprecationGraph {
     }
 
     /// Whether a path leads from the first node to the second; from each node one leads to itself. It searches the chain of the
-    /// first.
+    /// first, unless that has no successor or the second is a successor of none.
     ///
     /// # Errors
     ///

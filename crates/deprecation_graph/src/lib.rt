@@ -14,6 +14,7 @@
 mod changes;
 mod check;
 mod fault;
+mod few;
 mod graph;
 mod kept;
 mod laws;

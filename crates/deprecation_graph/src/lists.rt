@@ -29,7 +29,7 @@ impl Model for Lists {
 }
 
 impl Lists {
-    ghost use Rattle.deprecation_graph.specs.Indexed.{list_of, without, size_of};
+    ghost use Rattle.deprecation_graph.specs.Indexed.{list_of, has_none, without, size_of};
 
     /// No lists.
     pub(crate) fn new(alloc: Global) -> Lists
@@ -108,6 +108,14 @@ impl Lists {
             Some(cell) => Some(self.pool.value(cell)),
             None => None,
         }
+    }
+
+    /// Whether a list has no number.
+    pub(crate) fn is_empty(&self, list: usize) -> bool
+        requires { list < length self.now.lists }
+        ensures { result ≡ has_none self.now.lists list }
+    {
+        self.first(list).is_none()
     }
 
     /// How many lists there are.

@@ -3,10 +3,12 @@ ghost use Rattle.std.specs.Prelude.{◌≡◌, ◌<◌, ◌∷◌, [], length, I
 ghost use Rattle.std.specs.Ordering.{nat_cmp};
 ghost use Rattle.std.specs.BTreeSet as set;
 ghost use Rattle.deprecation_graph.specs.Paths.{IsClosed};
+ghost use Rattle.deprecation_graph.specs.Chains.{IsChain};
 ghost use Rattle.deprecation_graph.specs.Searches.{Visits, IsReached};
 ghost use Rattle.deprecation_graph.specs.Indexed.{list_of};
 ghost use Rattle.deprecation_graph.specs.Kept.{lists_after};
 
+use crate::few::find_few;
 use crate::kept::{Change, read_after};
 use crate::lists::Lists;
 use std::alloc::{AllocError, Global};
@@ -39,8 +41,8 @@ fn visit_all(
     Ok(())
 }
 
-/// The numbers to which a path leads along the lists, after the change if there is one.
-pub(crate) fn find_reached(
+// The numbers to which a path leads along the lists, after the change if there is one.
+fn find_reached(
     alloc: Global,
     lists: &Lists,
     change: Option<Change>,
@@ -61,9 +63,27 @@ pub(crate) fn find_reached(
     Ok(found)
 }
 
-/// The numbers of a set, rising.
-pub(crate) fn keys(alloc: Global, found: &BTreeSet<u32>) -> Result<Vec<u32>, AllocError>
+// The numbers of a set, rising.
+fn keys(alloc: Global, found: &BTreeSet<u32>) -> Result<Vec<u32>, AllocError>
     ensures { IfOk result (λ v. v.items ≡ found.now.keys) }
 {
     found.iter().copied().collect(alloc)
+}
+
+/// The numbers to which a path leads along the lists, after the change if there is one, rising.
+pub(crate) fn find_all(
+    alloc: Global,
+    lists: &Lists,
+    change: Option<Change>,
+    start: u32,
+) -> Result<Vec<u32>, AllocError>
+    requires closed { IsClosed (list_of (lists_after lists.now.lists change)) (length lists.now.lists) }
+    requires start { start < length lists.now.lists }
+    ensures { IfOk result (λ v. IsChain (list_of (lists_after lists.now.lists change.entry)) start v.items) }
+{
+    if let Some(few) = find_few(alloc, lists, change, start)? {
+        return Ok(few);
+    }
+    let found = find_reached(alloc, lists, change, start)?;
+    keys(alloc, &found)
 }

@@ -1,9 +1,9 @@
 // A graph of four nodes, what it answers, and which changes it refuses.
-ghost use Rattle.std.specs.Prelude.{◌≡◌, ◌+◌, ◌<◌, ◌≤◌, length, OnOk, IfOk};
+ghost use Rattle.std.specs.Prelude.{◌≡◌, Some, ◌+◌, ◌<◌, ◌≤◌, length, OnOk, IfOk};
 ghost use Rattle.std.specs.Option.{option_copied};
 ghost use Rattle.deprecation_graph.specs.Graph.{successors, IsChange};
 
-use deprecation_graph::{DeprecationGraph, GraphFault};
+use deprecation_graph::{DeprecationGraph, GraphFault, Memory};
 use std::alloc::Global;
 
 // Makes a change that is allowed.
@@ -51,29 +51,9 @@ fn small(alloc: Global) -> Result<DeprecationGraph, GraphFault>
     Ok(graph)
 }
 
-fn has_chain(alloc: Global, graph: &DeprecationGraph, node: u32, wanted: &[u32]) -> bool
-    requires { node < length graph.now.nodes }
-{
-    match graph.chain(alloc, node) {
-        Ok(chain) => chain.as_slice() == wanted,
-        Err(_) => false,
-    }
-}
-
-fn has_ends(alloc: Global, graph: &DeprecationGraph, node: u32, wanted: &[u32]) -> bool
-    requires { node < length graph.now.nodes }
-{
-    match graph.ends(alloc, node) {
-        Ok(ends) => ends.as_slice() == wanted,
-        Err(_) => false,
-    }
-}
-
-fn has_sources(alloc: Global, graph: &DeprecationGraph, node: u32, wanted: &[u32]) -> bool
-    requires { node < length graph.now.nodes }
-{
-    match graph.sources(alloc, node) {
-        Ok(sources) => sources.as_slice() == wanted,
+fn are(found: Result<Vec<u32>, Memory>, wanted: &[u32]) -> bool {
+    match found {
+        Ok(nodes) => nodes.as_slice() == wanted,
         Err(_) => false,
     }
 }
@@ -82,21 +62,21 @@ fn chains_are_right(alloc: Global) -> bool {
     let Ok(graph) = small(alloc) else {
         return false;
     };
-    has_chain(alloc, &graph, 0, &[0, 1, 2, 3]) && has_chain(alloc, &graph, 2, &[2])
+    are(graph.chain(alloc, 0), &[0, 1, 2, 3]) && are(graph.chain(alloc, 2), &[2])
 }
 
 fn ends_are_right(alloc: Global) -> bool {
     let Ok(graph) = small(alloc) else {
         return false;
     };
-    has_ends(alloc, &graph, 0, &[3]) && has_ends(alloc, &graph, 2, &[])
+    are(graph.ends(alloc, 0), &[3]) && are(graph.ends(alloc, 2), &[])
 }
 
 fn sources_are_right(alloc: Global) -> bool {
     let Ok(graph) = small(alloc) else {
         return false;
     };
-    has_sources(alloc, &graph, 3, &[0, 1, 3]) && has_sources(alloc, &graph, 0, &[0])
+    are(graph.sources(alloc, 3), &[0, 1, 3]) && are(graph.sources(alloc, 0), &[0])
 }
 
 fn reach_is_right(alloc: Global) -> bool {
@@ -106,34 +86,32 @@ fn reach_is_right(alloc: Global) -> bool {
     graph.reaches(alloc, 0, 3) == Ok(true) && graph.reaches(alloc, 3, 0) == Ok(false)
 }
 
-#[tactic(auto, using(crate::proofs::Changes::changes))]
-fn the_first_successor_makes_a_cycle(alloc: Global) -> bool {
-    match small(alloc) {
-        Ok(graph) => graph.check(alloc, 3, Some(&[0])) == Err(GraphFault::Cycle(1)),
-        Err(_) => false,
-    }
+// Whether the check of new successors of node 3 answers so.
+fn checks(
+    alloc: Global,
+    graph: &DeprecationGraph,
+    next: &[u32],
+    wanted: Result<(), GraphFault>,
+) -> bool
+    requires { IsChange graph.now.nodes 3 (Some next.now) }
+{
+    graph.check(alloc, 3, Some(next)) == wanted
 }
 
 #[tactic(auto, using(crate::proofs::Changes::changes))]
-fn the_second_successor_makes_a_cycle(alloc: Global) -> bool {
-    match small(alloc) {
-        Ok(graph) => graph.check(alloc, 3, Some(&[2, 1])) == Err(GraphFault::Cycle(2)),
-        Err(_) => false,
-    }
-}
-
-#[tactic(auto, using(crate::proofs::Changes::changes))]
-fn a_node_is_no_successor_of_itself(alloc: Global) -> bool {
-    match small(alloc) {
-        Ok(graph) => graph.check(alloc, 3, Some(&[3])) == Err(GraphFault::Cycle(1)),
-        Err(_) => false,
-    }
+fn cycles_are_found(alloc: Global) -> bool {
+    let Ok(graph) = small(alloc) else {
+        return false;
+    };
+    checks(alloc, &graph, &[0], Err(GraphFault::Cycle(1)))
+        && checks(alloc, &graph, &[2, 1], Err(GraphFault::Cycle(2)))
+        && checks(alloc, &graph, &[3], Err(GraphFault::Cycle(1)))
 }
 
 #[tactic(auto, using(crate::proofs::Changes::changes))]
 fn a_change_is_allowed(alloc: Global) -> bool {
     match small(alloc) {
-        Ok(graph) => graph.check(alloc, 3, Some(&[2])) == Ok(()),
+        Ok(graph) => checks(alloc, &graph, &[2], Ok(())),
         Err(_) => false,
     }
 }
@@ -144,10 +122,7 @@ fn ends_after_are_right(alloc: Global) -> bool {
     let Ok(graph) = small(alloc) else {
         return false;
     };
-    match graph.ends_after(alloc, 0, 2, None) {
-        Ok(ends) => ends.as_slice() == [2, 3].as_slice(),
-        Err(_) => false,
-    }
+    are(graph.ends_after(alloc, 0, 2, None), &[2, 3])
 }
 
 #[test]
@@ -161,8 +136,6 @@ fn the_graph_answers(rt: HostRuntime) {
 
 #[test]
 fn changes_are_checked(rt: HostRuntime) {
-    assert!(rt; the_first_successor_makes_a_cycle(rt.alloc()));
-    assert!(rt; the_second_successor_makes_a_cycle(rt.alloc()));
-    assert!(rt; a_node_is_no_successor_of_itself(rt.alloc()));
+    assert!(rt; cycles_are_found(rt.alloc()));
     assert!(rt; a_change_is_allowed(rt.alloc()));
 }

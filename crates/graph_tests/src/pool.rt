@@ -1,5 +1,5 @@
 // A pool: a list is made, grows, loses a value, and is dropped.
-ghost use Rattle.std.specs.Prelude.{◌≤◌, IfOk};
+ghost use Rattle.std.specs.Prelude.{◌≤◌, IfOk, IfSome};
 ghost use Rattle.list_pool.specs.Pool.{IsLive};
 
 use list_pool::{ListName, Memory, Pool};
@@ -14,6 +14,17 @@ fn three(alloc: Global) -> Result<Pool, Memory>
     Ok(pool)
 }
 
+// A new list of 7 and 9.
+fn seven_and_nine(pool: &mut Pool) -> Option<ListName>
+    requires { 3 ≤ pool.old.spare }
+    ensures { IfSome result (λ list. IsLive pool.new.lists list.0) }
+{
+    let list = pool.make_list()?;
+    pool.push(list, 7);
+    pool.push(list, 9);
+    Some(list)
+}
+
 // Whether the only value of the list is this one.
 fn is_alone(pool: &Pool, list: ListName, value: u32) -> bool
     requires { IsLive pool.now.lists list.0 }
@@ -24,31 +35,15 @@ fn is_alone(pool: &Pool, list: ListName, value: u32) -> bool
     }
 }
 
-// A list of 7 and 9 loses the 7.
-fn keeps_the_nine(alloc: Global) -> bool {
-    let Ok(mut pool) = three(alloc) else {
-        return false;
-    };
-    let Some(list) = pool.make_list() else {
-        return false;
-    };
-    pool.push(list, 7);
-    pool.push(list, 9);
-    pool.remove_value(list, 7) && is_alone(&pool, list, 9)
-}
-
-// What was taken out makes room again: a pool of three slots takes a list's first, second and third value in turn.
+// A list of 7 and 9 loses the 7. What was taken out makes room again: a pool of three slots then takes an 11.
 fn slots_are_used_again(alloc: Global) -> bool {
     let Ok(mut pool) = three(alloc) else {
         return false;
     };
-    let Some(list) = pool.make_list() else {
+    let Some(list) = seven_and_nine(&mut pool) else {
         return false;
     };
-    pool.push(list, 7);
-    pool.push(list, 9);
-    let taken = pool.remove_value(list, 7);
-    if !taken {
+    if !pool.remove_value(list, 7) || !is_alone(&pool, list, 9) {
         return false;
     }
     pool.push(list, 11);
@@ -59,21 +54,15 @@ fn a_dropped_list_is_not_live(alloc: Global) -> bool {
     let Ok(mut pool) = three(alloc) else {
         return false;
     };
-    let Some(list) = pool.make_list() else {
+    let Some(list) = seven_and_nine(&mut pool) else {
         return false;
     };
-    pool.push(list, 7);
     pool.drop_list(list);
     !pool.live(list)
 }
 
 #[test]
-fn a_value_is_taken_out(rt: HostRuntime) {
-    assert!(rt; keeps_the_nine(rt.alloc()));
-}
-
-#[test]
-fn room_comes_back(rt: HostRuntime) {
+fn a_value_is_taken_out_and_room_comes_back(rt: HostRuntime) {
     assert!(rt; slots_are_used_again(rt.alloc()));
     assert!(rt; a_dropped_list_is_not_live(rt.alloc()));
 }

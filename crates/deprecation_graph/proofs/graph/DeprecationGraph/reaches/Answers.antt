@@ -10,3 +10,6 @@ is_led_to-requires-clause-from c = node_in c.self.inside.kept c.args.self.now.no
 
 pub returns : goal.returns
 returns c = led_to_is (nodes_in c.self.inside.kept) c.args.self.now.nodes c.args.from c.args.to (ap (λ (g : Graph). g.nodes) c.self.view_is) c.self.invariant.sound.lawful.closed c.requires.from c.in_ok-is_led_to.ensures
+
+pub is_led_to-requires-clause-to : goal.is_led_to-requires-clause-to
+is_led_to-requires-clause-to c = node_in c.self.inside.kept c.args.self.now.nodes c.args.to c.self.invariant.sound (ap (λ (g : Graph). g.nodes) c.self.view_is) c.requires.to
