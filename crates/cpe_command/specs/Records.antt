@@ -1,4 +1,5 @@
--- What a line of a record says under `resolve`, and what it makes of the rows (NIST IR 7697).
+-- What a line of a record says under `resolve` and `evaluate`, what it makes of the rows (NIST IR 7697), and what is written at the end
+-- (NIST IR 7698).
 use Rattle.std.specs.Prelude.{ℕ, List, [], ◌∷◌, false, Some, None, Ok, Err}
 use Rattle.std.specs.declared.option.Option.{Option}
 use Rattle.std.specs.declared.result.Result.{Result}
@@ -11,8 +12,10 @@ use Rattle.cpe_records.specs.Reading.{record_of}
 use Rattle.cpe_records.specs.declared.read.Record.{Record}
 use Rattle.cpe_records.specs.declared.read.Record.TheVariants.{Edit, Query}
 use Rattle.cpe_members.specs.declared.member.RecordFault.{RecordFault}
-use Rattle.cpe_replies.specs.Replies.{reply_text}
+use Rattle.cpe_replies.specs.Replies.{reply_text, verdict_table}
 use Rattle.cpe_replies.specs.Reasons.{record_fault_text, edit_fault_text}
+use Rattle.cpe_command.specs.declared.records.RecordCommand.{RecordCommand}
+use Rattle.cpe_command.specs.declared.records.RecordCommand.TheVariants.{Resolve, Evaluate}
 
 -- an accepted edit writes nothing
 abbrev pub by_step : Result Rows EditFault → Saying Rows
@@ -25,11 +28,16 @@ by_record rows (Ok (Edit edit)) = by_step (step rows edit)
 by_record rows (Ok (Query query)) = Ok (reply_text (answer rows query), rows)
 by_record rows (Err fault) = Err (record_fault_text fault)
 
-abbrev pub record_session : Session Rows
-record_session = record {
+-- what is written at the end of the input
+abbrev pub ending : RecordCommand → Rows → List ℕ
+ending Resolve rows = []
+ending Evaluate rows = verdict_table rows
+
+abbrev pub record_session : RecordCommand → Session Rows
+record_session command = record {
   says = λ rows number text. by_record rows (record_of text);
   quiet = false;
-  ends = λ rows. [];
+  ends = ending command;
   cost = λ rows number text. 0;
   end_cost = λ rows. 0;
 }

@@ -4,7 +4,7 @@ use Rattle.std.specs.declared.option.Option.{Option}
 use Rattle.cpe_session.specs.declared.status.Status.TheVariants.{Usage}
 use Rattle.cpe_session.specs.Task.{Task, Written, task}
 use Rattle.cpe_command.specs.declared.command.Command.{Command}
-use Rattle.cpe_command.specs.declared.command.Command.TheVariants.{Name, Compare, Resolve}
+use Rattle.cpe_command.specs.declared.command.Command.TheVariants.{Name, Compare, Records}
 use Rattle.cpe_command.specs.Command.{usage}
 use Rattle.cpe_command.specs.Names.{name_session}
 use Rattle.cpe_command.specs.Pairs.{pair_session}
@@ -16,4 +16,4 @@ abbrev pub task_of : Option Command → Task
 task_of None = Written (record { text = usage; status = Usage })
 task_of (Some (Name command)) = task (name_session command) tt
 task_of (Some Compare) = task pair_session tt
-task_of (Some Resolve) = task record_session no_rows
+task_of (Some (Records command)) = task (record_session command) no_rows

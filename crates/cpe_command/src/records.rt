@@ -4,11 +4,12 @@ ghost use Rattle.std.specs.Option.{option_map};
 ghost use Rattle.cpe_session.specs.Pages.{IsSaid, StepsWithin};
 ghost use Rattle.cpe_rows.specs.Step.{step};
 ghost use Rattle.cpe_rows.specs.Answers.{answer};
-ghost use Rattle.cpe_rows.specs.Served.{is_served_edit, is_served_query};
+ghost use Rattle.cpe_rows.specs.Valid.{is_valid_edit};
 ghost use Rattle.cpe_replies.specs.Replies.{reply_text};
 ghost use Rattle.cpe_replies.specs.Reasons.{reason_text};
 ghost use Rattle.cpe_command.specs.Records.{by_step, record_session};
 
+use crate::verdicts::pour_verdicts;
 use cpe_engine::Engine;
 use cpe_io::{Sink, SinkFault};
 use cpe_members::RecordFault;
@@ -22,14 +23,19 @@ use std::sync::ledger::Ledger;
 
 /// Each line is a record: an edit is applied to the rows that the engine keeps, and a query is answered from them.
 #[derive(Clone, Copy, Debug, PartialEq, Eq)]
-pub struct Resolve;
+pub enum RecordCommand {
+    /// Nothing is written at the end of the input.
+    Resolve,
+    /// The verdicts of all statements are written there.
+    Evaluate,
+}
 
-impl Speaker for Resolve {
+impl Speaker for RecordCommand {
     type State = Engine;
 
     type Reason = RecordReason;
 
-    ghost session = { λ _. record_session };
+    ghost session = { record_session };
 
     fn is_quiet(&self) -> bool {
         false
@@ -61,12 +67,11 @@ impl Speaker for Resolve {
         sink: &mut K,
         steps: &mut Steps<L>,
     ) -> Result<(), SinkFault> {
-        let _ = alloc;
-        let _ = state;
-        let _ = page;
-        let _ = sink;
         let _ = steps;
-        Ok(())
+        match self {
+            RecordCommand::Resolve => Ok(()),
+            RecordCommand::Evaluate => pour_verdicts(alloc, state, page, sink),
+        }
     }
 }
 
@@ -77,7 +82,7 @@ fn say_edit<L: Ledger>(
     edit: Edit,
     steps: &mut Steps<L>,
 ) -> Result<Option<RecordReason>, AllocError>
-    requires { is_served_edit edit ≡ true }
+    requires { is_valid_edit edit ≡ true }
     ensures said { IfOk result (λ refused.
         (page : List ℕ) → IsSaid (by_step (step engine.old edit)) engine.old engine.new page page (option_map reason_text refused)) }
     ensures counts { StepsWithin steps.old steps.new 0 }
@@ -98,7 +103,6 @@ fn say_answer<L: Ledger>(
     query: Query,
     steps: &mut Steps<L>,
 ) -> Result<Option<RecordReason>, AllocError>
-    requires { is_served_query query ≡ true }
     ensures said { IfOk result (λ refused. (refused ≡ None) × (page.new ≡ page.old ++ reply_text (answer engine.now query))) }
     ensures counts { StepsWithin steps.old steps.new 0 }
 {

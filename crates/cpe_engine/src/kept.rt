@@ -1,14 +1,16 @@
 // Entries as an engine keeps them: what they have beside their names, by their names.
-ghost use Rattle.std.specs.Prelude.{◌≡◌, ◌++◌, ◌∷◌, [], IfOk, OnOk, OnErr, find, map, length, false, option_map};
+ghost use Rattle.std.specs.Prelude.{◌≡◌, ◌≤◌, ◌++◌, ◌∷◌, [], IfOk, OnOk, OnErr, find, map, length, position, false, option_map};
 ghost use Rattle.std.specs.List.{list_any};
 ghost use Rattle.std.specs.Option.{option_map_or};
 ghost use Rattle.cpe_rows.specs.Rows.{is_named};
-ghost use Rattle.cpe_rows.specs.Answers.{state_of};
-ghost use Rattle.cpe_engine.specs.Kept.{entry_from};
+ghost use Rattle.cpe_rows.specs.Answers.{state_of, row_of};
+ghost use Rattle.cpe_rows.specs.Limits.{most};
+ghost use Rattle.cpe_rows.specs.declared.fault.Which.TheVariants as limit;
+ghost use Rattle.cpe_engine.specs.Kept.{entry_from, rewritten, written};
 ghost use Rattle.cpe_rows.specs.declared.entry.Deprecation.{Deprecation};
 
 use cpe_name::Wfn;
-use cpe_rows::{Deprecation, Entry, Provenance, State, Text};
+use cpe_rows::{Deprecation, Entry, Note, Provenance, Row, State, Text};
 use cpe_values::Memory;
 use indexmap::IndexMap;
 use std::alloc::Global;
@@ -55,6 +57,16 @@ pub(crate) fn state_of(details: &Details) -> State
     }
 }
 
+/// The entry of a name and these details in short.
+pub(crate) fn row_of(alloc: Global, name: &Wfn, details: &Details) -> Result<Row, Memory>
+    ensures { IfOk result (λ r. r ≡ row_of (entry_from (name.now, details.now))) }
+{
+    Ok(Row {
+        name: name.copy(alloc)?,
+        state: state_of(details),
+    })
+}
+
 /// The entry of this name, without the name.
 pub(crate) fn find_details<'e>(
     entries: &'e IndexMap<Wfn, Details>,
@@ -63,6 +75,17 @@ pub(crate) fn find_details<'e>(
     ensures { option_map (λ d. entry_from (name.now, d.now)) result ≡ find (is_named name.now) (map entry_from entries.now.entries) }
 {
     entries.get(name)
+}
+
+/// The number of the entry of this name, from 0 in their order.
+pub(crate) fn number_of(entries: &IndexMap<Wfn, Details>, name: &Wfn) -> Option<u32>
+    requires { length entries.now.entries ≤ most limit.Entries }
+    ensures { result ≡ position (is_named name.now) (map entry_from entries.now.entries) }
+{
+    match entries.get_index_of(name) {
+        Some(number) => Some(number as u32),
+        None => None,
+    }
 }
 
 /// Whether an entry has this name.
@@ -93,5 +116,25 @@ pub(crate) fn put_last(entries: &mut IndexMap<Wfn, Details>, entry: Entry) -> Re
         deprecation,
     };
     entries.insert(name, details)?;
+    Ok(())
+}
+
+/// Gives the entry of a number this deprecation, or none, and a note that goes last.
+///
+/// # Errors
+/// Want of memory alone; the entries are then as they were.
+pub(crate) fn rewrite(
+    entries: &mut IndexMap<Wfn, Details>,
+    number: u32,
+    deprecation: Option<Deprecation>,
+    note: Note,
+) -> Result<(), Memory>
+    ensures ok { OnOk result (map entry_from entries.new.entries ≡ written (rewritten deprecation note) number (map entry_from entries.old.entries)) }
+    ensures err { OnErr result (map entry_from entries.new.entries ≡ map entry_from entries.old.entries) }
+{
+    if let Some(details) = entries.get_index_mut(number as usize) {
+        details.provenance.notes.push(note)?;
+        details.deprecation = deprecation;
+    }
     Ok(())
 }

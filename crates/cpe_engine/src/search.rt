@@ -4,7 +4,7 @@ ghost use Rattle.cpe_relation.specs.Order.{IsOrder};
 ghost use Rattle.cpe_rows.specs.Answers.{row_of, is_found, rows_found};
 ghost use Rattle.cpe_engine.specs.Kept.{entry_from};
 
-use crate::kept::{Details, state_of};
+use crate::kept::{Details, row_of};
 use cpe_name::{Attribute, Wfn};
 use cpe_relation::{covers_in_order, deciding_order};
 use cpe_rows::{List, Row};
@@ -31,15 +31,6 @@ fn is_wanted(active_only: bool, details: &Details) -> bool
     ensures { result ≡ (not active_only || is_none details.now.deprecation) }
 {
     !active_only || details.deprecation.is_none()
-}
-
-fn row_of(alloc: Global, name: &Wfn, details: &Details) -> Result<Row, Memory>
-    ensures { IfOk result (λ r. r ≡ row_of (entry_from (name.now, details.now))) }
-{
-    Ok(Row {
-        name: name.copy(alloc)?,
-        state: state_of(details),
-    })
 }
 
 /// The entries that a name covers, in order; where asked, the active ones alone.

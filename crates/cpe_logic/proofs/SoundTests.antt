@@ -12,7 +12,8 @@ use Rattle.cpe_rows.specs.declared.test.Test as test
 use Rattle.cpe_rows.specs.declared.test.Test.TheOpen.{Test-F}
 use Rattle.cpe_rows.specs.declared.test.Test.TheFolds.{fold-roll-Test}
 use Rattle.cpe_rows.specs.declared.test.Test.TheVariants as test_rolls
-use Rattle.cpe_logic.proofs.DraftDepth.{depth-logic, draft_depth-logic}
+use Rattle.cpe_rows.proofs.Within.{depth-logic}
+use Rattle.cpe_logic.proofs.DraftDepth.{draft_depth-logic}
 use Rattle.cpe_members.specs.Gives.{◌>>=◌}
 use Rattle.cpe_members.specs.Names.{read_name}
 use Rattle.cpe_logic.specs.Tests.{draft_depth, depth_step, in_turn, name_step, names_from}

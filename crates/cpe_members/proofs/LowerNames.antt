@@ -1,22 +1,14 @@
 -- Names that are read are in lower case.
-use Rattle.std.proofs.Common.{◌≡◌, ℕ, List, [], ◌∷◌, true, map, codes, refl, ap, ◌∙◌, arith}
+use Rattle.std.proofs.Common.{◌≡◌, ℕ, List, true, codes}
 use Rattle.std.specs.Prelude.{Result, Ok, Err}
-use Rattle.std.specs.Char.{to_ascii_lowercase}
 use Rattle.std.specs.List.{list_all}
-use Rattle.std.proofs.lemmas.Bool.Decides.{nat_tests}
 use Rattle.serde_json.specs.Data.{Data}
 use Rattle.serde_json.specs.Find.{as_str}
-use Rattle.cpe_values.specs.declared.value.Value.{Value}
-use Rattle.cpe_values.specs.declared.value.Value.TheVariants as value
-use Rattle.cpe_values.specs.Parts.{parts}
-use Rattle.cpe_values.specs.Lower.{lower_value}
 use Rattle.cpe_name.specs.declared.name.Values.{Values}
-use Rattle.cpe_name.specs.declared.attribute.Attribute.{Attribute}
-use Rattle.cpe_name.specs.declared.attribute.Attribute.TheVariants.{Part, Vendor, Product, Version, Update, Edition, Language, SwEdition, TargetSw, TargetHw, Other}
-use Rattle.cpe_name.specs.Names.{attributes, value_of, named}
-use Rattle.cpe_name.specs.Lower.{lower_name, IsLower}
+use Rattle.cpe_name.specs.Lower.{lower_name}
 use Rattle.cpe_name.specs.Equal.{same_name-Decides}
 use Rattle.cpe_uri.specs.EitherBinding.{read_any}
+use Rattle.cpe_uri.proofs.Canonical.{lower_is_lower}
 use Rattle.cpe_rows.specs.Names.{is_lower}
 use Rattle.cpe_members.specs.Gives.{all_from}
 use Rattle.cpe_members.specs.Yields.{Yields}
@@ -26,40 +18,6 @@ use Rattle.cpe_members.specs.declared.member.Member.TheVariants as member
 use Rattle.cpe_members.specs.declared.member.NameSpot.{NameSpot}
 use Rattle.cpe_members.specs.declared.member.NameSpot.TheVariants as spot
 use Rattle.cpe_members.proofs.YieldLemmas.{behind, all_yield}
-
-lowercase_again : (c : ℕ) → to_ascii_lowercase (to_ascii_lowercase c) ≡ to_ascii_lowercase c
-lowercase_again c = grind (arith, nat_tests)
-
-text_again : (b : List ℕ) → map to_ascii_lowercase (map to_ascii_lowercase b) ≡ map to_ascii_lowercase b
-text_again [] = refl
-text_again (c ∷ b) = cc (lowercase_again c, text_again b)
-
-value_again : (v : Value) → lower_value (lower_value v) ≡ lower_value v
-value_again value.Any = refl
-value_again value.Na = refl
-value_again (value.Text t) = ap (λ (b : List ℕ). value.Text (parts t.lead b t.trail)) (text_again t.body)
-
-lower_at : (w : Values) (a : Attribute) → value_of (lower_name w) a ≡ lower_value (value_of w a)
-lower_at w Part = refl
-lower_at w Vendor = refl
-lower_at w Product = refl
-lower_at w Version = refl
-lower_at w Update = refl
-lower_at w Edition = refl
-lower_at w Language = refl
-lower_at w SwEdition = refl
-lower_at w TargetSw = refl
-lower_at w TargetHw = refl
-lower_at w Other = refl
-
-all_again : (w : Values) (which : List Attribute) → map (λ a. lower_value (value_of (lower_name w) a)) which ≡ map (λ a. lower_value (value_of w a)) which
-all_again w [] = refl
-all_again w (a ∷ rest) =
-    let same : lower_value (value_of (lower_name w) a) ≡ lower_value (value_of w a) = ap lower_value (lower_at w a) ∙ value_again (value_of w a) in
-    cc (same, all_again w rest)
-
-lower_is_lower : (w : Values) → IsLower (lower_name w)
-lower_is_lower w = ap named (all_again w attributes)
 
 lowered_is_lower : (n : Values) → is_lower (lowered n) ≡ true
 unfolding is_lower lowered

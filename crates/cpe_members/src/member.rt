@@ -91,7 +91,6 @@ impl Member {
 }
 
 impl From<Memory> for RecordFault {
-    ghost use Rattle.std.specs.Prelude.{◌≡◌};
     ghost use Rattle.cpe_members.specs.declared.member.RecordFault.TheVariants as fault;
 
     ghost from_gives = { λ _ e. e ≡ fault.Memory };

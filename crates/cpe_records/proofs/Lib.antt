@@ -1,4 +1,3 @@
 pub mod Line
-pub mod ServedRecords
 pub mod ValidLemmas
 pub mod ValidRecords

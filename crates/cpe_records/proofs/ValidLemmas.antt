@@ -8,15 +8,18 @@ use Rattle.serde_json.specs.Find.{as_str}
 use Rattle.cpe_rows.specs.Names.{is_lower}
 use Rattle.cpe_rows.specs.Valid.{is_id}
 use Rattle.cpe_rows.specs.declared.edit.Edit.{Edit}
+use Rattle.cpe_rows.specs.declared.edit.Edit.TheVariants as edit
 use Rattle.cpe_rows.specs.declared.edit.Query.{Query}
+use Rattle.cpe_rows.specs.declared.entry.Deprecation.{Deprecation}
 use Rattle.cpe_rows.specs.declared.entry.Entry.{Entry}
+use Rattle.cpe_name.specs.declared.name.Values.{Values}
 use Rattle.cpe_members.specs.Yields.{Yields}
 use Rattle.cpe_members.proofs.YieldLemmas.{then_yields, behind}
 use Rattle.cpe_members.proofs.LowerNames.{name_lower, successors_lower}
 use Rattle.cpe_members.specs.Words.{kind_of, truth_of}
 use Rattle.cpe_members.specs.Forms.{required, member_at, word_at, flag_or_false, tested}
 use Rattle.cpe_members.specs.Names.{name_at, successors_at}
-use Rattle.cpe_records.specs.Kinds.{id_at, description_in, entry_in, remark_in, change_in, deprecate_in, amend_in, restore_in, key_at, check_in, search_in}
+use Rattle.cpe_records.specs.Kinds.{id_at, description_in, entry_in, remark_in, change_in, deprecation_in, restore_in, key_at, check_in, search_in}
 use Rattle.cpe_records.specs.Taken.{is_valid_record}
 use Rattle.cpe_records.specs.declared.read.Record.TheVariants as TheRecord
 use Rattle.cpe_records.specs.declared.kinds.Change.{Change}
@@ -46,17 +49,17 @@ change_lower d =
     behind are_lower (word_at kind_of member.Kind d) _
     (λ kind. then_yields (list_all is_lower) are_lower (successors_at d) _ (successors_lower d) (λ ns k. behind are_lower (remark_in d) _ (λ remark. k)))
 
-pub deprecate_valid : (d : Data) → Yields as_edit (deprecate_in d)
-unfolding deprecate_in
-deprecate_valid d =
-    then_yields is_lower as_edit (name_at d) _ (name_lower d)
-    (λ n h. then_yields are_lower as_edit (change_in d) _ (change_lower d) (λ rest k. and_from _ _ h k))
+-- of either kind
+deprecation_valid : (kind : Values → Deprecation → List ℕ → List ℕ → Edit) → ((n : Values) (c : Change) → is_lower n ≡ true → are_lower c ≡ true → as_edit (kind n c.deprecation c.remark.date c.remark.comment) ≡ true) → (d : Data) → Yields as_edit (deprecation_in kind d)
+unfolding deprecation_in
+deprecation_valid kind valid d =
+    then_yields is_lower as_edit (name_at d) _ (name_lower d) (λ n h. then_yields are_lower as_edit (change_in d) _ (change_lower d) (λ c k. valid n c h k))
 
-pub amend_valid : (d : Data) → Yields as_edit (amend_in d)
-unfolding amend_in
-amend_valid d =
-    then_yields is_lower as_edit (name_at d) _ (name_lower d)
-    (λ n h. then_yields are_lower as_edit (change_in d) _ (change_lower d) (λ rest k. and_from _ _ h k))
+pub deprecate_valid : (d : Data) → Yields as_edit (deprecation_in edit.Deprecate d)
+deprecate_valid d = deprecation_valid edit.Deprecate (λ n c h k. and_from _ _ h k) d
+
+pub amend_valid : (d : Data) → Yields as_edit (deprecation_in edit.Amend d)
+amend_valid d = deprecation_valid edit.Amend (λ n c h k. and_from _ _ h k) d
 
 pub restore_valid : (d : Data) → Yields as_edit (restore_in d)
 unfolding restore_in

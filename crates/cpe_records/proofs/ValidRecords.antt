@@ -3,18 +3,22 @@ use Rattle.std.proofs.Common.{◌≡◌, ℕ, List, Bool, true, ◌&&◌, refl, 
 use Rattle.std.specs.Prelude.{IfOk, Result, Ok, Err, codes}
 use Rattle.std.proofs.lemmas.Bool.{and_from}
 use Rattle.serde_json.specs.Data.{Data}
+use Rattle.cpe_name.specs.declared.name.Values.{Values}
 use Rattle.cpe_rows.specs.Names.{is_lower}
 use Rattle.cpe_rows.specs.Valid.{is_id, is_statement_test}
-use Rattle.cpe_members.specs.Gives.{Gives}
+use Rattle.cpe_members.specs.Gives.{◌>>=◌, Gives}
 use Rattle.cpe_records.specs.Verbs.{verb_of}
 use Rattle.cpe_members.specs.Forms.{word_at, text_or_empty}
 use Rattle.cpe_members.specs.Names.{name_at}
 use Rattle.cpe_logic.specs.Tests.{test_at}
-use Rattle.cpe_records.specs.Kinds.{id_at, entry_in, deprecate_in, amend_in, restore_in, key_at, check_in, search_in, statement_in, mode_at}
+use Rattle.cpe_records.specs.Kinds.{id_at, entry_in, deprecation_in, restore_in, key_at, check_in, search_in, statement_in, mode_at}
+use Rattle.cpe_rows.specs.declared.edit.Edit.{Edit}
+use Rattle.cpe_rows.specs.declared.edit.Edit.TheVariants as edit
 use Rattle.cpe_rows.specs.declared.statement.Statement.{Statement}
 use Rattle.cpe_records.specs.Taken.{is_valid_record}
 use Rattle.cpe_records.specs.Reading.{record_by, record_of, json_of, value_of}
 use Rattle.cpe_records.specs.declared.read.Record.{Record}
+use Rattle.cpe_records.specs.declared.read.Record.TheVariants as TheRecord
 use Rattle.cpe_records.specs.declared.verb.Verb.{Verb}
 use Rattle.cpe_records.specs.declared.verb.Verb.TheVariants as verb
 use Rattle.cpe_members.specs.declared.member.Member.TheVariants as member
@@ -36,22 +40,29 @@ statement_valid d =
     (λ i h. behind is_whole (text_or_empty member.Title (codes "title") d) _
     (λ title. behind is_whole (mode_at d) _ (λ mode. then_yields is_statement_test is_whole (test_at d) _ (test_at_valid d) (λ t k. and_from _ _ h k))))
 
+-- a record of a name alone, and what a reader of edits gives as a record
+name_valid : (d : Data) (as_record : Values → Record) → ((n : Values) → is_lower n ≡ true → is_valid_record (as_record n) ≡ true) → Yields is_valid_record (name_at d >>= λ n. Ok (as_record n))
+name_valid d as_record h = then_yields is_lower is_valid_record (name_at d) _ (name_lower d) h
+
+edit_valid : (r : Result Edit RecordFault) → Yields as_edit r → Yields is_valid_record (r >>= λ e. Ok (TheRecord.Edit e))
+edit_valid r h = then_yields as_edit is_valid_record r _ h (λ e k. k)
+
 pub record_valid : (v : Verb) (d : Data) → Yields is_valid_record (record_by v d)
 record_valid verb.Entry d = then_yields is_new is_valid_record (entry_in d) _ (entry_valid d) (λ e h. h)
-record_valid verb.Deprecate d = then_yields as_edit is_valid_record (deprecate_in d) _ (deprecate_valid d) (λ e h. h)
-record_valid verb.Amend d = then_yields as_edit is_valid_record (amend_in d) _ (amend_valid d) (λ e h. h)
-record_valid verb.Restore d = then_yields as_edit is_valid_record (restore_in d) _ (restore_valid d) (λ e h. h)
-record_valid verb.Item d = then_yields is_lower is_valid_record (name_at d) _ (name_lower d) (λ n h. h)
-record_valid verb.DropItem d = then_yields is_lower is_valid_record (name_at d) _ (name_lower d) (λ n h. h)
+record_valid verb.Deprecate d = edit_valid (deprecation_in edit.Deprecate d) (deprecate_valid d)
+record_valid verb.Amend d = edit_valid (deprecation_in edit.Amend d) (amend_valid d)
+record_valid verb.Restore d = edit_valid (restore_in d) (restore_valid d)
+record_valid verb.Item d = name_valid d _ (λ n h. h)
+record_valid verb.DropItem d = name_valid d _ (λ n h. h)
 record_valid verb.Statement d = then_yields is_whole is_valid_record (statement_in d) _ (statement_valid d) (λ s h. h)
 record_valid verb.DropStatement d = then_yields is_id is_valid_record (id_at d) _ (id_valid d) (λ i h. h)
-record_valid verb.Check d = then_yields as_edit is_valid_record (check_in d) _ (check_valid d) (λ e h. h)
+record_valid verb.Check d = edit_valid (check_in d) (check_valid d)
 record_valid verb.DropCheck d = behind is_valid_record (key_at d) _ (λ k. refl)
-record_valid verb.Lookup d = then_yields is_lower is_valid_record (name_at d) _ (name_lower d) (λ n h. h)
+record_valid verb.Lookup d = name_valid d _ (λ n h. h)
 record_valid verb.Search d = then_yields as_query is_valid_record (search_in d) _ (search_valid d) (λ q h. h)
-record_valid verb.Items d = then_yields is_lower is_valid_record (name_at d) _ (name_lower d) (λ n h. h)
-record_valid verb.Chain d = then_yields is_lower is_valid_record (name_at d) _ (name_lower d) (λ n h. h)
-record_valid verb.Show d = then_yields is_lower is_valid_record (name_at d) _ (name_lower d) (λ n h. h)
+record_valid verb.Items d = name_valid d _ (λ n h. h)
+record_valid verb.Chain d = name_valid d _ (λ n h. h)
+record_valid verb.Show d = name_valid d _ (λ n h. h)
 record_valid verb.Verdict d = then_yields is_id is_valid_record (id_at d) _ (id_valid d) (λ i h. h)
 
 -- what a line gives, if anything, is valid

@@ -2,7 +2,9 @@
 use Rattle.std.specs.Prelude.{ℕ, List, codes, None, Result, Ok, option_and_then}
 use Rattle.serde_json.specs.Data.{Data}
 use Rattle.serde_json.specs.Find.{as_str}
+use Rattle.cpe_name.specs.declared.name.Values.{Values}
 use Rattle.cpe_rows.specs.Valid.{is_id}
+use Rattle.cpe_rows.specs.declared.entry.Deprecation.{Deprecation}
 use Rattle.cpe_rows.specs.declared.entry.Entry.{Entry}
 use Rattle.cpe_rows.specs.declared.statement.Mode.{Mode}
 use Rattle.cpe_rows.specs.declared.statement.Mode.TheVariants.{Plain}
@@ -65,17 +67,12 @@ change_in d = do
   remark ← remark_in d
   Ok (record { deprecation = record { kind = kind; successors = successors }; remark = remark })
 
-unfoldable pub deprecate_in : Data → Result Edit RecordFault
-deprecate_in d = do
+-- a deprecation, as an edit of this kind
+unfoldable pub deprecation_in : (Values → Deprecation → List ℕ → List ℕ → Edit) → Data → Result Edit RecordFault
+deprecation_in kind d = do
   name ← name_at d
   rest ← change_in d
-  Ok (edit.Deprecate name rest.deprecation rest.remark.date rest.remark.comment)
-
-unfoldable pub amend_in : Data → Result Edit RecordFault
-amend_in d = do
-  name ← name_at d
-  rest ← change_in d
-  Ok (edit.Amend name rest.deprecation rest.remark.date rest.remark.comment)
+  Ok (kind name rest.deprecation rest.remark.date rest.remark.comment)
 
 unfoldable pub restore_in : Data → Result Edit RecordFault
 restore_in d = do

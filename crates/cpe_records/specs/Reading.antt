@@ -9,7 +9,7 @@ use Rattle.cpe_members.specs.Gives.{◌>>=◌}
 use Rattle.cpe_records.specs.Verbs.{verb_of}
 use Rattle.cpe_members.specs.Forms.{word_at}
 use Rattle.cpe_members.specs.Names.{name_at}
-use Rattle.cpe_records.specs.Kinds.{id_at, entry_in, deprecate_in, amend_in, restore_in, statement_in, key_at, check_in, search_in}
+use Rattle.cpe_records.specs.Kinds.{id_at, entry_in, deprecation_in, restore_in, statement_in, key_at, check_in, search_in}
 use Rattle.cpe_records.specs.declared.read.Record.{Record}
 use Rattle.cpe_records.specs.declared.read.Record.TheVariants.{Edit, Query}
 use Rattle.cpe_records.specs.declared.verb.Verb.{Verb}
@@ -21,8 +21,8 @@ use Rattle.cpe_members.specs.declared.member.RecordFault.TheVariants as fault
 -- the record of this kind, by its members
 abbrev pub record_by : Verb → Data → Result Record RecordFault
 record_by verb.Entry d = entry_in d >>= λ e. Ok (Edit (edit.Entry e))
-record_by verb.Deprecate d = deprecate_in d >>= λ e. Ok (Edit e)
-record_by verb.Amend d = amend_in d >>= λ e. Ok (Edit e)
+record_by verb.Deprecate d = deprecation_in edit.Deprecate d >>= λ e. Ok (Edit e)
+record_by verb.Amend d = deprecation_in edit.Amend d >>= λ e. Ok (Edit e)
 record_by verb.Restore d = restore_in d >>= λ e. Ok (Edit e)
 record_by verb.Item d = name_at d >>= λ n. Ok (Edit (edit.Item n))
 record_by verb.DropItem d = name_at d >>= λ n. Ok (Edit (edit.DropItem n))

@@ -1,7 +1,6 @@
 -- Records that an engine takes.
 use Rattle.std.specs.Prelude.{Bool}
 use Rattle.cpe_rows.specs.Valid.{is_valid_edit, is_valid_query}
-use Rattle.cpe_rows.specs.Served.{is_served_edit, is_served_query}
 use Rattle.cpe_records.specs.declared.read.Record.{Record}
 use Rattle.cpe_records.specs.declared.read.Record.TheVariants.{Edit, Query}
 
@@ -9,8 +8,3 @@ use Rattle.cpe_records.specs.declared.read.Record.TheVariants.{Edit, Query}
 abbrev pub is_valid_record : Record → Bool
 is_valid_record (Edit e) = is_valid_edit e
 is_valid_record (Query q) = is_valid_query q
-
--- an engine has it today
-abbrev pub is_served_record : Record → Bool
-is_served_record (Edit e) = is_served_edit e
-is_served_record (Query q) = is_served_query q

@@ -22,9 +22,9 @@ verb_word Chain = codes "chain"
 verb_word Show = codes "show"
 verb_word Verdict = codes "verdict"
 
--- the kinds whose words are taken: those of the edits and queries that are served
-abbrev pub served : List Verb
-served = Entry ∷ Lookup ∷ Search ∷ Show ∷ []
+abbrev pub verbs : List Verb
+verbs =
+    Entry ∷ Deprecate ∷ Amend ∷ Restore ∷ Item ∷ DropItem ∷ Statement ∷ DropStatement ∷ Check ∷ DropCheck ∷ Lookup ∷ Search ∷ Items ∷ Chain ∷ Show ∷ Verdict ∷ []
 
 abbrev pub verb_of : List ℕ → Option Verb
-verb_of = spelled verb_word served
+verb_of = spelled verb_word verbs

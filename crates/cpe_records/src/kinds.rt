@@ -1,13 +1,14 @@
 // The members of each kind of record, in the order in which they are tested. Each kind is read in a frame of its own: one
 // frame for all would be cleared for each record.
-ghost use Rattle.std.specs.Prelude.{◌≡◌, Err, option_and_then};
+ghost use Rattle.std.specs.Prelude.{◌≡◌, if◌then◌else◌, Err, option_and_then};
 ghost use Rattle.serde_json.specs.View.{view};
 ghost use Rattle.serde_json.specs.Find.{as_str};
 ghost use Rattle.cpe_rows.specs.Valid.{is_id};
+ghost use Rattle.cpe_rows.specs.declared.edit.Edit.TheVariants as edit;
 ghost use Rattle.cpe_members.specs.Words.{kind_of, mode_of, truth_of};
 ghost use Rattle.cpe_members.specs.Gives.{Gives};
 ghost use Rattle.cpe_members.specs.Forms.{word_at};
-ghost use Rattle.cpe_records.specs.Kinds.{comment_at, id_at, mode_at, description_in, entry_in, remark_in, change_in, deprecate_in, amend_in, restore_in, statement_in, key_at, check_in, search_in};
+ghost use Rattle.cpe_records.specs.Kinds.{comment_at, id_at, mode_at, description_in, entry_in, remark_in, change_in, deprecation_in, restore_in, statement_in, key_at, check_in, search_in};
 
 use cpe_logic::test_at;
 use cpe_members::{
@@ -156,48 +157,44 @@ fn change_in(alloc: Global, source: &Value) -> Result<Change, RecordFault>
     })
 }
 
-/// A deprecation of an entry.
-#[tactic(auto, unfolding(crate::specs::Kinds::deprecate_in))]
-#[inline(never)]
-pub(crate) fn deprecate_in(alloc: Global, source: &Value) -> Result<Edit, RecordFault>
-    ensures { Gives result (deprecate_in (view source.now)) }
+fn edit_of(name: Wfn, change: Change, replaces: bool) -> Edit
+    ensures { result
+        ≡ (if replaces then edit.Amend else edit.Deprecate) name change.deprecation change.remark.date change.remark.comment }
 {
-    let name = name_at(alloc, source)?;
-    match change_in(alloc, source) {
-        Ok(
-            Change {
-                deprecation,
-                remark: Remark { date, comment },
-            },
-        ) => Ok(Edit::Deprecate {
+    let Change {
+        deprecation,
+        remark: Remark { date, comment },
+    } = change;
+    if replaces {
+        Edit::Amend {
             name,
             deprecation,
             date,
             comment,
-        }),
-        Err(fault) => refused(name, fault),
+        }
+    } else {
+        Edit::Deprecate {
+            name,
+            deprecation,
+            date,
+            comment,
+        }
     }
 }
 
-/// Another deprecation of an entry.
-#[tactic(auto, unfolding(crate::specs::Kinds::amend_in))]
+/// A deprecation of an entry, or one that replaces the deprecation that it has.
+#[tactic(auto, unfolding(crate::specs::Kinds::deprecation_in))]
 #[inline(never)]
-pub(crate) fn amend_in(alloc: Global, source: &Value) -> Result<Edit, RecordFault>
-    ensures { Gives result (amend_in (view source.now)) }
+pub(crate) fn deprecation_in(
+    alloc: Global,
+    source: &Value,
+    replaces: bool,
+) -> Result<Edit, RecordFault>
+    ensures { Gives result (deprecation_in (if replaces then edit.Amend else edit.Deprecate) (view source.now)) }
 {
     let name = name_at(alloc, source)?;
     match change_in(alloc, source) {
-        Ok(
-            Change {
-                deprecation,
-                remark: Remark { date, comment },
-            },
-        ) => Ok(Edit::Amend {
-            name,
-            deprecation,
-            date,
-            comment,
-        }),
+        Ok(change) => Ok(edit_of(name, change, replaces)),
         Err(fault) => refused(name, fault),
     }
 }

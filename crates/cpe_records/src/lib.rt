@@ -8,10 +8,19 @@
 //! | `do` | Members in order |
 //! |---|---|
 //! | `entry` | `name`; `title`, else empty; `provenance`, else empty |
-//! | `lookup`, `show` | `name` |
+//! | `deprecate`, `amend` | `name`; `kind`; `successors`, else none; `date`; `comment`, else empty |
+//! | `restore` | `name`; `date`; `comment`, else empty |
+//! | `item`, `drop-item` | `name` |
+//! | `statement` | `id`; `title`, else empty; `mode`, else `plain`; `test` |
+//! | `drop-statement` | `id` |
+//! | `check` | `system`; `href`; `id`; `result` |
+//! | `drop-check` | `system`; `href`; `id` |
+//! | `lookup`, `items`, `chain`, `show` | `name` |
 //! | `search` | `name`; `active`, else `false` |
+//! | `verdict` | `id` |
 //!
-//! The readers of the other kinds stand here too. Their words are taken once their edits and queries are served.
+//! The `id` of a statement has 1 to 256 visible characters of ASCII; `system`, `href` and `id` of a check are any texts. The form
+//! of `test`, the test of a statement, stands at `cpe_logic`.
 #![tactic(auto)]
 
 mod kinds;

@@ -4,11 +4,11 @@ ghost use Rattle.serde_json.specs.View.{view};
 ghost use Rattle.cpe_records.specs.Verbs.{verb_of};
 ghost use Rattle.cpe_members.specs.Gives.{Gives, GivesBy};
 ghost use Rattle.cpe_members.specs.Forms.{word_at};
-ghost use Rattle.cpe_records.specs.Taken.{is_valid_record, is_served_record};
+ghost use Rattle.cpe_records.specs.Taken.{is_valid_record};
 ghost use Rattle.cpe_records.specs.Reading.{record_by, json_of, value_of, record_of};
 
 use crate::kinds::{
-    amend_in, check_in, deprecate_in, entry_in, id_at, key_at, restore_in, search_in, statement_in,
+    check_in, deprecation_in, entry_in, id_at, key_at, restore_in, search_in, statement_in,
 };
 use crate::verb::{Verb, verb_of};
 use cpe_members::{Member, RecordFault, name_at, text_of};
@@ -39,8 +39,8 @@ fn record_by(alloc: Global, verb: Verb, source: &Value) -> Result<Record, Record
 {
     match verb {
         Verb::Entry => Ok(Record::Edit(Edit::Entry(entry_in(alloc, source)?))),
-        Verb::Deprecate => Ok(Record::Edit(deprecate_in(alloc, source)?)),
-        Verb::Amend => Ok(Record::Edit(amend_in(alloc, source)?)),
+        Verb::Deprecate => Ok(Record::Edit(deprecation_in(alloc, source, false)?)),
+        Verb::Amend => Ok(Record::Edit(deprecation_in(alloc, source, true)?)),
         Verb::Restore => Ok(Record::Edit(restore_in(alloc, source)?)),
         Verb::Item => Ok(Record::Edit(Edit::Item(name_at(alloc, source)?))),
         Verb::DropItem => Ok(Record::Edit(Edit::DropItem(name_at(alloc, source)?))),
@@ -82,18 +82,17 @@ fn record_in(alloc: Global, line: &[u8]) -> Result<Record, RecordFault>
     record_by(alloc, verb, &value)
 }
 
-/// The record of a line: a JSON value, of a kind that is served, whose members have their forms. Its names are in lower case.
+/// The record of a line: a JSON value, of a kind that its member `do` says, whose members have their forms. Its names are in lower case.
 ///
 /// # Errors
 ///
 /// The first cause why the line is no record, exactly where it is none: `Json` where it is no JSON value, or nests deeper than 127
-/// arrays and objects, or has a number out of range; `Member` of `do` where this is none of the words that are served; and then
+/// arrays and objects, or has a number out of range; `Member` of `do` where this is none of the kinds' words; and then
 /// the fault of the first member of its kind that fails. Else `Memory`, where memory runs out.
 pub fn read_record(alloc: Global, line: &[u8]) -> Result<Record, RecordFault>
     ensures read { Gives result (record_of line.now) }
     // An engine takes it.
     ensures valid { IfOk result (λ r. is_valid_record r ≡ true) }
-    ensures served { IfOk result (λ r. is_served_record r ≡ true) }
 {
     record_in(alloc, line)
 }

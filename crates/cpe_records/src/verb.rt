@@ -48,10 +48,27 @@ impl Verb {
     }
 }
 
-/// The kind of this word. There is none exactly where no kind that is served has it. It takes no memory.
+/// The kind of this word. There is none exactly where no kind has it. It takes no memory.
 pub(crate) fn verb_of(text: &str) -> Option<Verb>
     ensures { result ≡ verb_of text.now }
 {
-    let served = [Verb::Entry, Verb::Lookup, Verb::Search, Verb::Show];
-    served.iter().copied().find(|verb| verb.word() == text)
+    let verbs = [
+        Verb::Entry,
+        Verb::Deprecate,
+        Verb::Amend,
+        Verb::Restore,
+        Verb::Item,
+        Verb::DropItem,
+        Verb::Statement,
+        Verb::DropStatement,
+        Verb::Check,
+        Verb::DropCheck,
+        Verb::Lookup,
+        Verb::Search,
+        Verb::Items,
+        Verb::Chain,
+        Verb::Show,
+        Verb::Verdict,
+    ];
+    verbs.iter().copied().find(|verb| verb.word() == text)
 }

@@ -1,11 +1,15 @@
--- The lines that answer a query. A name is written as its formatted string.
+-- The lines that answer a query, and the table of all verdicts. A name is written as its formatted string.
 use Rattle.std.specs.Prelude.{ℕ, List, ◌++◌, length, codes, Option, Some, None, option_map}
 use Rattle.std.specs.List.{flat_map}
 use Rattle.std.specs.Option.{option_map_or}
 use Rattle.std.specs.Fmt.{decimal}
 use Rattle.cpe_name.specs.declared.name.Values.{Values}
 use Rattle.cpe_fs.specs.Grammar.{fs_text}
+use Rattle.cpe_rows.specs.Rows.{Rows}
+use Rattle.cpe_rows.specs.Verdict.{verdict}
 use Rattle.cpe_rows.specs.declared.entry.Entry.{Entry}
+use Rattle.cpe_rows.specs.declared.statement.Statement.{Statement}
+use Rattle.cpe_rows.specs.declared.truth.Truth.{Truth}
 use Rattle.cpe_rows.specs.declared.reply.State.{State}
 use Rattle.cpe_rows.specs.declared.reply.State.TheVariants.{Active, Deprecated}
 use Rattle.cpe_rows.specs.declared.reply.Row.{Row}
@@ -48,10 +52,22 @@ abbrev pub shown : Values → Option Entry → List ℕ
 shown name (Some entry) = codes "show " ++ entry_text entry ++ codes "\n"
 shown name None = codes "show " ++ name_text name ++ codes " absent\n"
 
+-- the verdict of a statement by its id, or `absent`
+abbrev pub verdict_line : List ℕ → Option Truth → List ℕ
+verdict_line id truth = found_line (codes "verdict " ++ id) (option_map truth_word truth)
+
 abbrev pub reply_text : Reply → List ℕ
 reply_text (Lookup name state) = found_line (codes "lookup " ++ name_text name) (option_map state_word state)
 reply_text (Search name rows) = count_line (codes "search ") name (length rows) ++ flat_map (row_line (codes "entry ")) rows
 reply_text (Items name items) = count_line (codes "items ") name (length items) ++ flat_map (name_line (codes "item ")) items
 reply_text (Chain name links ends) = chain_line name (length links) (length ends) ++ flat_map (row_line (codes "step ")) links ++ flat_map (name_line (codes "end ")) ends
 reply_text (Show name entry) = shown name entry
-reply_text (Verdict id truth) = found_line (codes "verdict " ++ id) (option_map truth_word truth)
+reply_text (Verdict id truth) = verdict_line id truth
+
+-- the verdict of a statement, as if it were asked for
+abbrev pub statement_line : Rows → Statement → List ℕ
+statement_line rows s = verdict_line s.id (Some (verdict rows s))
+
+-- how many statements there are, and the verdict of each in their order
+abbrev pub verdict_table : Rows → List ℕ
+verdict_table rows = codes "verdicts " ++ decimal (length rows.statements) ++ codes "\n" ++ flat_map (statement_line rows) rows.statements

@@ -6,4 +6,4 @@ mod reply;
 mod row;
 
 pub use reason::RecordReason;
-pub use reply::push_reply;
+pub use reply::{push_reply, push_verdict};

@@ -1,7 +1,6 @@
 // The answers to queries as lines.
 ghost use Rattle.std.specs.Prelude.{◌≡◌, ◌++◌, OnOk, codes, option_map};
-ghost use Rattle.cpe_replies.specs.Replies.{state_word, name_text, count_line, chain_line, found_line, shown, reply_text};
-ghost use Rattle.cpe_members.specs.Words.{truth_word};
+ghost use Rattle.cpe_replies.specs.Replies.{state_word, name_text, count_line, chain_line, found_line, shown, verdict_line, reply_text};
 ghost use Rattle.cpe_entry_text.specs.Written.{entry_text};
 
 use crate::row::{push_name, push_names, push_rows, push_state};
@@ -124,8 +123,12 @@ fn push_entry(alloc: Global, page: &mut Page, entry: &Entry) -> Result<(), Alloc
     }
 }
 
-fn push_verdict(page: &mut Page, id: &str, truth: Option<Truth>) -> Result<(), AllocError>
-    ensures { OnOk result (page.new ≡ page.old ++ found_line (codes "verdict " ++ id.now) (option_map truth_word truth)) }
+/// Puts the line of a verdict behind what is gathered: the id of the statement, and its truth or `absent`.
+///
+/// # Errors
+/// Want of memory alone. What is gathered may have a front of the line then.
+pub fn push_verdict(page: &mut Page, id: &str, truth: Option<Truth>) -> Result<(), AllocError>
+    ensures { OnOk result (page.new ≡ page.old ++ verdict_line id.now truth) }
 {
     page.push(b"verdict ")?;
     page.push(id.as_bytes())?;

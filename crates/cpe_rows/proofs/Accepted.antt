@@ -1,5 +1,5 @@
 -- Rows are lawful at the start, and an accepted entry leaves lawful ones.
-use Rattle.std.proofs.Common.{◌≡◌, ◌||◌, ◌&&◌, List, [], ◌∷◌, Bool, true, false, not, nat_lt, cond, length, map, Option, Some, None, Ok, refl, ap, sym, ◌∙◌, subst}
+use Rattle.std.proofs.Common.{◌≡◌, ◌||◌, ◌&&◌, List, [], ◌∷◌, true, false, not, nat_lt, cond, length, map, Option, Some, None, refl, ap, sym, ◌∙◌, subst}
 use Rattle.std.specs.Prelude.{is_none, filter}
 use Rattle.std.specs.Option.{option_map_or}
 use Rattle.std.specs.List.{list_any, list_all}
@@ -11,17 +11,16 @@ use Rattle.cpe_rows.specs.Rows.{Rows, no_rows, is_named}
 use Rattle.cpe_rows.specs.Chains.{successors_of, is_active, chain, ends, leads_to}
 use Rattle.cpe_rows.specs.Limits.{limited, exceeds, is_wide, most_ends}
 use Rattle.cpe_rows.specs.After.{after}
-use Rattle.cpe_rows.specs.Faults.{when, full, faults, is_count}
-use Rattle.cpe_rows.specs.Step.{first_some, unless}
+use Rattle.cpe_rows.specs.Faults.{is_count}
 use Rattle.cpe_rows.specs.Lawful.{IsLawful, IsDictionary, is_entry_name, has_count, has_successors, is_cyclic, are_different}
 use Rattle.cpe_rows.specs.Accepted.{IsAccepted}
 use Rattle.cpe_rows.specs.declared.entry.Entry.{Entry}
 use Rattle.cpe_rows.specs.declared.entry.Deprecation.{Deprecation}
 use Rattle.cpe_rows.specs.declared.edit.Edit.TheVariants as edit
-use Rattle.cpe_rows.specs.declared.fault.EditFault.{EditFault}
 use Rattle.cpe_rows.specs.declared.fault.EditFault.TheVariants as fault
 use Rattle.cpe_rows.proofs.Lists.{not_found, each_element, all_elements, same_any, any_with_last, all_with_last, different_with_last}
 use Rattle.cpe_rows.proofs.NameTests.{not_same}
+use Rattle.cpe_rows.proofs.Unrefused.{IsUnrefused, unrefused, none_when}
 use Rattle.cpe_rows.proofs.Added as added
 
 pub at_start : IsLawful no_rows
@@ -35,17 +34,6 @@ at_start = record {
   within = refl;
 }
 
-pub no_fault : (o : Option EditFault) (left next : Rows) → unless o left ≡ Ok next → (o ≡ None) × (left ≡ next)
-no_fault (Some f) left next h = let wrong : ⊥ = cc in absurd wrong
-no_fault None left next h = (refl, cc)
-
-none_of : (a b c : Bool) (f g h : EditFault) (o : Option EditFault) → first_some (when a f ∷ when b g ∷ when c h ∷ o ∷ []) ≡ None → (a ≡ false) × (b ≡ false) × (c ≡ false) × (o ≡ None)
-none_of true b c f g h o e = let wrong : ⊥ = cc in absurd wrong
-none_of false true c f g h o e = let wrong : ⊥ = cc in absurd wrong
-none_of false false true f g h o e = let wrong : ⊥ = cc in absurd wrong
-none_of false false false f g h (Some x) e = let wrong : ⊥ = cc in absurd wrong
-none_of false false false f g h None e = (refl, refl, refl, refl)
-
 none_from : {A : Type 0} (o : Option A) → is_none o ≡ true → o ≡ None
 none_from (Some x) h = let wrong : ⊥ = cc in absurd wrong
 none_from None h = refl
@@ -54,17 +42,14 @@ module _ (rows next : Rows) (e : Entry) (h : IsAccepted rows (edit.Entry e) next
   abbrev left : Rows
   left = after rows (edit.Entry e)
 
-  result : (first_some (faults rows (edit.Entry e)) ≡ None) × (left ≡ next)
-  result = no_fault (first_some (faults rows (edit.Entry e))) left next h.accepted
-
-  refused_by : (not (is_identifier e.name) ≡ false) × (has_wildcards e.name ≡ false) × (list_any (is_named e.name) rows.entries ≡ false) × (full left ≡ None)
-  refused_by = none_of (not (is_identifier e.name)) (has_wildcards e.name) (list_any (is_named e.name) rows.entries) fault.NotIdentifier fault.Wildcards fault.Exists (full left) result.0
+  result : IsUnrefused rows (edit.Entry e) × (left ≡ next)
+  result = unrefused h
 
   is_valid : (is_lower e.name ≡ true) × (is_none e.deprecation ≡ true)
   is_valid = and_parts (is_lower e.name) (is_none e.deprecation) h.valid
 
   new : list_any (is_named e.name) rows.entries ≡ false
-  new = refused_by.2
+  new = none_when (list_any (is_named e.name) rows.entries) fault.Exists result.0.1.1.0
 
   active : e.deprecation ≡ None
   active = none_from e.deprecation is_valid.1
@@ -77,8 +62,8 @@ module _ (rows next : Rows) (e : Entry) (h : IsAccepted rows (edit.Entry e) next
 
   named : is_entry_name e.name ≡ true
   named = and_from (is_lower e.name && is_identifier e.name) (not (has_wildcards e.name))
-      (and_from (is_lower e.name) (is_identifier e.name) is_valid.0 (not-false (is_identifier e.name) refused_by.0))
-      (not_from_false (has_wildcards e.name) refused_by.1)
+      (and_from (is_lower e.name) (is_identifier e.name) is_valid.0 (not-false (is_identifier e.name) (none_when (not (is_identifier e.name)) fault.NotIdentifier result.0.0)))
+      (not_from_false (has_wildcards e.name) (none_when (has_wildcards e.name) fault.Wildcards result.0.1.0))
 
   -- what was an entry is one
   still : (ss : List Values) → list_all (λ s. list_any (is_named s) rows.entries) ss ≡ true → list_all (λ s. list_any (is_named s) left.entries) ss ≡ true
@@ -126,7 +111,7 @@ module _ (rows next : Rows) (e : Entry) (h : IsAccepted rows (edit.Entry e) next
     lawful_statements = h.lawful.lawful_statements;
     ids_differ = h.lawful.ids_differ;
     keys_differ = h.lawful.keys_differ;
-    within = not_found fault.Full (exceeds left) limited refused_by.3;
+    within = not_found fault.Full (exceeds left) limited result.0.1.1.1.0;
   }
 
   pub lawful : IsLawful next

@@ -1,5 +1,5 @@
 -- An accepted item leaves lawful rows, and so does one that is dropped.
-use Rattle.std.proofs.Common.{◌≡◌, ℕ, suc, List, [], ◌∷◌, Bool, true, false, not, nat_lt, cond, length, Option, Some, None, refl, ◌∙◌, subst, ◌≤◌, arith}
+use Rattle.std.proofs.Common.{◌≡◌, ℕ, suc, List, [], ◌∷◌, Bool, true, false, not, nat_lt, cond, length, refl, ◌∙◌, subst, ◌≤◌, arith}
 use Rattle.std.specs.List.{list_any, list_all}
 use Rattle.std.proofs.lemmas.Bool.{or_from, or_parts, and_from, and_parts, not_from_false, not-true}
 use Rattle.std.proofs.lemmas.Bool.Decides.{nat_tests}
@@ -8,47 +8,35 @@ use Rattle.cpe_rows.specs.Names.{is_same, is_lower, has_wildcards}
 use Rattle.cpe_rows.specs.Rows.{Rows, is_item}
 use Rattle.cpe_rows.specs.Limits.{limited, exceeds, most}
 use Rattle.cpe_rows.specs.After.{after, without_first}
-use Rattle.cpe_rows.specs.Faults.{when, full, faults}
-use Rattle.cpe_rows.specs.Step.{first_some}
 use Rattle.cpe_rows.specs.Lawful.{IsLawful, is_item_name, are_different}
 use Rattle.cpe_rows.specs.Accepted.{IsAccepted}
 use Rattle.cpe_rows.specs.declared.edit.Edit.TheVariants as edit
-use Rattle.cpe_rows.specs.declared.fault.EditFault.{EditFault}
 use Rattle.cpe_rows.specs.declared.fault.EditFault.TheVariants as fault
 use Rattle.cpe_rows.specs.declared.fault.Which.{Which}
 use Rattle.cpe_rows.specs.declared.fault.Which.TheVariants as limit
-use Rattle.cpe_rows.proofs.Accepted.{no_fault}
 use Rattle.cpe_rows.proofs.Lists.{not_found, not_element, all_with_last, different_with_last}
 use Rattle.cpe_rows.proofs.NameTests.{not_same}
-
-none_of : (a b : Bool) (f g : EditFault) (o : Option EditFault) → first_some (when a f ∷ when b g ∷ o ∷ []) ≡ None → (a ≡ false) × (b ≡ false) × (o ≡ None)
-none_of true b f g o e = let wrong : ⊥ = cc in absurd wrong
-none_of false true f g o e = let wrong : ⊥ = cc in absurd wrong
-none_of false false f g (Some x) e = let wrong : ⊥ = cc in absurd wrong
-none_of false false f g None e = (refl, refl, refl)
+use Rattle.cpe_rows.proofs.Unrefused.{IsUnrefused, unrefused, none_when}
 
 module _ (rows next : Rows) (n : Values) (h : IsAccepted rows (edit.Item n) next) where
   abbrev left : Rows
   left = after rows (edit.Item n)
 
-  result : (first_some (faults rows (edit.Item n)) ≡ None) × (left ≡ next)
-  result = no_fault (first_some (faults rows (edit.Item n))) left next h.accepted
-
-  refused_by : (has_wildcards n ≡ false) × (is_item rows n ≡ false) × (full left ≡ None)
-  refused_by = none_of (has_wildcards n) (is_item rows n) fault.Wildcards fault.Exists (full left) result.0
+  result : IsUnrefused rows (edit.Item n) × (left ≡ next)
+  result = unrefused h
 
   named : is_item_name n ≡ true
-  named = and_from (is_lower n) (not (has_wildcards n)) h.valid (not_from_false (has_wildcards n) refused_by.0)
+  named = and_from (is_lower n) (not (has_wildcards n)) h.valid (not_from_false (has_wildcards n) (none_when (has_wildcards n) fault.Wildcards result.0.0))
 
   stays : IsLawful left
   stays = record {
     dictionary = h.lawful.dictionary;
     item_names = all_with_last is_item_name rows.items n named ∙ h.lawful.item_names;
-    items_differ = different_with_last is_same rows.items n (λ a m. not_same n a (not_element (is_same n) rows.items refused_by.1 a m)) ∙ h.lawful.items_differ;
+    items_differ = different_with_last is_same rows.items n (λ a m. not_same n a (not_element (is_same n) rows.items (none_when (is_item rows n) fault.Exists result.0.1.0) a m)) ∙ h.lawful.items_differ;
     lawful_statements = h.lawful.lawful_statements;
     ids_differ = h.lawful.ids_differ;
     keys_differ = h.lawful.keys_differ;
-    within = not_found fault.Full (exceeds left) limited refused_by.2;
+    within = not_found fault.Full (exceeds left) limited result.0.1.1.0;
   }
 
   pub lawful_with : IsLawful next
@@ -119,4 +107,4 @@ module _ (rows next : Rows) (n : Values) (h : IsAccepted rows (edit.DropItem n) 
   }
 
   pub lawful_without : IsLawful next
-  lawful_without = subst IsLawful (no_fault (first_some (faults rows (edit.DropItem n))) without next h.accepted).1 still_lawful
+  lawful_without = subst IsLawful (unrefused h).1 still_lawful

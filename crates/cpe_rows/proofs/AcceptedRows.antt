@@ -1,5 +1,5 @@
 -- Accepted edits of statements and of kept results leave lawful rows.
-use Rattle.std.proofs.Common.{◌≡◌, ℕ, ◌≤◌, ◌&&◌, List, [], ◌∷◌, ◌++◌, Bool, true, false, not, cond, length, Option, Some, None, refl, sym, ◌∙◌, subst, arith}
+use Rattle.std.proofs.Common.{◌≡◌, ℕ, ◌≤◌, ◌&&◌, List, [], ◌∷◌, ◌++◌, Bool, true, false, not, cond, length, refl, sym, ◌∙◌, subst, arith}
 use Rattle.std.specs.List.{list_any, flat_map}
 use Rattle.std.specs.Str.{bytes_eq}
 use Rattle.std.proofs.lemmas.Bool.{or_from, or_parts, and_from, and_parts, not_from_false, not-true, false_from_ne_true, true≢false}
@@ -9,29 +9,17 @@ use Rattle.cpe_rows.specs.Rows.{Rows, is_statement, has_id, has_key, same_key}
 use Rattle.cpe_rows.specs.Limits.{limited, exceeds, most}
 use Rattle.cpe_rows.specs.FactNames.{fact_names}
 use Rattle.cpe_rows.specs.After.{after, without_first, with_check}
-use Rattle.cpe_rows.specs.Faults.{when, full, faults}
-use Rattle.cpe_rows.specs.Step.{first_some}
 use Rattle.cpe_rows.specs.Lawful.{IsLawful, is_lawful_statement, are_different}
 use Rattle.cpe_rows.specs.Accepted.{IsAccepted}
 use Rattle.cpe_rows.specs.declared.edit.Edit.TheVariants as edit
-use Rattle.cpe_rows.specs.declared.fault.EditFault.{EditFault}
 use Rattle.cpe_rows.specs.declared.fault.EditFault.TheVariants as fault
 use Rattle.cpe_rows.specs.declared.fault.Which.TheVariants as limit
 use Rattle.cpe_rows.specs.declared.statement.Statement.{Statement}
 use Rattle.cpe_rows.specs.declared.test.CheckKey.{CheckKey}
 use Rattle.cpe_rows.specs.declared.truth.Truth.{Truth}
-use Rattle.cpe_rows.proofs.Accepted.{no_fault}
 use Rattle.cpe_rows.proofs.AcceptedItems.{all_but_first, different_but_first, no_more_but_first, not_above}
 use Rattle.cpe_rows.proofs.Lists.{not_found, not_element, all_with_last, different_with_last}
-
-none_of : (a : Bool) (f : EditFault) (o : Option EditFault) → first_some (when a f ∷ o ∷ []) ≡ None → (a ≡ false) × (o ≡ None)
-none_of true f o e = let wrong : ⊥ = cc in absurd wrong
-none_of false f (Some x) e = let wrong : ⊥ = cc in absurd wrong
-none_of false f None e = (refl, refl)
-
-none_alone : (o : Option EditFault) → first_some (o ∷ []) ≡ None → o ≡ None
-none_alone (Some x) e = let wrong : ⊥ = cc in absurd wrong
-none_alone None e = refl
+use Rattle.cpe_rows.proofs.Unrefused.{IsUnrefused, unrefused, none_when}
 
 other_bytes : (a b : List ℕ) → bytes_eq a b ≡ false → bytes_eq b a ≡ false
 other_bytes a b h = false_from_ne_true (bytes_eq b a) (λ t. true≢false (sym ((bytes_eq-Decides a b).1 (sym ((bytes_eq-Decides b a).0 t))) ∙ h))
@@ -43,11 +31,8 @@ module _ (rows next : Rows) (s : Statement) (h : IsAccepted rows (edit.PutStatem
   abbrev put : Rows
   put = after rows (edit.PutStatement s)
 
-  result : (first_some (faults rows (edit.PutStatement s)) ≡ None) × (put ≡ next)
-  result = no_fault (first_some (faults rows (edit.PutStatement s))) put next h.accepted
-
-  refused_by : (is_statement rows s.id ≡ false) × (full put ≡ None)
-  refused_by = none_of (is_statement rows s.id) fault.Exists (full put) result.0
+  result : IsUnrefused rows (edit.PutStatement s) × (put ≡ next)
+  result = unrefused h
 
   pub put_lawful : IsLawful next
   put_lawful = subst IsLawful result.1 record {
@@ -55,9 +40,9 @@ module _ (rows next : Rows) (s : Statement) (h : IsAccepted rows (edit.PutStatem
     item_names = h.lawful.item_names;
     items_differ = h.lawful.items_differ;
     lawful_statements = all_with_last is_lawful_statement rows.statements s h.valid ∙ h.lawful.lawful_statements;
-    ids_differ = different_with_last (λ a. has_id a.id) rows.statements s (λ a m. other_bytes a.id s.id (not_element (has_id s.id) rows.statements refused_by.0 a m)) ∙ h.lawful.ids_differ;
+    ids_differ = different_with_last (λ a. has_id a.id) rows.statements s (λ a m. other_bytes a.id s.id (not_element (has_id s.id) rows.statements (none_when (is_statement rows s.id) fault.Exists result.0.0) a m)) ∙ h.lawful.ids_differ;
     keys_differ = h.lawful.keys_differ;
-    within = not_found fault.Full (exceeds put) limited refused_by.1;
+    within = not_found fault.Full (exceeds put) limited result.0.1.0;
   }
 
 no_more_of : {A B : Type 0} (p : A → Bool) (f : A → List B) (xs : List A) → length (flat_map f (without_first p xs)) ≤ length (flat_map f xs)
@@ -86,7 +71,7 @@ module _ (rows next : Rows) (id : List ℕ) (h : IsAccepted rows (edit.DropState
       facts.1)))
 
   pub dropped_lawful : IsLawful next
-  dropped_lawful = subst IsLawful (no_fault (first_some (faults rows (edit.DropStatement id))) dropped next h.accepted).1 record {
+  dropped_lawful = subst IsLawful (unrefused h).1 record {
     dictionary = h.lawful.dictionary;
     item_names = h.lawful.item_names;
     items_differ = h.lawful.items_differ;
@@ -124,8 +109,8 @@ module _ (rows next : Rows) (k : CheckKey) (t : Truth) (h : IsAccepted rows (edi
   abbrev set : Rows
   set = after rows (edit.SetCheck k t)
 
-  set_result : (first_some (faults rows (edit.SetCheck k t)) ≡ None) × (set ≡ next)
-  set_result = no_fault (first_some (faults rows (edit.SetCheck k t))) set next h.accepted
+  set_result : IsUnrefused rows (edit.SetCheck k t) × (set ≡ next)
+  set_result = unrefused h
 
   pub set_lawful : IsLawful next
   set_lawful = subst IsLawful set_result.1 record {
@@ -135,7 +120,7 @@ module _ (rows next : Rows) (k : CheckKey) (t : Truth) (h : IsAccepted rows (edi
     lawful_statements = h.lawful.lawful_statements;
     ids_differ = h.lawful.ids_differ;
     keys_differ = different_with k t rows.checks h.lawful.keys_differ;
-    within = not_found fault.Full (exceeds set) limited (none_alone (full set) set_result.0);
+    within = not_found fault.Full (exceeds set) limited set_result.0.0;
   }
 
 module _ (rows next : Rows) (k : CheckKey) (h : IsAccepted rows (edit.DropCheck k) next) where
@@ -157,7 +142,7 @@ module _ (rows next : Rows) (k : CheckKey) (h : IsAccepted rows (edit.DropCheck 
       (not_above (most limit.Checks) (length rows.checks) (length cleared.checks) (no_more_but_first (has_key k) rows.checks) checks.0) refl))))
 
   pub cleared_lawful : IsLawful next
-  cleared_lawful = subst IsLawful (no_fault (first_some (faults rows (edit.DropCheck k))) cleared next h.accepted).1 record {
+  cleared_lawful = subst IsLawful (unrefused h).1 record {
     dictionary = h.lawful.dictionary;
     item_names = h.lawful.item_names;
     items_differ = h.lawful.items_differ;

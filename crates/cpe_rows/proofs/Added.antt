@@ -59,6 +59,15 @@ nothing_kept p xs h = same_filter p (λ _. false) xs h ∙ empty xs where
   empty [] = refl
   empty (x ∷ xs) = empty xs
 
+-- a name that no entry has is the only end of its empty chain
+module _ (entries : List Entry) (n : Values) (absent : list_any (is_named n) entries ≡ false) where
+  pub no_chain : chain entries n ≡ []
+  no_chain = nothing_kept (is_reached is_successor entries (is_named n)) entries
+      (none_reached is_successor entries (is_named n) (not_element (is_named n) entries absent))
+
+  pub own_end : ends entries n ≡ n ∷ []
+  own_end = λ i. cond (absent i) (map (λ e. e.name) (filter is_active (chain entries n))) (n ∷ [])
+
 -- an active entry of a new name, where the successors of entries are entries
 module _ (entries : List Entry) (e : Entry) (new : list_any (is_named e.name) entries ≡ false) (active : e.deprecation ≡ None) (closed : list_all (has_successors entries) entries ≡ true) where
   abbrev added : List Entry
@@ -99,27 +108,26 @@ module _ (entries : List Entry) (e : Entry) (new : list_any (is_named e.name) en
   pub other_chain : (n : Values) → is_same n e.name ≡ false → chain added n ≡ chain entries n
   other_chain n h = chain_of_added n ∙ (ap (λ b. chain entries n ++ cond b (e ∷ []) []) h ∙ append_nothing (chain entries n))
 
+  no_entry : (n : Values) → is_same n e.name ≡ true → list_any (is_named n) entries ≡ false
+  no_entry n h = ap (λ m. list_any (is_named m) entries) ((same_is n e.name).0 h) ∙ new
+
   -- it alone is in its own
   pub own_chain : (n : Values) → is_same n e.name ≡ true → chain added n ≡ e ∷ []
   own_chain n h = chain_of_added n ∙ (λ i. before i ++ cond (h i) (e ∷ []) []) where
     before : chain entries n ≡ []
-    before = let none : (b : Entry) → Among entries b → is_named n b ≡ false = λ b m. ap (λ k. is_same k b.name) ((same_is n e.name).0 h) ∙ unnamed b m in
-        nothing_kept (is_reached is_successor entries (is_named n)) entries (none_reached is_successor entries (is_named n) none)
+    before = no_chain entries n (no_entry n h)
 
   pub same_ends : (n : Values) → ends added n ≡ ends entries n
   same_ends n = go (is_same n e.name) refl where
     named : is_same n e.name ≡ true → list_any (is_named n) added ≡ true
     named h = list_any-append (is_named n) entries (e ∷ []) ∙ or_right (list_any (is_named n) entries) (is_named n e || false) (or_left (is_named n e) false h)
 
-    own_end : is_same n e.name ≡ true → ends added n ≡ n ∷ []
-    own_end h =
+    end_of_added : is_same n e.name ≡ true → ends added n ≡ n ∷ []
+    end_of_added h =
         (λ i. cond (named h i) (map (λ x. x.name) (filter is_active (own_chain n h i))) (n ∷ []))
         ∙ ((λ i. map (λ x. x.name) (cond (is_none (active i)) (e ∷ []) []))
         ∙ ap (λ m. m ∷ []) (sym ((same_is n e.name).0 h)))
 
-    no_entry : is_same n e.name ≡ true → ends entries n ≡ n ∷ []
-    no_entry h = λ i. cond ((ap (λ m. list_any (is_named m) entries) ((same_is n e.name).0 h) ∙ new) i) (map (λ x. x.name) (filter is_active (chain entries n))) (n ∷ [])
-
     go : (b : Bool) → is_same n e.name ≡ b → ends added n ≡ ends entries n
-    go true h = own_end h ∙ sym (no_entry h)
+    go true h = end_of_added h ∙ sym (own_end entries n (no_entry n h))
     go false h = λ i. cond (any_with_last (is_named n) entries e h i) (map (λ x. x.name) (filter is_active (other_chain n h i))) (n ∷ [])

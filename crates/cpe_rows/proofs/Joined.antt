@@ -10,7 +10,7 @@ use Rattle.cpe_rows.specs.declared.test.Operator.{Operator}
 use Rattle.cpe_rows.specs.declared.test.Operator.TheVariants.{And, Or}
 
 -- the first of three, by whether each is there
-abbrev pick : Truth → Truth → Bool → Bool → Bool → Truth
+abbrev pub pick : Truth → Truth → Bool → Bool → Bool → Truth
 pick first last f e u = if f then first else (if e then Error else (if u then Unknown else last))
 
 and-pick : (f e u : Bool) (t : Truth) → pick False True (f || (same_truth False t || false)) (e || (same_truth Error t || false)) (u || (same_truth Unknown t || false)) ≡ and_of (pick False True f e u) t

@@ -42,15 +42,15 @@ abbrev pub place_of : {A : Type 0} → (A → Bool) → List A → Option ℕ
 place_of passes xs = option_map (λ k. k + 1) (position passes xs)
 
 -- the place, counted on from k, of the first that was seen or stands earlier too
-abbrev pub repeated_from : List Values → ℕ → List Values → Option ℕ
-repeated_from seen k [] = None
-repeated_from seen k (n ∷ ns) = if list_any (is_same n) seen then Some k else repeated_from (n ∷ seen) (k + 1) ns
+abbrev pub repeated_from : {A : Type 0} → (A → A → Bool) → List A → ℕ → List A → Option ℕ
+repeated_from same seen k [] = None
+repeated_from same seen k (x ∷ xs) = if list_any (same x) seen then Some k else repeated_from same (x ∷ seen) (k + 1) xs
 
 abbrev pub successor_faults : Rows → Values → Deprecation → List (Option EditFault)
 successor_faults rows n d =
     when (not (is_count d.kind (length d.successors))) fault.BadCount
     ∷ option_map fault.UnknownSuccessor (place_of (λ s. not (is_entry rows s)) d.successors)
-    ∷ option_map fault.RepeatedSuccessor (repeated_from [] 1 d.successors)
+    ∷ option_map fault.RepeatedSuccessor (repeated_from is_same [] 1 d.successors)
     ∷ option_map fault.Cycle (place_of (λ s. leads_to rows.entries s n) d.successors)
     ∷ []
 

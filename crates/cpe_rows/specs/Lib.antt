@@ -4,6 +4,7 @@ pub mod Date
 pub mod Filling
 pub mod Truth
 pub mod Evaluation
+pub mod Negation
 pub mod Shape
 pub mod FactNames
 pub mod Reach
@@ -13,10 +14,10 @@ pub mod Verdict
 pub mod Weight
 pub mod Limits
 pub mod Valid
-pub mod Served
 pub mod After
 pub mod Faults
 pub mod Step
+pub mod Applied
 pub mod Answers
 pub mod Changes
 pub mod Lawful

@@ -1,5 +1,5 @@
 // The truth of a test, from the truths of its facts and checks.
-ghost use Rattle.std.specs.Prelude.{◌≡◌, List, [], ◌∷◌};
+ghost use Rattle.std.specs.Prelude.{◌≡◌, IfOk, List, [], ◌∷◌};
 ghost use Rattle.cpe_name.specs.declared.name.Values.{Values};
 ghost use Rattle.cpe_rows.specs.Evaluation.{test_truth, joined};
 ghost use Rattle.cpe_rows.specs.declared.truth.Truth.{Truth};
@@ -7,6 +7,8 @@ ghost use Rattle.cpe_rows.specs.declared.test.CheckKey.{CheckKey};
 
 use crate::{CheckKey, Operator, Test, Truth, and_of, not_of, or_of};
 use cpe_name::Wfn;
+use cpe_values::Memory;
+use std::alloc::Global;
 
 /// What is known of facts and checks.
 pub trait Facts {
@@ -42,6 +44,48 @@ pub fn evaluate<F: Facts>(test: &Test, facts: &F) -> Truth
         }
         Test::Fact(name) => facts.fact(name),
         Test::Check(key) => facts.check(key),
+    }
+}
+
+/// What is known of facts and checks, where a fact has to be looked for, and that may want memory.
+pub trait FindFacts {
+    ghost fact_truth: { Self → Values → Truth };
+
+    ghost check_truth: { Self → CheckKey → Truth };
+
+    /// The truth of a fact reference.
+    ///
+    /// # Errors
+    /// Want of memory alone.
+    fn find_fact(&self, alloc: Global, name: &Wfn) -> Result<Truth, Memory>
+        ensures { IfOk result (λ truth. truth ≡ fact_truth self.now name.now) };
+
+    /// The truth of a check reference.
+    fn find_check(&self, key: &CheckKey) -> Truth
+        ensures { result ≡ check_truth self.now key.now };
+}
+
+/// The truth of a test as [`evaluate`] has it, where facts have to be looked for.
+///
+/// # Errors
+/// Want of memory alone.
+pub fn find_truth<F: FindFacts>(alloc: Global, test: &Test, facts: &F) -> Result<Truth, Memory>
+    ensures { IfOk result (λ truth. truth ≡ test_truth (F.fact_truth facts.now) (F.check_truth facts.now) test.now) }
+{
+    match test {
+        Test::Logic {
+            operator,
+            negate,
+            of,
+        } => {
+            let mut truth = neutral(*operator);
+            for child in of.as_slice() {
+                truth = join(*operator, truth, find_truth(alloc, child, facts)?);
+            }
+            Ok(if *negate { not_of(truth) } else { truth })
+        }
+        Test::Fact(name) => facts.find_fact(alloc, name),
+        Test::Check(key) => Ok(facts.find_check(key)),
     }
 }
 

@@ -1,9 +1,14 @@
 // Laws of the definitions. These functions do nothing: their clauses are the laws.
-ghost use Rattle.std.specs.Prelude.{◌≡◌, ◌↔◌, ◌∷◌, ◌++◌, [], ℕ, List, IsTrue, false, length, Some, None, position, find};
+ghost use Rattle.std.specs.Prelude.{◌≡◌, ◌↔◌, ◌∷◌, ◌++◌, [], ℕ, List, IsTrue, false, true, Contains, All, map, length, Some, None, position, find};
+ghost use Rattle.std.specs.List.{list_any};
 ghost use Rattle.cpe_name.specs.declared.name.Values.{Values};
 ghost use Rattle.cpe_name.specs.Lower.{IsLower, lower_name};
 ghost use Rattle.cpe_rows.specs.Names.{is_same, is_lower};
-ghost use Rattle.cpe_rows.specs.Truth.{and_all, or_all, and_of, or_of};
+ghost use Rattle.cpe_rows.specs.Truth.{and_all, or_all, and_of, or_of, not_of};
+ghost use Rattle.cpe_rows.specs.Negation.{negation_of, HaveSameTruth, HasNegatedTruth};
+ghost use Rattle.cpe_rows.specs.declared.test.Operator.{Operator};
+ghost use Rattle.cpe_rows.specs.declared.test.Operator.TheVariants.{And, Or};
+ghost use Rattle.cpe_rows.specs.declared.test.Test.{Test, Logic};
 ghost use Rattle.cpe_rows.specs.Reach.{IsDecided};
 ghost use Rattle.cpe_rows.specs.Chains.{is_successor, chain, ends};
 ghost use Rattle.cpe_rows.specs.Rows.{Rows, no_rows, is_named, has_id};
@@ -13,9 +18,9 @@ ghost use Rattle.cpe_rows.specs.Changes.{change, changes, dropped};
 ghost use Rattle.cpe_rows.specs.Lawful.{IsLawful};
 ghost use Rattle.cpe_rows.specs.Accepted.{IsAccepted};
 ghost use Rattle.cpe_rows.specs.declared.truth.Truth.{Truth};
+ghost use Rattle.cpe_rows.specs.declared.truth.Truth.TheVariants.{True, False};
 ghost use Rattle.cpe_rows.specs.declared.entry.Entry.{Entry};
 ghost use Rattle.cpe_rows.specs.declared.statement.Statement.{Statement};
-ghost use Rattle.cpe_rows.specs.declared.test.CheckKey.{CheckKey};
 
 use crate::Edit;
 
@@ -25,23 +30,22 @@ pub fn chains_are_paths()
     ensures { (entries : List Entry) (n : Values) → IsDecided is_successor entries (is_named n) }
 {}
 
-/// Rows are lawful at the start, and stay so by accepted edits of entries that are new, of items, of statements and of kept
-/// results.
+/// Rows are lawful at the start, and every accepted edit leaves them so.
 pub fn rows_stay_lawful()
     ensures start { IsLawful no_rows }
-    ensures entry { (rows next : Rows) (e : Entry) → IsAccepted rows (Edit.Entry e) next → IsLawful next }
-    ensures item { (rows next : Rows) (n : Values) → IsAccepted rows (Edit.Item n) next → IsLawful next }
-    ensures dropped_item { (rows next : Rows) (n : Values) → IsAccepted rows (Edit.DropItem n) next → IsLawful next }
-    ensures statement { (rows next : Rows) (s : Statement) → IsAccepted rows (Edit.PutStatement s) next → IsLawful next }
-    ensures dropped_statement { (rows next : Rows) (id : List ℕ) → IsAccepted rows (Edit.DropStatement id) next → IsLawful next }
-    ensures check { (rows next : Rows) (k : CheckKey) (t : Truth) → IsAccepted rows (Edit.SetCheck k t) next → IsLawful next }
-    ensures dropped_check { (rows next : Rows) (k : CheckKey) → IsAccepted rows (Edit.DropCheck k) next → IsLawful next }
+    ensures kept { (rows next : Rows) (e : Edit) → IsAccepted rows e next → IsLawful next }
 {}
 
 /// An accepted entry changes the ends of no name, and is in no chain but its own.
 pub fn entries_stand_alone()
     ensures ends { (rows next : Rows) (e : Entry) (n : Values) → IsAccepted rows (Edit.Entry e) next → ends next.entries n ≡ ends rows.entries n }
     ensures chains { (rows next : Rows) (e : Entry) (n : Values) → IsAccepted rows (Edit.Entry e) next → is_same n e.name ≡ false → chain next.entries n ≡ chain rows.entries n }
+{}
+
+/// A name that no entry has is its own only end, and has no chain.
+pub fn absent_names_stand_alone()
+    ensures chains { (entries : List Entry) (n : Values) → list_any (is_named n) entries ≡ false → chain entries n ≡ [] }
+    ensures ends { (entries : List Entry) (n : Values) → list_any (is_named n) entries ≡ false → ends entries n ≡ n ∷ [] }
 {}
 
 /// The test by which names are found holds exactly where they are equal; of names in lower case that is where they are the
@@ -64,4 +68,49 @@ pub fn statements_stand_alone()
 pub fn tables_are_folds()
     ensures and_all { (ts : List Truth) (t : Truth) → and_all (ts ++ t ∷ []) ≡ and_of (and_all ts) t }
     ensures or_all { (ts : List Truth) (t : Truth) → or_all (ts ++ t ∷ []) ≡ or_of (or_all ts) t }
+{}
+
+/// The tables ask only which truths are there: neither how they are ordered or grouped, nor how often each is there.
+pub fn tables_are_of_members()
+    ensures and_order { (a b : Truth) → and_of a b ≡ and_of b a }
+    ensures or_order { (a b : Truth) → or_of a b ≡ or_of b a }
+    ensures and_group { (a b c : Truth) → and_of (and_of a b) c ≡ and_of a (and_of b c) }
+    ensures or_group { (a b c : Truth) → or_of (or_of a b) c ≡ or_of a (or_of b c) }
+    ensures and_twice { (t : Truth) → and_of t t ≡ t }
+    ensures or_twice { (t : Truth) → or_of t t ≡ t }
+    ensures and_all { (ts us : List Truth) → ((t : Truth) → Contains ts t ↔ Contains us t) → and_all ts ≡ and_all us }
+    ensures or_all { (ts us : List Truth) → ((t : Truth) → Contains ts t ↔ Contains us t) → or_all ts ≡ or_all us }
+{}
+
+/// AND is FALSE exactly where a FALSE is there, and TRUE exactly where nothing but TRUE is; OR is TRUE exactly where a TRUE is
+/// there, and FALSE exactly where nothing but FALSE is. So FALSE decides an AND, to which TRUE adds nothing; and the other way
+/// round for OR.
+pub fn tables_have_deciding_truths()
+    ensures and_decided { (t : Truth) → and_of False t ≡ False }
+    ensures or_decided { (t : Truth) → or_of True t ≡ True }
+    ensures and_neutral { (t : Truth) → and_of True t ≡ t }
+    ensures or_neutral { (t : Truth) → or_of False t ≡ t }
+    ensures some_false { (ts : List Truth) → (and_all ts ≡ False) ↔ Contains ts False }
+    ensures some_true { (ts : List Truth) → (or_all ts ≡ True) ↔ Contains ts True }
+    ensures all_true { (ts : List Truth) → (and_all ts ≡ True) ↔ All (λ t. t ≡ True) ts }
+    ensures all_false { (ts : List Truth) → (or_all ts ≡ False) ↔ All (λ t. t ≡ False) ts }
+{}
+
+/// Two negations are none. What is joined and then negated is negated and then joined by the other table (De Morgan), for all
+/// four truths: the orders in which the tables ask are each other's but for TRUE and FALSE, which change places.
+pub fn negation_swaps_tables()
+    ensures twice { (t : Truth) → not_of (not_of t) ≡ t }
+    ensures and_of { (a b : Truth) → not_of (and_of a b) ≡ or_of (not_of a) (not_of b) }
+    ensures or_of { (a b : Truth) → not_of (or_of a b) ≡ and_of (not_of a) (not_of b) }
+    ensures and_all { (ts : List Truth) → not_of (and_all ts) ≡ or_all (map not_of ts) }
+    ensures or_all { (ts : List Truth) → not_of (or_all ts) ≡ and_all (map not_of ts) }
+{}
+
+/// A logical test that negates an only child has that child's truth negated, by either operator, so two of them around a test
+/// leave its truth. A test that negates says what the other operator says of its children, each of them negated (De Morgan).
+pub fn negation_moves_inward()
+    ensures once { (o : Operator) (t : Test) → HasNegatedTruth (negation_of o t) t }
+    ensures twice { (o p : Operator) (t : Test) → HaveSameTruth (negation_of o (negation_of p t)) t }
+    ensures of_and { (o : Operator) (of : List Test) → HaveSameTruth (Logic And true of) (Logic Or false (map (negation_of o) of)) }
+    ensures of_or { (o : Operator) (of : List Test) → HaveSameTruth (Logic Or true of) (Logic And false (map (negation_of o) of)) }
 {}

@@ -24,11 +24,12 @@ mod truth;
 pub use date::Date;
 pub use edit::{Edit, Query, is_id};
 pub use entry::{Deprecation, Entry, Kind, Note, NoteKind, Provenance};
-pub use facts::{Facts, evaluate};
+pub use facts::{Facts, FindFacts, evaluate, find_truth};
 pub use fault::{EditFault, Which};
 pub use laws::{
-    chains_are_paths, entries_stand_alone, names_are_equal, rows_stay_lawful,
-    statements_stand_alone, tables_are_folds,
+    absent_names_stand_alone, chains_are_paths, entries_stand_alone, names_are_equal,
+    negation_moves_inward, negation_swaps_tables, rows_stay_lawful, statements_stand_alone,
+    tables_are_folds, tables_are_of_members, tables_have_deciding_truths,
 };
 pub use list::List;
 pub use names::{has_wildcards, is_identifier, is_lower, is_same};

@@ -11,7 +11,7 @@ pub enum Truth {
     False,
     /// A check failed to tell.
     Error,
-    /// No result is kept.
+    /// Not known: no result is kept, or the one that is kept says so.
     Unknown,
 }
 

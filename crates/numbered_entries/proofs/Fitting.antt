@@ -1,11 +1,9 @@
 -- Entries with different names are numbered by their nodes.
-use Rattle.std.proofs.Common.{◌≡◌, ◌↔◌, ℕ, zero, suc, ◌+◌, ◌<◌, Bool, true, false, cond, not, IsTrue, List, [], ◌∷◌, length, get_or, refl, sym, ap, subst, ◌∙◌, inl, inr, arith, Option, Some, None, slice_get}
-use Rattle.std.specs.List.{Contains, list_any, cons_option, position, position_from}
+use Rattle.std.proofs.Common.{◌≡◌, ◌↔◌, ℕ, zero, suc, Bool, true, false, not, IsTrue, List, [], ◌∷◌, refl, sym, ap, subst, ◌∙◌, inl, inr, arith, Option, Some, None, slice_get}
+use Rattle.std.specs.List.{Contains, list_any, cons_option, position}
 use Rattle.std.specs.Option.{option_map}
-use Rattle.std.proofs.lemmas.Option.{same_Some, none-some, slice_get-map, slice_get-get_or, get_or_from_slice_get}
+use Rattle.std.proofs.lemmas.Option.{same_Some, none-some, slice_get-map}
 use Rattle.std.proofs.lemmas.Bool.{or_left, or_right, or_cases, and_parts}
-use Rattle.std.proofs.lemmas.List.Quantifiers.{position-Some}
-use Rattle.std.proofs.lemmas.Iterator.Adapters.{position_from-zero}
 use Rattle.cpe_name.specs.declared.name.Values.{Values}
 use Rattle.cpe_rows.specs.Names.{is_same}
 use Rattle.cpe_rows.specs.Chains.{successors_of}
@@ -16,6 +14,7 @@ use Rattle.deprecation_graph.specs.Graph.{next_or_none, active_or_not, next_in, 
 use Rattle.deprecation_graph.proofs.Rising.{Contains-cases, Contains-rest}
 use Rattle.numbered_entries.specs.Numbers.{AreNumbered, AreMarked, numbers_of, node_of_entry, nodes_of_entries}
 use Rattle.numbered_entries.proofs.Numbering.{entry_at}
+use Rattle.numbered_entries.proofs.Places.{placed, passes_at, numbers_within}
 
 clash : (b : Bool) → not b ≡ true → b ≡ true → ⊥
 clash true h e = cc
@@ -25,15 +24,6 @@ passes : (p : Entry → Bool) (es : List Entry) (i : ℕ) (y : Entry) → slice_
 passes p [] i y e h = absurd (none-some y e)
 passes p (x ∷ xs) zero y e h = or_left (p x) (list_any p xs) (ap p (same_Some x y e) ∙ h)
 passes p (x ∷ xs) (suc i) y e h = or_right (p x) (list_any p xs) (passes p xs i y e h)
-
-placed : (p : Entry → Bool) (k : ℕ) (es : List Entry) (j : ℕ) (y : Entry) → slice_get es j ≡ Some y → p y ≡ true → (i : ℕ) × (position_from p k es ≡ Some i)
-placed p k [] j y e h = absurd (none-some y e)
-placed p k (x ∷ xs) j y e h = go (p x) refl j e (λ m at. placed p (k + 1) xs m y at h)
-  where
-    go : (b : Bool) → p x ≡ b → (m : ℕ) → slice_get (x ∷ xs) m ≡ Some y → ((m' : ℕ) → slice_get xs m' ≡ Some y → (i : ℕ) × (position_from p (k + 1) xs ≡ Some i)) → (i : ℕ) × (cond b (Some k) (position_from p (k + 1) xs) ≡ Some i)
-    go true f m at rest = (k, refl)
-    go false f zero at rest = absurd (clash (p x) (ap not f) (ap p (same_Some x y at) ∙ h))
-    go false f (suc m) at rest = rest m at
 
 module _ (same : (a b : Values) → IsTrue (is_same a b) ↔ (a ≡ b)) where
   turned : (a b : Values) → is_same a b ≡ true → is_same b a ≡ true
@@ -53,21 +43,6 @@ module _ (same : (a b : Values) → IsTrue (is_same a b) ↔ (a ≡ b)) where
       ap suc (apart zs parts.1 i j x y e f h)
 
   module _ (entries : List Entry) (different : are_different (λ (e : Entry). is_named e.name) entries ≡ true) where
-    -- the entry at the place of a name has it
-    has_name : (n : Values) (i : ℕ) (d : Entry) → position (is_named n) entries ≡ Some i → (i < length entries) × (is_named n (get_or entries i d) ≡ true)
-    has_name n i d e = let h = position-Some (is_named n) entries i d e in (h.0, h.1)
-
-    within : (d : Entry) (ns : List Values) (b : ℕ) → Contains (numbers_of entries ns) b → b < length entries
-    within d [] b c = absurd (omega (arith, c.1))
-    within d (n ∷ ns) b c = go (position (is_named n) entries) refl c (within d ns b)
-      where
-        go : (o : Option ℕ) → position (is_named n) entries ≡ o → Contains (cons_option o (numbers_of entries ns)) b → (Contains (numbers_of entries ns) b → b < length entries) → b < length entries
-        go None e h rest = rest h
-        go (Some i) e h rest = elim (Contains-cases b i (numbers_of entries ns) h) [
-          | inl is ↦ omega (arith, is, (has_name n i d e).0)
-          | inr more ↦ rest more
-        ]
-
     from_number : (ns : List Values) (b : ℕ) (y : Entry) → slice_get entries b ≡ Some y → Contains (numbers_of entries ns) b → list_any (is_same y.name) ns ≡ true
     from_number [] b y at c = absurd (omega (arith, c.1))
     from_number (n ∷ ns) b y at c = go (position (is_named n) entries) refl c (from_number ns b y at)
@@ -75,9 +50,7 @@ module _ (same : (a b : Values) → IsTrue (is_same a b) ↔ (a ≡ b)) where
         go : (o : Option ℕ) → position (is_named n) entries ≡ o → Contains (cons_option o (numbers_of entries ns)) b → (Contains (numbers_of entries ns) b → list_any (is_same y.name) ns ≡ true) → list_any (is_same y.name) (n ∷ ns) ≡ true
         go None e h rest = or_right (is_same y.name n) (list_any (is_same y.name) ns) (rest h)
         go (Some i) e h rest = elim (Contains-cases b i (numbers_of entries ns) h) [
-          | inl is ↦
-              let found = (has_name n b y (e ∙ ap Some (sym is))).1 in
-              or_left (is_same y.name n) (list_any (is_same y.name) ns) (turned n y.name (ap (is_named n) (sym (get_or_from_slice_get entries b y y at)) ∙ found))
+          | inl is ↦ or_left (is_same y.name n) (list_any (is_same y.name) ns) (turned n y.name (passes_at (is_named n) entries b y (e ∙ ap Some (sym is)) at))
           | inr more ↦ or_right (is_same y.name n) (list_any (is_same y.name) ns) (rest more)
         ]
 
@@ -94,13 +67,10 @@ module _ (same : (a b : Values) → IsTrue (is_same a b) ↔ (a ≡ b)) where
 
         here : is_named n y ≡ true → Contains (cons_option (position (is_named n) entries) (numbers_of entries ns)) j
         here named =
-            let place = placed (is_named n) 0 entries j y at named in
-            let at_place : position (is_named n) entries ≡ Some place.0 = position_from-zero (is_named n) entries ∙ place.1 in
-            let found = has_name n place.0 y at_place in
-            let other = get_or entries place.0 y in
-            let names : other.name ≡ y.name = sym ((same n other.name).0 found.1) ∙ (same n y.name).0 named in
-            let is : place.0 ≡ j = apart entries different place.0 j other y (slice_get-get_or entries place.0 y found.0) at ((same other.name y.name).1 names) in
-            subst (λ (o : Option ℕ). Contains (cons_option o (numbers_of entries ns)) j) (sym at_place) (0, omega arith, is)
+            let found = placed (is_named n) entries (passes (is_named n) entries j y at named) in
+            let names : found.entry.name ≡ y.name = sym ((same n found.entry.name).0 found.passes) ∙ (same n y.name).0 named in
+            let is : found.place ≡ j = apart entries different found.place j found.entry y found.at at ((same found.entry.name y.name).1 names) in
+            subst (λ (o : Option ℕ). Contains (cons_option o (numbers_of entries ns)) j) (sym found.first) (0, omega arith, is)
 
     next_at : (i : ℕ) (x : Entry) → slice_get entries i ≡ Some x → next_in (nodes_of_entries entries) i ≡ numbers_of entries (successors_of x)
     next_at i x e = ap next_or_none (slice_get-map (node_of_entry entries) entries i ∙ ap (option_map (node_of_entry entries)) e)
@@ -112,7 +82,7 @@ module _ (same : (a b : Values) → IsTrue (is_same a b) ↔ (a ≡ b)) where
         λ h. subst (λ (xs : List ℕ). Contains xs j) (sym (next_at i x e)) (to_number (successors_of x) j y f h),
         λ c. from_number (successors_of x) j y f (subst (λ (xs : List ℕ). Contains xs j) (next_at i x e) c),
       );
-      closed = λ a b lt edge. let x = entry_at entries a lt in within x.0 (successors_of x.0) b (subst (λ (xs : List ℕ). Contains xs b) (next_at a x.0 x.1) edge);
+      closed = λ a b lt edge. let x = entry_at entries a lt in numbers_within entries (successors_of x.0) b (subst (λ (xs : List ℕ). Contains xs b) (next_at a x.0 x.1) edge);
     }
 
 pub nodes_marked : (entries : List Entry) → AreMarked entries (active_in (nodes_of_entries entries))

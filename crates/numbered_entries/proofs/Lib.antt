@@ -1,3 +1,8 @@
 pub mod Numbering
 pub mod Fitting
 pub mod Moving
+pub mod Places
+pub mod Edited
+pub mod Faulted
+pub mod Answered
+pub mod Asked

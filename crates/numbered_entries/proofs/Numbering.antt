@@ -33,7 +33,7 @@ entry_at [] i lt = absurd (omega arith)
 entry_at (y ∷ ys) zero lt = (y, refl)
 entry_at (y ∷ ys) (suc i) lt = entry_at ys i (omega arith)
 
-both : (a b : Bool) → (a ≡ true → b ≡ true) → (b ≡ true → a ≡ true) → a ≡ b
+pub both : (a b : Bool) → (a ≡ true → b ≡ true) → (b ≡ true → a ≡ true) → a ≡ b
 both true b f g = sym (f refl)
 both false true f g = g refl
 both false false f g = refl
@@ -60,7 +60,7 @@ filter_at p q all (x ∷ es) at same agree =
     go true false e here rest = absurd cc
     go false true e here rest = absurd cc
 
-filter_entries_at : (entries : List Entry) (active : ℕ → Bool) (ks : List ℕ) → AreMarked entries active → filter is_active (entries_at entries ks) ≡ entries_at entries (filter active ks)
+pub filter_entries_at : (entries : List Entry) (active : ℕ → Bool) (ks : List ℕ) → AreMarked entries active → filter is_active (entries_at entries ks) ≡ entries_at entries (filter active ks)
 filter_entries_at entries active [] marked = refl
 filter_entries_at entries active (k ∷ ks) marked = go (slice_get entries k) refl (active k) refl (filter_entries_at entries active ks marked)
   where

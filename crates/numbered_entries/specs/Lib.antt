@@ -1,1 +1,4 @@
 pub mod Numbers
+pub mod Faults
+pub mod Answers
+pub mod Edits

@@ -2,12 +2,4 @@
 #![tactic(auto)]
 
 #[cfg(test)]
-mod entries;
-#[cfg(test)]
-mod members;
-#[cfg(test)]
-mod queries;
-#[cfg(test)]
-mod reading;
-#[cfg(test)]
-mod refusals;
+mod tests;

@@ -151,3 +151,41 @@ fn records_are_answered_from_the_entries_so_far(rt: HostRuntime) -> Result<(), F
     assert!(rt; answers(rt.alloc(), &["resolve"], input, Status::SomeRefused, output)?);
     Ok(())
 }
+
+#[test]
+fn a_table_of_verdicts_stands_at_the_end(rt: HostRuntime) -> Result<(), Fail> {
+    let alloc = rt.alloc();
+    let words = &["evaluate"];
+    assert!(rt; answers(alloc, words, b"", Status::Done, b"verdicts 0\n")?);
+    let output = b"refused 1 json\nverdicts 0\n";
+    assert!(rt; answers(alloc, words, b"x", Status::SomeRefused, output)?);
+    Ok(())
+}
+
+#[test]
+fn no_table_stands_behind_a_fault(rt: HostRuntime) -> Result<(), Fail> {
+    let alloc = rt.alloc();
+    let words = &["evaluate"];
+    let output = b"refused 1 json\n";
+    assert!(rt; ends(alloc, words, b"x\ny", &[1], &[], Status::ReadFault, output)?);
+    assert!(rt; ends(alloc, words, b"", &[], &[1], Status::WriteFault, b"verdict")?);
+    Ok(())
+}
+
+#[test]
+fn each_statement_has_its_verdict(rt: HostRuntime) -> Result<(), Fail> {
+    let input =
+        b"{\"do\":\"statement\",\"id\":\"s\",\"test\":{\"op\":\"OR\",\"of\":[{\"fact\":\"cpe:/a:v\"}]}}\n{\"do\":\"item\",\"name\":\"cpe:/a:v:p\"}";
+    let words = &["evaluate"];
+    assert!(rt;
+        answers(
+            rt.alloc(),
+            words,
+            input,
+            Status::Done,
+            b"verdicts 1\nverdict s TRUE\n"
+        )?
+    );
+    assert!(rt; ends(rt.alloc(), words, input, &[], &[0], Status::WriteFault, b"")?);
+    Ok(())
+}

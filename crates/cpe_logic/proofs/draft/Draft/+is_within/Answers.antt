@@ -3,7 +3,8 @@ use Rattle.std.proofs.lemmas.List.{map_more}
 use Rattle.cpe_rows.specs.Shape.{largest}
 use Rattle.cpe_logic.specs.Tests.{draft_depth}
 use Rattle.cpe_logic.specs.declared.draft.Draft.{Draft}
-use Rattle.cpe_logic.proofs.DraftDepth.{within-snoc, and_true, and_false, suc_within, draft_depth-logic}
+use Rattle.cpe_rows.proofs.Within.{within-snoc, and_true, and_false, suc_within}
+use Rattle.cpe_logic.proofs.DraftDepth.{draft_depth-logic}
 use Rattle.cpe_logic.proofs.draft.Draft.+is_within.Goals as goal
 use Rattle.cpe_logic.proofs.draft.Draft.+is_within.Goals.{then-within, else-within}
 

@@ -1,0 +1,54 @@
+use Rattle.std.proofs.Common.{◌∷◌, [], not, None, refl, sym, ap, ◌∙◌}
+use Rattle.std.specs.Prelude.{Err}
+use Rattle.cpe_rows.specs.After.{changed}
+use Rattle.cpe_rows.specs.Rows.{no_rows}
+use Rattle.cpe_rows.specs.declared.edit.Edit.TheVariants as edit
+use Rattle.cpe_rows.specs.declared.entry.Note.{Note}
+use Rattle.cpe_rows.specs.declared.fault.EditFault.TheVariants as fault
+use Rattle.cpe_engine.specs.Causes.{width_cause}
+use Rattle.cpe_engine.specs.Kept.{rows_of, with_entries, rewritten}
+use Rattle.cpe_engine.proofs.DictionaryLemmas.{no_entry}
+use Rattle.cpe_engine.proofs.EditLemmas.{accepts, applies, in_rows, lawful_rows, restore_order, restore_active, restore_unknown, entry_known, length_changed, state_known}
+use Rattle.cpe_engine.proofs.SuccessorLemmas.{only_width}
+use Rattle.cpe_engine.proofs.dictionary.Dictionary.restore.Goals as goal
+
+pub returns-in_default : goal.returns-in_default
+returns-in_default c =
+    let es = c.args.self.now in
+    let n = c.args.name.now in
+    λ rows same within. in_rows rows es es (edit.Restore n c.args.date c.args.comment) (Err fault.Unknown) same within
+    (λ w. (refl, restore_unknown (with_entries rows es) n c.args.date c.args.comment (no_entry es n (sym c.in_default.ensures))))
+
+pub returns-then-is_active : goal.returns-then-is_active
+returns-then-is_active c =
+    let es = c.args.self.now in
+    let n = c.args.name.now in
+    let place = sym c.in-Some.ensures in
+    λ rows same within. in_rows rows es es (edit.Restore n c.args.date c.args.comment) (Err fault.NotDeprecated) same within
+    (λ w. (refl, restore_active (with_entries rows es) n c.args.date c.args.comment (entry_known rows es n c.in-Some.number place) (state_known rows es n c.in-Some.number c.is_active.result place c.is_active.ensures ∙ ap not c.if-is_active.true)))
+
+pub clear_deprecation-requires-clause-lawful : goal.clear_deprecation-requires-clause-lawful
+clear_deprecation-requires-clause-lawful c =
+    let es = c.args.self.now in
+    let n = c.args.name.now in
+    let place = sym c.in-Some.ensures in
+    let state = state_known no_rows es n c.in-Some.number c.is_active.result place c.is_active.ensures ∙ ap not c.if-is_active.false in
+    let order = restore_order no_rows es n c.args.date c.args.comment (entry_known no_rows es n c.in-Some.number place) state c.note_of.result c.note_of.ensures in
+    let next = ap (λ (x : Note). rows_of (changed (rewritten None x) n es)) (sym c.note_of.ensures) in
+    let lawful = lawful_rows es c.lawful.ensures.lawful c.lawful.ensures.few in
+    let fs = changed (rewritten None c.note_of.result) n es in
+    λ h. (c.rows_stay_lawful.ensures.kept (rows_of es) (rows_of fs) (edit.Restore n c.args.date c.args.comment)
+    (accepts no_rows es fs (edit.Restore n c.args.date c.args.comment) (width_cause es n None c.note_of.result ∷ []) lawful.within c.lawful.ensures.few next (length_changed (rewritten None c.note_of.result) n es) order lawful c.requires (sym (only_width (width_cause es n None c.note_of.result)) ∙ h))).dictionary
+
+pub returns : goal.returns
+returns c =
+    let es = c.args.self.now in
+    let n = c.args.name.now in
+    let place = sym c.in-Some.ensures in
+    let fs = changed (rewritten None c.note_of.result) n es in
+    λ rows same within. in_rows rows es c.clear_deprecation.new.self (edit.Restore n c.args.date c.args.comment) c.clear_deprecation.result same within
+    (λ w.
+    let state = state_known rows es n c.in-Some.number c.is_active.result place c.is_active.ensures ∙ ap not c.if-is_active.false in
+    let order = restore_order rows es n c.args.date c.args.comment (entry_known rows es n c.in-Some.number place) state c.note_of.result c.note_of.ensures in
+    let next = ap (λ (x : Note). with_entries rows (changed (rewritten None x) n es)) (sym c.note_of.ensures) in
+    applies rows es fs (edit.Restore n c.args.date c.args.comment) (width_cause es n None c.note_of.result ∷ []) w c.lawful.ensures.few next (length_changed (rewritten None c.note_of.result) n es) order c.clear_deprecation.new.self c.clear_deprecation.result c.clear_deprecation.ensures)

@@ -1,0 +1,171 @@
+// An inventory that is edited, and verdicts over it.
+use crate::calls::{has_fs, of_either};
+use cpe_inventory::{
+    Checks, Items, Statements, add_item, drop_check, drop_item, drop_statement, plain_verdict,
+    put_statement, set_check,
+};
+use cpe_name::Wfn;
+use cpe_rows::{CheckKey, EditFault, List, Mode, Operator, Statement, Test, Text, Truth};
+use cpe_values::Memory;
+use std::alloc::Global;
+
+fn is_done(answer: Result<(), EditFault>) -> bool {
+    match answer {
+        Ok(()) => true,
+        Err(fault) => {
+            drop(fault);
+            false
+        }
+    }
+}
+
+fn adds(alloc: Global, items: &mut Items, name: &[u8]) -> bool {
+    match of_either(alloc, name) {
+        Some(name) => is_done(add_item(items, name)),
+        None => false,
+    }
+}
+
+fn drops(alloc: Global, items: &mut Items, name: &[u8]) -> bool {
+    match of_either(alloc, name) {
+        Some(name) => is_done(drop_item(items, &name)),
+        None => false,
+    }
+}
+
+fn stands_at(alloc: Global, names: &[Wfn], place: usize, fs: &[u8]) -> bool {
+    match names.get(place) {
+        Some(name) => has_fs(alloc, name, fs),
+        None => false,
+    }
+}
+
+fn number_covered(alloc: Global, items: &Items, name: &[u8]) -> Option<usize> {
+    let name = of_either(alloc, name)?;
+    match items.covered(alloc, &name) {
+        Ok(found) => Some(found.len()),
+        Err(Memory) => None,
+    }
+}
+
+#[test]
+fn items_close_up(rt: HostRuntime) {
+    let alloc = rt.alloc();
+    let mut items = Items::new(alloc);
+    assert!(rt; adds(alloc, &mut items, b"cpe:/a:v:p:1"));
+    assert!(rt; adds(alloc, &mut items, b"cpe:/a:v:p:2"));
+    assert!(rt; adds(alloc, &mut items, b"cpe:/a:v:q"));
+    assert!(rt; !adds(alloc, &mut items, b"cpe:/a:v:p:2"));
+    assert!(rt; !adds(alloc, &mut items, b"cpe:2.3:a:v:r*:*:*:*:*:*:*:*:*"));
+    assert!(rt; number_covered(alloc, &items, b"cpe:/a:v:p") == Some(2));
+    assert!(rt; drops(alloc, &mut items, b"cpe:/a:v:p:1"));
+    assert!(rt; !drops(alloc, &mut items, b"cpe:/a:v:p:1"));
+    assert!(rt; items.len() == 2);
+    assert!(rt; stands_at(alloc, items.as_slice(), 0, b"cpe:2.3:a:v:p:2:*:*:*:*:*:*:*"));
+    assert!(rt; stands_at(alloc, items.as_slice(), 1, b"cpe:2.3:a:v:q:*:*:*:*:*:*:*:*"));
+}
+
+fn a_key(alloc: Global) -> Result<CheckKey, Memory> {
+    Ok(CheckKey {
+        system: Text::new(alloc, "oval")?,
+        href: Text::new(alloc, "nova.xml")?,
+        id: Text::new(alloc, "def:7")?,
+    })
+}
+
+// Whether something is there that the name covers, and the check holds.
+fn a_test(alloc: Global, name: Wfn) -> Result<Test, Memory> {
+    let mut of = List::new(alloc);
+    of.push(Test::Fact(name))?;
+    of.push(Test::Check(a_key(alloc)?))?;
+    Ok(Test::Logic {
+        operator: Operator::And,
+        negate: false,
+        of,
+    })
+}
+
+fn a_statement(alloc: Global, id: &str, name: Wfn) -> Result<Statement, Memory> {
+    Ok(Statement {
+        id: Text::new(alloc, id)?,
+        title: Text::new(alloc, "")?,
+        mode: Mode::Plain,
+        test: a_test(alloc, name)?,
+    })
+}
+
+fn made(alloc: Global, id: &str, name: &[u8]) -> Option<Statement> {
+    let name = of_either(alloc, name)?;
+    a_statement(alloc, id, name).ok()
+}
+
+fn puts(alloc: Global, statements: &mut Statements, id: &str, name: &[u8]) -> bool {
+    match made(alloc, id, name) {
+        Some(statement) => is_done(put_statement(alloc, statements, statement)),
+        None => false,
+    }
+}
+
+fn takes_out(alloc: Global, statements: &mut Statements, id: &str) -> bool {
+    match Text::new(alloc, id) {
+        Ok(id) => is_done(drop_statement(statements, &id)),
+        Err(Memory) => false,
+    }
+}
+
+fn keeps(alloc: Global, checks: &mut Checks, truth: Truth) -> bool {
+    match a_key(alloc) {
+        Ok(key) => is_done(set_check(checks, key, truth)),
+        Err(Memory) => false,
+    }
+}
+
+fn forgets(alloc: Global, checks: &mut Checks) -> bool {
+    match a_key(alloc) {
+        Ok(key) => is_done(drop_check(checks, &key)),
+        Err(Memory) => false,
+    }
+}
+
+fn verdict_at(
+    items: &Items,
+    checks: &Checks,
+    statements: &Statements,
+    place: usize,
+) -> Option<Truth> {
+    match statements.at(place) {
+        Some(statement) => Some(plain_verdict(items, checks, statement)),
+        None => None,
+    }
+}
+
+#[test]
+fn statements_count_their_facts(rt: HostRuntime) {
+    let alloc = rt.alloc();
+    let mut statements = Statements::new(alloc);
+    assert!(rt; puts(alloc, &mut statements, "s1", b"cpe:/a:v:p"));
+    assert!(rt; puts(alloc, &mut statements, "s2", b"cpe:/a:v:q"));
+    assert!(rt; !puts(alloc, &mut statements, "s1", b"cpe:/a:v:r"));
+    assert!(rt; statements.len() == 2 && statements.facts() == 2);
+    assert!(rt; takes_out(alloc, &mut statements, "s1"));
+    assert!(rt; !takes_out(alloc, &mut statements, "s1"));
+    assert!(rt; statements.len() == 1 && statements.facts() == 1);
+}
+
+#[test]
+fn a_verdict_follows_items_and_checks(rt: HostRuntime) {
+    let alloc = rt.alloc();
+    let mut items = Items::new(alloc);
+    let mut checks = Checks::new(alloc);
+    let mut statements = Statements::new(alloc);
+    assert!(rt; puts(alloc, &mut statements, "s", b"cpe:/a:v:p"));
+    assert!(rt; verdict_at(&items, &checks, &statements, 0) == Some(Truth::False));
+    assert!(rt; adds(alloc, &mut items, b"cpe:/a:v:p:1"));
+    assert!(rt; verdict_at(&items, &checks, &statements, 0) == Some(Truth::Unknown));
+    assert!(rt; keeps(alloc, &mut checks, Truth::Error));
+    assert!(rt; keeps(alloc, &mut checks, Truth::True));
+    assert!(rt; verdict_at(&items, &checks, &statements, 0) == Some(Truth::True));
+    assert!(rt; forgets(alloc, &mut checks));
+    assert!(rt; !forgets(alloc, &mut checks));
+    assert!(rt; verdict_at(&items, &checks, &statements, 0) == Some(Truth::Unknown));
+}
