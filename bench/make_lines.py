@@ -30,6 +30,16 @@ asked        as many such records, and then 1,000 lookups and 1,000 shows of the
 searched     as many such records, and then 100 searches
 asked-often  as many such records, and then 60,000 lines: one third each is a lookup, a show, and an
              entry that is there already
+deprecated   as many such records, and then deprecations, one for 6.4 of them, each with the question
+             where it leads behind it: chains of up to 50 steps, some with several ends, some removed
+added        as many such records, and then as many lines as there are behind them in `deprecated`: entries,
+             each with a lookup of it behind it
+evaluated    records of `evaluate`: statements, as many as LINES says, of three facts each, behind twice as
+             many items
+statement    statements of three facts each, and nothing else
+unfollowed   the entries of `deprecated` and its edits without the questions; then statements over items
+             that are entries, one of them for 129 entries
+followed     the same, the statements in mode follow
 edges        lines about the greatest length, long ones and odd line ends, and names whose
              attributes stand in other ways (LINES is not read); only for the comparison
              of outputs
@@ -59,6 +69,8 @@ QUOTE_FAULTS = (b".", b"-", b"!", b'"', b"\\a", b"\\_", b" ", b"\x7f", b"\xc3\xa
 BAD_PARTS = (b'"x"', b'"A"', b'"ah"', b'"*"', b'""', b"a")
 # How many lines stand behind the entries of `asked` (twice), `searched` and `asked-often`.
 ASKED, SEARCHED, ASKED_OFTEN = 1000, 100, 60_000
+# The most steps of a chain of deprecations, successors beside the next, and ends in all.
+STEPS, SUCCESSORS, ENDS = 50, 15, 60
 
 
 class Draw:
@@ -401,6 +413,138 @@ def often_asked_lines(count):
             yield record((b"lookup", b"show")[number % 3], asked_name(draw, names))
 
 
+def deprecated_of(count):
+    """How many deprecations stand behind so many entries."""
+    return max(1, count * 20_000 // 128_650)
+
+
+class Deprecations:
+    """Edits that are all accepted: chains of names, each of which is deprecated once and may be amended or restored.
+
+    Half of the names may be deprecated, the others stay active, so no chain leads back."""
+
+    def __init__(self, draw, names):
+        names = sorted(names, key=lambda _: draw.random())
+        self.draw, self.fresh, self.kept = draw, names[: len(names) // 2], names[len(names) // 2 :]
+
+    def edit(self, verb, name, kind=None, successors=()):
+        """The edit, and the question where its name leads."""
+        more = b"" if kind is None else b',"kind":"%s"' % kind
+        if successors:
+            more += b',"successors":[%s]' % b",".join(map(spelled, successors))
+        more += b',"date":"2024-%02d-%02d"' % (self.draw.between(1, 12), self.draw.between(1, 28))
+        if self.draw.between(0, 2) == 0:
+            more += b',"comment":"as the vendor names it now"'
+        spelling = uri_of(name) if self.draw.between(0, 2) == 0 else name
+        return record(verb, spelling, more), record(b"chain", name)
+
+    def beside(self, most):
+        """Names that stay active, as successors beside the next; none in two of three cases, now and then many."""
+        if most < 1 or self.draw.between(0, 2):
+            return []
+        many = SUCCESSORS if self.draw.between(0, 15) == 0 else self.draw.between(1, 2)
+        start = self.draw.between(0, len(self.kept) - 1)
+        return self.kept[start : start + min(many, most)]
+
+    def chain(self):
+        """The edits of one chain, as likely of 1 or 2 steps as of 25 to 50. It grows at its end, one in four at its front."""
+        steps = min(int((STEPS + 1) ** self.draw.random()), len(self.fresh) - 1)
+        names = [self.fresh.pop() for _ in range(steps + 1)]
+        room, edits = ENDS, []
+        for name, following in itertools.pairwise(names):
+            beside = self.beside(room)
+            room -= len(beside)
+            kind = b"ADDITIONAL_INFORMATION" if beside else b"NAME_CORRECTION"
+            edits.append((b"deprecate", name, kind, [following, *beside]))
+        if self.draw.between(0, 3) == 0:
+            edits.reverse()
+        if self.draw.between(0, 1):
+            edits.append((b"deprecate", names[-1], b"NAME_REMOVAL", ()))
+        for _ in range(self.draw.between(0, 1 + steps // 4)):
+            edits.append((b"amend", self.draw.one_of(names[:-1]), b"NAME_CORRECTION", [self.draw.one_of(self.kept)]))
+        if self.draw.between(0, 2) == 0:
+            edits.append((b"restore", self.draw.one_of(names[:-1])))
+        return (self.edit(*it) for it in edits)
+
+    def all(self):
+        while len(self.fresh) > 1:
+            yield from self.chain()
+
+
+def deprecated_lines(count):
+    yield from entry_lines(count)
+    draw = Draw()
+    edits = Deprecations(draw, entry_names(draw, count)).all()
+    for pair in itertools.islice(edits, deprecated_of(count)):
+        yield from pair
+
+
+def added_lines(count):
+    yield from entry_lines(count)
+    draw = Draw()
+    names = entry_names(draw, count + deprecated_of(count))[count:]
+    for number, name in enumerate(names):
+        yield entry(draw, name, number)
+        yield record(b"lookup", asked_name(draw, [name]))
+
+
+def fact_name(draw, name):
+    """One third each: the name, all versions of its product, and those that begin as its own does."""
+    part, vendor, product, version = components_of(name)[:4]
+    case = draw.between(0, 2)
+    if case == 0:
+        return name
+    front = b"".join(re.findall(rb"\\.|.", version)[:2]).strip(b"-*")
+    return PREFIX + b":".join((part, vendor, product, front + b"*" if case == 1 and front else b"*")) + b":*" * 7
+
+
+def statement(draw, number, names, mode):
+    """An advisory of three facts; one in four asks for a check too."""
+    children = [b'{"fact":%s}' % spelled(fact_name(draw, draw.one_of(names))) for _ in range(3)]
+    if draw.between(0, 3) == 0:
+        children.append(b'{"check":{"system":"oval","href":"defs.xml","id":"def:%d"}}' % draw.between(1, 100))
+    test = b'{"op":"%s","of":[%s]}' % ((b"OR", b"AND")[number % 2], b",".join(children))
+    title = b"Vulnerability %d in what is installed" % number
+    return b'{"do":"statement","id":"adv-%d","title":"%s","mode":"%s","test":%s}' % (number, title, mode, test)
+
+
+def advisory_lines(names, count, mode):
+    """So many statements over twice as many items."""
+    draw = Draw()
+    for name in sorted(names, key=lambda _: draw.random())[: 2 * count]:
+        yield record(b"item", name)
+    for number in range(count):
+        yield statement(draw, number, names, mode)
+
+
+def evaluated_lines(count):
+    return advisory_lines(entry_names(Draw(), 20 * count), count, b"plain")
+
+
+def statement_lines(count):
+    draw = Draw()
+    names = entry_names(draw, max(1, count // 10))
+    return (statement(draw, number, names, b"plain") for number in range(count))
+
+
+def advisories_behind(count, mode):
+    """The edits of `deprecated` without its questions, then statements over items with the names of entries."""
+    yield from entry_lines(count)
+    draw = Draw()
+    names = entry_names(draw, count)
+    for edit, _ in itertools.islice(Deprecations(draw, names).all(), deprecated_of(count)):
+        yield edit
+    yield from advisory_lines(names, max(1, count * 1_000 // 128_650), mode)
+
+
+def unfollowed_lines(count):
+    return advisories_behind(count, b"plain")
+
+
+def followed_lines(count):
+    return advisories_behind(count, b"follow")
+
+
 def searched_lines(count):
     """Searches, one third each for a product, for the front of a product's text, and for a part of one."""
     yield from entry_lines(count)
@@ -513,6 +657,12 @@ MODES = {
     "asked": asked_lines,
     "searched": searched_lines,
     "asked-often": often_asked_lines,
+    "deprecated": deprecated_lines,
+    "added": added_lines,
+    "evaluated": evaluated_lines,
+    "statement": statement_lines,
+    "unfollowed": unfollowed_lines,
+    "followed": followed_lines,
 }
 
 

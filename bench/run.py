@@ -1,9 +1,11 @@
 #!/usr/bin/env python3
-"""Measures `cpe unbind`, `cpe bind fs`, `cpe bind uri`, `cpe compare` and `cpe resolve` against unproved
-Rust programs that write the same, on the same input.
+"""Measures `cpe unbind`, `cpe bind fs`, `cpe bind uri`, `cpe compare`, `cpe resolve` and `cpe evaluate`
+against unproved Rust programs that write the same, on the same input.
 
-Prints a table for each command and input: seconds, the ratio to `cpe`, and peak memory; and for
-`cpe resolve` what a line takes by the number of entries. README.md beside this file says how to read it.
+Prints a table for each command and input: seconds, the ratio to `cpe`, and peak memory; for `cpe resolve`
+what a line takes by the number of entries, and what a deprecation takes beside an entry; and for
+`cpe evaluate` what the table of verdicts takes, and in mode follow beside mode plain.
+README.md beside this file says how to read it.
 """
 import argparse
 import fcntl
@@ -26,6 +28,7 @@ BUILD = TOP / "build" / "bench"
 # The commands, each with the twins that answer as it does; and what copies only.
 UNBIND, BIND_FS, BIND_URI, COMPARE = "cpe unbind", "cpe bind fs", "cpe bind uri", "cpe compare"
 RESOLVE = "cpe resolve"
+EVALUATE = "cpe evaluate"
 BIND_TWINS = ["bind_tuned", "bind_plain"]
 TWINS = {
     UNBIND: ["unbind_tuned", "unbind_plain"],
@@ -33,11 +36,12 @@ TWINS = {
     BIND_URI: BIND_TWINS,
     COMPARE: ["compare_tuned", "compare_plain"],
     RESOLVE: ["resolve_tuned"],
+    EVALUATE: ["resolve_tuned"],
 }
 COPIES = ["lines"]
 # (it reads records as JSON and writes them again)
 JQ = "jq -c ."
-VECTORS = TOP / "tests" / "vectors" / "resolve"
+VECTORS = TOP / "tests" / "vectors"
 USAGE = 2
 PIECE = 1 << 16
 
@@ -199,6 +203,35 @@ def measure_dictionary(programs, count, rounds):
         print(f"{name:<14}{search * 1e3:>12.2f}{taken:>16}", flush=True)
 
 
+def measure_deprecations(programs, count, rounds):
+    """What a line takes on average of deprecations and of the questions where they lead, and of entries and lookups."""
+    behind = 2 * make_lines.deprecated_of(count)
+    inputs = [made(mode, count) for mode in ("entry", "added", "deprecated")]
+    # (the inputs take turns too, since differences of their times are told)
+    turns = [[best_times(programs, it, 1) for it in inputs] for _ in range(rounds)]
+    kept, added, deprecated = [{name: min(it[name] for it in times) for name in programs} for times in zip(*turns, strict=True)]
+    print(f"\n{RESOLVE}, microseconds a line of {behind:,} behind {count:,} entries, best of {rounds}")
+    print(f"{'program':<14}{'entry, lookup':>15}{'deprecation, chain':>20}{'ratio':>8}")
+    for name in programs:
+        one, other = [(it[name] - kept[name]) / behind * 1e6 for it in (added, deprecated)]
+        print(f"{name:<14}{one:>15.2f}{other:>20.2f}{other / one:>8.2f}", flush=True)
+
+
+def measure_verdicts(with_table, without, inputs, rounds):
+    """What the table of verdicts takes: a run that writes it, less one over the same lines that writes none."""
+    print(f"\n{EVALUATE}, milliseconds of the table of verdicts, best of {rounds}")
+    print(f"{'program':<14}" + "".join(f"{path.name:>26}" for path in inputs))
+    turns = [(best_times(with_table, it, rounds), best_times(without, it, rounds)) for it in inputs]
+    for name, other in zip(with_table, without, strict=True):
+        print(f"{name:<14}" + "".join(f"{(one[name] - two[other]) * 1e3:>26.1f}" for one, two in turns), flush=True)
+
+
+def deprecates(words):
+    """Whether the program has deprecations; where it hasn't, it refuses what would ask for a chain."""
+    run = subprocess.run(words, input=b'{"do":"chain","name":"cpe:/a"}\n', stdout=subprocess.PIPE)
+    return run.stdout.startswith(b"chain ")
+
+
 def knows(words):
     """Whether the program has this command; where it hasn't, it answers its usage line."""
     run = subprocess.run(words, stdin=subprocess.DEVNULL, stdout=subprocess.PIPE)
@@ -214,7 +247,9 @@ def reads_uris(words):
 def side_by_side(program, command, others):
     """The words of our program under this command and of the others that are measured with it, by name."""
     first, *binding = command.split()[1:]
-    twins = {name: [*others[name], *binding] for name in TWINS[command] if name in others}
+    # (one twin has both commands over records)
+    given = [first] if command == EVALUATE else binding
+    twins = {name: [*others[name], *given] for name in TWINS[command] if name in others}
     copies = {name: others[name] for name in COPIES if name in others}
     return {command: [program, first, *binding], **twins, **copies}
 
@@ -253,9 +288,30 @@ def parts_of(program, others, lines):
             print("jq is not on PATH: it is left out")
         count = entries_of(lines)
         inputs = [made("entry", count), made("asked", count), made("searched", count)]
-        yield RESOLVE, resolve, inputs, sorted(VECTORS.glob("*.in"))
+        if deprecates(resolve[RESOLVE]):
+            inputs += [made("added", count), made("deprecated", count)]
+        else:
+            print("the program has no deprecations: these inputs are left out")
+        yield RESOLVE, resolve, inputs, vectors_of(RESOLVE, EVALUATE)
     else:
         print(f"the program has no command {RESOLVE}: that part is left out")
+    evaluate = side_by_side(program, EVALUATE, others)
+    if knows(evaluate[EVALUATE]):
+        tables, statements = evaluations_of(lines)
+        yield EVALUATE, evaluate, [*tables, statements], vectors_of(RESOLVE, EVALUATE)
+    else:
+        print(f"the program has no command {EVALUATE}: that part is left out")
+
+
+def vectors_of(*commands):
+    return [path for it in commands for path in sorted((VECTORS / it.split()[1]).glob("*.in"))]
+
+
+def evaluations_of(lines):
+    """The inputs of `evaluate`: of its table, and statements that are only read."""
+    count = entries_of(lines)
+    tables = [made("unfollowed", count), made("followed", count), made("evaluated", max(1, lines // 1000))]
+    return tables, made("statement", max(1, lines // 10))
 
 
 def entries_of(lines):
@@ -294,6 +350,14 @@ def main():
             answering = {name: programs[name] for name in (RESOLVE, *TWINS[RESOLVE]) if name in programs}
             measure_rows(answering, [given.lines // 1000, given.lines // 100, given.lines // 10], given.rounds)
             measure_dictionary(answering, entries_of(given.lines), given.rounds)
+            if deprecates(programs[RESOLVE]):
+                measure_deprecations(answering, entries_of(given.lines), given.rounds)
+        if command == EVALUATE:
+            pairs = [side_by_side(given.program.resolve(), it, others) for it in (EVALUATE, RESOLVE)]
+            for it in pairs:
+                for name in COPIES:
+                    it.pop(name, None)
+            measure_verdicts(*pairs, evaluations_of(given.lines)[0], given.rounds)
     print(f"\nload behind: {os.getloadavg()[0]:.1f}")
 
 

@@ -131,6 +131,36 @@ answers_vectors() {
     done
 }
 
+# What evaluate writes before its table resolve writes on the same lines, with the same status.
+answers_vectors_without_table() {
+    for vectors in tests/vectors/evaluate/*.in; do
+        sed '/^verdicts /,$d' "${vectors%.in}.out" > "$room/no_table.out"
+        wanted_status=0
+        if grep -q '^refused ' "$room/no_table.out"; then wanted_status=1; fi
+        answers "vectors: resolve, $(basename "$vectors" .in)" "$vectors" "$room/no_table.out" "$wanted_status" resolve
+    done
+}
+
+# The sessions of the README: what stands behind a dollar sign is run, and the lines below it are what it writes.
+answers_readme() {
+    what='the sessions of the README'
+    needs "$what" awk || return
+    mkdir -p "$room/bin"
+    printf '#!/bin/sh\nexec "%s" "$@"\n' "$program" > "$room/bin/cpe"
+    chmod +x "$room/bin/cpe"
+    awk -v sent="$room/sent" -v wanted="$room/wanted" '
+        BEGIN { printf "" > sent; printf "" > wanted }
+        !/^    / { is_session = 0; next }
+        { text = substr($0, 5) }
+        is_input { print text > sent; if (text == "END") is_input = 0; next }
+        text ~ /^\$ / { is_session = 1; is_input = text ~ /<</; print substr(text, 3) > sent; next }
+        is_session { print text > wanted }
+        END { print "true" > sent }' README.md
+    (PATH="$room/bin:$PATH" limited sh "$room/sent") > "$room/out" 2> "$room/error"
+    grep -c -e '^cpe ' -e '| cpe ' "$room/sent" > "$room/count"
+    judge "$what, $(cat "$room/count") of them" 0 0 "$room/wanted"
+}
+
 # Words that are no command leave the input unread.
 answers_usage() {
     echo "$usage" > "$room/usage.out"
@@ -138,9 +168,13 @@ answers_usage() {
     answers 'a wrong word' examples/names.txt "$room/usage.out" 2 unbound
     answers 'a word too many' examples/names.txt "$room/usage.out" 2 unbind names
     answers 'an empty word' examples/names.txt "$room/usage.out" 2 ''
+    answers 'half of a command' examples/names.txt "$room/usage.out" 2 bind
+    answers 'a number that is none: 0' examples/names.txt "$room/usage.out" 2 make 0
+    answers 'a number that is none: 007' examples/names.txt "$room/usage.out" 2 make 007
 }
 
 # answers_at_once INPUT OUTPUT STATUS WORD..: of two lines the next is sent only when the answer to the one before is there.
+# A table comes behind the last.
 answers_at_once() {
     input=$1 output=$2 wanted=$3
     shift 3
@@ -158,10 +192,12 @@ answers_at_once() {
         (trap '' PIPE; printf '%s\n' "$line" >&3) 2> /dev/null
         timeout 10 head -n 1 <&4 >> "$room/out"
     done < "$room/sent"
-    exec 3>&- 4<&-
+    exec 3>&-
+    timeout 10 cat <&4 >> "$room/out"
+    exec 4<&-
     wait "$child"
     status=$?
-    head -n 2 "$output" > "$room/wanted"
+    { head -n 2 "$output"; sed -n '/^verdicts /,$p' "$output"; } > "$room/wanted"
     judge "$what" "$status" "$wanted" "$room/wanted"
 }
 
@@ -312,7 +348,7 @@ dictionary() {
         function spoil(n) {
             if (n % 60 == 9) refused("{\"do\":\"entry\",\"name\":\"" toupper(uri(n)) "\",\"title\":\"another\"}", "exists")
             if (n % 60 == 19) refused("<entry name=\"" uri(n) "\"/>", "json")
-            if (n % 60 == 29) refused("{\"do\":\"chain\",\"name\":\"" uri(n) "\"}", "member do")
+            if (n % 60 == 29) refused("{\"do\":\"remove\",\"name\":\"" uri(n) "\"}", "member do")
             if (n % 60 == 39) refused("{\"do\":\"entry\",\"name\":\"" uri(n + 1) "\",\"title\":null}", "member title")
             if (n % 60 == 49) refused("{\"do\":\"entry\",\"name\":\"cpe:/a:v::" n "\"}", "not-identifier")
             if (n % 60 == 59) refused("{\"do\":\"entry\",\"name\":\"" uri(n + 1) "%02\"}", "wildcards")
@@ -351,60 +387,337 @@ dictionary() {
         }' < /dev/null
 }
 
-# How many entries are kept at no great cost each: 100,000 of them, in 512 MiB of address space.
-answers_dictionary() {
-    what='100,000 entries, and questions to them: resolve'
+# deprecations lines|answers FAMILIES: records that add so many families of eleven entries, and deprecate most of them;
+# chains, refusals and other answers between them, and questions at the end. The answers are made here from the numbers
+# of the families and of their members alone:
+#
+#   0 is corrected to 1, that gives 2 and 3, and 2 is removed; 4 is corrected to 3, and 5 gives 0 and 4
+#   6 is corrected to the 6 of the family before, but in each fiftieth family
+#   7 gives the 8s of the sixteen families before, and 8 stays active
+#   9 is removed, that is amended, it is restored, and deprecated again, by 8
+#   10 gives, in each sixteenth family, four 7s, and so 64 ends
+deprecations() {
+    awk -v answers="$([ "$1" = answers ] && echo 1)" -v count="$2" '
+        function fs(f, k) { return "cpe:2.3:a:family:f" f ":" k ":*:*:*:*:*:*:*" }
+        function uri(f, k) { return "cpe:/a:family:f" f ":" k }
+        function record(text) { number++; if (!answers) print text }
+        function answer(text) { if (answers) print text }
+        function refused(reason) { answer("refused " number " " reason) }
+        function ask(verb, f, k) { record("{\"do\":\"" verb "\",\"name\":\"" (k % 2 ? uri(f, k) : fs(f, k)) "\"}") }
+        # the texts are those of successors, with commas between them; none is a removal
+        function edit(verb, f, k, kind, texts, date) {
+            if (kind) kind = ",\"kind\":\"" kind "\""
+            if (texts) texts = ",\"successors\":[" texts "]"
+            date = ",\"date\":\"" date "\""
+            record("{\"do\":\"" verb "\",\"name\":\"" (k % 2 ? fs(f, k) : toupper(uri(f, k))) "\"" kind texts date "}")
+        }
+        function remove(f, k) { edit("deprecate", f, k, "NAME_REMOVAL", "", "2024-01-01") }
+        function correct(f, k, texts) { edit("deprecate", f, k, "NAME_CORRECTION", texts, "2024-01-01") }
+        function inform(f, k, texts) { edit("deprecate", f, k, "ADDITIONAL_INFORMATION", texts, "2024-01-01") }
+        function by(f, k) { return "\"" ((f + k) % 2 ? fs(f, k) : uri(f, k)) "\"" }
+        function step(f, k, state) { answer("step " fs(f, k) " " state) }
+        function end(f, k) { answer("end " fs(f, k)) }
+        function chain(f, k, steps, ends) { ask("chain", f, k); answer("chain " fs(f, k) " " steps " " ends) }
+        # a family and those before it, as far back as fifty families begin
+        function correction(f,   first, g) {
+            first = f - f % 50
+            chain(f, 6, f - first + 1, 1)
+            step(first, 6, "active")
+            for (g = first + 1; g <= f; g++) step(g, 6, "NAME_CORRECTION")
+            end(first, 6)
+        }
+        function diamond(f) {
+            chain(f, 5, 6, 1)
+            step(f, 0, "NAME_CORRECTION")
+            step(f, 1, "ADDITIONAL_INFORMATION")
+            step(f, 2, "NAME_REMOVAL")
+            step(f, 3, "active")
+            step(f, 4, "NAME_CORRECTION")
+            step(f, 5, "ADDITIONAL_INFORMATION")
+            end(f, 3)
+        }
+        function sixteen(f,   g) {
+            chain(f, 7, 17, 16)
+            for (g = f - 16; g < f; g++) step(g, 8, "active")
+            step(f, 7, "ADDITIONAL_INFORMATION")
+            for (g = f - 16; g < f; g++) end(g, 8)
+        }
+        function widest(f,   g) {
+            chain(f, 10, 69, 64)
+            for (g = f - 64; g <= f; g++) {
+                if (g > f - 64 && g % 16 == f % 16) step(g, 7, "ADDITIONAL_INFORMATION")
+                if (g < f) step(g, 8, "active")
+            }
+            step(f, 10, "ADDITIONAL_INFORMATION")
+            for (g = f - 64; g < f; g++) end(g, 8)
+        }
+        function note(date, kind) { return "{\"comment\":\"\",\"date\":\"" date "\",\"kind\":\"" kind "\"}" }
+        function notes(f) {
+            ask("show", f, 9)
+            answer("show {\"deprecation\":{\"kind\":\"NAME_CORRECTION\",\"successors\":[\"" fs(f, 8) "\"]},\"name\":\"" fs(f, 9) \
+                "\",\"provenance\":{\"authority\":\"\",\"changes\":[" note("2024-01-01", "DEPRECATION") "," \
+                note("2024-02-02", "DEPRECATION_MODIFICATION") "," note("2024-03-03", "DEPRECATION_MODIFICATION") "," \
+                note("2024-01-01", "DEPRECATION") "],\"submitter\":\"\"},\"title\":\"\"}")
+        }
+        function spoil(f) {
+            correct(f, 3, by(f, 5))
+            refused("cycle 1")
+            inform(f, 3, by(f, 8) "," by(f, 0))
+            refused("cycle 2")
+            inform(f, 8, by(f, 3) "," by(f + 1, 3) "," by(f, 3))
+            refused("unknown-successor 2")
+            inform(f, 8, by(f, 3) "," by(f, 4) "," by(f, 3))
+            refused("repeated-successor 3")
+            correct(f, 8, "")
+            refused("count")
+            remove(f, 5)
+            refused("already-deprecated")
+            edit("restore", f, 8, "", "", "2024-01-01")
+            refused("not-deprecated")
+            remove(f + 1, 0)
+            refused("unknown")
+        }
+        function add(f,   k, g, all) {
+            for (k = 0; k < 11; k++) ask("entry", f, k)
+            correct(f, 0, by(f, 1))
+            inform(f, 1, by(f, 2) "," by(f, 3))
+            remove(f, 2)
+            correct(f, 4, by(f, 3))
+            inform(f, 5, by(f, 0) "," by(f, 4))
+            if (f % 50) correct(f, 6, by(f - 1, 6))
+            if (f >= 16) {
+                for (g = f - 16; g < f; g++) all = all (g > f - 16 ? "," : "") by(g, 8)
+                inform(f, 7, all)
+            }
+            remove(f, 9)
+            edit("amend", f, 9, "ADDITIONAL_INFORMATION", by(f, 8) "," by(f, 4), "2024-02-02")
+            edit("restore", f, 9, "", "", "2024-03-03")
+            correct(f, 9, by(f, 8))
+            if (f >= 80 && f % 16 == 0) {
+                all = by(f, 7) "," by(f - 16, 7) "," by(f - 32, 7) "," by(f - 48, 7)
+                inform(f, 10, all "," by(f, 6) "," by(f - 64, 7))
+                refused("too-wide " fs(f, 10))
+                inform(f, 10, all)
+            }
+        }
+        function question(f) {
+            diamond(f)
+            correction(f)
+            if (f >= 16) sixteen(f)
+            if (f >= 80 && f % 16 == 0) widest(f)
+            notes(f)
+        }
+        # where the first of fifty is removed, nothing is left for the others
+        function removed(f,   g) {
+            remove(f, 6)
+            chain(f + 2, 6, 3, 0)
+            step(f, 6, "NAME_REMOVAL")
+            step(f + 1, 6, "NAME_CORRECTION")
+            step(f + 2, 6, "NAME_CORRECTION")
+            edit("restore", f, 6, "", "", "2024-04-04")
+            # (what is widest has no room for one more)
+            inform(f - 5, 8, by(f, 6) "," by(f - 5, 3))
+            refused("too-wide " fs(f + 11 - (f - 5) % 16, 10))
+        }
+        BEGIN {
+            for (f = 0; f < count; f++) {
+                add(f)
+                if (f % 3 == 0) spoil(f)
+                question(f)
+            }
+            record("{\"do\":\"search\",\"name\":\"cpe:/a:family:f33\",\"active\":true}")
+            answer("search " fs(33, "*") " 3")
+            answer("entry " fs(33, 3) " active")
+            answer("entry " fs(33, 8) " active")
+            answer("entry " fs(33, 10) " active")
+            for (f = 150; f + 50 <= count; f += 50) removed(f)
+            for (f = count - 1; f >= 0; f -= 11) question(f)
+        }' < /dev/null
+}
+
+# inventory lines|answers COUNT: so many statements of three facts over twice as many items, the even numbers; one in ten follows
+# the correction of a name. Some lines are refused, some items and statements are dropped. The answers, and the table at the
+# end, are made here from numbers alone.
+inventory() {
+    awk -v answers="$([ "$1" = answers ] && echo 1)" -v count="$2" '
+        function uri(n) { return "cpe:/a:v:p" int(n / 100) ":" n % 100 }
+        function fs(n) { return "cpe:2.3:a:v:p" int(n / 100) ":" n % 100 ":*:*:*:*:*:*:*" }
+        function record(text) { number++; if (!answers) print text }
+        function answer(text) { if (answers) print text }
+        function refused(text, reason) { record(text); answer("refused " number " " reason) }
+        function name(verb, n) { return "{\"do\":\"" verb "\",\"name\":\"" (n % 4 ? uri(n) : toupper(uri(n))) "\"}" }
+        function id(verb, n) { return "{\"do\":\"" verb "\",\"id\":\"s" n "\"}" }
+        function key(n) { return "\"system\":\"oval\",\"href\":\"defs.xml\",\"id\":\"c" n "\"" }
+        function is_item(n) { return n % 2 == 0 && n < 4 * count && !(dropped && n % 14 == 0) }
+        function truth(n) { return is_item(n) ? "T" : "F" }
+        function first(order, all,   k) {
+            for (k = 1; k <= 4; k++) if (index(all, substr(order, k, 1))) return substr(order, k, 1)
+        }
+        function every(all) { return first("FEUT", all) }
+        function any(all) { return first("TEUF", all) }
+        function not(one) { return one == "T" ? "F" : one == "F" ? "T" : one }
+        function result(n) { return n % 4 == 3 ? "U" : substr("TFE", n % 4 + 1, 1) }
+        function word(one) { return one == "T" ? "TRUE" : one == "F" ? "FALSE" : one == "E" ? "ERROR" : "UNKNOWN" }
+        function fact(n) { return "{\"fact\":\"" (n % 3 ? fs(n) : uri(n)) "\"}" }
+        function old(n) { return "{\"fact\":\"cpe:/a:old:p" n "\"}" }
+        function check(n) { return "{\"check\":{" key(n % 4) "}}" }
+        function logical(op, children, more) { return "{\"op\":\"" op "\"" more ",\"of\":[" children "]}" }
+        function test(n) {
+            if (n % 10 == 0) return logical("OR", old(n) "," fact(n + 1) "," fact(n + 3))
+            if (n % 10 == 5) return logical("OR", old(n - 5) "," fact(n) "," check(n) "," fact(n + 2))
+            if (n % 3 == 0) return logical("AND", fact(n) "," fact(3 * n) "," check(int(n / 6)) "," fact(n + 2))
+            if (n % 3 == 1)
+                return logical("OR", fact(3 * n) "," logical("AND", fact(n) "," check(int(n / 4)), ",\"negate\":true") "," \
+                    fact(n + 4 * count))
+            return logical("AND", logical("OR", fact(n + 1) "," fact(n + 3)) "," fact(2 * n), ",\"negate\":true")
+        }
+        function verdict(n) {
+            if (n % 10 == 0) return any((is_corrected ? truth(n) : "F") truth(n + 1) truth(n + 3))
+            if (n % 10 == 5) return any("F" truth(n) result(n) truth(n + 2))
+            if (n % 3 == 0) return every(truth(n) truth(3 * n) result(int(n / 6)) truth(n + 2))
+            if (n % 3 == 1) return any(truth(3 * n) not(every(truth(n) result(int(n / 4)))) truth(n + 4 * count))
+            return not(every(any(truth(n + 1) truth(n + 3)) truth(2 * n)))
+        }
+        function statement(n) {
+            return "{\"do\":\"statement\",\"id\":\"s" n "\",\"mode\":\"" (n % 10 ? "plain" : "follow") "\",\"test\":" test(n) "}"
+        }
+        function asked(n) { record(id("verdict", n)); answer("verdict s" n " " word(verdict(n))) }
+        function correct(n) {
+            record("{\"do\":\"entry\",\"name\":\"cpe:/a:old:p" n "\"}")
+            record(name("entry", n))
+            record("{\"do\":\"deprecate\",\"name\":\"cpe:/a:old:p" n "\",\"kind\":\"NAME_CORRECTION\",\"successors\":[\"" fs(n) \
+                "\"],\"date\":\"2024-01-01\"}")
+        }
+        function spoil(n) {
+            refused(statement(n), "exists")
+            refused(name("item", 2 * n), "exists")
+            refused("{\"do\":\"item\",\"name\":\"cpe:/a:v:p" n "%02\"}", "wildcards")
+            refused(name("drop-item", 2 * n + 1), "unknown")
+            refused(id("drop-statement", n + count), "unknown")
+            refused("{\"do\":\"drop-check\"," key(3) "}", "unknown")
+        }
+        function ask_items(text,   n, all, lines) {
+            for (n = 0; n < 4 * count; n += 2) if (int(n / 100) == 7 && is_item(n)) { all++; lines = lines "\nitem " fs(n) }
+            record("{\"do\":\"items\",\"name\":\"cpe:/a:v:p7\"}")
+            answer("items cpe:2.3:a:v:p7:*:*:*:*:*:*:*:* " all + 0 lines)
+        }
+        function is_kept(n) { return n % 50 != 7 }
+        BEGIN {
+            record(id("verdict", 0))
+            answer("verdict s0 absent")
+            for (n = 0; n < 3; n++) record("{\"do\":\"check\"," key(n) ",\"result\":\"" word(result(n)) "\"}")
+            for (n = 0; n < 2 * count; n++) record(name("item", 2 * n))
+            for (n = 0; n < count; n++) {
+                record(statement(n))
+                if (n % 10 == 9) spoil(n)
+            }
+            ask_items()
+            for (n = 0; n < count; n += 101) asked(n)
+            for (n = 0; n < count; n += 10) correct(n)
+            is_corrected = 1
+            for (n = 0; n < count; n += 101) asked(n)
+            for (n = 0; n < 4 * count; n += 14) record(name("drop-item", n))
+            dropped = 1
+            ask_items()
+            for (n = 7; n < count; n += 50) record(id("drop-statement", n))
+            for (n = 0; n < count; n += 101) if (is_kept(n)) asked(n)
+            for (n = 0; n < count; n++) all += is_kept(n)
+            answer("verdicts " all)
+            for (n = 0; n < count; n++) if (is_kept(n)) answer("verdict s" n " " word(verdict(n)))
+        }' < /dev/null
+}
+
+# statements lines|answers COUNT: so many statements without facts and as many results of checks, and then those that find no
+# room where COUNT is 100,000.
+statements() {
+    awk -v answers="$([ "$1" = answers ] && echo 1)" -v count="$2" '
+        function record(text) { number++; if (!answers) print text }
+        function refused(text, reason) { record(text); if (answers) print "refused " number " " reason }
+        function key(n) { return "\"system\":\"oval\",\"href\":\"defs.xml\",\"id\":\"c" n "\"" }
+        function statement(n) {
+            return "{\"do\":\"statement\",\"id\":\"s" n "\",\"test\":{\"op\":\"AND\",\"of\":[{\"check\":{" key(n) "}}]}}"
+        }
+        function result(n) { return n % 4 == 0 ? "TRUE" : n % 4 == 1 ? "FALSE" : n % 4 == 2 ? "ERROR" : "UNKNOWN" }
+        function check(n, one) { return "{\"do\":\"check\"," key(n) ",\"result\":\"" one "\"}" }
+        BEGIN {
+            for (n = 0; n < count; n++) record(statement(n))
+            for (n = 0; n < count; n++) record(check(n, result(n)))
+            if (count == 100000) {
+                refused(statement(count), "full statements")
+                refused(statement(5), "exists")
+                refused(check(count, "TRUE"), "full checks")
+            }
+            refused("{\"do\":\"drop-check\"," key(count) "}", "unknown")
+            # a key that is kept takes no further room
+            record(check(3, "ERROR"))
+            # where one goes there is room again
+            record("{\"do\":\"drop-statement\",\"id\":\"s0\"}")
+            record(statement(count))
+            record("{\"do\":\"drop-check\"," key(1) "}")
+            record(check(count, "TRUE"))
+            if (!answers) exit
+            print "verdicts " count
+            for (n = 1; n <= count; n++)
+                print "verdict s" n " " (n == count ? "TRUE" : n == 1 ? "UNKNOWN" : n == 3 ? "ERROR" : result(n))
+        }' < /dev/null
+}
+
+# answers_made WHAT KIB WORD MAKER COUNT: the answers to what a maker makes, in so many KiB of address space.
+answers_made() {
+    what="$1: $3" kib=$2 word=$3 maker=$4 count=$5
     needs "$what" awk mkfifo || return
     bounds "$what" || return
     rm -f "$room/wanted.pipe"
     mkfifo "$room/wanted.pipe"
-    dictionary answers 100000 > "$room/wanted.pipe" &
-    dictionary lines 100000 | {
-        (ulimit -v 524288 && limited "$program" resolve) 2> "$room/error"
+    "$maker" answers "$count" > "$room/wanted.pipe" &
+    "$maker" lines "$count" | {
+        (ulimit -v "$kib" && limited "$program" "$word") 2> "$room/error"
         echo $? > "$room/status"
     } | cmp - "$room/wanted.pipe" > "$room/out" 2>&1
     wait
     judge "$what" "$(cat "$room/status")" 1 /dev/null
 }
 
-# fails_with_entries WHAT STATUS WANTED ENTRIES: whether the output is a front of the answers to that dictionary.
-fails_with_entries() {
+# fails_as_made WHAT STATUS WANTED MAKER COUNT: whether the output is a front of the answers to what the maker makes, and
+# not an empty one.
+fails_as_made() {
     size=$(wc -c < "$room/out")
-    dictionary answers "$4" | head -c "$size" > "$room/wanted"
-    judge "$1" "$2" "$3" "$room/wanted"
+    "$4" answers "$5" | head -c "$size" > "$room/wanted"
+    if [ "$size" = 0 ]; then fail "$1" 'nothing was written'; else judge "$1" "$2" "$3" "$room/wanted"; fi
 }
 
-# In 16 MiB of address space there is no room for so many entries: a front of the answers stands, and no word about it.
+# fails_for_want_of_memory WORD MAKER COUNT: in 16 MiB of address space there is no room for so many: a front of the answers
+# stands, and no word about it.
 fails_for_want_of_memory() {
-    what='where memory runs out the status is 5: resolve'
+    what="where memory runs out the status is 5: $1, $2"
     needs "$what" awk wc || return
     bounds "$what" || return
-    dictionary lines 100000 > "$room/many"
-    (ulimit -v 16384 && limited "$program" resolve) < "$room/many" > "$room/out" 2> "$room/error"
-    fails_with_entries "$what" $? 5 100000
-    [ -s "$room/out" ] || fail "$what" 'nothing was written'
+    "$2" lines "$3" > "$room/many"
+    (ulimit -v 16384 && limited "$program" "$1") < "$room/many" > "$room/out" 2> "$room/error"
+    fails_as_made "$what" $? 5 "$2" "$3"
 }
 
-fails_in_mid_write_with_entries() {
-    what='a write that fails in mid-stream ends with status 4: resolve, with entries'
+# fails_in_mid_write_as_made WORD MAKER COUNT
+fails_in_mid_write_as_made() {
+    what="a write that fails in mid-stream ends with status 4: $1, $2"
     needs "$what" awk wc || return
-    dictionary lines 20000 > "$room/many"
+    "$2" lines "$3" > "$room/many"
     (
         trap '' XFSZ
-        ulimit -f 128 && exec "$program" resolve < "$room/many" > "$room/out" 2> "$room/error"
+        ulimit -f 128 && exec "$program" "$1" < "$room/many" > "$room/out" 2> "$room/error"
     )
-    fails_with_entries "$what" $? 4 20000
-    [ -s "$room/out" ] || fail "$what" 'nothing was written'
+    fails_as_made "$what" $? 4 "$2" "$3"
 }
 
-# The front of a line that is torn off is no line, also where it is a whole record.
-fails_in_mid_read_with_entries() {
-    what='a read that fails in mid-stream ends with status 3: resolve, with entries'
+# fails_in_mid_read_as_made WORD MAKER COUNT TORN: the front of a line that is torn off is no line, also where it is a whole
+# record, and no table is written.
+fails_in_mid_read_as_made() {
+    what="a read that fails in mid-stream ends with status 3: $1, $2"
     needs "$what" awk python3 || return
-    dictionary lines 4000 > "$room/many"
-    printf '{"do":"lookup","name":"cpe:/a:v:p0:0"}' >> "$room/many"
-    dictionary answers 4000 > "$room/wanted"
-    limited python3 tests/failing_read.py "$room/many" "$program" resolve > "$room/out" 2> "$room/error"
+    "$2" lines "$3" > "$room/many"
+    printf '%s' "$4" >> "$room/many"
+    "$2" answers "$3" | sed '/^verdicts /,$d' > "$room/wanted"
+    limited python3 tests/failing_read.py "$room/many" "$program" "$1" > "$room/out" 2> "$room/error"
     status=$?
     if [ "$status" = 77 ]; then
         skip "$what" 'no pipe here is large enough'
@@ -450,18 +763,54 @@ answers_long_names() {
     {
         printf '{"do":"show","name":"%s"}\n{"do":"entry","name":"%s"}\n' "$name" "$name"
         printf '{"do":"lookup","name":"%s"}\n{"do":"show","name":"%s"}\n{"do":"search","name":"cpe:/a:v"}\n' "$name" "$name"
+        printf '{"do":"entry","name":"cpe:/a:v:q"}\n'
+        printf '{"do":"deprecate","name":"cpe:/a:v:q","kind":"NAME_CORRECTION","successors":["%s"],"date":"2024-01-01"}\n' "$name"
+        printf '{"do":"chain","name":"cpe:/a:v:q"}\n{"do":"show","name":"cpe:/a:v:q"}\n'
+        printf '{"do":"chain","name":"%s~"}\n' "$name"
     } > "$room/long.jsonl"
     {
         printf 'show %s absent\nlookup %s active\n' "$written" "$written"
         printf 'show {"deprecation":null,"name":"cpe:2.3:a:v:%s:*:*:*:*:*:*:*:*",' "$(spelled 65000 '\\\\~')"
         printf '"provenance":{"authority":"","changes":[],"submitter":""},"title":""}\n'
         printf 'search cpe:2.3:a:v:*:*:*:*:*:*:*:*:* 1\nentry %s active\n' "$written"
+        printf 'chain cpe:2.3:a:v:q:*:*:*:*:*:*:*:* 2 1\nstep %s active\n' "$written"
+        printf 'step cpe:2.3:a:v:q:*:*:*:*:*:*:*:* NAME_CORRECTION\nend %s\n' "$written"
+        printf 'show {"deprecation":{"kind":"NAME_CORRECTION","successors":["cpe:2.3:a:v:%s:*:*:*:*:*:*:*:*"]},' "$(spelled 65000 '\\\\~')"
+        printf '"name":"cpe:2.3:a:v:q:*:*:*:*:*:*:*:*","provenance":{"authority":"","changes":['
+        printf '{"comment":"","date":"2024-01-01","kind":"DEPRECATION"}],"submitter":""},"title":""}\n'
+        longer="cpe:2.3:a:v:$(spelled 65001 '\\~'):*:*:*:*:*:*:*:*"
+        printf 'chain %s 0 1\nend %s\n' "$longer" "$longer"
     } > "$room/long.out"
     answers "$what" "$room/long.jsonl" "$room/long.out" 0 resolve
 }
 
+checks_of_evaluate() {
+    echo 'verdicts 0' > "$room/none.out"
+    cat examples/dictionary.out "$room/none.out" > "$room/verdicts.out"
+    answers 'a dictionary: evaluate' examples/dictionary.jsonl "$room/verdicts.out" 1 evaluate
+    answers 'an inventory' examples/inventory.jsonl examples/inventory.out 1 evaluate
+    answers 'an empty input: evaluate' /dev/null "$room/none.out" 0 evaluate
+    answers 'a word too many: evaluate' examples/inventory.jsonl "$room/usage.out" 2 evaluate names
+    answers_in_pieces tests/vectors/evaluate/dictionary-and-advisories.in tests/vectors/evaluate/dictionary-and-advisories.out evaluate
+    answers_vectors evaluate evaluate
+    answers_vectors_without_table
+    answers_at_once tests/vectors/evaluate/refused-alone.in tests/vectors/evaluate/refused-alone.out 1 evaluate
+    answers_made '1,000 statements of three facts over 2,000 items' 65536 evaluate inventory 1000
+    answers_made '100,000 statements without facts' 524288 evaluate statements 100000
+    fails_for_want_of_memory evaluate inventory 20000
+    fails_on_a_full_device examples/inventory.jsonl evaluate
+    fails_on_a_full_device /dev/null evaluate
+    fails_in_mid_write_as_made evaluate inventory 2000
+    fails_in_mid_write_as_made evaluate statements 5000
+    fails_in_mid_read_as_made evaluate inventory 200 '{"do":"verdict","id":"s0"}'
+    answers 'a read that fails ends with status 3: evaluate' . /dev/null 3 evaluate
+    fails_where_the_reader_goes examples/inventory.jsonl examples/inventory.out evaluate
+    fails_on_closed_streams examples/inventory.jsonl evaluate
+}
+
 checks_of_resolve() {
     answers 'a dictionary' examples/dictionary.jsonl examples/dictionary.out 1 resolve
+    answers 'a dictionary with deprecations' examples/deprecations.jsonl examples/deprecations.out 1 resolve
     answers 'an empty input: resolve' /dev/null /dev/null 0 resolve
     answers 'a word too many: resolve' examples/dictionary.jsonl "$room/usage.out" 2 resolve names
     answers_in_pieces examples/dictionary.jsonl examples/dictionary.out resolve
@@ -469,11 +818,15 @@ checks_of_resolve() {
     answers_long_records
     answers_long_names
     answers_at_once tests/vectors/resolve/questions.in tests/vectors/resolve/questions.out 1 resolve
-    answers_dictionary
-    fails_for_want_of_memory
+    answers_made '100,000 entries, and questions to them' 524288 resolve dictionary 100000
+    answers_made '1,000 families of eleven entries, most of them deprecated, and their chains' 65536 resolve deprecations 1000
+    fails_for_want_of_memory resolve dictionary 100000
+    fails_for_want_of_memory resolve deprecations 3000
     fails_on_a_full_device examples/dictionary.jsonl resolve
-    fails_in_mid_write_with_entries
-    fails_in_mid_read_with_entries
+    fails_in_mid_write_as_made resolve dictionary 20000
+    fails_in_mid_write_as_made resolve deprecations 100
+    fails_in_mid_read_as_made resolve dictionary 4000 '{"do":"lookup","name":"cpe:/a:v:p0:0"}'
+    fails_in_mid_read_as_made resolve deprecations 150 '{"do":"chain","name":"cpe:/a:family:f0:0"}'
     answers 'a read that fails ends with status 3: resolve' . /dev/null 3 resolve
     fails_where_the_reader_goes examples/dictionary.jsonl examples/dictionary.out resolve
     fails_on_closed_streams examples/dictionary.jsonl resolve
@@ -489,7 +842,7 @@ each() {
     "$1" tests/vectors/resolve/questions.in tests/vectors/resolve/questions.out resolve
 }
 
-for tool in cmp diff head tr cut grep basename; do
+for tool in cmp diff head tr cut grep sed basename; do
     has "$tool" || { echo "OWN CHECKS SKIPPED, all of them: there is no $tool"; exit 0; }
 done
 answers 'the real names' examples/names.txt examples/names.out 0 unbind
@@ -504,6 +857,7 @@ answers_vectors bind-fs bind fs
 answers_vectors bind-uri bind uri
 answers_vectors compare compare
 answers_usage
+answers_readme
 answers_at_once examples/names.txt examples/names.out 0 unbind
 each answers_at_volume
 fails_on_a_full_device examples/names.txt unbind
@@ -521,6 +875,7 @@ fails_where_the_reader_goes examples/names.txt examples/names.out unbind
 fails_on_words_that_are_no_text
 fails_on_closed_streams examples/names.txt unbind
 checks_of_resolve
+checks_of_evaluate
 
 [ "$skipped" = 0 ] || printf 'OWN CHECKS SKIPPED, which show nothing here:\n%s' "$missing"
 echo "own checks: $passed passed, $failed failed, $skipped skipped"

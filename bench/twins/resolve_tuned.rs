@@ -1,12 +1,13 @@
 //! The tuned twin of `cpe resolve`: the same answers from safe Rust with std alone and no proof,
 //! written for speed. JSON is read by hand into values that borrow from the line, a name becomes
 //! its formatted string in lower case, a hash map finds its entry, and a search goes over the names
-//! where they stand one behind the other in one block.
+//! where they stand one behind the other in one block. Deprecations are kept as numbers of entries,
+//! both ways, and a chain is searched with marks on the entries.
 mod reading_tuned;
 
 use reading_tuned::{KEYS, unbind};
 use std::borrow::Cow;
-use std::collections::HashMap;
+use std::collections::{BTreeMap, HashMap};
 use std::hash::{BuildHasherDefault, Hasher};
 use std::io::{self, Read, Write};
 use std::process::ExitCode;
@@ -17,14 +18,16 @@ const LONGEST: usize = 65_536;
 /// How deep arrays and objects may nest.
 const DEEPEST: usize = 127;
 
-/// The most entries.
+/// The most entries, successors of an entry, and ends of one.
 const MOST: usize = 2_000_000;
+const MOST_SUCCESSORS: usize = 16;
+const MOST_ENDS: usize = 64;
 
 // ---- JSON
 
 enum Value<'a> {
     Null,
-    Bool,
+    Bool(bool),
     Number,
     Text(Cow<'a, str>),
     Array(Vec<Value<'a>>),
@@ -83,8 +86,8 @@ impl<'a> Reader<'a> {
             b'"' => self.string().map(Value::Text),
             b'{' => self.object(depth.checked_sub(1)?),
             b'[' => self.array(depth.checked_sub(1)?),
-            b't' => self.word("true", Value::Bool),
-            b'f' => self.word("false", Value::Bool),
+            b't' => self.word("true", Value::Bool(true)),
+            b'f' => self.word("false", Value::Bool(false)),
             b'n' => self.word("null", Value::Null),
             _ => self.number(),
         }
@@ -273,6 +276,9 @@ struct Buffers {
     found: Vec<usize>,
     /// A component without its backslashes.
     plain: Vec<u8>,
+    /// The numbers of the successors that were read, where they are entries.
+    to: Vec<Option<u32>>,
+    marks: Marks,
 }
 
 impl Buffers {
@@ -293,6 +299,52 @@ impl Buffers {
             self.name.make_ascii_lowercase();
         }
         Ok(())
+    }
+}
+
+/// Which entries a search has come to, and which of them it goes on from.
+#[derive(Default)]
+struct Marks {
+    /// The last search that came to an entry, by its number.
+    seen: Vec<u32>,
+    search: u32,
+    /// Those come to, in the order of coming.
+    list: Vec<u32>,
+}
+
+impl Marks {
+    /// Begins a search over so many entries.
+    fn begin(&mut self, entries: usize) {
+        if self.search == u32::MAX {
+            self.seen.clear();
+            self.search = 0;
+        }
+        self.seen.resize(entries, 0);
+        self.search += 1;
+        self.list.clear();
+    }
+
+    fn add(&mut self, number: u32) {
+        let seen = &mut self.seen[number as usize];
+        if *seen != self.search {
+            *seen = self.search;
+            self.list.push(number);
+        }
+    }
+
+    fn has(&self, number: u32) -> bool {
+        self.seen[number as usize] == self.search
+    }
+
+    /// Adds all that is next to what was come to from this place of the list on.
+    fn go_on<'a>(&mut self, from: usize, next: impl Fn(u32) -> &'a [u32]) {
+        let mut at = from;
+        while at < self.list.len() {
+            for &number in next(self.list[at]) {
+                self.add(number);
+            }
+            at += 1;
+        }
     }
 }
 
@@ -390,6 +442,17 @@ impl Asked<'_> {
     }
 }
 
+fn has_wildcards(name: &[u8], ends: &[u32; 11]) -> bool {
+    let has_specials = |text| text != b"*" && matches!(Asked::new(text), Some(Asked::Like { .. }));
+    name.iter().any(|c| matches!(c, b'*' | b'?')) && (0..11).any(|n| has_specials(component(name, ends, n)))
+}
+
+/// Reads the name of a record into the buffer.
+fn read_name(record: &Value, buffers: &mut Buffers) -> Result<(), Refusal> {
+    let text = record.get("name").and_then(Value::text).ok_or(For(b" member name"))?;
+    buffers.read(text.as_bytes()).map_err(|place| At(b" name name ", place))
+}
+
 // ---- rows
 
 /// A hash over eight bytes at a time.
@@ -429,7 +492,7 @@ struct Note {
 struct Provenance {
     submitter: Box<str>,
     authority: Box<str>,
-    notes: Box<[Note]>,
+    notes: Vec<Note>,
 }
 
 /// Where a name and its components stand, and the entry before it whose name has the same hash.
@@ -444,20 +507,50 @@ struct Details {
     provenance: Option<Box<Provenance>>,
 }
 
+/// The kind of the deprecation, if there is one, its successors, and the entries that have this one as theirs.
+#[derive(Default)]
+struct Links {
+    kind: Option<&'static str>,
+    to: Box<[u32]>,
+    from: Vec<u32>,
+}
+
+impl Links {
+    fn state(&self) -> &'static [u8] {
+        self.kind.unwrap_or("active").as_bytes()
+    }
+}
+
 #[derive(Default)]
 struct Dictionary {
     /// The names, one behind the other.
     names: Vec<u8>,
     rows: Vec<Row>,
     details: Vec<Details>,
+    links: Vec<Links>,
     /// The last entry by the hash of its name.
     numbers: HashMap<u64, u32, BuildHasherDefault<Hashed>>,
 }
 
-/// The reason and perhaps the place of a line that is refused.
-type Refusal = (&'static [u8], Option<usize>);
+/// The reason why a line is refused.
+enum Refusal {
+    For(&'static [u8]),
+    /// With a place.
+    At(&'static [u8], usize),
+    /// The name of a successor, by its number, and the place where it goes wrong.
+    Successor(usize, usize),
+    /// The name of a fact, likewise.
+    Fact(usize, usize),
+    /// With the entry that would have too many ends.
+    TooWide(u32),
+}
+
+use Refusal::{At, Fact, For, Successor, TooWide};
 
 const KINDS: [&str; 4] = ["ORIGINAL_RECORD", "AUTHORITY_CHANGE", "DEPRECATION", "DEPRECATION_MODIFICATION"];
+const CORRECTION: &str = "NAME_CORRECTION";
+const REMOVAL: &str = "NAME_REMOVAL";
+const INFORMATION: &str = "ADDITIONAL_INFORMATION";
 
 /// A member that is a text or isn't there.
 fn text_or_empty(value: &Value, key: &str) -> Option<Box<str>> {
@@ -486,7 +579,7 @@ fn provenance_of(record: &Value) -> Option<Option<Box<Provenance>>> {
         return None;
     };
     let notes = match value.get("changes") {
-        None => Box::default(),
+        None => Vec::new(),
         Some(Value::Array(items)) => items.iter().map(note_of).collect::<Option<_>>()?,
         Some(_) => return None,
     };
@@ -522,7 +615,7 @@ impl Details {
     fn show(&self, name: &[u8], out: &mut Vec<u8>) {
         let none = Provenance::default();
         let Provenance { submitter, authority, notes } = self.provenance.as_deref().unwrap_or(&none);
-        out.extend_from_slice(b"show {\"deprecation\":null,\"name\":");
+        out.extend_from_slice(b",\"name\":");
         put_text(name, out);
         out.extend_from_slice(b",\"provenance\":{\"authority\":");
         put_text(authority.as_bytes(), out);
@@ -546,31 +639,35 @@ impl Details {
 
 impl Dictionary {
     fn add(&mut self, record: &Value, name: &[u8]) -> Result<(), Refusal> {
-        let title = text_or_empty(record, "title").ok_or((&b" member title"[..], None))?;
-        let provenance = provenance_of(record).ok_or((&b" member provenance"[..], None))?;
+        let title = text_or_empty(record, "title").ok_or(For(b" member title"))?;
+        let provenance = provenance_of(record).ok_or(For(b" member provenance"))?;
         let ends = ends_of(name);
         if (0..3).any(|n| matches!(component(name, &ends, n), b"*" | b"-")) {
-            return Err((b" not-identifier", None));
+            return Err(For(b" not-identifier"));
         }
-        let has_specials = |text| text != b"*" && matches!(Asked::new(text), Some(Asked::Like { .. }));
-        if name.iter().any(|c| matches!(c, b'*' | b'?')) && (0..11).any(|n| has_specials(component(name, &ends, n))) {
-            return Err((b" wildcards", None));
+        if has_wildcards(name, &ends) {
+            return Err(For(b" wildcards"));
         }
         if self.find(name).is_some() {
-            return Err((b" exists", None));
+            return Err(For(b" exists"));
         }
         if self.rows.len() == MOST {
-            return Err((b" full entries", None));
+            return Err(For(b" full entries"));
         }
         let before = self.numbers.insert(hash_of(name), self.rows.len() as u32);
         self.rows.push(Row { start: self.names.len(), ends, before });
         self.names.extend_from_slice(name);
         self.details.push(Details { title, provenance });
+        self.links.push(Links::default());
         Ok(())
     }
 
     fn name(&self, row: &Row) -> &[u8] {
         &self.names[row.start..row.start + row.ends[10] as usize]
+    }
+
+    fn name_at(&self, number: u32) -> &[u8] {
+        self.name(&self.rows[number as usize])
     }
 
     fn find(&self, name: &[u8]) -> Option<usize> {
@@ -585,7 +682,7 @@ impl Dictionary {
         None
     }
 
-    fn search(&self, buffers: &mut Buffers, out: &mut Vec<u8>) {
+    fn search(&self, active_only: bool, buffers: &mut Buffers, out: &mut Vec<u8>) {
         let Buffers { name, found, plain, .. } = buffers;
         let ends = ends_of(name);
         let asked: Vec<_> = (0..11).filter_map(|n| Some((n, Asked::new(component(name, &ends, n))?))).collect();
@@ -596,45 +693,610 @@ impl Dictionary {
                 found.push(number);
             }
         }
+        if active_only {
+            found.retain(|&number| self.links[number].kind.is_none());
+        }
         out.extend_from_slice(b"search ");
         out.extend_from_slice(name);
         out.push(b' ');
         decimal(out, found.len() as u64);
         out.push(b'\n');
         for &number in &*found {
-            out.extend_from_slice(b"entry ");
-            out.extend_from_slice(self.name(&self.rows[number]));
-            out.extend_from_slice(b" active\n");
+            self.put_row(b"entry ", number as u32, out);
         }
     }
 
-    fn resolve(&mut self, buffers: &mut Buffers, line: &[u8], out: &mut Vec<u8>) -> Result<(), Refusal> {
-        let record = value_of(line).ok_or((&b" json"[..], None))?;
-        let verb = record.get("do").and_then(Value::text).unwrap_or_default();
-        if !matches!(verb, "entry" | "lookup" | "search" | "show") {
-            return Err((b" member do", None));
+    /// A word, the name of the entry, and its state.
+    fn put_row(&self, word: &[u8], number: u32, out: &mut Vec<u8>) {
+        out.extend_from_slice(word);
+        out.extend_from_slice(self.name_at(number));
+        out.push(b' ');
+        out.extend_from_slice(self.links[number as usize].state());
+        out.push(b'\n');
+    }
+
+    fn to(&self, number: u32) -> &[u32] {
+        &self.links[number as usize].to
+    }
+
+    fn is_end(&self, number: u32) -> bool {
+        self.links[number as usize].kind.is_none()
+    }
+
+    fn chain(&self, number: Option<u32>, name: &[u8], marks: &mut Marks, out: &mut Vec<u8>) {
+        marks.begin(self.rows.len());
+        number.into_iter().for_each(|it| marks.add(it));
+        marks.go_on(0, |it| self.to(it));
+        marks.list.sort_unstable();
+        let ends = marks.list.iter().filter(|&&it| self.is_end(it)).count();
+        out.extend_from_slice(b"chain ");
+        out.extend_from_slice(name);
+        out.push(b' ');
+        decimal(out, marks.list.len() as u64);
+        out.push(b' ');
+        decimal(out, ends.max(usize::from(number.is_none())) as u64);
+        out.push(b'\n');
+        for &it in &marks.list {
+            self.put_row(b"step ", it, out);
         }
-        let text = record.get("name").and_then(Value::text).ok_or((&b" member name"[..], None))?;
-        buffers.read(text.as_bytes()).map_err(|place| (&b" name name "[..], Some(place)))?;
-        let number = self.find(&buffers.name);
-        match (verb, number) {
-            ("entry", _) => return self.add(&record, &buffers.name),
-            ("search", _) => {
-                if !matches!(record.get("active"), None | Some(Value::Bool)) {
-                    return Err((b" member active", None));
-                }
-                self.search(buffers, out);
+        let found = marks.list.iter().filter(|&&it| self.is_end(it)).map(|&it| self.name_at(it));
+        for end in found.chain(number.is_none().then_some(name)) {
+            out.extend_from_slice(b"end ");
+            out.extend_from_slice(end);
+            out.push(b'\n');
+        }
+    }
+
+    /// To how many ends paths lead from this entry.
+    fn ends(&self, number: u32, marks: &mut Marks) -> usize {
+        marks.begin(self.rows.len());
+        marks.add(number);
+        marks.go_on(0, |it| self.to(it));
+        marks.list.iter().filter(|&&it| self.is_end(it)).count()
+    }
+
+    /// Tells each end of a name, which is its own where it is no entry.
+    fn each_end<'a>(&'a self, name: &'a [u8], marks: &mut Marks, mut tell: impl FnMut(&'a [u8])) {
+        let Some(number) = self.find(name) else {
+            return tell(name);
+        };
+        marks.begin(self.rows.len());
+        marks.add(number as u32);
+        marks.go_on(0, |it| self.to(it));
+        marks.list.iter().filter(|&&it| self.is_end(it)).for_each(|&it| tell(self.name_at(it)));
+    }
+
+    /// The place of the first successor that leads back to the entry, from 1.
+    fn cycle(&self, number: u32, to: &[u32], marks: &mut Marks) -> Option<usize> {
+        let is_new = self.links[number as usize].from.is_empty();
+        marks.begin(self.rows.len());
+        to.iter().position(|&it| {
+            if !is_new && it != number {
+                // (what an earlier one leads to doesn't lead back)
+                let from = marks.list.len();
+                marks.add(it);
+                marks.go_on(from, |it| self.to(it));
             }
-            ("show", Some(number)) => self.details[number].show(&buffers.name, out),
+            it == number || marks.has(number)
+        })
+    }
+
+    /// Puts this kind and these successors in place of those of the entry, which are given back.
+    fn swap(&mut self, number: u32, kind: Option<&'static str>, to: Box<[u32]>) -> (Option<&'static str>, Box<[u32]>) {
+        let links = &mut self.links[number as usize];
+        let old = (std::mem::replace(&mut links.kind, kind), std::mem::replace(&mut links.to, to));
+        for &it in &old.1 {
+            let from = &mut self.links[it as usize].from;
+            let at = from.iter().rposition(|&it| it == number).unwrap_or_default();
+            from.swap_remove(at);
+        }
+        for at in 0..self.to(number).len() {
+            let it = self.to(number)[at];
+            self.links[it as usize].from.push(number);
+        }
+        old
+    }
+
+    /// Puts this kind and these successors there, unless an entry would have too many ends.
+    fn change(&mut self, number: u32, kind: Option<&'static str>, to: Box<[u32]>, marks: &mut Marks) -> Result<(), Refusal> {
+        let old = self.swap(number, kind, to);
+        if old.0.is_none() && self.ends(number, marks) < 2 {
+            // (each that led here loses an end for the one or none that it gets)
+            return Ok(());
+        }
+        marks.begin(self.rows.len());
+        marks.add(number);
+        marks.go_on(0, |it| &self.links[it as usize].from);
+        let mut sources = std::mem::take(&mut marks.list);
+        sources.sort_unstable();
+        let wide = sources.iter().copied().find(|&it| self.ends(it, marks) > MOST_ENDS);
+        marks.list = sources;
+        match wide {
+            None => Ok(()),
+            Some(wide) => {
+                self.swap(number, old.0, old.1);
+                Err(TooWide(wide))
+            }
+        }
+    }
+
+    /// Reads the kind and the successors of a deprecation; the latter into the buffer.
+    fn deprecation_of(&self, record: &Value, buffers: &mut Buffers) -> Result<&'static str, Refusal> {
+        let word = record.get("kind").and_then(Value::text).unwrap_or_default();
+        let kind = [CORRECTION, REMOVAL, INFORMATION].into_iter().find(|&it| it == word).ok_or(For(b" member kind"))?;
+        buffers.to.clear();
+        let items = match record.get("successors") {
+            None => &[][..],
+            Some(Value::Array(items)) if items.iter().all(|it| it.text().is_some()) => items,
+            Some(_) => return Err(For(b" member successors")),
+        };
+        for (n, item) in items.iter().enumerate() {
+            let text = item.text().unwrap_or_default();
+            buffers.read(text.as_bytes()).map_err(|place| Successor(n + 1, place))?;
+            let number = self.find(&buffers.name).map(|it| it as u32);
+            buffers.to.push(number);
+        }
+        Ok(kind)
+    }
+
+    /// The successors in the buffer as numbers, all of them entries, all different, and so many as the kind may have.
+    fn successors_of(&self, kind: &str, to: &[Option<u32>]) -> Result<Box<[u32]>, Refusal> {
+        let is_count = if kind == REMOVAL { to.is_empty() } else { (1..=MOST_SUCCESSORS).contains(&to.len()) };
+        if !is_count {
+            return Err(For(b" count"));
+        }
+        if let Some(at) = to.iter().position(Option::is_none) {
+            return Err(At(b" unknown-successor ", at + 1));
+        }
+        match (1..to.len()).find(|&at| to[..at].contains(&to[at])) {
+            Some(at) => Err(At(b" repeated-successor ", at + 1)),
+            None => Ok(to.iter().copied().flatten().collect()),
+        }
+    }
+
+    /// Deprecates the entry, amends its deprecation, or restores it.
+    fn edit(&mut self, verb: &str, record: &Value, buffers: &mut Buffers) -> Result<(), Refusal> {
+        let number = self.find(&buffers.name).map(|it| it as u32);
+        let kind = if verb == "restore" { None } else { Some(self.deprecation_of(record, buffers)?) };
+        let date = record.get("date").and_then(Value::text).filter(|it| is_date(it)).ok_or(For(b" member date"))?;
+        let comment = text_or_empty(record, "comment").ok_or(For(b" member comment"))?;
+        let number = number.ok_or(For(b" unknown"))?;
+        match (verb, self.is_end(number)) {
+            ("deprecate", false) => return Err(For(b" already-deprecated")),
+            ("amend" | "restore", true) => return Err(For(b" not-deprecated")),
+            _ => {}
+        }
+        let to = kind.map_or(Ok(Box::default()), |kind| self.successors_of(kind, &buffers.to))?;
+        if let Some(at) = self.cycle(number, &to, &mut buffers.marks) {
+            return Err(At(b" cycle ", at + 1));
+        }
+        self.change(number, kind, to, &mut buffers.marks)?;
+        let kind = KINDS[if verb == "deprecate" { 2 } else { 3 }];
+        let provenance = self.details[number as usize].provenance.get_or_insert_default();
+        provenance.notes.push(Note { kind, date: Box::from(date), comment });
+        Ok(())
+    }
+
+    fn show(&self, number: u32, name: &[u8], out: &mut Vec<u8>) {
+        out.extend_from_slice(b"show {\"deprecation\":");
+        match self.links[number as usize].kind {
+            None => out.extend_from_slice(b"null"),
+            Some(kind) => {
+                out.extend_from_slice(b"{\"kind\":");
+                put_text(kind.as_bytes(), out);
+                out.extend_from_slice(b",\"successors\":[");
+                for (n, &it) in self.to(number).iter().enumerate() {
+                    if n > 0 {
+                        out.push(b',');
+                    }
+                    put_text(self.name_at(it), out);
+                }
+                out.extend_from_slice(b"]}");
+            }
+        }
+        self.details[number as usize].show(name, out);
+    }
+
+    fn resolve(&mut self, verb: &str, record: &Value, buffers: &mut Buffers, out: &mut Vec<u8>) -> Result<(), Refusal> {
+        read_name(record, buffers)?;
+        match verb {
+            "entry" => return self.add(record, &buffers.name),
+            "deprecate" | "amend" | "restore" => return self.edit(verb, record, buffers),
+            "search" => {
+                let active_only = match record.get("active") {
+                    None => false,
+                    Some(Value::Bool(active)) => *active,
+                    Some(_) => return Err(For(b" member active")),
+                };
+                self.search(active_only, buffers, out);
+                return Ok(());
+            }
+            _ => {}
+        }
+        let number = self.find(&buffers.name).map(|it| it as u32);
+        match (verb, number) {
+            ("chain", _) => self.chain(number, &buffers.name, &mut buffers.marks, out),
+            ("show", Some(number)) => self.show(number, &buffers.name, out),
             _ => {
                 out.extend_from_slice(verb.as_bytes());
                 out.push(b' ');
                 out.extend_from_slice(&buffers.name);
-                out.extend_from_slice(if number.is_some() { b" active\n" } else { b" absent\n" });
+                out.push(b' ');
+                out.extend_from_slice(number.map_or(b"absent", |it| self.links[it as usize].state()));
+                out.push(b'\n');
             }
         }
         Ok(())
     }
+
+    fn put_reason(&self, reason: Refusal, out: &mut Vec<u8>) {
+        match reason {
+            For(word) => out.extend_from_slice(word),
+            At(word, place) => {
+                out.extend_from_slice(word);
+                decimal(out, place as u64);
+            }
+            Successor(number, place) => {
+                out.extend_from_slice(b" name successor ");
+                decimal(out, number as u64);
+                out.push(b' ');
+                decimal(out, place as u64);
+            }
+            Fact(number, place) => {
+                out.extend_from_slice(b" name fact ");
+                decimal(out, number as u64);
+                out.push(b' ');
+                decimal(out, place as u64);
+            }
+            TooWide(number) => {
+                out.extend_from_slice(b" too-wide ");
+                out.extend_from_slice(self.name_at(number));
+            }
+        }
+    }
+}
+
+// ---- the inventory
+
+const MOST_ITEMS: usize = 1_000_000;
+const MOST_STATEMENTS: usize = 100_000;
+const MOST_FACTS: usize = 1_000_000;
+const MOST_CHECKS: usize = 100_000;
+const DEEPEST_TEST: usize = 32;
+
+/// A truth, as AND prefers them: the least of some is what they make.
+type Truth = u8;
+const TRUTHS: [&str; 4] = ["FALSE", "ERROR", "UNKNOWN", "TRUE"];
+const FALSE: Truth = 0;
+const UNKNOWN: Truth = 2;
+const TRUE: Truth = 3;
+
+fn not(truth: Truth) -> Truth {
+    match truth {
+        FALSE => TRUE,
+        TRUE => FALSE,
+        other => other,
+    }
+}
+
+enum Test {
+    Logic { is_or: bool, negate: bool, of: Vec<Test> },
+    /// A name as a formatted string.
+    Fact(Box<[u8]>),
+    /// The three texts of a key in one.
+    Check(Box<[u8]>),
+}
+
+struct Statement {
+    id: Box<str>,
+    // (kept, and asked by nobody)
+    _title: Box<str>,
+    follows: bool,
+    facts: usize,
+    test: Test,
+}
+
+fn text_at<'a>(value: &'a Value, key: &str) -> Option<&'a str> {
+    value.get(key).and_then(Value::text)
+}
+
+/// The three texts, each behind its length.
+fn key_of(value: &Value) -> Result<Box<[u8]>, Refusal> {
+    let mut key = Vec::new();
+    for (member, reason) in [("system", &b" member system"[..]), ("href", b" member href"), ("id", b" member id")] {
+        let text = text_at(value, member).ok_or(For(reason))?;
+        key.extend_from_slice(&(text.len() as u32).to_le_bytes());
+        key.extend_from_slice(text.as_bytes());
+    }
+    Ok(key.into())
+}
+
+fn id_of(record: &Value) -> Result<Box<str>, Refusal> {
+    let id = text_at(record, "id").filter(|it| (1..=256).contains(&it.len()) && it.bytes().all(|c| c.is_ascii_graphic()));
+    id.map(Box::from).ok_or(For(b" member id"))
+}
+
+fn is_logic(value: &Value) -> bool {
+    let is_negate = matches!(value.get("negate"), None | Some(Value::Bool(_)));
+    let is_of = match value.get("of") {
+        Some(Value::Array(of)) => !of.is_empty() && of.iter().all(is_child),
+        _ => false,
+    };
+    matches!(text_at(value, "op"), Some("AND" | "OR")) && is_negate && is_of
+}
+
+fn is_child(value: &Value) -> bool {
+    match (value.get("op"), value.get("fact"), value.get("check")) {
+        (Some(_), _, _) => is_logic(value),
+        (_, Some(fact), _) => fact.text().is_some(),
+        (_, _, Some(check)) => key_of(check).is_ok(),
+        _ => false,
+    }
+}
+
+fn children<'a>(test: &'a Value<'a>) -> &'a [Value<'a>] {
+    match test.get("of") {
+        Some(Value::Array(of)) if test.get("op").is_some() => of,
+        _ => &[],
+    }
+}
+
+fn depth_of(test: &Value) -> usize {
+    usize::from(test.get("op").is_some()) + children(test).iter().map(depth_of).max().unwrap_or(0)
+}
+
+/// The test, of which the form is right; the facts before it are counted.
+fn test_of(value: &Value, buffers: &mut Buffers, facts: &mut usize) -> Result<Test, Refusal> {
+    if let Some(op) = text_at(value, "op") {
+        let of = children(value).iter().map(|it| test_of(it, buffers, facts)).collect::<Result<_, _>>()?;
+        return Ok(Test::Logic { is_or: op == "OR", negate: matches!(value.get("negate"), Some(Value::Bool(true))), of });
+    }
+    if let Some(fact) = text_at(value, "fact") {
+        *facts += 1;
+        buffers.read(fact.as_bytes()).map_err(|place| Fact(*facts, place))?;
+        return Ok(Test::Fact(Box::from(&buffers.name[..])));
+    }
+    value.get("check").ok_or(For(b" member test")).and_then(key_of).map(Test::Check)
+}
+
+fn statement_of(record: &Value, buffers: &mut Buffers) -> Result<Statement, Refusal> {
+    let id = id_of(record)?;
+    let title = text_or_empty(record, "title").ok_or(For(b" member title"))?;
+    let follows = match record.get("mode") {
+        None => false,
+        Some(mode) => match mode.text() {
+            Some("plain") => false,
+            Some("follow") => true,
+            _ => return Err(For(b" member mode")),
+        },
+    };
+    let value = record.get("test").filter(|it| is_logic(it)).ok_or(For(b" member test"))?;
+    if depth_of(value) > DEEPEST_TEST {
+        return Err(For(b" deep"));
+    }
+    let mut facts = 0;
+    let test = test_of(value, buffers, &mut facts)?;
+    Ok(Statement { id, _title: title, follows, facts, test })
+}
+
+/// Names one behind the other, with the places of their components.
+#[derive(Default)]
+struct Names {
+    bytes: Vec<u8>,
+    rows: Vec<(usize, [u32; 11])>,
+}
+
+impl Names {
+    fn push(&mut self, name: &[u8]) {
+        self.rows.push((self.bytes.len(), ends_of(name)));
+        self.bytes.extend_from_slice(name);
+    }
+
+    fn is_covered(&self, name: &[u8], plain: &mut Vec<u8>) -> bool {
+        let ends = ends_of(name);
+        let mut asked: Vec<_> = (0..11).filter_map(|n| Some((n, Asked::new(component(name, &ends, n))?))).collect();
+        // (what comes later tells more names apart)
+        asked.reverse();
+        self.rows.iter().any(|(start, ends)| {
+            let name = &self.bytes[*start..*start + ends[10] as usize];
+            asked.iter().all(|(n, it)| it.fits(component(name, ends, *n), plain))
+        })
+    }
+}
+
+/// What an evaluation asks of: the items, and where one of them follows names their ends.
+#[derive(Default)]
+struct Covered {
+    items: Names,
+    ends: Names,
+}
+
+#[derive(Default)]
+struct Inventory {
+    // (numbers rise, and so tell the order)
+    items: BTreeMap<u64, Box<[u8]>>,
+    item_numbers: HashMap<Box<[u8]>, u64>,
+    statements: BTreeMap<u64, Statement>,
+    statement_numbers: HashMap<Box<str>, u64>,
+    facts: usize,
+    checks: HashMap<Box<[u8]>, Truth>,
+    next: u64,
+}
+
+impl Inventory {
+    fn number(&mut self) -> u64 {
+        self.next += 1;
+        self.next
+    }
+
+    fn add_item(&mut self, name: &[u8]) -> Result<(), Refusal> {
+        if has_wildcards(name, &ends_of(name)) {
+            return Err(For(b" wildcards"));
+        }
+        if self.item_numbers.contains_key(name) {
+            return Err(For(b" exists"));
+        }
+        if self.items.len() == MOST_ITEMS {
+            return Err(For(b" full items"));
+        }
+        let number = self.number();
+        self.items.insert(number, Box::from(name));
+        self.item_numbers.insert(Box::from(name), number);
+        Ok(())
+    }
+
+    fn drop_item(&mut self, name: &[u8]) -> Result<(), Refusal> {
+        let number = self.item_numbers.remove(name).ok_or(For(b" unknown"))?;
+        self.items.remove(&number);
+        Ok(())
+    }
+
+    fn put(&mut self, statement: Statement) -> Result<(), Refusal> {
+        if self.statement_numbers.contains_key(&statement.id) {
+            return Err(For(b" exists"));
+        }
+        if self.statements.len() == MOST_STATEMENTS {
+            return Err(For(b" full statements"));
+        }
+        if self.facts + statement.facts > MOST_FACTS {
+            return Err(For(b" full facts"));
+        }
+        self.facts += statement.facts;
+        let number = self.number();
+        self.statement_numbers.insert(statement.id.clone(), number);
+        self.statements.insert(number, statement);
+        Ok(())
+    }
+
+    fn drop_statement(&mut self, id: &str) -> Result<(), Refusal> {
+        let number = self.statement_numbers.remove(id).ok_or(For(b" unknown"))?;
+        self.facts -= self.statements.remove(&number).map_or(0, |it| it.facts);
+        Ok(())
+    }
+
+    fn check(&mut self, record: &Value) -> Result<(), Refusal> {
+        let key = key_of(record)?;
+        let result = text_at(record, "result").and_then(|it| TRUTHS.iter().position(|&truth| truth == it));
+        let result = result.ok_or(For(b" member result"))?;
+        if self.checks.len() == MOST_CHECKS && !self.checks.contains_key(&key) {
+            return Err(For(b" full checks"));
+        }
+        self.checks.insert(key, result as Truth);
+        Ok(())
+    }
+
+    fn put_items(&self, buffers: &mut Buffers, out: &mut Vec<u8>) {
+        let Buffers { name, plain, .. } = buffers;
+        let is_covered = |item: &&Box<[u8]>| {
+            let mut alone = Names::default();
+            alone.push(item);
+            alone.is_covered(name, plain)
+        };
+        let found: Vec<_> = self.items.values().filter(is_covered).collect();
+        out.extend_from_slice(b"items ");
+        out.extend_from_slice(name);
+        out.push(b' ');
+        decimal(out, found.len() as u64);
+        out.push(b'\n');
+        for item in found {
+            out.extend_from_slice(b"item ");
+            out.extend_from_slice(item);
+            out.push(b'\n');
+        }
+    }
+
+    fn covered(&self, dictionary: &Dictionary, follows: bool, marks: &mut Marks) -> Covered {
+        let mut covered = Covered::default();
+        for item in self.items.values() {
+            covered.items.push(item);
+        }
+        if follows {
+            self.items.values().for_each(|it| dictionary.each_end(it, marks, |end| covered.ends.push(end)));
+        }
+        covered
+    }
+
+    fn truth(&self, test: &Test, is_fact: &mut impl FnMut(&[u8]) -> bool) -> Truth {
+        match test {
+            Test::Fact(name) => if is_fact(name) { TRUE } else { FALSE },
+            Test::Check(key) => self.checks.get(key).copied().unwrap_or(UNKNOWN),
+            Test::Logic { is_or, negate, of } => {
+                let mut found = TRUE;
+                for child in of {
+                    let truth = self.truth(child, is_fact);
+                    found = found.min(if *is_or { not(truth) } else { truth });
+                    if found == FALSE {
+                        break;
+                    }
+                }
+                if is_or == negate { found } else { not(found) }
+            }
+        }
+    }
+
+    fn put_verdict(&self, statement: &Statement, dictionary: &Dictionary, covered: &Covered, buffers: &mut Buffers, out: &mut Vec<u8>) {
+        let Buffers { plain, marks, .. } = buffers;
+        let truth = self.truth(&statement.test, &mut |name| {
+            if !statement.follows {
+                return covered.items.is_covered(name, plain);
+            }
+            let mut found = false;
+            dictionary.each_end(name, marks, |end| found = found || covered.ends.is_covered(end, plain));
+            found
+        });
+        put_words(&["verdict", &statement.id, TRUTHS[truth as usize]], out);
+    }
+
+    fn verdict(&self, id: &str, dictionary: &Dictionary, buffers: &mut Buffers, out: &mut Vec<u8>) {
+        match self.statement_numbers.get(id).and_then(|it| self.statements.get(it)) {
+            None => put_words(&["verdict", id, "absent"], out),
+            Some(it) => {
+                let covered = self.covered(dictionary, it.follows, &mut buffers.marks);
+                self.put_verdict(it, dictionary, &covered, buffers, out);
+            }
+        }
+    }
+
+    fn put_table(&self, dictionary: &Dictionary, buffers: &mut Buffers, out: &mut Vec<u8>) {
+        let covered = self.covered(dictionary, self.statements.values().any(|it| it.follows), &mut buffers.marks);
+        out.extend_from_slice(b"verdicts ");
+        decimal(out, self.statements.len() as u64);
+        out.push(b'\n');
+        for it in self.statements.values() {
+            self.put_verdict(it, dictionary, &covered, buffers, out);
+        }
+    }
+
+    /// Answers a record of an inventory, or applies it.
+    fn answer(&mut self, verb: &str, record: &Value, dictionary: &Dictionary, buffers: &mut Buffers, out: &mut Vec<u8>) -> Result<(), Refusal> {
+        match verb {
+            "item" | "drop-item" | "items" => {
+                read_name(record, buffers)?;
+                match verb {
+                    "item" => return self.add_item(&buffers.name),
+                    "drop-item" => return self.drop_item(&buffers.name),
+                    _ => self.put_items(buffers, out),
+                }
+            }
+            "statement" => return self.put(statement_of(record, buffers)?),
+            "drop-statement" => return self.drop_statement(&id_of(record)?),
+            "verdict" => self.verdict(&id_of(record)?, dictionary, buffers, out),
+            "check" => return self.check(record),
+            "drop-check" => return self.checks.remove(&key_of(record)?).map(|_| ()).ok_or(For(b" unknown")),
+            _ => return Err(For(b" member do")),
+        }
+        Ok(())
+    }
+}
+
+/// The words with spaces between, as a line.
+fn put_words(words: &[&str], out: &mut Vec<u8>) {
+    for word in words {
+        out.extend_from_slice(word.as_bytes());
+        out.push(b' ');
+    }
+    out.pop();
+    out.push(b'\n');
 }
 
 // ---- lines
@@ -658,19 +1320,36 @@ fn refuse(out: &mut Vec<u8>, number: u64, reason: &[u8]) {
     out.extend_from_slice(reason);
 }
 
+#[derive(Default)]
+struct Kept {
+    dictionary: Dictionary,
+    inventory: Inventory,
+}
+
+impl Kept {
+    fn resolve(&mut self, buffers: &mut Buffers, line: &[u8], out: &mut Vec<u8>) -> Result<(), Refusal> {
+        let record = value_of(line).ok_or(For(b" json"))?;
+        let verb = record.get("do").and_then(Value::text).unwrap_or_default();
+        match verb {
+            "entry" | "deprecate" | "amend" | "restore" | "lookup" | "search" | "chain" | "show" => {
+                self.dictionary.resolve(verb, &record, buffers, out)
+            }
+            _ => self.inventory.answer(verb, &record, &self.dictionary, buffers, out),
+        }
+    }
+}
+
 /// Answers the line of this number, without its newline; tells whether it was refused.
-fn answer(kept: &mut Dictionary, buffers: &mut Buffers, out: &mut Vec<u8>, number: u64, line: &[u8]) -> bool {
+fn answer(kept: &mut Kept, buffers: &mut Buffers, out: &mut Vec<u8>, number: u64, line: &[u8]) -> bool {
     let text = line.strip_suffix(b"\r").unwrap_or(line);
     if text.is_empty() {
         return false;
     }
-    let Err((reason, place)) = kept.resolve(buffers, text, out) else {
+    let Err(reason) = kept.resolve(buffers, text, out) else {
         return false;
     };
-    refuse(out, number, reason);
-    if let Some(place) = place {
-        decimal(out, place as u64);
-    }
+    refuse(out, number, b"");
+    kept.dictionary.put_reason(reason, out);
     out.push(b'\n');
     true
 }
@@ -679,7 +1358,8 @@ fn main() -> io::Result<ExitCode> {
     let (mut input, mut output) = (io::stdin().lock(), io::stdout().lock());
     let mut block = vec![0; 1 << 17];
     let mut out = Vec::with_capacity(1 << 18);
-    let (mut kept, mut buffers) = (Dictionary::default(), Buffers::default());
+    let (mut kept, mut buffers) = (Kept::default(), Buffers::default());
+    let is_evaluated = std::env::args().nth(1).as_deref() == Some("evaluate");
     // A long line is dropped as it comes, up to its newline or the end of input.
     let (mut have, mut number, mut refused, mut is_long) = (0, 0, false, false);
     loop {
@@ -716,6 +1396,9 @@ fn main() -> io::Result<ExitCode> {
             is_long = true;
             have = 0;
         }
+    }
+    if is_evaluated {
+        kept.inventory.put_table(&kept.dictionary, &mut buffers, &mut out);
     }
     output.write_all(&out)?;
     output.flush()?;
