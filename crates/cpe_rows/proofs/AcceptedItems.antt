@@ -1,19 +1,17 @@
 -- An accepted item leaves lawful rows, and so does one that is dropped.
-use Rattle.std.proofs.Common.{◌≡◌, ℕ, suc, List, [], ◌∷◌, Bool, true, false, not, nat_lt, cond, length, refl, ◌∙◌, subst, ◌≤◌, arith}
+use Rattle.std.proofs.Common.{◌≡◌, List, [], ◌∷◌, Bool, true, false, not, cond, refl, ◌∙◌, subst}
 use Rattle.std.specs.List.{list_any, list_all}
 use Rattle.std.proofs.lemmas.Bool.{or_from, or_parts, and_from, and_parts, not_from_false, not-true}
-use Rattle.std.proofs.lemmas.Bool.Decides.{nat_tests}
 use Rattle.cpe_name.specs.declared.name.Values.{Values}
 use Rattle.cpe_rows.specs.Names.{is_same, is_lower, has_wildcards}
 use Rattle.cpe_rows.specs.Rows.{Rows, is_item}
-use Rattle.cpe_rows.specs.Limits.{limited, exceeds, most}
+use Rattle.cpe_rows.specs.Limits.{limited, exceeds}
 use Rattle.cpe_rows.specs.After.{after, without_first}
 use Rattle.cpe_rows.specs.Lawful.{IsLawful, is_item_name, are_different}
 use Rattle.cpe_rows.specs.Accepted.{IsAccepted}
 use Rattle.cpe_rows.specs.declared.edit.Edit.TheVariants as edit
 use Rattle.cpe_rows.specs.declared.fault.EditFault.TheVariants as fault
-use Rattle.cpe_rows.specs.declared.fault.Which.{Which}
-use Rattle.cpe_rows.specs.declared.fault.Which.TheVariants as limit
+use Rattle.cpe_rows.proofs.Limited.{still_within, item_less}
 use Rattle.cpe_rows.proofs.Lists.{not_found, not_element, all_with_last, different_with_last}
 use Rattle.cpe_rows.proofs.NameTests.{not_same}
 use Rattle.cpe_rows.proofs.Unrefused.{IsUnrefused, unrefused, none_when}
@@ -68,32 +66,9 @@ module _ {A : Type 0} (p : A → Bool) where
         go true all apart later = all
         go false all apart later = and_from (not (list_any (same x) (without_first p xs))) (are_different same (without_first p xs)) apart later
 
-  pub no_more_but_first : (xs : List A) → length (without_first p xs) ≤ length xs
-  no_more_but_first [] = grind arith
-  no_more_but_first (x ∷ xs) = go (p x) (no_more_but_first xs) where
-    go : (b : Bool) → length (without_first p xs) ≤ length xs → length (cond b xs (x ∷ without_first p xs)) ≤ suc (length xs)
-    go true t = grind arith
-    go false t = grind arith
-
--- what isn't above a limit stays so with less
-pub not_above : (m n k : ℕ) → k ≤ n → nat_lt m n ≡ false → nat_lt m k ≡ false
-not_above m n k t h = grind (arith, nat_tests)
-
 module _ (rows next : Rows) (n : Values) (h : IsAccepted rows (edit.DropItem n) next) where
   abbrev without : Rows
   without = after rows (edit.DropItem n)
-
-  -- what is limited beside the entries and the items
-  abbrev others : List Which
-  others = limit.Statements ∷ limit.Facts ∷ limit.Checks ∷ []
-
-  still_within : list_any (exceeds without) limited ≡ false
-  still_within =
-      let entries = or_parts (exceeds rows limit.Entries) (list_any (exceeds rows) (limit.Items ∷ others)) h.lawful.within in
-      let items = or_parts (exceeds rows limit.Items) (list_any (exceeds rows) others) entries.1 in
-      or_from (exceeds without limit.Entries) (list_any (exceeds without) (limit.Items ∷ others)) entries.0
-      (or_from (exceeds without limit.Items) (list_any (exceeds without) others)
-      (not_above (most limit.Items) (length rows.items) (length without.items) (no_more_but_first (is_same n) rows.items) items.0) items.1)
 
   still_lawful : IsLawful without
   still_lawful = record {
@@ -103,7 +78,7 @@ module _ (rows next : Rows) (n : Values) (h : IsAccepted rows (edit.DropItem n) 
     lawful_statements = h.lawful.lawful_statements;
     ids_differ = h.lawful.ids_differ;
     keys_differ = h.lawful.keys_differ;
-    within = still_within;
+    within = still_within rows without (item_less rows n) h.lawful.within;
   }
 
   pub lawful_without : IsLawful next

@@ -1,7 +1,8 @@
--- The names of a test's fact references, in the order of its arrays.
-use Rattle.std.specs.Prelude.{List, [], ◌∷◌}
+-- The names of a test's fact references, in the order of its arrays, and how many there are.
+use Rattle.std.specs.Prelude.{ℕ, List, [], ◌∷◌, length}
 use Rattle.std.specs.List.{flat_map}
 use Rattle.cpe_name.specs.declared.name.Values.{Values}
+use Rattle.cpe_rows.specs.declared.statement.Statement.{Statement}
 use Rattle.cpe_rows.specs.declared.test.Test.{Test}
 use Rattle.cpe_rows.specs.declared.test.Test.TheOpen.{Test-F}
 use Rattle.cpe_rows.specs.declared.test.Test.TheFolds.{fold-Test}
@@ -14,3 +15,7 @@ fact_names_step (Test-F.Check key) = []
 -- each as often as it stands there
 abbrev pub fact_names : Test → List Values
 fact_names = fold-Test (List Values) fact_names_step
+
+-- the fact references of all statements, each counted as often as it stands there
+abbrev pub number_of_facts : List Statement → ℕ
+number_of_facts statements = length (flat_map (λ s. fact_names s.test) statements)

@@ -7,7 +7,7 @@ use Rattle.cpe_rows.specs.Names.{is_same, is_lower, is_identifier, has_wildcards
 use Rattle.cpe_rows.specs.Rows.{Rows, is_named, has_id, has_key}
 use Rattle.cpe_rows.specs.Chains.{successors_of, leads_to}
 use Rattle.cpe_rows.specs.Valid.{is_id, is_statement_test}
-use Rattle.cpe_rows.specs.Limits.{limited, exceeds, is_wide}
+use Rattle.cpe_rows.specs.Limits.{AreWithin, is_wide}
 use Rattle.cpe_rows.specs.Faults.{is_count}
 use Rattle.cpe_rows.specs.declared.entry.Entry.{Entry}
 use Rattle.cpe_rows.specs.declared.statement.Statement.{Statement}
@@ -58,4 +58,4 @@ pub record IsLawful (rows : Rows) : Type 0 where
   pub lawful_statements : list_all is_lawful_statement rows.statements ≡ true
   pub ids_differ : are_different (λ s. has_id s.id) rows.statements ≡ true
   pub keys_differ : are_different (λ c. has_key c.0) rows.checks ≡ true
-  pub within : list_any (exceeds rows) limited ≡ false
+  pub within : AreWithin rows

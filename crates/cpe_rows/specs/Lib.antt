@@ -13,9 +13,11 @@ pub mod Chains
 pub mod Verdict
 pub mod Weight
 pub mod Limits
+pub mod Counts
 pub mod Valid
 pub mod After
 pub mod Faults
+pub mod Causes
 pub mod Step
 pub mod Applied
 pub mod Answers

@@ -1,9 +1,9 @@
 -- How many rows there may be, and how much of them.
-use Rattle.std.specs.Prelude.{ℕ, List, [], ◌∷◌, length, Bool, nat_lt}
-use Rattle.std.specs.List.{flat_map}
+use Rattle.std.specs.Prelude.{◌≡◌, ℕ, List, [], ◌∷◌, length, Bool, false, nat_lt}
+use Rattle.std.specs.List.{list_any}
 use Rattle.cpe_rows.specs.Rows.{Rows}
 use Rattle.cpe_rows.specs.Chains.{ends}
-use Rattle.cpe_rows.specs.FactNames.{fact_names}
+use Rattle.cpe_rows.specs.FactNames.{number_of_facts}
 use Rattle.cpe_rows.specs.Weight.{weight}
 use Rattle.cpe_rows.specs.declared.entry.Entry.{Entry}
 use Rattle.cpe_rows.specs.declared.fault.Which.{Which}
@@ -13,7 +13,7 @@ abbrev pub number_of : Which → Rows → ℕ
 number_of limit.Entries rows = length rows.entries
 number_of limit.Items rows = length rows.items
 number_of limit.Statements rows = length rows.statements
-number_of limit.Facts rows = length (flat_map (λ s. fact_names s.test) rows.statements)
+number_of limit.Facts rows = number_of_facts rows.statements
 number_of limit.Checks rows = length rows.checks
 number_of limit.Weight rows = weight rows
 
@@ -26,12 +26,16 @@ most limit.Facts = 1000000
 most limit.Checks = 100000
 most limit.Weight = 536870912
 
--- what is limited, in the order in which it is tested; the weight will be the last, once it is kept
+-- what is limited, in the order in which it is tested
 abbrev pub limited : List Which
-limited = limit.Entries ∷ limit.Items ∷ limit.Statements ∷ limit.Facts ∷ limit.Checks ∷ []
+limited = limit.Entries ∷ limit.Items ∷ limit.Statements ∷ limit.Facts ∷ limit.Checks ∷ limit.Weight ∷ []
 
 abbrev pub exceeds : Rows → Which → Bool
 exceeds rows which = nat_lt (most which) (number_of which rows)
+
+-- no number of the rows exceeds its limit
+abbrev pub AreWithin : Rows → Type 0
+AreWithin rows = list_any (exceeds rows) limited ≡ false
 
 -- an entry has no more ends
 abbrev pub most_ends : ℕ

@@ -1,5 +1,5 @@
 // Laws of the definitions. These functions do nothing: their clauses are the laws.
-ghost use Rattle.std.specs.Prelude.{◌≡◌, ◌↔◌, ◌∷◌, ◌++◌, [], ℕ, List, IsTrue, false, true, Contains, All, map, length, Some, None, position, find};
+ghost use Rattle.std.specs.Prelude.{◌≡◌, ◌↔◌, ◌∷◌, ◌++◌, [], ℕ, List, IsTrue, false, true, Contains, All, map, length, Ok, Some, None, Option, position, find, if◌then◌else◌};
 ghost use Rattle.std.specs.List.{list_any};
 ghost use Rattle.cpe_name.specs.declared.name.Values.{Values};
 ghost use Rattle.cpe_name.specs.Lower.{IsLower, lower_name};
@@ -11,16 +11,23 @@ ghost use Rattle.cpe_rows.specs.declared.test.Operator.TheVariants.{And, Or};
 ghost use Rattle.cpe_rows.specs.declared.test.Test.{Test, Logic};
 ghost use Rattle.cpe_rows.specs.Reach.{IsDecided};
 ghost use Rattle.cpe_rows.specs.Chains.{is_successor, chain, ends};
-ghost use Rattle.cpe_rows.specs.Rows.{Rows, no_rows, is_named, has_id};
+ghost use Rattle.cpe_rows.specs.Rows.{Rows, no_rows, is_named, has_id, has_key, same_key};
 ghost use Rattle.cpe_rows.specs.After.{after};
-ghost use Rattle.cpe_rows.specs.Verdict.{verdict};
+ghost use Rattle.cpe_rows.specs.Verdict.{check_truth, verdict};
 ghost use Rattle.cpe_rows.specs.Changes.{change, changes, dropped};
-ghost use Rattle.cpe_rows.specs.Lawful.{IsLawful};
+ghost use Rattle.cpe_rows.specs.Limits.{AreWithin};
+ghost use Rattle.cpe_rows.specs.Faults.{faults};
+ghost use Rattle.cpe_rows.specs.Step.{step, first_some};
+ghost use Rattle.cpe_rows.specs.Applied.{Refuses};
+ghost use Rattle.cpe_rows.specs.Causes.{causes, heavy, IsCause};
+ghost use Rattle.cpe_rows.specs.Lawful.{IsLawful, are_different};
 ghost use Rattle.cpe_rows.specs.Accepted.{IsAccepted};
 ghost use Rattle.cpe_rows.specs.declared.truth.Truth.{Truth};
-ghost use Rattle.cpe_rows.specs.declared.truth.Truth.TheVariants.{True, False};
+ghost use Rattle.cpe_rows.specs.declared.truth.Truth.TheVariants.{True, False, Unknown};
 ghost use Rattle.cpe_rows.specs.declared.entry.Entry.{Entry};
 ghost use Rattle.cpe_rows.specs.declared.statement.Statement.{Statement};
+ghost use Rattle.cpe_rows.specs.declared.test.CheckKey.{CheckKey};
+ghost use Rattle.cpe_rows.specs.declared.fault.EditFault.{EditFault};
 
 use crate::Edit;
 
@@ -34,6 +41,36 @@ pub fn chains_are_paths()
 pub fn rows_stay_lawful()
     ensures start { IsLawful no_rows }
     ensures kept { (rows next : Rows) (e : Edit) → IsAccepted rows e next → IsLawful next }
+{}
+
+/// An edit is refused for its first fault, or for want of memory, and makes the rows that it leaves where it has none.
+pub fn faults_refuse()
+    ensures refused { (rows : Rows) (e : Edit) (f : EditFault) → IsCause f (first_some (faults rows e)) → Refuses f (step rows e) }
+    ensures accepted { (rows : Rows) (e : Edit) → first_some (faults rows e) ≡ None → step rows e ≡ Ok (after rows e) }
+{}
+
+/// In rows within their limits the first fault of an edit is the first of its causes, or else that it leaves rows that weigh
+/// too much.
+pub fn causes_are_faults()
+    ensures { (rows : Rows) (e : Edit) → AreWithin rows → first_some (faults rows e) ≡ first_some (causes rows e ++ heavy (after rows e) ∷ []) }
+{}
+
+/// So rows within their limits refuse an edit for its first cause, or for want of memory; behind that, where it leaves rows that
+/// weigh too much; and where neither is so they accept it. What is dropped makes nothing weigh more.
+pub fn causes_refuse()
+    ensures refused { (rows : Rows) (e : Edit) (f : EditFault) → AreWithin rows → IsCause f (first_some (causes rows e)) → Refuses f (step rows e) }
+    ensures too_heavy { (rows : Rows) (e : Edit) (f : EditFault) → AreWithin rows → first_some (causes rows e) ≡ None → IsCause f (heavy (after rows e)) → Refuses f (step rows e) }
+    ensures accepted { (rows : Rows) (e : Edit) → AreWithin rows → first_some (causes rows e) ≡ None → heavy (after rows e) ≡ None → step rows e ≡ Ok (after rows e) }
+    ensures item_dropped { (rows : Rows) (n : Values) → AreWithin rows → heavy (after rows (Edit.DropItem n)) ≡ None }
+    ensures statement_dropped { (rows : Rows) (id : List ℕ) → AreWithin rows → heavy (after rows (Edit.DropStatement id)) ≡ None }
+    ensures check_dropped { (rows : Rows) (k : CheckKey) → AreWithin rows → heavy (after rows (Edit.DropCheck k)) ≡ None }
+{}
+
+/// Once the result of a key is set, checks of this key have it, and once it is dropped they are unknown; all others have the
+/// results that they had.
+pub fn checks_after_edits()
+    ensures set { (rows : Rows) (k key : CheckKey) (t : Truth) → check_truth (after rows (Edit.SetCheck k t)) key ≡ (if same_key key k then t else check_truth rows key) }
+    ensures dropped { (rows : Rows) (k key : CheckKey) → are_different (λ c. has_key c.0) rows.checks ≡ true → check_truth (after rows (Edit.DropCheck k)) key ≡ (if same_key key k then Unknown else check_truth rows key) }
 {}
 
 /// An accepted entry changes the ends of no name, and is in no chain but its own.

@@ -6,6 +6,7 @@
 //! An engine above keeps the rows.
 #![tactic(auto)]
 
+mod counts;
 mod date;
 mod edit;
 mod entry;
@@ -21,15 +22,17 @@ mod test;
 mod text;
 mod truth;
 
+pub use counts::Counts;
 pub use date::Date;
 pub use edit::{Edit, Query, is_id};
 pub use entry::{Deprecation, Entry, Kind, Note, NoteKind, Provenance};
 pub use facts::{Facts, FindFacts, evaluate, find_truth};
 pub use fault::{EditFault, Which};
 pub use laws::{
-    absent_names_stand_alone, chains_are_paths, entries_stand_alone, names_are_equal,
-    negation_moves_inward, negation_swaps_tables, rows_stay_lawful, statements_stand_alone,
-    tables_are_folds, tables_are_of_members, tables_have_deciding_truths,
+    absent_names_stand_alone, causes_are_faults, causes_refuse, chains_are_paths,
+    checks_after_edits, entries_stand_alone, faults_refuse, names_are_equal, negation_moves_inward,
+    negation_swaps_tables, rows_stay_lawful, statements_stand_alone, tables_are_folds,
+    tables_are_of_members, tables_have_deciding_truths,
 };
 pub use list::List;
 pub use names::{has_wildcards, is_identifier, is_lower, is_same};

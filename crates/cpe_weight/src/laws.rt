@@ -1,0 +1,30 @@
+// Laws of the weight. These functions do nothing: their clauses are the laws.
+ghost use Rattle.std.specs.Prelude.{◌≡◌, ◌+◌, ◌≤◌, ℕ, List, true};
+ghost use Rattle.std.specs.List.{list_any};
+ghost use Rattle.cpe_name.specs.declared.name.Values.{Values};
+ghost use Rattle.cpe_rows.specs.Names.{is_same};
+ghost use Rattle.cpe_rows.specs.Rows.{Rows, is_checked};
+ghost use Rattle.cpe_rows.specs.After.{after};
+ghost use Rattle.cpe_rows.specs.Weight.{weight, name_weight, key_weight};
+ghost use Rattle.cpe_rows.specs.declared.test.CheckKey.{CheckKey};
+ghost use Rattle.cpe_weight.specs.Gain.{gain, loss};
+
+use cpe_rows::{Edit, names_are_equal};
+
+/// The weight behind an edit is that before it, with what the edit adds and without what it takes away; and what it takes away
+/// is no more than there was.
+pub fn edits_weigh()
+    ensures weight { (rows : Rows) (e : Edit) → weight (after rows e) + loss rows e ≡ weight rows + gain rows e }
+    ensures loss { (rows : Rows) (e : Edit) → loss rows e ≤ weight rows }
+{}
+
+/// What is dropped weighs as much as the name or the key by which it is found, and after no drop is the weight greater.
+pub fn losses_are_known()
+    ensures items { (rows : Rows) (n : Values) → list_any (is_same n) rows.items ≡ true → loss rows (Edit.DropItem n) ≡ name_weight n }
+    ensures checks { (rows : Rows) (k : CheckKey) → is_checked rows k ≡ true → loss rows (Edit.DropCheck k) ≡ key_weight k }
+    ensures dropped_items { (rows : Rows) (n : Values) → weight (after rows (Edit.DropItem n)) ≤ weight rows }
+    ensures dropped_statements { (rows : Rows) (id : List ℕ) → weight (after rows (Edit.DropStatement id)) ≤ weight rows }
+    ensures dropped_checks { (rows : Rows) (k : CheckKey) → weight (after rows (Edit.DropCheck k)) ≤ weight rows }
+{
+    names_are_equal();
+}

@@ -1,0 +1,303 @@
+// What rows weigh, by numbers that were counted by hand. What is tried stands in functions without clauses: a test that knew
+// the clauses of what it calls would take long to prove.
+use crate::{
+    with_deprecation, with_entry, with_key, with_name, with_note, with_statement, with_test,
+};
+use cpe_fs::unbind_fs;
+use cpe_name::{Attribute, Wfn};
+use cpe_rows::{
+    CheckKey, Date, Deprecation, Entry, Kind, List, Mode, Note, NoteKind, Operator, Provenance,
+    Statement, Test, Text,
+};
+use cpe_values::{Edge, Memory, Pattern, Value};
+use std::alloc::Global;
+
+fn of_fs(alloc: Global, fs: &[u8]) -> Result<Wfn, Memory> {
+    match unbind_fs(alloc, fs) {
+        Ok(name) => Ok(name),
+        Err(_) => Err(Memory),
+    }
+}
+
+// The name `cpe:/a`, whose formatted string has 29 bytes, as that of `cpe:/a:v:p:1` has.
+fn a_part(alloc: Global) -> Result<Wfn, Memory> {
+    of_fs(alloc, b"cpe:2.3:a:*:*:*:*:*:*:*:*:*:*")
+}
+
+fn a_product(alloc: Global) -> Result<Wfn, Memory> {
+    of_fs(alloc, b"cpe:2.3:a:v:p:1:*:*:*:*:*:*:*")
+}
+
+// ---- names
+
+fn name_comes_to(name: &Wfn, before: u64, after: u64) -> bool {
+    with_name(before, name) == after
+}
+
+#[test]
+fn a_name_counts_by_its_formatted_string(rt: HostRuntime) {
+    match a_part(rt.alloc()) {
+        Ok(name) => {
+            assert!(rt; name_comes_to(&name, 0, 61));
+            assert!(rt; name_comes_to(&name, 1000, 1061));
+        }
+        Err(_) => assert!(rt; false),
+    }
+}
+
+#[test]
+fn a_weight_stops_at_the_largest_number(rt: HostRuntime) {
+    match a_part(rt.alloc()) {
+        Ok(name) => {
+            assert!(rt; name_comes_to(&name, u64::MAX - 62, u64::MAX - 1));
+            assert!(rt; name_comes_to(&name, u64::MAX - 61, u64::MAX));
+            assert!(rt; name_comes_to(&name, u64::MAX - 31, u64::MAX));
+            assert!(rt; name_comes_to(&name, u64::MAX, u64::MAX));
+        }
+        Err(_) => assert!(rt; false),
+    }
+}
+
+fn marked(alloc: Global, marks: u32) -> Value {
+    match Pattern::new(alloc, Edge::Marks(marks), b"v", Edge::None) {
+        Ok(text) => Value::Text(text),
+        Err(_) => Value::Any,
+    }
+}
+
+// A name that is ANY but for its vendor, whose text is one letter behind so many marks.
+fn of_marks(alloc: Global, marks: u32) -> Wfn {
+    let mut name = Wfn::any();
+    let _ = name.set(Attribute::Vendor, marked(alloc, marks));
+    name
+}
+
+#[test]
+fn each_mark_counts(rt: HostRuntime) {
+    let alloc = rt.alloc();
+    assert!(rt; name_comes_to(&of_marks(alloc, 1), 0, 62));
+    assert!(rt; name_comes_to(&of_marks(alloc, 1000), 0, 1061));
+    assert!(rt; name_comes_to(&of_marks(alloc, u32::MAX), 0, 4_294_967_356));
+}
+
+// ---- entries
+
+fn a_note(alloc: Global, comment: &str) -> Result<Note, Memory> {
+    match Date::new(b"2024-01-02") {
+        Some(date) => Ok(Note {
+            kind: NoteKind::Deprecation,
+            date,
+            comment: Text::new(alloc, comment)?,
+        }),
+        None => Err(Memory),
+    }
+}
+
+fn notes_come_to(alloc: Global, comment: &str, weight: u64) -> bool {
+    match a_note(alloc, comment) {
+        Ok(note) => with_note(0, note.date, &note.comment) == weight,
+        Err(_) => false,
+    }
+}
+
+#[test]
+fn a_note_counts_its_date_and_comment(rt: HostRuntime) {
+    assert!(rt; notes_come_to(rt.alloc(), "", 42));
+    assert!(rt; notes_come_to(rt.alloc(), "renamed", 49));
+    assert!(rt; notes_come_to(rt.alloc(), "Träger", 49));
+}
+
+fn put_part(alloc: Global, names: &mut List<Wfn>) -> Result<(), Memory> {
+    names.push(a_part(alloc)?)
+}
+
+fn put_product(alloc: Global, names: &mut List<Wfn>) -> Result<(), Memory> {
+    names.push(a_product(alloc)?)
+}
+
+fn a_deprecation(alloc: Global) -> Result<Deprecation, Memory> {
+    let mut successors = List::new(alloc);
+    put_part(alloc, &mut successors)?;
+    put_product(alloc, &mut successors)?;
+    Ok(Deprecation {
+        kind: Kind::AdditionalInformation,
+        successors,
+    })
+}
+
+fn deprecation_comes_to(deprecation: &Deprecation, weight: u64) -> bool {
+    with_deprecation(0, deprecation) == weight
+}
+
+#[test]
+fn each_successor_counts(rt: HostRuntime) {
+    match a_deprecation(rt.alloc()) {
+        Ok(deprecation) => assert!(rt; deprecation_comes_to(&deprecation, 122)),
+        Err(_) => assert!(rt; false),
+    }
+}
+
+fn put_note(alloc: Global, notes: &mut List<Note>, comment: &str) -> Result<(), Memory> {
+    notes.push(a_note(alloc, comment)?)
+}
+
+fn two_notes(alloc: Global) -> Result<List<Note>, Memory> {
+    let mut notes = List::new(alloc);
+    put_note(alloc, &mut notes, "")?;
+    put_note(alloc, &mut notes, "renamed")?;
+    Ok(notes)
+}
+
+fn no_provenance(alloc: Global) -> Result<Provenance, Memory> {
+    Ok(Provenance {
+        submitter: Text::new(alloc, "")?,
+        authority: Text::new(alloc, "")?,
+        notes: List::new(alloc),
+    })
+}
+
+fn a_provenance(alloc: Global) -> Result<Provenance, Memory> {
+    Ok(Provenance {
+        submitter: Text::new(alloc, "acme")?,
+        authority: Text::new(alloc, "nvd")?,
+        notes: two_notes(alloc)?,
+    })
+}
+
+fn an_entry_of(
+    alloc: Global,
+    provenance: Provenance,
+    deprecation: Option<Deprecation>,
+) -> Result<Entry, Memory> {
+    let title = Text::new(alloc, "P")?;
+    let name = a_product(alloc)?;
+    Ok(Entry {
+        name,
+        title,
+        provenance,
+        deprecation,
+    })
+}
+
+fn a_plain_entry(alloc: Global) -> Result<Entry, Memory> {
+    let provenance = no_provenance(alloc)?;
+    an_entry_of(alloc, provenance, None)
+}
+
+fn a_full_entry(alloc: Global) -> Result<Entry, Memory> {
+    let provenance = a_provenance(alloc)?;
+    let deprecation = a_deprecation(alloc)?;
+    an_entry_of(alloc, provenance, Some(deprecation))
+}
+
+fn entry_comes_to(entry: &Entry, weight: u64) -> bool {
+    with_entry(0, entry) == weight
+}
+
+#[test]
+fn an_entry_counts_its_name_and_title(rt: HostRuntime) {
+    match a_plain_entry(rt.alloc()) {
+        Ok(entry) => assert!(rt; entry_comes_to(&entry, 62)),
+        Err(_) => assert!(rt; false),
+    }
+}
+
+// 62 and 7 of itself, 42 and 49 of its notes, and 61 of each successor.
+#[test]
+fn an_entry_counts_its_notes_and_successors(rt: HostRuntime) {
+    match a_full_entry(rt.alloc()) {
+        Ok(entry) => assert!(rt; entry_comes_to(&entry, 282)),
+        Err(_) => assert!(rt; false),
+    }
+}
+
+// ---- statements
+
+fn a_key(alloc: Global) -> Result<CheckKey, Memory> {
+    Ok(CheckKey {
+        system: Text::new(alloc, "oval")?,
+        href: Text::new(alloc, "nova.xml")?,
+        id: Text::new(alloc, "def:7")?,
+    })
+}
+
+fn key_comes_to(key: &CheckKey, weight: u64) -> bool {
+    with_key(0, key) == weight
+}
+
+#[test]
+fn a_key_counts_its_three_texts(rt: HostRuntime) {
+    match a_key(rt.alloc()) {
+        Ok(key) => assert!(rt; key_comes_to(&key, 49)),
+        Err(_) => assert!(rt; false),
+    }
+}
+
+fn a_logical_test(of: List<Test>) -> Test {
+    Test::Logic {
+        operator: Operator::And,
+        negate: false,
+        of,
+    }
+}
+
+fn put(of: &mut List<Test>, test: Test) -> Result<(), Memory> {
+    of.push(test)
+}
+
+fn of_fact(alloc: Global) -> Result<List<Test>, Memory> {
+    let mut of = List::new(alloc);
+    put(&mut of, Test::Fact(a_part(alloc)?))?;
+    Ok(of)
+}
+
+fn put_check(alloc: Global, of: &mut List<Test>) -> Result<(), Memory> {
+    put(of, Test::Check(a_key(alloc)?))
+}
+
+fn put_logical_test(alloc: Global, of: &mut List<Test>) -> Result<(), Memory> {
+    put(of, a_logical_test(of_fact(alloc)?))
+}
+
+// A fact, a check, and a logical test of a fact.
+fn nested(alloc: Global) -> Result<List<Test>, Memory> {
+    let mut of = of_fact(alloc)?;
+    put_check(alloc, &mut of)?;
+    put_logical_test(alloc, &mut of)?;
+    Ok(of)
+}
+
+fn test_comes_to(test: &Test, weight: u64) -> bool {
+    with_test(0, test) == weight
+}
+
+#[test]
+fn each_test_counts(rt: HostRuntime) {
+    let alloc = rt.alloc();
+    assert!(rt; test_comes_to(&a_logical_test(List::new(alloc)), 32));
+    match nested(alloc) {
+        Ok(of) => assert!(rt; test_comes_to(&a_logical_test(of), 235)),
+        Err(_) => assert!(rt; false),
+    }
+}
+
+fn a_statement(alloc: Global) -> Result<Statement, Memory> {
+    Ok(Statement {
+        id: Text::new(alloc, "adv-1")?,
+        title: Text::new(alloc, "T")?,
+        mode: Mode::Plain,
+        test: a_logical_test(nested(alloc)?),
+    })
+}
+
+fn statement_comes_to(statement: &Statement, weight: u64) -> bool {
+    with_statement(0, statement) == weight
+}
+
+#[test]
+fn a_statement_counts_its_id_title_and_test(rt: HostRuntime) {
+    match a_statement(rt.alloc()) {
+        Ok(statement) => assert!(rt; statement_comes_to(&statement, 273)),
+        Err(_) => assert!(rt; false),
+    }
+}

@@ -1,0 +1,105 @@
+// A weight with that of one thing more.
+ghost use Rattle.std.specs.Prelude.{◌≡◌, ◌+◌, length, map};
+ghost use Rattle.cpe_rows.specs.Weight.{weighs, name_weight, note_weight, deprecation_weight, entry_weight, key_weight, test_weight, statement_weight, total};
+ghost use Rattle.cpe_weight.specs.Capped.{capped};
+
+use cpe_fs::fs_len;
+use cpe_name::Wfn;
+use cpe_rows::{CheckKey, Date, Deprecation, Entry, Note, Statement, Test, Text};
+
+// The weight with that of a row or a part of one, without its texts.
+fn with_one(weight: u64) -> u64
+    ensures { result ≡ capped (weight + weighs 0) }
+{
+    weight.saturating_add(32)
+}
+
+fn with_text(weight: u64, text: &Text) -> u64
+    ensures { result ≡ capped (weight + length text.now) }
+{
+    weight.saturating_add(text.as_str().len() as u64)
+}
+
+/// The weight with that of a name, or the largest number where it would be more. It takes no memory.
+pub fn with_name(weight: u64, name: &Wfn) -> u64
+    ensures { result ≡ capped (weight + name_weight name.now) }
+{
+    let bytes = u64::try_from(fs_len(name)).unwrap_or(u64::MAX);
+    with_one(weight).saturating_add(bytes)
+}
+
+/// The weight with that of a note, by its date and comment, or the largest number where it would be more. It takes no memory.
+pub fn with_note(weight: u64, date: Date, comment: &Text) -> u64
+    ensures { result ≡ capped (weight + weighs (length date + length comment.now)) }
+{
+    with_text(with_one(weight), comment).saturating_add(date.bytes().len() as u64)
+}
+
+/// The weight with that of a deprecation, or the largest number where it would be more. It takes no memory.
+pub fn with_deprecation(weight: u64, deprecation: &Deprecation) -> u64
+    ensures { result ≡ capped (weight + deprecation_weight deprecation.now) }
+{
+    let mut sum = weight;
+    for name in deprecation.successors.as_slice() {
+        sum = with_name(sum, name);
+    }
+    sum
+}
+
+/// The weight with that of a check reference or of a kept result, or the largest number where it would be more. It takes no
+/// memory.
+pub fn with_key(weight: u64, key: &CheckKey) -> u64
+    ensures { result ≡ capped (weight + key_weight key.now) }
+{
+    let system = with_text(with_one(weight), &key.system);
+    with_text(with_text(system, &key.href), &key.id)
+}
+
+/// The weight with that of a test, or the largest number where it would be more. It takes no memory.
+pub fn with_test(weight: u64, test: &Test) -> u64
+    ensures { result ≡ capped (weight + test_weight test.now) }
+{
+    match test {
+        Test::Logic { of, .. } => {
+            let mut sum = with_one(weight);
+            for child in of.as_slice() {
+                sum = with_test(sum, child);
+            }
+            sum
+        }
+        Test::Fact(name) => with_name(weight, name),
+        Test::Check(key) => with_key(weight, key),
+    }
+}
+
+/// The weight with that of a statement, or the largest number where it would be more. It takes no memory.
+pub fn with_statement(weight: u64, statement: &Statement) -> u64
+    ensures { result ≡ capped (weight + statement_weight statement.now) }
+{
+    let texts = with_text(with_text(with_one(weight), &statement.id), &statement.title);
+    with_test(texts, &statement.test)
+}
+
+fn with_notes(weight: u64, notes: &[Note]) -> u64
+    ensures { result ≡ capped (weight + total (map note_weight notes.now)) }
+{
+    let mut sum = weight;
+    for note in notes {
+        sum = with_note(sum, note.date, &note.comment);
+    }
+    sum
+}
+
+/// The weight with that of an entry, or the largest number where it would be more. It takes no memory.
+pub fn with_entry(weight: u64, entry: &Entry) -> u64
+    ensures { result ≡ capped (weight + entry_weight entry.now) }
+{
+    let title = with_text(with_name(weight, &entry.name), &entry.title);
+    let submitter = with_text(title, &entry.provenance.submitter);
+    let authority = with_text(submitter, &entry.provenance.authority);
+    let notes = with_notes(authority, entry.provenance.notes.as_slice());
+    match &entry.deprecation {
+        Some(deprecation) => with_deprecation(notes, deprecation),
+        None => notes,
+    }
+}
