@@ -1,2 +1,4 @@
 pub mod KeptLemmas
+pub mod NameLemmas
+pub mod PlainLemmas
 pub mod StatementLemmas

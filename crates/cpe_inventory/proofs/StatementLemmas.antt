@@ -1,24 +1,25 @@
 -- Statements by their ids, and how many fact references they have.
-use Rattle.std.proofs.Common.{◌≡◌, ℕ, ◌+◌, ◌-◌, ◌^◌, ◌≤◌, min, length, List, [], ◌∷◌, ◌++◌, find}
+use Rattle.std.proofs.Common.{◌≡◌, ℕ, ◌+◌, ◌-◌, ◌^◌, ◌≤◌, min, length, List, [], ◌∷◌, ◌++◌, find, position}
 use Rattle.std.proofs.Common.{Bool, true, false, cond, is_some, refl, ap, sym, ◌∙◌, arith}
 use Rattle.std.specs.Prelude.{Option, Some, None}
-use Rattle.std.specs.List.{list_any, flat_map}
-use Rattle.std.specs.Map.{lookup, remove_entry, values_of}
+use Rattle.std.specs.List.{list_any, flat_map, position_from}
+use Rattle.std.specs.Map.{keys_of, lookup, remove_entry, values_of}
 use Rattle.std.specs.Str.{bytes_eq}
 use Rattle.std.proofs.lemmas.List.{length-append}
+use Rattle.std.proofs.lemmas.Iterator.Adapters.{position_from-zero}
 use Rattle.std.proofs.lemmas.Slice.Eq.{bytes_eq-Decides}
 use Rattle.cpe_name.specs.declared.name.Values.{Values}
 use Rattle.cpe_rows.specs.Rows.{has_id}
 use Rattle.cpe_rows.specs.After.{without_first}
 use Rattle.std.proofs.lemmas.List.Folds.{flat_map-map}
-use Rattle.cpe_rows.specs.FactNames.{fact_names, fact_names_step}
+use Rattle.cpe_rows.specs.FactNames.{fact_names, fact_names_step, number_of_facts}
 use Rattle.cpe_rows.specs.declared.test.Operator.{Operator}
 use Rattle.cpe_rows.specs.declared.test.Test.{Test, Logic}
 use Rattle.cpe_rows.specs.declared.test.Test.TheFolds.{fold-roll-Test}
 use Rattle.cpe_rows.specs.declared.test.Test.TheVariants.{rolls-Logic}
 use Rattle.cpe_rows.specs.declared.test.Test.TheOpen.{Test-F}
 use Rattle.cpe_rows.specs.declared.statement.Statement.{Statement}
-use Rattle.cpe_inventory.specs.Kept.{number_of_facts, AreByIds}
+use Rattle.cpe_inventory.specs.Kept.{AreByIds}
 use Rattle.cpe_inventory.proofs.KeptLemmas.{there_if}
 
 abbrev Pairs : Type 0
@@ -138,3 +139,11 @@ none-without p (t ∷ ss) h = go (p t) h (none-without p ss) where
 pub all_counted : {new rest counted old : ℕ} (one : ℕ) → new ≡ rest → rest + one ≡ old → counted ≡ min one (2 ^ 64 - 1)
     → old ≤ 1000000 → new + counted ≡ old
 all_counted {new} {rest} {counted} {old} one left sum count few = grind arith
+
+-- the place of a key is that of its statement
+place_from : (id : List ℕ) (i : ℕ) (es : Pairs) → AreByIds es → position_from (bytes_eq id) i (keys_of es) ≡ position_from (has_id id) i (values_of es)
+place_from id i [] h = refl
+place_from id i (e ∷ es) h = λ j. cond (by_its_id id e h.0 j) (Some i) (place_from id (i + 1) es h.1 j)
+
+pub place_by_id : (id : List ℕ) (es : Pairs) → AreByIds es → position (bytes_eq id) (keys_of es) ≡ position (has_id id) (values_of es)
+place_by_id id es h = position_from-zero (bytes_eq id) (keys_of es) ∙ place_from id 0 es h ∙ sym (position_from-zero (has_id id) (values_of es))

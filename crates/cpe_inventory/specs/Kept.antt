@@ -1,18 +1,17 @@
 -- What an inventory keeps, and what it says of facts and checks.
-use Rattle.std.specs.Prelude.{◌≡◌, ◌≤◌, ℕ, List, find, length}
-use Rattle.std.specs.List.{list_any, flat_map, AllByRecursion}
+use Rattle.std.specs.Prelude.{◌≡◌, ◌≤◌, ℕ, List, find}
+use Rattle.std.specs.List.{list_any, AllByRecursion}
 use Rattle.std.specs.Option.{option_map_or}
 use Rattle.cpe_name.specs.declared.name.Values.{Values}
 use Rattle.cpe_relation.specs.NameRelation.{covers}
 use Rattle.std.specs.Map.{values_of}
-use Rattle.cpe_rows.specs.Rows.{Rows, has_key}
+use Rattle.cpe_rows.specs.Rows.{has_key}
 use Rattle.cpe_rows.specs.Limits.{most}
-use Rattle.cpe_rows.specs.Verdict.{truth, verdict}
-use Rattle.cpe_rows.specs.FactNames.{fact_names}
+use Rattle.cpe_rows.specs.Verdict.{truth}
+use Rattle.cpe_rows.specs.FactNames.{number_of_facts}
 use Rattle.cpe_rows.specs.declared.statement.Statement.{Statement}
 use Rattle.cpe_rows.specs.declared.test.CheckKey.{CheckKey}
 use Rattle.cpe_rows.specs.declared.truth.Truth.{Truth}
-use Rattle.cpe_rows.specs.declared.statement.Mode.TheVariants.{Plain}
 use Rattle.cpe_rows.specs.declared.fault.Which.TheVariants.{Facts}
 use Rattle.cpe_rows.specs.declared.truth.Truth.TheVariants.{Unknown}
 
@@ -23,10 +22,6 @@ plain_truth items fact = truth (list_any (covers fact) items)
 -- the kept result, or else unknown
 abbrev pub kept_truth : List (CheckKey × Truth) → CheckKey → Truth
 kept_truth checks key = option_map_or (λ c. c.1) (find (has_key key) checks) Unknown
-
--- the fact references of all statements, each counted as often as it stands there
-abbrev pub number_of_facts : List Statement → ℕ
-number_of_facts statements = length (flat_map (λ s. fact_names s.test) statements)
 
 -- each statement stands by its id
 abbrev pub AreByIds : List (List ℕ × Statement) → Type 0
@@ -39,7 +34,3 @@ IsCounted n statements = (n ≡ number_of_facts statements) × (n ≤ most Facts
 -- the statements that are kept by their ids
 abbrev pub facts_by_id : List (List ℕ × Statement) → ℕ
 facts_by_id es = number_of_facts (values_of es)
-
--- the verdict of a statement in mode plain, in rows with these items and results
-abbrev pub IsPlainVerdict : List Values → List (CheckKey × Truth) → Statement → Truth → Type 0
-IsPlainVerdict items checks s t = (rows : Rows) → rows.items ≡ items → rows.checks ≡ checks → s.mode ≡ Plain → t ≡ verdict rows s

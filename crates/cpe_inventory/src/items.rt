@@ -1,18 +1,22 @@
 // The items of an inventory.
-ghost use Rattle.std.specs.Prelude.{◌≡◌, [], ◌∷◌, ◌++◌, IfOk, OnOk, OnErr, false, filter, length};
+ghost use Rattle.std.specs.Prelude.{◌≡◌, ◌<◌, [], ◌∷◌, ◌++◌, IfOk, IfSome, OnOk, OnErr, false, filter, length, position};
 ghost use Rattle.std.specs.Bool.{OnFalse};
 ghost use Rattle.std.specs.List.{list_any};
 ghost use Rattle.cpe_relation.specs.NameRelation.{covers};
 ghost use Rattle.cpe_rows.specs.Names.{is_same};
 ghost use Rattle.cpe_rows.specs.After.{without_first};
+ghost use Rattle.cpe_inventory.specs.Asked.{all_names};
 
+use crate::Names;
+use crate::names::covers_any;
 use cpe_name::Wfn;
-use cpe_relation::{covers, covers_in_order, deciding_order};
+use cpe_relation::{covers_in_order, deciding_order};
 use cpe_rows::List;
 use cpe_values::Memory;
 use indexmap::IndexSet;
 use std::alloc::Global;
 use std::marker::Model;
+use std::slice::from_ref;
 
 /// The items of an inventory: names in the order in which they came. Contracts see them as the list of these names.
 #[derive(Drop)]
@@ -105,6 +109,49 @@ impl Items {
     pub fn is_covered(&self, name: &Wfn) -> bool
         ensures { result ≡ list_any (covers name.now) self.now }
     {
-        self.names.as_slice().iter().any(|item| covers(name, item))
+        covers_any(name, self.as_slice())
+    }
+
+    /// Their names.
+    pub fn names(&self) -> Names<'_>
+        ensures { all_names result ≡ self.now }
+    {
+        Names {
+            front: self.as_slice(),
+            back: &[],
+        }
+    }
+
+    /// Their names as they stand once an item of this name is added.
+    pub fn names_with<'n>(&'n self, name: &'n Wfn) -> Names<'n>
+        ensures { all_names result ≡ self.now ++ name.now ∷ [] }
+    {
+        Names {
+            front: self.as_slice(),
+            back: from_ref(name),
+        }
+    }
+
+    // Where the item of this name is.
+    #[tactic(auto, unfolding(cpe_rows::specs::Names::is_same))]
+    fn place_of(&self, name: &Wfn) -> Option<usize>
+        ensures place { result ≡ position (is_same name.now) self.now }
+        ensures within { IfSome result (λ k. k < length self.now) }
+    {
+        self.names.get_index_of(name)
+    }
+
+    /// Their names as they stand once the item of this name is dropped, if there is one.
+    pub fn names_without(&self, name: &Wfn) -> Names<'_>
+        ensures { all_names result ≡ without_first (is_same name.now) self.now }
+    {
+        let names = self.as_slice();
+        match self.place_of(name) {
+            Some(place) => Names {
+                front: &names[..place],
+                back: &names[place + 1..],
+            },
+            None => self.names(),
+        }
     }
 }

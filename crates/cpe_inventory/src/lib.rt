@@ -6,13 +6,17 @@
 
 mod checks;
 mod count;
-mod edit;
 mod facts;
+mod faults;
 mod items;
+mod names;
+mod results;
 mod statements;
 
 pub use checks::Checks;
-pub use edit::{add_item, drop_check, drop_item, drop_statement, put_statement, set_check};
 pub use facts::{PlainFacts, plain_verdict};
+pub use faults::{check_fault, item_fault, statement_fault};
 pub use items::Items;
+pub use names::Names;
+pub use results::{Given, Results};
 pub use statements::Statements;

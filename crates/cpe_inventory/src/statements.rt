@@ -1,15 +1,15 @@
 // The applicability statements of an inventory.
 ghost use Rattle.std.specs.Prelude.{◌≡◌, ◌≤◌, ◌+◌, ◌-◌, ◌^◌, [], ◌∷◌, ◌++◌, OnOk, OnErr, IfSome, IfNone, false, length, min, nat_lt};
-ghost use Rattle.std.specs.Prelude.{find, is_some, slice_get};
+ghost use Rattle.std.specs.Prelude.{find, is_some, position, slice_get};
 ghost use Rattle.std.specs.Bool.{OnFalse};
 ghost use Rattle.std.specs.List.{list_any};
 ghost use Rattle.std.specs.Map.{values_of};
 ghost use Rattle.std.specs.Option.{option_copied};
 ghost use Rattle.cpe_rows.specs.Rows.{has_id};
 ghost use Rattle.cpe_rows.specs.After.{without_first};
-ghost use Rattle.cpe_rows.specs.FactNames.{fact_names};
+ghost use Rattle.cpe_rows.specs.FactNames.{fact_names, number_of_facts};
 ghost use Rattle.cpe_rows.specs.Limits.{most};
-ghost use Rattle.cpe_inventory.specs.Kept.{number_of_facts, facts_by_id, AreByIds};
+ghost use Rattle.cpe_inventory.specs.Kept.{facts_by_id, AreByIds};
 ghost use Rattle.cpe_rows.specs.declared.fault.Which.TheVariants as which;
 
 use crate::count::with_facts_of;
@@ -98,6 +98,13 @@ impl Statements {
         find_statement(&self.by_id, id)
     }
 
+    /// The place of the statement of this id, from 0 in their order.
+    pub fn place_of(&self, id: &Text) -> Option<usize>
+        ensures { result ≡ position (has_id id.now) self.now }
+    {
+        place_of(&self.by_id, id)
+    }
+
     /// Puts a statement of a new id last, where there is room for its fact references. It is moved, and its id is copied.
     ///
     /// # Errors
@@ -143,6 +150,13 @@ fn find_statement<'s>(by_id: &'s IndexMap<Text, Statement>, id: &Text) -> Option
     ensures { option_copied result ≡ find (has_id id.now) (values_of by_id.now.entries) }
 {
     by_id.get(id)
+}
+
+fn place_of(by_id: &IndexMap<Text, Statement>, id: &Text) -> Option<usize>
+    requires { AreByIds by_id.now.entries }
+    ensures { result ≡ position (has_id id.now) (values_of by_id.now.entries) }
+{
+    by_id.get_index_of(id)
 }
 
 fn put_last(

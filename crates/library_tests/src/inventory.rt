@@ -1,34 +1,36 @@
 // An inventory that is edited, and verdicts over it.
 use crate::calls::{has_fs, of_either};
 use cpe_inventory::{
-    Checks, Items, Statements, add_item, drop_check, drop_item, drop_statement, plain_verdict,
-    put_statement, set_check,
+    Checks, Items, Names, Results, Statements, check_fault, item_fault, plain_verdict,
+    statement_fault,
 };
 use cpe_name::Wfn;
 use cpe_rows::{CheckKey, EditFault, List, Mode, Operator, Statement, Test, Text, Truth};
 use cpe_values::Memory;
 use std::alloc::Global;
 
-fn is_done(answer: Result<(), EditFault>) -> bool {
-    match answer {
-        Ok(()) => true,
-        Err(fault) => {
+fn is_none(fault: Option<EditFault>) -> bool {
+    match fault {
+        Some(fault) => {
             drop(fault);
             false
         }
+        None => true,
     }
 }
 
 fn adds(alloc: Global, items: &mut Items, name: &[u8]) -> bool {
     match of_either(alloc, name) {
-        Some(name) => is_done(add_item(items, name)),
+        Some(name) => is_none(item_fault(items, &name))
+            && !items.has(&name)
+            && items.add(name).is_ok(),
         None => false,
     }
 }
 
 fn drops(alloc: Global, items: &mut Items, name: &[u8]) -> bool {
     match of_either(alloc, name) {
-        Some(name) => is_done(drop_item(items, &name)),
+        Some(name) => items.remove(&name),
         None => false,
     }
 }
@@ -101,28 +103,38 @@ fn made(alloc: Global, id: &str, name: &[u8]) -> Option<Statement> {
 
 fn puts(alloc: Global, statements: &mut Statements, id: &str, name: &[u8]) -> bool {
     match made(alloc, id, name) {
-        Some(statement) => is_done(put_statement(alloc, statements, statement)),
+        Some(statement) => put(alloc, statements, statement),
         None => false,
+    }
+}
+
+fn put(alloc: Global, statements: &mut Statements, statement: Statement) -> bool {
+    match statement_fault(statements, &statement) {
+        Some(fault) => {
+            drop(fault);
+            false
+        }
+        None => statements.put(alloc, statement).is_ok(),
     }
 }
 
 fn takes_out(alloc: Global, statements: &mut Statements, id: &str) -> bool {
     match Text::new(alloc, id) {
-        Ok(id) => is_done(drop_statement(statements, &id)),
+        Ok(id) => statements.remove(&id),
         Err(Memory) => false,
     }
 }
 
 fn keeps(alloc: Global, checks: &mut Checks, truth: Truth) -> bool {
     match a_key(alloc) {
-        Ok(key) => is_done(set_check(checks, key, truth)),
+        Ok(key) => is_none(check_fault(checks, &key)) && checks.set(key, truth).is_ok(),
         Err(Memory) => false,
     }
 }
 
 fn forgets(alloc: Global, checks: &mut Checks) -> bool {
     match a_key(alloc) {
-        Ok(key) => is_done(drop_check(checks, &key)),
+        Ok(key) => checks.remove(&key),
         Err(Memory) => false,
     }
 }
@@ -133,10 +145,65 @@ fn verdict_at(
     statements: &Statements,
     place: usize,
 ) -> Option<Truth> {
+    verdict_over(&items.names(), &checks.results(), statements, place)
+}
+
+fn verdict_over(
+    names: &Names,
+    results: &Results,
+    statements: &Statements,
+    place: usize,
+) -> Option<Truth> {
     match statements.at(place) {
-        Some(statement) => Some(plain_verdict(items, checks, statement)),
+        Some(statement) => Some(plain_verdict(names, results, statement)),
         None => None,
     }
+}
+
+// The verdict of the first statement once an item of this name is added.
+fn verdict_with(
+    alloc: Global,
+    items: &Items,
+    checks: &Checks,
+    statements: &Statements,
+    name: &[u8],
+) -> Option<Truth> {
+    let name = of_either(alloc, name)?;
+    verdict_over(&items.names_with(&name), &checks.results(), statements, 0)
+}
+
+// The verdict of the first statement once the item of this name is dropped.
+fn verdict_without(
+    alloc: Global,
+    items: &Items,
+    checks: &Checks,
+    statements: &Statements,
+    name: &[u8],
+) -> Option<Truth> {
+    let name = of_either(alloc, name)?;
+    verdict_over(
+        &items.names_without(&name),
+        &checks.results(),
+        statements,
+        0,
+    )
+}
+
+// The verdict of the first statement once the check has this truth.
+fn verdict_given(
+    alloc: Global,
+    items: &Items,
+    checks: &Checks,
+    statements: &Statements,
+    truth: Truth,
+) -> Option<Truth> {
+    let key = a_key(alloc).ok()?;
+    verdict_over(
+        &items.names(),
+        &checks.results_with(&key, truth),
+        statements,
+        0,
+    )
 }
 
 #[test]
@@ -168,4 +235,35 @@ fn a_verdict_follows_items_and_checks(rt: HostRuntime) {
     assert!(rt; forgets(alloc, &mut checks));
     assert!(rt; !forgets(alloc, &mut checks));
     assert!(rt; verdict_at(&items, &checks, &statements, 0) == Some(Truth::Unknown));
+}
+
+#[test]
+fn verdicts_as_edits_would_leave_them(rt: HostRuntime) {
+    let alloc = rt.alloc();
+    let mut items = Items::new(alloc);
+    let mut checks = Checks::new(alloc);
+    let mut statements = Statements::new(alloc);
+    assert!(rt; puts(alloc, &mut statements, "s", b"cpe:/a:v:p"));
+    assert!(rt; adds(alloc, &mut items, b"cpe:/a:v:o"));
+    assert!(rt; keeps(alloc, &mut checks, Truth::True));
+    assert!(rt;
+        verdict_with(alloc, &items, &checks, &statements, b"cpe:/a:v:p:1") == Some(Truth::True)
+    );
+    assert!(rt;
+        verdict_with(alloc, &items, &checks, &statements, b"cpe:/a:v:q") == Some(Truth::False)
+    );
+    assert!(rt; adds(alloc, &mut items, b"cpe:/a:v:p:1"));
+    assert!(rt;
+        verdict_without(alloc, &items, &checks, &statements, b"cpe:/a:v:p:1") == Some(Truth::False)
+    );
+    assert!(rt;
+        verdict_without(alloc, &items, &checks, &statements, b"cpe:/a:v:o") == Some(Truth::True)
+    );
+    assert!(rt;
+        verdict_given(alloc, &items, &checks, &statements, Truth::Unknown) == Some(Truth::Unknown)
+    );
+    assert!(rt;
+        verdict_given(alloc, &items, &checks, &statements, Truth::Error) == Some(Truth::Error)
+    );
+    assert!(rt; verdict_at(&items, &checks, &statements, 0) == Some(Truth::True));
 }

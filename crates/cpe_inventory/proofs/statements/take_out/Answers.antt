@@ -2,8 +2,8 @@ use Rattle.std.proofs.Common.{◌∙◌, length, is_some, ap, sym, subst}
 use Rattle.std.specs.Map.{values_of}
 use Rattle.std.specs.Str.{bytes_eq}
 use Rattle.cpe_rows.specs.Rows.{has_id}
-use Rattle.cpe_rows.specs.FactNames.{fact_names}
-use Rattle.cpe_inventory.specs.Kept.{number_of_facts, AreByIds}
+use Rattle.cpe_rows.specs.FactNames.{fact_names, number_of_facts}
+use Rattle.cpe_inventory.specs.Kept.{AreByIds}
 use Rattle.cpe_inventory.proofs.StatementLemmas.{found_by_id, there_by_id, removed_by_id, still_by_ids, facts-without, all_counted}
 use Rattle.cpe_inventory.proofs.statements.take_out.Goals as goal
 

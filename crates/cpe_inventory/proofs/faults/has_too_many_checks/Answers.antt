@@ -2,7 +2,7 @@ use Rattle.std.proofs.Common.{◌≡◌, ◌+◌, length, nat_lt, true, false, c
 use Rattle.std.specs.List.{list_any}
 use Rattle.cpe_rows.specs.Rows.{has_key}
 use Rattle.cpe_inventory.proofs.KeptLemmas.{length-with, at_limit}
-use Rattle.cpe_inventory.proofs.edit.has_too_many_checks.Goals as goal
+use Rattle.cpe_inventory.proofs.faults.has_too_many_checks.Goals as goal
 
 pub returns-then-has : goal.returns-then-has
 returns-then-has c truth =

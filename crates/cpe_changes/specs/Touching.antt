@@ -1,0 +1,73 @@
+-- What an edit touches: the facts and checks whose truth it may change. The laws say that all else stays.
+use Rattle.std.specs.Prelude.{List, Bool, false, ◌||◌, ◌++◌, filter, Option, Some, None}
+use Rattle.std.specs.List.{list_any, flat_map}
+use Rattle.cpe_name.specs.declared.name.Values.{Values}
+use Rattle.cpe_relation.specs.NameRelation.{covers}
+use Rattle.cpe_rows.specs.Rows.{Rows, same_key}
+use Rattle.cpe_rows.specs.After.{after}
+use Rattle.cpe_rows.specs.Chains.{leads_to, ends}
+use Rattle.cpe_rows.specs.Verdict.{is_followed}
+use Rattle.cpe_rows.specs.declared.entry.Entry.{Entry}
+use Rattle.cpe_rows.specs.declared.edit.Edit.{Edit}
+use Rattle.cpe_rows.specs.declared.edit.Edit.TheVariants as edit
+use Rattle.cpe_rows.specs.declared.test.CheckKey.{CheckKey}
+use Rattle.cpe_rows.specs.declared.test.Test.{Test}
+use Rattle.cpe_rows.specs.declared.test.Test.TheOpen.{Test-F}
+use Rattle.cpe_rows.specs.declared.test.Test.TheFolds.{fold-Test}
+use Rattle.cpe_rows.specs.declared.statement.Mode.{Mode}
+use Rattle.cpe_rows.specs.declared.statement.Mode.TheVariants.{Plain, Follow}
+use Rattle.cpe_rows.specs.declared.statement.Statement.{Statement}
+
+abbrev pub touches_step : (Values → Bool) → (CheckKey → Bool) → Test-F Bool → Bool
+touches_step fact check (Test-F.Logic operator negate of) = list_any (λ touched. touched) of
+touches_step fact check (Test-F.Fact name) = fact name
+touches_step fact check (Test-F.Check key) = check key
+
+-- some fact reference or check reference of the test passes
+abbrev pub touches : (Values → Bool) → (CheckKey → Bool) → Test → Bool
+touches fact check = fold-Test Bool (touches_step fact check)
+
+-- the fact covers the item by the names as they stand, or an end of the fact covers one of the item
+abbrev pub touches_item : List Entry → Mode → Values → Values → Bool
+touches_item entries Plain fact item = covers fact item
+touches_item entries Follow fact item = is_followed entries fact item
+
+-- the name of the entry whose deprecation the edit changes
+abbrev pub deprecation_changed : Edit → Option Values
+deprecation_changed (edit.Deprecate n d date comment) = Some n
+deprecation_changed (edit.Amend n d date comment) = Some n
+deprecation_changed (edit.Restore n date comment) = Some n
+deprecation_changed e = None
+
+-- the ends, before and after, of the items that lead to the entry of this name
+abbrev pub touched_ends : Rows → Rows → Values → List Values
+touched_ends rows next n =
+    flat_map (λ x. ends rows.entries x ++ ends next.entries x) (filter (λ x. leads_to rows.entries x n) rows.items)
+
+-- a fact that is followed leads to the entry of this name, or has an end that covers a touched one
+abbrev pub touches_deprecation : Rows → Rows → Values → Mode → Values → Bool
+touches_deprecation rows next n Plain fact = false
+touches_deprecation rows next n Follow fact =
+    leads_to rows.entries fact n || list_any (λ f. list_any (covers f) (touched_ends rows next n)) (ends rows.entries fact)
+
+-- the edit touches the fact, in a statement of this mode
+abbrev pub touches_fact : Rows → Edit → Mode → Values → Bool
+touches_fact rows (edit.Item n) mode fact = touches_item rows.entries mode fact n
+touches_fact rows (edit.DropItem n) mode fact = touches_item rows.entries mode fact n
+touches_fact rows (edit.Deprecate n d date comment) mode fact =
+    touches_deprecation rows (after rows (edit.Deprecate n d date comment)) n mode fact
+touches_fact rows (edit.Amend n d date comment) mode fact =
+    touches_deprecation rows (after rows (edit.Amend n d date comment)) n mode fact
+touches_fact rows (edit.Restore n date comment) mode fact =
+    touches_deprecation rows (after rows (edit.Restore n date comment)) n mode fact
+touches_fact rows e mode fact = false
+
+-- the edit touches the check
+abbrev pub touches_check : Edit → CheckKey → Bool
+touches_check (edit.SetCheck k t) key = same_key k key
+touches_check (edit.DropCheck k) key = same_key k key
+touches_check e key = false
+
+-- it touches the statement by a fact or by a check
+abbrev pub touches_statement : Rows → Edit → Statement → Bool
+touches_statement rows e s = touches (touches_fact rows e s.mode) (touches_check e) s.test

@@ -1,0 +1,29 @@
+-- Names and check results as they are kept or as an edit would leave them, and verdicts by them.
+use Rattle.std.specs.Prelude.{◌≡◌, ◌++◌, List, if◌then◌else◌}
+use Rattle.std.specs.Option.{option_map_or}
+use Rattle.cpe_name.specs.declared.name.Values.{Values}
+use Rattle.cpe_rows.specs.Rows.{Rows, same_key}
+use Rattle.cpe_rows.specs.Verdict.{check_truth, verdict}
+use Rattle.cpe_rows.specs.declared.statement.Mode.TheVariants.{Plain}
+use Rattle.cpe_rows.specs.declared.statement.Statement.{Statement}
+use Rattle.cpe_rows.specs.declared.test.CheckKey.{CheckKey}
+use Rattle.cpe_rows.specs.declared.truth.Truth.{Truth}
+use Rattle.cpe_inventory.specs.Kept.{kept_truth}
+use Rattle.cpe_inventory.specs.declared.names.Names.{Names}
+use Rattle.cpe_inventory.specs.declared.results.Results.{Results}
+
+-- those in front, and then those behind
+abbrev pub all_names : Names → List Values
+all_names n = n.front.now ++ n.back.now
+
+-- the truth that an edit gives this key, and else the kept one
+abbrev pub given_truth : List (CheckKey × Truth) → CheckKey → Truth → CheckKey → Truth
+given_truth checks k t key = if same_key key k then t else kept_truth checks key
+
+abbrev pub result_truth : Results → CheckKey → Truth
+result_truth r key = option_map_or (λ g. given_truth r.kept.now g.key.now g.truth key) r.given (kept_truth r.kept.now key)
+
+-- the verdict of a statement in mode plain, in all rows that have these items, and in which checks have these truths
+abbrev pub IsPlainVerdict : List Values → (CheckKey → Truth) → Statement → Truth → Type 0
+IsPlainVerdict items check s t =
+    (rows : Rows) → rows.items ≡ items → ((key : CheckKey) → check_truth rows key ≡ check key) → s.mode ≡ Plain → t ≡ verdict rows s
