@@ -1,24 +1,29 @@
--- Names that are followed to their ends.
-use Rattle.std.proofs.Common.{◌≡◌, ℕ, Bool, true, false, ◌||◌, List, [], ◌∷◌, ◌++◌, map, refl, sym, ap, ◌∙◌, append_assoc, slice_get}
+-- Names that are followed to their ends, and what scenes show of rows.
+use Rattle.std.proofs.Common.{◌≡◌, ℕ, Bool, true, false, ◌||◌, List, [], ◌∷◌, ◌++◌, map, position, refl, sym, ap, ◌∙◌, append_assoc, slice_get}
 use Rattle.std.specs.Prelude.{Option, Some, None, option_map}
 use Rattle.std.specs.List.{list_any, flat_map, cons_option}
 use Rattle.std.specs.Option.{option_map_or}
 use Rattle.std.proofs.lemmas.List.Folds.{list_any-append}
 use Rattle.cpe_name.specs.declared.name.Values.{Values}
 use Rattle.cpe_relation.specs.NameRelation.{covers}
-use Rattle.cpe_inventory.specs.Kept.{kept_truth}
+use Rattle.cpe_inventory.specs.Asked.{all_names, result_truth}
 use Rattle.cpe_rows.specs.Chains.{ends}
 use Rattle.cpe_rows.specs.Evaluation.{test_truth}
-use Rattle.cpe_rows.specs.Rows.{Rows}
-use Rattle.cpe_rows.specs.Verdict.{truth, fact_truth, check_truth}
+use Rattle.cpe_rows.specs.Rows.{Rows, is_named}
+use Rattle.cpe_rows.specs.Verdict.{truth, fact_truth, verdict}
 use Rattle.cpe_rows.specs.declared.entry.Entry.{Entry}
 use Rattle.cpe_rows.specs.declared.statement.Mode.{Mode}
-use Rattle.cpe_rows.specs.declared.statement.Mode.TheVariants.{Follow}
+use Rattle.cpe_rows.specs.declared.statement.Mode.TheVariants.{Plain, Follow}
 use Rattle.cpe_rows.specs.declared.statement.Statement.{Statement}
-use Rattle.cpe_rows.specs.declared.test.CheckKey.{CheckKey}
-use Rattle.cpe_rows.specs.declared.truth.Truth.{Truth}
 use Rattle.numbered_entries.specs.Numbers.{entries_at}
-use Rattle.cpe_engine.specs.Followed.{item_ends, names_at, followed_truth, IsFollowedVerdict}
+use Rattle.cpe_dictionary.specs.Kept.{names_at}
+use Rattle.cpe_dictionary.specs.Plans.{ends_at, ends_by}
+use Rattle.cpe_dictionary.specs.declared.plans.Plan.{Plan}
+use Rattle.cpe_dictionary.proofs.DictionaryLemmas.{no_entry}
+use Rattle.cpe_engine.specs.Followed.{fact_in, item_ends}
+use Rattle.cpe_engine.specs.Prospects.{ends_in}
+use Rattle.cpe_engine.specs.Scenes.{Shows}
+use Rattle.cpe_engine.specs.declared.scene.Scene.{Scene}
 
 -- ---- names one after the other
 
@@ -75,14 +80,28 @@ swapped es fs (item ∷ items) =
     ∙ sym (any_or (λ f. list_any (covers f) (ends es item)) (λ f. list_any (covers f) (flat_map (ends es) items)) fs)
     ∙ (λ i. list_any (λ f. sym (list_any-append (covers f) (ends es item) (flat_map (ends es) items)) i) fs)
 
-follows_by_ends : (rows : Rows) (names : List Values) (fact : Values) → names ≡ flat_map (ends rows.entries) rows.items → followed_truth rows.entries names fact ≡ fact_truth rows Follow fact
-follows_by_ends rows names fact h =
-    ap (λ (ns : List Values). truth (list_any (λ f. list_any (covers f) ns) (ends rows.entries fact))) h
-    ∙ ap truth (sym (swapped rows.entries (ends rows.entries fact) rows.items))
+-- a name that no entry has is its own end
+pub stands_alone : ((es : List Entry) (n : Values) → list_any (is_named n) es ≡ false → ends es n ≡ n ∷ []) → (es : List Entry) (plan : Option Plan) (n : Values) → position (is_named n) es ≡ None → ends_by es plan n ≡ n ∷ []
+stands_alone alone es None n h = alone es n (no_entry es n h)
+stands_alone alone es (Some p) n h = ap (λ (o : Option ℕ). option_map_or (ends_at es p) o (n ∷ [])) h
 
-pub followed_verdict_is : (es : List Entry) (items names : List Values) (checks : List (CheckKey × Truth)) (s : Statement) (t : Truth) → names ≡ item_ends es items → t ≡ test_truth (followed_truth es names) (kept_truth checks) s.test → IsFollowedVerdict es items checks s t
-followed_verdict_is es items names checks s t are h rows entries_are items_are checks_are mode =
-    let same : names ≡ flat_map (ends rows.entries) rows.items = are ∙ (λ i. flat_map (ends (sym entries_are i)) (sym items_are i)) in
-    h ∙ (λ i. test_truth (followed_truth (sym entries_are i) names) (kept_truth (sym checks_are i)) s.test)
-    ∙ (λ i. test_truth (λ fact. follows_by_ends rows names fact same i) (check_truth rows) s.test)
-    ∙ ap (λ (m : Mode). test_truth (fact_truth rows m) (check_truth rows) s.test) (sym mode)
+-- ---- scenes
+
+shows_facts : (s : Scene) (rows : Rows) (names : List Values) (m : Mode) → Shows s rows → (m ≡ Follow → names ≡ ends_in s) → (n : Values) → fact_in s.trails.now.0 s.trails.now.1 (all_names s.items) names m n ≡ fact_truth rows m n
+shows_facts s rows names Plain shows are n = ap (λ (ns : List Values). truth (list_any (covers n) ns)) shows.items
+shows_facts s rows names Follow shows are n =
+    let all : names ≡ flat_map (ends rows.entries) rows.items = are refl ∙ (λ i. flat_map (λ m. shows.ends m i) (shows.items i)) in
+    (λ i. truth (list_any (λ f. list_any (covers f) (all i)) (shows.ends n i)))
+    ∙ ap truth (sym (swapped rows.entries (ends rows.entries n) rows.items))
+
+-- a verdict of a scene is one of the rows that it shows
+pub shows_verdict : (s : Scene) (rows : Rows) (names : List Values) (st : Statement) → Shows s rows → (st.mode ≡ Follow → names ≡ ends_in s)
+    → test_truth (fact_in s.trails.now.0 s.trails.now.1 (all_names s.items) names st.mode) (result_truth s.results) st.test ≡ verdict rows st
+shows_verdict s rows names st shows are = λ i. test_truth (λ n. shows_facts s rows names st.mode shows are n i) (λ k. shows.checks k i) st.test
+
+pub not_followed : (m : Mode) (A : Type 0) → m ≡ Plain → m ≡ Follow → A
+not_followed m A plain follow = let wrong : ⊥ = cc in absurd wrong
+
+-- the ends that a scene has, by the entries as they are
+pub ends_shown : (s : Scene) (es : List Entry) (items : List Values) → s.trails.now ≡ (es, None) → all_names s.items ≡ items → ends_in s ≡ item_ends es None items
+ends_shown s es items trails are = λ i. item_ends (trails i).0 (trails i).1 (are i)

@@ -2,13 +2,17 @@
 ghost use Rattle.std.specs.Prelude.{◌≡◌, IfOk, true};
 ghost use Rattle.cpe_rows.specs.Answers.{answer};
 ghost use Rattle.cpe_rows.specs.Applied.{Applied};
+ghost use Rattle.cpe_rows.specs.Changes.{changes};
+ghost use Rattle.cpe_rows.specs.Counts.{counts_of};
 ghost use Rattle.cpe_rows.specs.Lawful.{IsLawful};
 ghost use Rattle.cpe_rows.specs.Rows.{no_rows};
 ghost use Rattle.cpe_rows.specs.Valid.{is_valid_edit};
 
 use crate::parts::Parts;
 use cpe_name::Wfn;
-use cpe_rows::{Edit, EditFault, Query, Reply, Text, rows_stay_lawful};
+use cpe_rows::{
+    Changed, Counts, Edit, EditFault, List, Query, Reply, Statement, Text, rows_stay_lawful,
+};
 use cpe_steps::Steps;
 use cpe_values::Memory;
 use std::alloc::Global;
@@ -24,10 +28,9 @@ pub struct Engine {
 
 impl Model for Engine {
     ghost use Rattle.std.specs.Coded.{codes};
-    ghost use Rattle.cpe_rows.specs.Lawful.{IsLawful};
     ghost use Rattle.cpe_rows.specs.Rows.{Rows};
     ghost use Rattle.cpe_rows.specs.contracts.test.Test as test;
-    ghost use Rattle.cpe_engine.specs.Parts.{rows_in};
+    ghost use Rattle.cpe_engine.specs.Parts.{AreKept, rows_in};
 
     ghost Value = { Rows };
 
@@ -35,7 +38,7 @@ impl Model for Engine {
 
     ghost view = { λ e. rows_in e.parts };
 
-    ghost invariant = { λ e. IsLawful (rows_in e.parts) };
+    ghost invariant = { λ e. AreKept e.parts };
 }
 
 impl Engine {
@@ -57,20 +60,68 @@ impl Engine {
         let _parts = &self.parts;
     }
 
-    /// Applies an edit: the rows are then those that it leaves. What it brings is moved in, not copied. It takes no step.
+    /// How many rows there are of each kind, and their weight. It goes over the entries, to count the deprecated ones.
+    pub fn counts(&self) -> Counts
+        ensures { result ≡ counts_of self.now }
+    {
+        Counts {
+            entries: self.parts.dictionary.len() as u64,
+            deprecated: self.parts.dictionary.count_deprecated() as u64,
+            items: self.parts.items.len() as u64,
+            statements: self.parts.statements.len() as u64,
+            facts: self.parts.statements.facts() as u64,
+            checks: self.parts.checks.len() as u64,
+            weight: self.parts.weight,
+        }
+    }
+
+    /// The statements, in their order.
+    pub fn statements(&self) -> &[Statement]
+        ensures { result.now ≡ self.now.statements }
+    {
+        self.parts.statements.as_slice()
+    }
+
+    /// Makes an edit, and doesn't tell which verdicts it changes, so it evaluates nothing: the rows are then those that it leaves.
+    /// What it brings is moved in, not copied. It takes no step.
     ///
     /// The edit is in order ([`Edit::valid`]), so the rows stay lawful ([`rows_stay_lawful`]).
     ///
     /// # Errors
     /// The first fault of the edit in the order of [`EditFault`], or want of memory. After either the rows are as they were.
-    pub fn apply<L: Ledger>(&mut self, edit: Edit, steps: &mut Steps<L>) -> Result<(), EditFault>
+    pub fn edit<L: Ledger>(&mut self, edit: Edit, steps: &mut Steps<L>) -> Result<(), EditFault>
         requires { is_valid_edit edit ≡ true }
         ensures applied { Applied self.old self.new edit result }
         ensures counts { steps.new ≡ steps.old }
     {
         let _ = steps;
         rows_stay_lawful();
-        self.parts.apply(self.alloc, edit)
+        let checked = self.parts.check(&edit)?;
+        self.parts.commit(self.alloc, edit, checked)?;
+        Ok(())
+    }
+
+    /// Makes an edit as [`edit`](Self::edit) does, and answers which verdicts it changes, in the order of the statements. It
+    /// evaluates the statements that the edit touches, before and after.
+    ///
+    /// # Errors
+    /// The first fault of the edit in the order of [`EditFault`], or want of memory. After either the rows are as they were.
+    pub fn apply<L: Ledger>(
+        &mut self,
+        edit: Edit,
+        steps: &mut Steps<L>,
+    ) -> Result<List<Changed>, EditFault>
+        requires { is_valid_edit edit ≡ true }
+        ensures applied { Applied self.old self.new edit result }
+        ensures changes { IfOk result (λ cs. cs ≡ changes self.old edit) }
+        ensures counts { steps.new ≡ steps.old }
+    {
+        let _ = steps;
+        rows_stay_lawful();
+        let checked = self.parts.check(&edit)?;
+        let changes = self.parts.find_changes(self.alloc, &edit, &checked.plan)?;
+        self.parts.commit(self.alloc, edit, checked)?;
+        Ok(changes)
     }
 
     /// The answer to a query. That there is no entry or statement of a name or id is an answer too. The name or id is moved

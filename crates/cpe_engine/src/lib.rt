@@ -1,23 +1,23 @@
 //! An engine: it keeps the rows of a dictionary (NIST IR 7697) and of an inventory with its applicability statements (NIST IR
 //! 7698), makes edits of them and answers queries.
 //!
-//! Rows are kept in the order in which they came, and are found by their hashes: what is added, looked up or shown costs the
-//! same whatever the number of rows. A deprecation costs the entries that lead to the one that it is of and those to which it
-//! leads, and a chain what it has. A search goes over the entries, what is asked of items over the items, and what is taken out
-//! costs the rows behind it.
+//! An edit is looked at first, which tells its fault or that it may be made; then it is made, and nothing but want of memory can
+//! refuse it. What it changes of the verdicts is found between the two, where that is asked: the statements that the edit touches
+//! are evaluated by the rows as they are and as it would leave them. What edits and answers cost is told by the parts
+//! (`cpe_dictionary`, `cpe_inventory`).
 #![tactic(auto)]
 
-mod chain;
-mod deprecating;
-mod dictionary;
-mod edits;
+mod changes;
+mod checked;
 mod engine;
-mod followed;
-mod kept;
+mod item_ends;
 mod parts;
-mod search;
-mod successors;
+mod prospect;
+mod scene;
+mod touch;
+mod trails;
 mod verdicts;
+mod weighing;
 
 pub use engine::Engine;
 pub use verdicts::Verdicts;

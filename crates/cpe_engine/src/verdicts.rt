@@ -1,12 +1,10 @@
 // The verdicts of an engine's statements.
-ghost use Rattle.std.specs.Prelude.{◌≡◌, ◌<◌, IfOk, length, slice_get, Some};
+ghost use Rattle.std.specs.Prelude.{◌≡◌, ◌<◌, IfOk, None, length, slice_get, Some};
 ghost use Rattle.cpe_rows.specs.Verdict.{verdict};
 ghost use Rattle.cpe_rows.specs.declared.statement.Statement.{Statement};
 ghost use Rattle.cpe_engine.specs.Followed.{item_ends};
 
 use crate::engine::Engine;
-use crate::followed::{FollowedFacts, find_item_ends, followed_verdict};
-use cpe_inventory::plain_verdict;
 use cpe_name::Wfn;
 use cpe_rows::{List, Mode, Statement, Truth};
 use cpe_values::Memory;
@@ -23,7 +21,7 @@ pub struct Verdicts<'e> {
 }
 
 impl<'e> Model for Verdicts<'e> {
-    ghost use Rattle.std.specs.Prelude.{◌≡◌, IfSome};
+    ghost use Rattle.std.specs.Prelude.{◌≡◌, IfSome, None};
     ghost use Rattle.std.specs.Coded.{codes};
     ghost use Rattle.cpe_rows.specs.Rows.{Rows};
     ghost use Rattle.cpe_rows.specs.contracts.test.Test as test;
@@ -35,7 +33,7 @@ impl<'e> Model for Verdicts<'e> {
 
     ghost view = { λ v. v.engine.now };
 
-    ghost invariant = { λ v. IfSome v.ends (λ found. found ≡ item_ends v.engine.now.entries v.engine.now.items) };
+    ghost invariant = { λ v. IfSome v.ends (λ found. found ≡ item_ends v.engine.now.entries None v.engine.now.items) };
 }
 
 impl Verdicts<'_> {
@@ -95,7 +93,7 @@ impl Engine {
     {
         self.lawful();
         let ends = if self.follows() {
-            Some(find_item_ends(alloc, &self.parts.dictionary, &self.parts.items)?)
+            Some(self.find_item_ends(alloc)?)
         } else {
             None
         };
@@ -111,6 +109,14 @@ impl Engine {
             .any(|statement| matches!(statement.mode, Mode::Follow))
     }
 
+    // The ends of all items.
+    fn find_item_ends(&self, alloc: Global) -> Result<List<Wfn>, Memory>
+        ensures { IfOk result (λ found. found ≡ item_ends self.now.entries None self.now.items) }
+    {
+        let trails = self.parts.trails();
+        self.parts.scene(&trails).find_item_ends(alloc)
+    }
+
     /// The verdict of a statement, whether it is one of the engine's or not.
     ///
     /// # Errors
@@ -118,39 +124,20 @@ impl Engine {
     pub(crate) fn verdict(&self, alloc: Global, statement: &Statement) -> Result<Truth, Memory>
         ensures { IfOk result (λ truth. truth ≡ verdict self.now statement.now) }
     {
-        self.lawful();
-        match statement.mode {
-            Mode::Plain => Ok(plain_verdict(&self.parts.items, &self.parts.checks, statement)),
-            Mode::Follow => {
-                let ends = find_item_ends(alloc, &self.parts.dictionary, &self.parts.items)?;
-                self.verdict_by(alloc, ends.as_slice(), statement)
-            }
-        }
+        self.parts.verdict(alloc, statement)
     }
 
-    /// The same, by the ends of all items.
-    ///
-    /// # Errors
-    /// Want of memory alone.
-    pub(crate) fn verdict_by(
+    // The same, by the ends of all items.
+    fn verdict_by(
         &self,
         alloc: Global,
         ends: &[Wfn],
         statement: &Statement,
     ) -> Result<Truth, Memory>
-        requires { ends.now ≡ item_ends self.now.entries self.now.items }
+        requires { ends.now ≡ item_ends self.now.entries None self.now.items }
         ensures { IfOk result (λ truth. truth ≡ verdict self.now statement.now) }
     {
-        match statement.mode {
-            Mode::Plain => Ok(plain_verdict(&self.parts.items, &self.parts.checks, statement)),
-            Mode::Follow => {
-                let facts = FollowedFacts {
-                    dictionary: &self.parts.dictionary,
-                    checks: &self.parts.checks,
-                    ends,
-                };
-                followed_verdict(alloc, facts, statement)
-            }
-        }
+        let trails = self.parts.trails();
+        self.parts.scene(&trails).verdict(alloc, ends, statement)
     }
 }

@@ -1,6 +1,8 @@
-use Rattle.std.proofs.Common.{ap, sym}
+use Rattle.std.proofs.Common.{ap, ◌∙◌}
+use Rattle.std.proofs.lemmas.Result.{IfOk-weaker}
 use Rattle.cpe_rows.specs.Rows.{Rows}
+use Rattle.cpe_rows.specs.Verdict.{verdict}
 use Rattle.cpe_engine.proofs.engine.Engine.verdict.Goals as goal
 
-pub returns-in-Plain : goal.returns-in-Plain
-returns-in-Plain c = c.plain_verdict.ensures c.args.self.now (ap (λ (r : Rows). r.items) (sym c.self.view_is)) (ap (λ (r : Rows). r.checks) (sym c.self.view_is)) c.in-Plain.is
+pub returns : goal.returns
+returns c = IfOk-weaker c.verdict.result _ _ (λ t h. h ∙ ap (λ (r : Rows). verdict r c.args.statement.now) c.self.view_is) c.verdict.ensures

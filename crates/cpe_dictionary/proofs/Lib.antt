@@ -1,0 +1,9 @@
+pub mod KeptLemmas
+pub mod AtNumbers
+pub mod SeenLemmas
+pub mod Translating
+pub mod SuccessorLemmas
+pub mod DictionaryLemmas
+pub mod PlanLemmas
+pub mod LeftLemmas
+pub mod LeadLemmas

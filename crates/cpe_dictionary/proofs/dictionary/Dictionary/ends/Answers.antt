@@ -1,0 +1,16 @@
+use Rattle.std.proofs.Common.{List, ap, subst, ◌∙◌}
+use Rattle.cpe_rows.specs.declared.entry.Entry.{Entry}
+use Rattle.deprecation_graph.specs.Graph.{Node, ends_in}
+use Rattle.numbered_entries.specs.Faults.{AreDifferent}
+use Rattle.numbered_entries.specs.Numbers.{nodes_of_entries}
+use Rattle.cpe_dictionary.specs.Kept.{names_at}
+use Rattle.cpe_dictionary.proofs.DictionaryLemmas.{ends_named}
+use Rattle.cpe_dictionary.proofs.dictionary.Dictionary.ends.Goals as goal
+
+pub returns-in-Ok : goal.returns-in-Ok
+returns-in-Ok c =
+    let es = c.args.self.now in
+    let k = c.args.number in
+    let different = subst AreDifferent c.self.view_is c.self.invariant.lawful.names_differ in
+    ap (names_at es) (c.in-Ok.ensures ∙ ap (λ (ns : List Node). ends_in ns k) c.self.invariant.numbered ∙ ap (λ (xs : List Entry). ends_in (nodes_of_entries xs) k) c.self.view_is)
+    ∙ ends_named es c.args.name.now k c.requires different c.chains_by_number.ensures.ends c.entries_are_numbered.ensures.numbered c.entries_are_numbered.ensures.marked

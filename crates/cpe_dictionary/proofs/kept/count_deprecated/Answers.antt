@@ -1,0 +1,14 @@
+use Rattle.std.proofs.Common.{◌+◌, List, length, filter, is_some, sym, ap, ◌∙◌, add-zero, arith}
+use Rattle.std.proofs.lemmas.List.{drop_all}
+use Rattle.cpe_dictionary.specs.declared.kept.Details.{Details}
+use Rattle.cpe_dictionary.proofs.KeptLemmas.{count_deprecated}
+use Rattle.cpe_dictionary.proofs.kept.count_deprecated.Goals as goal
+
+pub returns : goal.returns
+returns c =
+    let items = c.as_slice-details-items.result.now in
+    let kept = λ (d : Details). is_some d.deprecation in
+    let past = c.loop-details-test.false in
+    let none = drop_all c.loop-details.details-index items (omega (arith, past)) in
+    let all = c.as_slice-details-items.ensures ∙ c.values.ensures.rest in
+    sym (add-zero c.loop-details.count) ∙ ap (λ (xs : List Details). c.loop-details.count + length (filter kept xs)) (sym none) ∙ c.loop-details.invariant.1 ∙ ap (λ (xs : List Details). length (filter kept xs)) all ∙ count_deprecated c.args.entries.now.entries

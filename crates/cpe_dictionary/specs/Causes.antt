@@ -1,0 +1,34 @@
+-- Why a deprecation is refused, part by part.
+use Rattle.std.specs.Prelude.{◌≡◌, ◌++◌, ◌∷◌, ℕ, List, [], Bool, if◌then◌else◌, Option, Some, None, option_map, slice_get, not}
+use Rattle.cpe_name.specs.declared.name.Values.{Values}
+use Rattle.cpe_rows.specs.After.{changed}
+use Rattle.cpe_rows.specs.Faults.{when, is_deprecated, successor_faults, too_wide}
+use Rattle.cpe_rows.specs.Rows.{is_entry}
+use Rattle.cpe_rows.specs.declared.entry.Entry.{Entry}
+use Rattle.cpe_rows.specs.declared.entry.Deprecation.{Deprecation}
+use Rattle.cpe_rows.specs.declared.entry.Note.{Note}
+use Rattle.cpe_rows.specs.declared.fault.EditFault.{EditFault}
+use Rattle.cpe_rows.specs.declared.fault.EditFault.TheVariants as fault
+use Rattle.deprecation_graph.specs.declared.fault.GraphFault.{GraphFault}
+use Rattle.deprecation_graph.specs.declared.fault.GraphFault.TheVariants as graph
+use Rattle.cpe_dictionary.specs.Kept.{rows_of, rewritten}
+
+-- the fault of a change of a node, where node k is entry k
+abbrev pub named_fault : List Entry → GraphFault → Option EditFault
+named_fault es (graph.Cycle place) = Some (fault.Cycle place)
+named_fault es (graph.TooWide k) = option_map (λ e. fault.TooWide e.name) (slice_get es k)
+named_fault es graph.Memory = Some fault.Memory
+
+-- that there is no entry of this name, or that it isn't active or deprecated, as it has to be
+abbrev pub state_causes : List Entry → Values → Bool → List (Option EditFault)
+state_causes es n active =
+    when (not (is_entry (rows_of es) n)) fault.Unknown
+    ∷ (if active then when (is_deprecated (rows_of es) n) fault.AlreadyDeprecated else when (not (is_deprecated (rows_of es) n)) fault.NotDeprecated) ∷ []
+
+-- that an entry would have too many ends, once the entry of this name has the deprecation, or none
+abbrev pub width_cause : List Entry → Values → Option Deprecation → Note → Option EditFault
+width_cause es n d note = too_wide (rows_of (changed (rewritten d note) n es))
+
+-- why the entry of this name can't have the deprecation, whether it has one or not
+abbrev pub deprecation_causes : List Entry → Values → Deprecation → Note → List (Option EditFault)
+deprecation_causes es n d note = successor_faults (rows_of es) n d ++ width_cause es n (Some d) note ∷ []

@@ -1,0 +1,52 @@
+-- Changes of deprecations that are planned before they are made.
+use Rattle.std.specs.Prelude.{◌≡◌, ◌∷◌, [], ℕ, List, Option, Some, None, option_map, position}
+use Rattle.std.specs.Option.{option_map_or}
+use Rattle.cpe_name.specs.declared.name.Values.{Values}
+use Rattle.cpe_rows.specs.Chains.{ends}
+use Rattle.cpe_rows.specs.Rows.{is_named}
+use Rattle.cpe_rows.specs.declared.entry.Entry.{Entry}
+use Rattle.cpe_rows.specs.declared.entry.Deprecation.{Deprecation}
+use Rattle.cpe_rows.specs.declared.entry.Note.{Note}
+use Rattle.deprecation_graph.specs.Faults.{change_fault}
+use Rattle.deprecation_graph.specs.Graph.{IsChange, changed, ends_in}
+use Rattle.numbered_entries.specs.Faults.{AreDifferent}
+use Rattle.numbered_entries.specs.Numbers.{nodes_of_entries, numbers_of}
+use Rattle.cpe_dictionary.specs.Kept.{names_at, rewritten, written}
+use Rattle.cpe_dictionary.specs.declared.plans.Plan.{Plan}
+
+-- the entry of this number may have successors of these numbers
+pub record IsAllowed (es : List Entry) (k : ℕ) (next : Option (List ℕ)) : Type 0 where
+  pub change : IsChange (nodes_of_entries es) k next
+  pub no_fault : change_fault (nodes_of_entries es) k next ≡ None
+
+-- the numbers of the successors
+abbrev pub numbered : List Entry → Option Deprecation → Option (List ℕ)
+numbered es d = option_map (λ x. numbers_of es x.successors) d
+
+-- a change that gives the entry of this name the deprecation, or none, and that is allowed
+pub record IsPlan (es : List Entry) (n : Values) (d : Option Deprecation) (p : Plan) : Type 0 where
+  pub place : position (is_named n) es ≡ Some p.number
+  pub next : p.next ≡ numbered es d
+  pub allowed : IsAllowed es p.number p.next
+
+-- entries that the planned change leaves, by the deprecation and the note that it is made with
+pub record AreLeftBy (es : List Entry) (p : Plan) (left : List Entry) : Type 0 where
+  pub deprecation : Option Deprecation
+  pub note : Note
+  pub next : p.next ≡ numbered es deprecation
+  pub written : left ≡ written (rewritten deprecation note) p.number es
+
+-- the ends that the entry of a number would have
+abbrev pub ends_at : List Entry → Plan → ℕ → List Values
+ends_at es p k = names_at es (ends_in (changed (nodes_of_entries es) p.number p.next) k)
+
+-- The ends of a name as the planned change would leave them, or as they are where none is planned; that they are those of the
+-- entries that the change leaves is the law `plans_lead`.
+abbrev pub ends_by : List Entry → Option Plan → Values → List Values
+ends_by es None n = ends es n
+ends_by es (Some p) n = option_map_or (ends_at es p) (position (is_named n) es) (n ∷ [])
+
+abbrev pub PlansLead : Type 0
+PlansLead =
+    (es left : List Entry) (p : Plan) (n : Values) → AreDifferent es → IsAllowed es p.number p.next → AreLeftBy es p left
+    → ends_by es (Some p) n ≡ ends left n

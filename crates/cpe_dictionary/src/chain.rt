@@ -1,0 +1,49 @@
+// The entries of a chain, by their numbers.
+ghost use Rattle.std.specs.Prelude.{◌≡◌, IfOk, filter, map};
+ghost use Rattle.cpe_rows.specs.Answers.{row_of};
+ghost use Rattle.cpe_rows.specs.Chains.{is_active};
+ghost use Rattle.numbered_entries.specs.Numbers.{entries_at};
+ghost use Rattle.cpe_dictionary.specs.Kept.{entry_from};
+
+use crate::kept::{Details, row_of};
+use cpe_name::Wfn;
+use cpe_rows::{List, Row};
+use cpe_values::Memory;
+use indexmap::IndexMap;
+use std::alloc::Global;
+
+/// The entries of these numbers in short.
+pub(crate) fn rows_at(
+    alloc: Global,
+    entries: &IndexMap<Wfn, Details>,
+    numbers: &[u32],
+) -> Result<List<Row>, Memory>
+    ensures { IfOk result (λ rs. rs ≡ map row_of (entries_at (map entry_from entries.now.entries) numbers.now)) }
+{
+    let mut rows = List::new(alloc);
+    for number in numbers {
+        if let Some((name, details)) = entries.get_index(*number as usize) {
+            rows.push(row_of(alloc, name, details)?)?;
+        }
+    }
+    Ok(rows)
+}
+
+/// The names of the active ones of the entries of these numbers.
+pub(crate) fn active_names_at(
+    alloc: Global,
+    entries: &IndexMap<Wfn, Details>,
+    numbers: &[u32],
+) -> Result<List<Wfn>, Memory>
+    ensures { IfOk result (λ ns. ns ≡ map (λ e. e.name) (filter is_active (entries_at (map entry_from entries.now.entries) numbers.now))) }
+{
+    let mut names = List::new(alloc);
+    for number in numbers {
+        if let Some((name, details)) = entries.get_index(*number as usize) {
+            if details.deprecation.is_none() {
+                names.push(name.copy(alloc)?)?;
+            }
+        }
+    }
+    Ok(names)
+}

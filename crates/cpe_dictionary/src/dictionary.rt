@@ -1,0 +1,321 @@
+// The entries of a dictionary.
+ghost use Rattle.std.specs.Prelude.{◌≡◌, ◌+◌, ◌++◌, ◌∷◌, [], ◌<◌, ◌≤◌, IfOk, IfErr, OnOk, OnErr, None, Some, filter, find, length, map, nat_lt, not, option_and_then, option_map, position, slice_get, true, false};
+ghost use Rattle.std.specs.List.{list_any};
+ghost use Rattle.std.specs.Option.{option_copied};
+ghost use Rattle.cpe_rows.specs.Answers.{row_of, rows_found as found, state_of};
+ghost use Rattle.cpe_rows.specs.Chains.{chain as chain_of, ends, is_active};
+ghost use Rattle.cpe_rows.specs.Lawful.{IsDictionary};
+ghost use Rattle.cpe_rows.specs.Limits.{most};
+ghost use Rattle.cpe_rows.specs.Rows.{is_named};
+ghost use Rattle.deprecation_graph.specs.Faults.{change_fault};
+ghost use Rattle.deprecation_graph.specs.Graph.{IsChange};
+ghost use Rattle.numbered_entries.specs.Numbers.{nodes_of_entries};
+ghost use Rattle.cpe_rows.specs.Causes.{IsCause};
+ghost use Rattle.cpe_dictionary.specs.Causes.{named_fault};
+ghost use Rattle.cpe_dictionary.specs.Kept.{rewritten, written};
+ghost use Rattle.cpe_dictionary.specs.Plans.{IsAllowed, numbered};
+
+use crate::chain::{active_names_at, rows_at};
+use crate::kept::{
+    Details, count_deprecated, entry_of, find_details, has_name, number_of, put_last, rewrite,
+    state_of,
+};
+use crate::plans::Plan;
+use crate::search::rows_found;
+use cpe_name::Wfn;
+use cpe_rows::{
+    Deprecation, EditFault, Entry, List, Note, Row, State, Which, absent_names_stand_alone,
+};
+use cpe_values::Memory;
+use deprecation_graph::{DeprecationGraph, GraphFault};
+use indexmap::IndexMap;
+use numbered_entries::{answers_by_number, changes_by_number, edits_by_number, limits_are_one};
+use std::alloc::Global;
+use std::marker::Model;
+
+// No more entries are kept.
+const MOST_ENTRIES: usize = 2_000_000;
+
+/// The entries of a dictionary. Contracts see them as the list of the entries in their order.
+///
+/// They are found by the hashes of their names. Their deprecations are kept a second time by numbers: node k of the graph is
+/// entry k.
+#[derive(Drop)]
+pub struct Dictionary {
+    alloc: Global,
+    pub(crate) entries: IndexMap<Wfn, Details>,
+    pub(crate) graph: DeprecationGraph,
+}
+
+impl Model for Dictionary {
+    ghost use Rattle.std.specs.Prelude.{List, map};
+    ghost use Rattle.cpe_rows.specs.declared.entry.Entry.{Entry};
+    ghost use Rattle.cpe_dictionary.specs.Kept.{entry_from, IsKept};
+
+    ghost Value = { List Entry };
+
+    ghost view = { λ d. map entry_from d.entries.entries };
+
+    ghost invariant = { λ d. IsKept (map entry_from d.entries.entries) d.graph.nodes };
+}
+
+impl Dictionary {
+    /// The dictionary without entries. It takes no memory.
+    pub fn new(alloc: Global) -> Dictionary
+        ensures { result ≡ [] }
+    {
+        Dictionary {
+            alloc,
+            entries: IndexMap::new(alloc),
+            graph: DeprecationGraph::new(alloc),
+        }
+    }
+
+    /// Where its memory comes from.
+    pub(crate) fn memory(&self) -> Global {
+        self.alloc
+    }
+
+    /// What is so of every dictionary. It does nothing, and tells a proof so.
+    pub fn lawful(&self)
+        ensures lawful { IsDictionary self.now }
+        ensures few { length self.now ≤ most Which.Entries }
+    {
+        let _entries = &self.entries;
+    }
+
+    /// Whether there would be too many entries with one more.
+    pub(crate) fn is_full(&self) -> bool
+        ensures { result ≡ nat_lt (most Which.Entries) (length self.now + 1) }
+    {
+        self.entries.len() >= MOST_ENTRIES
+    }
+
+    /// Whether an entry has this name.
+    pub fn has(&self, name: &Wfn) -> bool
+        ensures { result ≡ list_any (is_named name.now) self.now }
+    {
+        has_name(&self.entries, name)
+    }
+
+    /// The number of the entry of this name, from 0 in their order.
+    pub fn number_of(&self, name: &Wfn) -> Option<u32>
+        ensures { result ≡ position (is_named name.now) self.now }
+    {
+        number_of(&self.entries, name)
+    }
+
+    /// Whether the entry of this number is active.
+    pub fn is_active(&self, number: u32) -> bool
+        requires { number < length self.now }
+        ensures { option_map is_active (slice_get self.now number) ≡ Some result }
+    {
+        match self.entries.get_index(number as usize) {
+            Some((_, details)) => details.deprecation.is_none(),
+            None => unreachable!(),
+        }
+    }
+
+    /// Whether the entry of this name is active, or by which kind it is deprecated.
+    pub fn state_of(&self, name: &Wfn) -> Option<State>
+        ensures { result ≡ option_map state_of (find (is_named name.now) self.now) }
+    {
+        match find_details(&self.entries, name) {
+            Some(details) => Some(state_of(details)),
+            None => None,
+        }
+    }
+
+    /// The deprecation of the entry of this name, if it has one.
+    pub fn deprecation_of(&self, name: &Wfn) -> Option<&Deprecation>
+        ensures { option_copied result ≡ option_and_then (λ e. e.deprecation) (find (is_named name.now) self.now) }
+    {
+        match find_details(&self.entries, name) {
+            Some(details) => details.deprecation.as_ref(),
+            None => None,
+        }
+    }
+
+    /// How many entries there are.
+    pub fn len(&self) -> usize
+        ensures { result ≡ length self.now }
+    {
+        self.entries.len()
+    }
+
+    /// How many of them are deprecated. It goes over all of them.
+    pub fn count_deprecated(&self) -> usize
+        ensures { result ≡ length (filter (λ e. not (is_active e)) self.now) }
+    {
+        count_deprecated(&self.entries)
+    }
+
+    /// A copy of the entry of this name.
+    ///
+    /// # Errors
+    /// Want of memory alone.
+    pub fn entry_of(&self, alloc: Global, name: &Wfn) -> Result<Option<Entry>, Memory>
+        ensures { IfOk result (λ e. e ≡ find (is_named name.now) self.now) }
+    {
+        match find_details(&self.entries, name) {
+            Some(details) => Ok(Some(entry_of(alloc, name, details)?)),
+            None => Ok(None),
+        }
+    }
+
+    /// The entries that a name covers, in order; where asked, the active ones alone. It goes over all entries.
+    ///
+    /// # Errors
+    /// Want of memory alone.
+    pub fn rows_found(
+        &self,
+        alloc: Global,
+        asked: &Wfn,
+        active_only: bool,
+    ) -> Result<List<Row>, Memory>
+        ensures { IfOk result (λ rs. rs ≡ found asked.now active_only self.now) }
+    {
+        rows_found(alloc, &self.entries, asked, active_only)
+    }
+
+    /// The entries of the chain of a name, and its ends. It searches the chain alone.
+    ///
+    /// # Errors
+    /// Want of memory alone.
+    pub fn chain(&self, alloc: Global, name: &Wfn) -> Result<(List<Row>, List<Wfn>), Memory>
+        ensures links { IfOk result (λ r. r.0 ≡ map row_of (chain_of self.now name.now)) }
+        ensures ends { IfOk result (λ r. r.1 ≡ ends self.now name.now) }
+    {
+        absent_names_stand_alone();
+        match self.number_of(name) {
+            Some(number) => self.chain_at(alloc, name, number),
+            None => chain_of_none(alloc, name),
+        }
+    }
+
+    // The same of an entry, by its number.
+    fn chain_at(
+        &self,
+        alloc: Global,
+        name: &Wfn,
+        number: u32,
+    ) -> Result<(List<Row>, List<Wfn>), Memory>
+        requires { position (is_named name.now) self.now ≡ Some number }
+        ensures links { IfOk result (λ r. r.0 ≡ map row_of (chain_of self.now name.now)) }
+        ensures ends { IfOk result (λ r. r.1 ≡ ends self.now name.now) }
+    {
+        answers_by_number();
+        let Ok(chain) = self.graph.chain(alloc, number) else {
+            return Err(Memory);
+        };
+        Ok((
+            rows_at(alloc, &self.entries, &chain)?,
+            active_names_at(alloc, &self.entries, &chain)?,
+        ))
+    }
+
+    /// The name of the entry of a number.
+    pub fn name_at(&self, number: u32) -> Option<&Wfn>
+        ensures { option_copied result ≡ option_map (λ e. e.name) (slice_get self.now number) }
+    {
+        match self.entries.get_index(number as usize) {
+            Some((name, _)) => Some(name),
+            None => None,
+        }
+    }
+
+    /// Puts an active entry of a new name last. It is moved, not copied.
+    ///
+    /// # Errors
+    /// Want of memory alone; the entries are then as they were.
+    pub fn add(&mut self, entry: Entry) -> Result<(), Memory>
+        requires absent { list_any (is_named entry.name) self.old ≡ false }
+        requires active { is_active entry ≡ true }
+        requires few { length self.old + 1 ≤ most Which.Entries }
+        requires lawful { IsDictionary (self.old ++ entry ∷ []) }
+        ensures ok { OnOk result (self.new ≡ self.old ++ entry ∷ []) }
+        ensures err { OnErr result (self.new ≡ self.old) }
+    {
+        edits_by_number();
+        changes_by_number();
+        limits_are_one();
+        if self.graph.reserve(1, 0).is_err() {
+            return Err(Memory);
+        }
+        put_last(&mut self.entries, entry)?;
+        self.graph.add_node();
+        Ok(())
+    }
+
+    /// Whether the entry of a number may be deprecated, with successors of these numbers, or with none of them be active.
+    ///
+    /// # Errors
+    /// That a successor leads back to it, or that an entry would have too many ends; or want of memory.
+    pub(crate) fn check(&self, number: u32, next: Option<&[u32]>) -> Result<(), EditFault>
+        requires { IsChange (nodes_of_entries self.now) number (option_copied next) }
+        ensures ok { OnOk result (change_fault (nodes_of_entries self.now) number (option_copied next.entry) ≡ None) }
+        ensures err { IfErr result (λ f. IsCause f (option_and_then (named_fault self.now) (change_fault (nodes_of_entries self.now) number (option_copied next.entry)))) }
+    {
+        match self.graph.check(self.alloc, number, next) {
+            Ok(()) => Ok(()),
+            Err(GraphFault::Cycle(place)) => Err(EditFault::Cycle(place)),
+            Err(GraphFault::TooWide(wide)) => Err(self.too_wide(wide)),
+            Err(GraphFault::Memory) => Err(EditFault::Memory),
+        }
+    }
+
+    // That the entry of a number would have too many ends, by its name.
+    fn too_wide(&self, number: u32) -> EditFault
+        requires { number < length self.now }
+        ensures { IsCause result (option_map (λ e. EditFault.TooWide e.name) (slice_get self.now number)) }
+    {
+        match self.entries.get_index(number as usize) {
+            Some((name, _)) => match name.copy(self.alloc) {
+                Ok(name) => EditFault::TooWide(name),
+                Err(_) => EditFault::Memory,
+            },
+            None => unreachable!(),
+        }
+    }
+
+    /// Makes a planned change: the entry gets this deprecation, or none, and a note that goes last.
+    ///
+    /// # Errors
+    /// Want of memory alone; the entries are then as they were.
+    pub fn commit(
+        &mut self,
+        plan: &Plan,
+        deprecation: Option<Deprecation>,
+        note: Note,
+    ) -> Result<(), Memory>
+        requires numbers { plan.now.next ≡ numbered self.old deprecation }
+        requires allowed { IsAllowed self.old plan.now.number plan.now.next }
+        requires lawful { IsDictionary (written (rewritten deprecation note) plan.now.number self.old) }
+        ensures ok { OnOk result (self.new ≡ written (rewritten deprecation note) plan.now.number self.old) }
+        ensures err { OnErr result (self.new ≡ self.old) }
+    {
+        edits_by_number();
+        changes_by_number();
+        limits_are_one();
+        let edges = match plan.next() {
+            Some(next) => next.len() as u32,
+            None => 0,
+        };
+        if self.graph.reserve(0, edges).is_err() {
+            return Err(Memory);
+        }
+        rewrite(&mut self.entries, plan.number, deprecation, note)?;
+        self.graph.set_edges(plan.number, plan.next());
+        Ok(())
+    }
+}
+
+// A name that is no entry has no chain, and is its own end.
+fn chain_of_none(alloc: Global, name: &Wfn) -> Result<(List<Row>, List<Wfn>), Memory>
+    ensures links { IfOk result (λ r. r.0 ≡ []) }
+    ensures ends { IfOk result (λ r. r.1 ≡ name.now ∷ []) }
+{
+    let mut ends = List::new(alloc);
+    ends.push(name.copy(alloc)?)?;
+    Ok((List::new(alloc), ends))
+}

@@ -1,0 +1,154 @@
+// Entries as a dictionary keeps them: what they have beside their names, by their names.
+ghost use Rattle.std.specs.Prelude.{◌≡◌, ◌≤◌, ◌++◌, ◌∷◌, [], IfOk, OnOk, OnErr, filter, find, map, length, not, position, false, option_map};
+ghost use Rattle.std.specs.List.{list_any};
+ghost use Rattle.std.specs.Option.{option_map_or};
+ghost use Rattle.cpe_rows.specs.Chains.{is_active};
+ghost use Rattle.cpe_rows.specs.Rows.{is_named};
+ghost use Rattle.cpe_rows.specs.Answers.{state_of, row_of};
+ghost use Rattle.cpe_rows.specs.Limits.{most};
+ghost use Rattle.cpe_rows.specs.declared.fault.Which.TheVariants as limit;
+ghost use Rattle.cpe_dictionary.specs.Kept.{entry_from, rewritten, written};
+ghost use Rattle.cpe_rows.specs.declared.entry.Deprecation.{Deprecation};
+
+use cpe_name::Wfn;
+use cpe_rows::{Deprecation, Entry, Note, Provenance, Row, State, Text};
+use cpe_values::Memory;
+use indexmap::IndexMap;
+use std::alloc::Global;
+
+/// What an entry has beside its name.
+#[derive(Debug, Drop)]
+pub(crate) struct Details {
+    pub(crate) title: Text,
+    pub(crate) provenance: Provenance,
+    pub(crate) deprecation: Option<Deprecation>,
+}
+
+fn copy_of_deprecation(
+    alloc: Global,
+    deprecation: &Option<Deprecation>,
+) -> Result<Option<Deprecation>, Memory>
+    ensures { IfOk result (λ d. d ≡ deprecation.now) }
+{
+    match deprecation {
+        Some(deprecation) => Ok(Some(deprecation.copy(alloc)?)),
+        None => Ok(None),
+    }
+}
+
+/// A copy of the entry of a name and these details.
+pub(crate) fn entry_of(alloc: Global, name: &Wfn, details: &Details) -> Result<Entry, Memory>
+    ensures { IfOk result (λ e. e ≡ entry_from (name.now, details.now)) }
+{
+    Ok(Entry {
+        name: name.copy(alloc)?,
+        title: details.title.copy(alloc)?,
+        provenance: details.provenance.copy(alloc)?,
+        deprecation: copy_of_deprecation(alloc, &details.deprecation)?,
+    })
+}
+
+/// Whether an entry is active, or by which kind it is deprecated.
+pub(crate) fn state_of(details: &Details) -> State
+    ensures { result ≡ option_map_or (λ (d : Deprecation). State.Deprecated d.kind) details.now.deprecation State.Active }
+{
+    match &details.deprecation {
+        Some(deprecation) => State::Deprecated(deprecation.kind),
+        None => State::Active,
+    }
+}
+
+/// How many of the entries are deprecated.
+pub(crate) fn count_deprecated(entries: &IndexMap<Wfn, Details>) -> usize
+    ensures { result ≡ length (filter (λ e. not (is_active e)) (map entry_from entries.now.entries)) }
+{
+    let mut count = 0;
+    for details in entries.values().as_slice() {
+        if details.deprecation.is_some() {
+            count += 1;
+        }
+    }
+    count
+}
+
+/// The entry of a name and these details in short.
+pub(crate) fn row_of(alloc: Global, name: &Wfn, details: &Details) -> Result<Row, Memory>
+    ensures { IfOk result (λ r. r ≡ row_of (entry_from (name.now, details.now))) }
+{
+    Ok(Row {
+        name: name.copy(alloc)?,
+        state: state_of(details),
+    })
+}
+
+/// The entry of this name, without the name.
+pub(crate) fn find_details<'e>(
+    entries: &'e IndexMap<Wfn, Details>,
+    name: &Wfn,
+) -> Option<&'e Details>
+    ensures { option_map (λ d. entry_from (name.now, d.now)) result ≡ find (is_named name.now) (map entry_from entries.now.entries) }
+{
+    entries.get(name)
+}
+
+/// The number of the entry of this name, from 0 in their order.
+pub(crate) fn number_of(entries: &IndexMap<Wfn, Details>, name: &Wfn) -> Option<u32>
+    requires { length entries.now.entries ≤ most limit.Entries }
+    ensures { result ≡ position (is_named name.now) (map entry_from entries.now.entries) }
+{
+    match entries.get_index_of(name) {
+        Some(number) => Some(number as u32),
+        None => None,
+    }
+}
+
+/// Whether an entry has this name.
+pub(crate) fn has_name(entries: &IndexMap<Wfn, Details>, name: &Wfn) -> bool
+    ensures { result ≡ list_any (is_named name.now) (map entry_from entries.now.entries) }
+{
+    entries.contains_key(name)
+}
+
+/// Puts an entry of a new name last. The entry is moved, not copied.
+///
+/// # Errors
+/// Want of memory alone; the entries are then as they were.
+pub(crate) fn put_last(entries: &mut IndexMap<Wfn, Details>, entry: Entry) -> Result<(), Memory>
+    requires { list_any (is_named entry.name) (map entry_from entries.old.entries) ≡ false }
+    ensures ok { OnOk result (map entry_from entries.new.entries ≡ map entry_from entries.old.entries ++ entry ∷ []) }
+    ensures err { OnErr result (map entry_from entries.new.entries ≡ map entry_from entries.old.entries) }
+{
+    let Entry {
+        name,
+        title,
+        provenance,
+        deprecation,
+    } = entry;
+    let details = Details {
+        title,
+        provenance,
+        deprecation,
+    };
+    entries.insert(name, details)?;
+    Ok(())
+}
+
+/// Gives the entry of a number this deprecation, or none, and a note that goes last.
+///
+/// # Errors
+/// Want of memory alone; the entries are then as they were.
+pub(crate) fn rewrite(
+    entries: &mut IndexMap<Wfn, Details>,
+    number: u32,
+    deprecation: Option<Deprecation>,
+    note: Note,
+) -> Result<(), Memory>
+    ensures ok { OnOk result (map entry_from entries.new.entries ≡ written (rewritten deprecation note) number (map entry_from entries.old.entries)) }
+    ensures err { OnErr result (map entry_from entries.new.entries ≡ map entry_from entries.old.entries) }
+{
+    if let Some(details) = entries.get_index_mut(number as usize) {
+        details.provenance.notes.push(note)?;
+        details.deprecation = deprecation;
+    }
+    Ok(())
+}

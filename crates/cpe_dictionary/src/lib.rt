@@ -1,0 +1,22 @@
+//! A dictionary of products (NIST IR 7697): entries by their names, and where their deprecations lead.
+//!
+//! Entries are kept in the order in which they came and are found by the hashes of their names: what is added, looked up or shown
+//! costs the same whatever their number. A change of a deprecation is planned first, which tells its fault or that it is allowed,
+//! and leaves all as it is; ends of names may be asked as the planned change would leave them; then it is made, and nothing but
+//! want of memory can refuse it. A plan costs the entries that lead to the one that it is of and those to which it leads, and a
+//! chain what it has. A search goes over all entries.
+#![tactic(auto)]
+
+mod adding;
+mod chain;
+mod dictionary;
+mod ends;
+mod kept;
+mod laws;
+mod plans;
+mod search;
+mod successors;
+
+pub use dictionary::Dictionary;
+pub use laws::plans_lead;
+pub use plans::Plan;

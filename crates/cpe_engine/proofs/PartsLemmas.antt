@@ -1,0 +1,48 @@
+-- What follows for the lists of rows where an edit has no fault.
+use Rattle.std.proofs.Common.{◌≡◌, ◌≤◌, ◌<◌, ◌+◌, ◌∙◌, ℕ, ap, zero-add, Bool, true, false, List, ◌∷◌, arith, refl, Some, None}
+use Rattle.std.proofs.Math.Nat.{min-eq_left}
+use Rattle.std.proofs.lemmas.Bool.{lt-ltb}
+use Rattle.std.specs.Prelude.{Option, Result, Ok, Err, OnOk, OnErr}
+use Rattle.cpe_rows.specs.After.{after}
+use Rattle.cpe_rows.specs.Causes.{heavy}
+use Rattle.cpe_rows.specs.Faults.{when}
+use Rattle.cpe_rows.specs.Limits.{most}
+use Rattle.cpe_rows.specs.Rows.{Rows}
+use Rattle.cpe_rows.specs.Step.{first_some}
+use Rattle.cpe_rows.specs.Weight.{weight}
+use Rattle.cpe_rows.specs.declared.edit.Edit.{Edit}
+use Rattle.cpe_rows.specs.declared.fault.EditFault.{EditFault}
+use Rattle.cpe_rows.specs.declared.fault.EditFault.TheVariants as fault
+use Rattle.cpe_rows.specs.declared.fault.Which.TheVariants as limit
+use Rattle.cpe_weight.specs.Capped.{capped}
+
+-- where there is no cause, this isn't one, and there is none behind it
+pub none_here : (b : Bool) (f : EditFault) (os : List (Option EditFault)) → first_some (when b f ∷ os) ≡ None → b ≡ false
+none_here true f os h = let wrong : ⊥ = cc in absurd wrong
+none_here false f os h = refl
+
+pub none_behind : (b : Bool) (f : EditFault) (os : List (Option EditFault)) → first_some (when b f ∷ os) ≡ None → first_some os ≡ None
+none_behind true f os h = let wrong : ⊥ = cc in absurd wrong
+none_behind false f os h = h
+
+-- ---- weights
+
+-- what is no more than the limit is counted as it is
+pub counted : (n : ℕ) → n ≤ most limit.Weight → capped (0 + n) ≡ n
+counted n h = ap capped (zero-add n) ∙ min-eq_left (omega (arith, h))
+
+-- ---- answers
+
+pub on_ok : {A B P Q : Type 0} (r : Result A B) → (P → Q) → OnOk r P → OnOk r Q
+on_ok (Ok x) f h = f h
+on_ok (Err e) f h = tt
+
+pub on_err : {A B P Q : Type 0} (r : Result A B) → (P → Q) → OnErr r P → OnErr r Q
+on_err (Ok x) f h = tt
+on_err (Err e) f h = f h
+
+-- a weight that is counted above the limit is above it
+pub is_heavy : (rows : Rows) (e : Edit) (n : ℕ) → n ≡ capped (weight (after rows e)) → 536870912 < n → heavy (after rows e) ≡ Some (fault.Full limit.Weight)
+is_heavy rows e n counted above =
+    let less : most limit.Weight < weight (after rows e) = omega (arith, counted, above) in
+    ap (λ (b : Bool). when b (fault.Full limit.Weight)) (lt-ltb (most limit.Weight) (weight (after rows e)) less)

@@ -1,0 +1,20 @@
+-- An edit that was looked at before it is made: a change of a deprecation has its plan.
+use Rattle.std.specs.Prelude.{⊤, List, Option, Some, None}
+use Rattle.cpe_name.specs.declared.name.Values.{Values}
+use Rattle.cpe_rows.specs.declared.entry.Entry.{Entry}
+use Rattle.cpe_rows.specs.declared.entry.Deprecation.{Deprecation}
+use Rattle.cpe_rows.specs.declared.edit.Edit.{Edit}
+use Rattle.cpe_rows.specs.declared.edit.Edit.TheVariants as edit
+use Rattle.cpe_dictionary.specs.Plans.{IsPlan}
+use Rattle.cpe_dictionary.specs.declared.plans.Plan.{Plan}
+
+-- there is a plan that gives the entry of this name the deprecation, or none
+abbrev pub HasPlan : List Entry → Values → Option Deprecation → Option Plan → Type 0
+HasPlan es n d None = ⊥
+HasPlan es n d (Some p) = IsPlan es n d p
+
+abbrev pub IsPlanned : List Entry → Edit → Option Plan → Type 0
+IsPlanned es (edit.Deprecate n d date comment) o = HasPlan es n (Some d) o
+IsPlanned es (edit.Amend n d date comment) o = HasPlan es n (Some d) o
+IsPlanned es (edit.Restore n date comment) o = HasPlan es n None o
+IsPlanned es e o = ⊤
