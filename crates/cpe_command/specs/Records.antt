@@ -1,5 +1,5 @@
--- What a line of a record says under `resolve` and `evaluate`, what it makes of the rows (NIST IR 7697), and what is written at the end
--- (NIST IR 7698).
+-- What a line of a record says under `resolve`, `evaluate` and `watch`, what it makes of the rows (NIST IR 7697), and what is written at the
+-- end (NIST IR 7698).
 use Rattle.std.specs.Prelude.{ℕ, List, [], ◌∷◌, false, Some, None, Ok, Err}
 use Rattle.std.specs.declared.option.Option.{Option}
 use Rattle.std.specs.declared.result.Result.{Result}
@@ -7,35 +7,44 @@ use Rattle.cpe_session.specs.Session.{Session, Saying}
 use Rattle.cpe_rows.specs.Rows.{Rows}
 use Rattle.cpe_rows.specs.Step.{step}
 use Rattle.cpe_rows.specs.Answers.{answer}
+use Rattle.cpe_rows.specs.Changes.{changes}
+use Rattle.cpe_rows.specs.declared.edit.Edit as edit
 use Rattle.cpe_rows.specs.declared.fault.EditFault.{EditFault}
 use Rattle.cpe_records.specs.Reading.{record_of}
 use Rattle.cpe_records.specs.declared.read.Record.{Record}
 use Rattle.cpe_records.specs.declared.read.Record.TheVariants.{Edit, Query}
 use Rattle.cpe_members.specs.declared.member.RecordFault.{RecordFault}
-use Rattle.cpe_replies.specs.Replies.{reply_text, verdict_table}
+use Rattle.cpe_replies.specs.Replies.{reply_text, verdict_table, changes_text}
 use Rattle.cpe_replies.specs.Reasons.{record_fault_text, edit_fault_text}
 use Rattle.cpe_command.specs.declared.records.RecordCommand.{RecordCommand}
-use Rattle.cpe_command.specs.declared.records.RecordCommand.TheVariants.{Resolve, Evaluate}
+use Rattle.cpe_command.specs.declared.records.RecordCommand.TheVariants.{Resolve, Evaluate, Watch}
 
--- an accepted edit writes nothing
-abbrev pub by_step : Result Rows EditFault → Saying Rows
-by_step (Ok rows) = Ok ([], rows)
-by_step (Err fault) = Err (edit_fault_text fault)
+-- what an accepted edit, the line of this number, writes where it leaves the next rows: nothing, or under `watch` the verdicts that it changes
+abbrev pub edit_text : RecordCommand → ℕ → Rows → edit.Edit → Rows → List ℕ
+edit_text Resolve number rows e next = []
+edit_text Evaluate number rows e next = []
+edit_text Watch number rows e next = changes_text number next e (changes rows e)
+
+-- an accepted edit writes this text of the rows that it leaves
+abbrev pub by_step : (Rows → List ℕ) → Result Rows EditFault → Saying Rows
+by_step text (Ok next) = Ok (text next, next)
+by_step text (Err fault) = Err (edit_fault_text fault)
 
 -- an edit is applied, and a query is answered
-abbrev pub by_record : Rows → Result Record RecordFault → Saying Rows
-by_record rows (Ok (Edit edit)) = by_step (step rows edit)
-by_record rows (Ok (Query query)) = Ok (reply_text (answer rows query), rows)
-by_record rows (Err fault) = Err (record_fault_text fault)
+abbrev pub by_record : RecordCommand → ℕ → Rows → Result Record RecordFault → Saying Rows
+by_record command number rows (Ok (Edit e)) = by_step (edit_text command number rows e) (step rows e)
+by_record command number rows (Ok (Query query)) = Ok (reply_text (answer rows query), rows)
+by_record command number rows (Err fault) = Err (record_fault_text fault)
 
 -- what is written at the end of the input
 abbrev pub ending : RecordCommand → Rows → List ℕ
 ending Resolve rows = []
 ending Evaluate rows = verdict_table rows
+ending Watch rows = []
 
 abbrev pub record_session : RecordCommand → Session Rows
 record_session command = record {
-  says = λ rows number text. by_record rows (record_of text);
+  says = λ rows number text. by_record command number rows (record_of text);
   quiet = false;
   ends = ending command;
   cost = λ rows number text. 0;
@@ -49,7 +58,7 @@ stepped rows (Err fault) = rows
 
 -- the rows that a record leaves
 abbrev pub edited : Rows → Result Record RecordFault → Rows
-edited rows (Ok (Edit edit)) = stepped rows (step rows edit)
+edited rows (Ok (Edit e)) = stepped rows (step rows e)
 edited rows (Ok (Query query)) = rows
 edited rows (Err fault) = rows
 

@@ -1,5 +1,5 @@
 // What a line of a record says.
-ghost use Rattle.std.specs.Prelude.{◌≡◌, ◌++◌, ℕ, List, true, None, IfOk};
+ghost use Rattle.std.specs.Prelude.{◌≡◌, ◌++◌, [], ℕ, List, true, None, IfOk};
 ghost use Rattle.std.specs.Option.{option_map};
 ghost use Rattle.cpe_session.specs.Pages.{IsSaid, StepsWithin};
 ghost use Rattle.cpe_rows.specs.Step.{step};
@@ -7,8 +7,9 @@ ghost use Rattle.cpe_rows.specs.Answers.{answer};
 ghost use Rattle.cpe_rows.specs.Valid.{is_valid_edit};
 ghost use Rattle.cpe_replies.specs.Replies.{reply_text};
 ghost use Rattle.cpe_replies.specs.Reasons.{reason_text};
-ghost use Rattle.cpe_command.specs.Records.{by_step, record_session};
+ghost use Rattle.cpe_command.specs.Records.{by_step, edit_text, record_session};
 
+use crate::changes::say_changes;
 use crate::verdicts::pour_verdicts;
 use cpe_engine::Engine;
 use cpe_io::{Sink, SinkFault};
@@ -28,6 +29,8 @@ pub enum RecordCommand {
     Resolve,
     /// The verdicts of all statements are written there.
     Evaluate,
+    /// The verdicts that an edit changes are written behind it, and nothing at the end.
+    Watch,
 }
 
 impl Speaker for RecordCommand {
@@ -50,9 +53,8 @@ impl Speaker for RecordCommand {
         text: &[u8],
         steps: &mut Steps<L>,
     ) -> Result<Option<RecordReason>, AllocError> {
-        let _ = number;
         match read_record(alloc, text) {
-            Ok(Record::Edit(edit)) => say_edit(state, edit, steps),
+            Ok(Record::Edit(edit)) => self.say_edit(alloc, state, page, number, edit, steps),
             Ok(Record::Query(query)) => say_answer(alloc, state, page, query, steps),
             Err(RecordFault::Memory) => Err(AllocError),
             Err(fault) => Ok(Some(RecordReason::Unread(fault))),
@@ -69,25 +71,48 @@ impl Speaker for RecordCommand {
     ) -> Result<(), SinkFault> {
         let _ = steps;
         match self {
-            RecordCommand::Resolve => Ok(()),
+            RecordCommand::Resolve | RecordCommand::Watch => Ok(()),
             RecordCommand::Evaluate => pour_verdicts(alloc, state, page, sink),
+        }
+    }
+}
+
+impl RecordCommand {
+    // Applies an edit, and writes what the command tells of it; or tells why it can't be applied.
+    fn say_edit<L: Ledger>(
+        &self,
+        alloc: Global,
+        engine: &mut Engine,
+        page: &mut Page,
+        number: u64,
+        edit: Edit,
+        steps: &mut Steps<L>,
+    ) -> Result<Option<RecordReason>, AllocError>
+        requires { is_valid_edit edit ≡ true }
+        ensures said { IfOk result (λ refused. IsSaid (by_step (edit_text self.now number engine.old edit) (step engine.old edit))
+            engine.old engine.new page.old page.new (option_map reason_text refused)) }
+        ensures counts { StepsWithin steps.old steps.new 0 }
+    {
+        match self {
+            RecordCommand::Resolve | RecordCommand::Evaluate => make_edit(engine, edit, steps),
+            RecordCommand::Watch => say_changes(alloc, engine, page, number, edit, steps),
         }
     }
 }
 
 // Applies an edit, or tells why it can't be applied. Nothing is written for one that was.
 #[inline(never)]
-fn say_edit<L: Ledger>(
+fn make_edit<L: Ledger>(
     engine: &mut Engine,
     edit: Edit,
     steps: &mut Steps<L>,
 ) -> Result<Option<RecordReason>, AllocError>
     requires { is_valid_edit edit ≡ true }
     ensures said { IfOk result (λ refused.
-        (page : List ℕ) → IsSaid (by_step (step engine.old edit)) engine.old engine.new page page (option_map reason_text refused)) }
+        (page : List ℕ) → IsSaid (by_step (λ next. []) (step engine.old edit)) engine.old engine.new page page (option_map reason_text refused)) }
     ensures counts { StepsWithin steps.old steps.new 0 }
 {
-    match engine.apply(edit, steps) {
+    match engine.edit(edit, steps) {
         Ok(()) => Ok(None),
         Err(EditFault::Memory) => Err(AllocError),
         Err(fault) => Ok(Some(RecordReason::Refused(fault))),

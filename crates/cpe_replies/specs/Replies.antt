@@ -1,5 +1,6 @@
--- The lines that answer a query, and the table of all verdicts. A name is written as its formatted string.
-use Rattle.std.specs.Prelude.{ℕ, List, ◌++◌, length, codes, Option, Some, None, option_map}
+-- The lines that answer a query, the table of all verdicts, and the lines of those that an edit changes. A name is written as its formatted
+-- string.
+use Rattle.std.specs.Prelude.{ℕ, List, [], ◌++◌, length, codes, Option, Some, None, option_map, slice_get}
 use Rattle.std.specs.List.{flat_map}
 use Rattle.std.specs.Option.{option_map_or}
 use Rattle.std.specs.Fmt.{decimal}
@@ -10,6 +11,9 @@ use Rattle.cpe_rows.specs.Verdict.{verdict}
 use Rattle.cpe_rows.specs.declared.entry.Entry.{Entry}
 use Rattle.cpe_rows.specs.declared.statement.Statement.{Statement}
 use Rattle.cpe_rows.specs.declared.truth.Truth.{Truth}
+use Rattle.cpe_rows.specs.declared.edit.Edit.{Edit}
+use Rattle.cpe_rows.specs.declared.edit.Edit.TheVariants as edit
+use Rattle.cpe_rows.specs.declared.reply.Changed.{Changed}
 use Rattle.cpe_rows.specs.declared.reply.State.{State}
 use Rattle.cpe_rows.specs.declared.reply.State.TheVariants.{Active, Deprecated}
 use Rattle.cpe_rows.specs.declared.reply.Row.{Row}
@@ -71,3 +75,29 @@ statement_line rows s = verdict_line s.id (Some (verdict rows s))
 -- how many statements there are, and the verdict of each in their order
 abbrev pub verdict_table : Rows → List ℕ
 verdict_table rows = codes "verdicts " ++ decimal (length rows.statements) ++ codes "\n" ++ flat_map (statement_line rows) rows.statements
+
+-- a truth, or `none` where there is no verdict
+abbrev pub truth_or_none : Option Truth → List ℕ
+truth_or_none truth = option_map_or truth_word truth (codes "none")
+
+-- a verdict that the line of this number changed: the id of the statement, and the truths before and after
+abbrev pub change_line : ℕ → List ℕ → Changed → List ℕ
+change_line number id c =
+    codes "changed " ++ decimal number ++ codes " " ++ id ++ codes " " ++ truth_or_none c.before ++ codes " " ++ truth_or_none c.after ++ codes "\n"
+
+-- the id of the statement at a place; no id where there is none
+abbrev pub id_at : List Statement → ℕ → List ℕ
+id_at statements place = option_map_or (λ s. s.id) (slice_get statements place) []
+
+-- the id of the statement that an edit drops, if it drops one
+abbrev pub dropped_id : Edit → Option (List ℕ)
+dropped_id (edit.DropStatement id) = Some id
+dropped_id e = None
+
+-- the id of a changed statement: of the one at its place, where it still has a verdict, or else of the one that was dropped
+abbrev pub changed_id : List Statement → Option (List ℕ) → Changed → List ℕ
+changed_id statements dropped c = option_map_or (λ after. id_at statements c.place) c.after (option_map_or (λ id. id) dropped [])
+
+-- what an accepted edit, the line of this number, writes of these changes, by the rows that it leaves
+abbrev pub changes_text : ℕ → Rows → Edit → List Changed → List ℕ
+changes_text number next e changes = flat_map (λ c. change_line number (changed_id next.statements (dropped_id e) c) c) changes

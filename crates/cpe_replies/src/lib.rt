@@ -1,9 +1,11 @@
-//! What records write: the answers to queries as lines, and the reasons why a line is refused.
+//! What records write: the answers to queries as lines, the verdicts that an edit changes, and the reasons why a line is refused.
 #![tactic(auto)]
 
+mod change;
 mod reason;
 mod reply;
 mod row;
 
+pub use change::push_change;
 pub use reason::RecordReason;
 pub use reply::{push_reply, push_verdict};

@@ -1,39 +1,10 @@
 // Runs over memory, whose bytes come and go in pieces, and where reads and writes fail. More lines and their answers are in
 // tests/ of the repository.
-ghost use Rattle.std.specs.Prelude.{◌≡◌, ◌<◌};
-
-use cpe_command::{Status, run};
-use cpe_engine::Engine;
+use crate::runs::{ended, words_of};
+use cpe_command::Status;
 use cpe_io::{MemSink, MemSource};
-use cpe_steps::Steps;
-use std::alloc::{AllocError, Global};
-use std::marker::Brand;
-use std::sync::ledger::{Blank, Ledger};
+use std::alloc::Global;
 use std::test::Fail;
-
-fn words_of(alloc: Global, words: &[&str]) -> Result<Vec<String>, AllocError> {
-    let mut owned = Vec::new(alloc);
-    for word in words {
-        owned.push(String::from_str(alloc, word)?)?;
-    }
-    Ok(owned)
-}
-
-fn run_over<L: Ledger>(
-    alloc: Global,
-    words: &[String],
-    source: &mut MemSource,
-    sink: &mut MemSink,
-    blank: Blank,
-) -> Status
-    requires name { blank.name ≡ L.name }
-    requires parts { blank.parts ≡ L.parts }
-    requires some { 0 < blank.parts }
-{
-    let mut engine = Engine::new(alloc);
-    let mut steps = Steps::<L>::new(blank);
-    run(alloc, words, source, sink, &mut engine, &mut steps)
-}
 
 // Whether a run ends so. A read gives two bytes at most, a write takes seven, and these fail.
 fn ends(
@@ -48,8 +19,8 @@ fn ends(
     let words = words_of(alloc, words)?;
     let mut source = MemSource::new(alloc, input, &[2], read_fails)?;
     let mut sink = MemSink::new(alloc, 7, write_fails)?;
-    let ended = run_over::<Brand>(alloc, &words, &mut source, &mut sink, Blank::new(1));
-    Ok(ended == status && sink.bytes() == output)
+    let found = ended(alloc, &words, &mut source, &mut sink);
+    Ok(found == status && sink.bytes() == output)
 }
 
 fn answers(

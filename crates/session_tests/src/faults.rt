@@ -1,0 +1,203 @@
+// Runs in which one read or one write fails, at each call in turn, and in which bytes come and go in pieces, beside runs without
+// faults. What is owned is made at once and handed on by reference: so the proofs are quick.
+mod names;
+mod records;
+
+use crate::runs::{ended, words_of};
+use cpe_command::Status;
+use cpe_io::{MemSink, MemSource};
+use std::alloc::Global;
+use std::test::Fail;
+
+// As many bytes as any write here has.
+const ALL: usize = 65_536;
+
+// Lines of a command, and how a run goes in which nothing fails.
+#[derive(Clone, Copy)]
+struct Session<'s> {
+    words: &'s [String],
+    // The words under which the same lines are answered with no table behind them.
+    without_table: &'s [String],
+    input: &'s [u8],
+    status: Status,
+    output: &'s [u8],
+}
+
+// How bytes come and go, and the numbers of the calls that fail.
+#[derive(Clone, Copy)]
+struct Ends<'e> {
+    pieces: &'e [usize],
+    reads: &'e [u64],
+    most: usize,
+    writes: &'e [u64],
+}
+
+// How a run ends, and what it writes.
+fn outcome(
+    alloc: Global,
+    words: &[String],
+    input: &[u8],
+    ends: &Ends,
+) -> Result<(Status, MemSink), Fail> {
+    let mut source = MemSource::new(alloc, input, ends.pieces, ends.reads)?;
+    let mut sink = MemSink::new(alloc, ends.most, ends.writes)?;
+    let status = ended(alloc, words, &mut source, &mut sink);
+    Ok((status, sink))
+}
+
+// What lines write under these words where nothing fails and all bytes come and go at once.
+fn written(alloc: Global, words: &[String], input: &[u8]) -> Result<MemSink, Fail> {
+    let ends = Ends {
+        pieces: &[],
+        reads: &[],
+        most: ALL,
+        writes: &[],
+    };
+    let (_, sink) = outcome(alloc, words, input, &ends)?;
+    Ok(sink)
+}
+
+// Whether a run of the session ends and writes so.
+fn goes(
+    alloc: Global,
+    session: &Session,
+    ends: &Ends,
+    status: Status,
+    output: &[u8],
+) -> Result<bool, Fail> {
+    let (ended, sink) = outcome(alloc, session.words, session.input, ends)?;
+    Ok(ended == status && sink.bytes() == output)
+}
+
+// Whether a run goes as one at once does, where bytes come in such pieces and so many go at a time.
+fn goes_in_pieces(
+    alloc: Global,
+    session: &Session,
+    pieces: &[usize],
+    most: usize,
+) -> Result<bool, Fail> {
+    let ends = Ends {
+        pieces,
+        reads: &[],
+        most,
+        writes: &[],
+    };
+    goes(alloc, session, &ends, session.status, session.output)
+}
+
+fn goes_in_all_pieces(alloc: Global, session: &Session) -> Result<bool, Fail> {
+    Ok(
+        goes_in_pieces(alloc, session, &[], ALL)?
+            && goes_in_pieces(alloc, session, &[], 1)?
+            && goes_in_pieces(alloc, session, &[1], ALL)?
+            && goes_in_pieces(alloc, session, &[1, 2, ALL], 3)?,
+    )
+}
+
+fn front(bytes: &[u8], count: usize) -> &[u8] {
+    bytes.get(..count).unwrap_or(bytes)
+}
+
+// Whether a run goes so whose read of this number fails. Each read gives a byte.
+fn goes_until_read(
+    alloc: Global,
+    session: &Session,
+    read: usize,
+    status: Status,
+    output: &[u8],
+) -> Result<bool, Fail> {
+    let ends = Ends {
+        pieces: &[1],
+        reads: &[read as u64],
+        most: ALL,
+        writes: &[],
+    };
+    goes(alloc, session, &ends, status, output)
+}
+
+// Whether a run whose read of this number fails has written what the whole lines until then say, and nothing behind it.
+fn stops_at_read(
+    alloc: Global,
+    session: &Session,
+    read: usize,
+    lines: &[u8],
+) -> Result<bool, Fail> {
+    let wanted = written(alloc, session.without_table, lines)?;
+    goes_until_read(alloc, session, read, Status::ReadFault, wanted.bytes())
+}
+
+// Whether a run stops so at each read before the one that finds the end.
+fn stops_at_each_read(alloc: Global, session: &Session) -> Result<bool, Fail> {
+    let mut lines: &[u8] = &[];
+    for (read, byte) in session.input.iter().enumerate() {
+        if !stops_at_read(alloc, session, read, lines)? {
+            return Ok(false);
+        }
+        if *byte == b'\n' {
+            lines = front(session.input, read.saturating_add(1));
+        }
+    }
+    stops_at_end(alloc, session, lines)
+}
+
+// Whether it stops so at the read that finds the end, and a later one is never made.
+fn stops_at_end(alloc: Global, session: &Session, lines: &[u8]) -> Result<bool, Fail> {
+    let end = session.input.len();
+    let behind = end.saturating_add(1);
+    Ok(
+        stops_at_read(alloc, session, end, lines)?
+            && goes_until_read(alloc, session, behind, session.status, session.output)?,
+    )
+}
+
+// Whether a run whose write of this number fails has written the bytes until then. Each write takes a byte.
+fn stops_at_write(alloc: Global, session: &Session, write: usize) -> Result<bool, Fail> {
+    let ends = Ends {
+        pieces: &[64],
+        reads: &[],
+        most: 1,
+        writes: &[write as u64],
+    };
+    let output = front(session.output, write);
+    goes(alloc, session, &ends, Status::WriteFault, output)
+}
+
+fn stops_at_each_write(alloc: Global, session: &Session) -> Result<bool, Fail> {
+    for (write, _) in session.output.iter().enumerate() {
+        if !stops_at_write(alloc, session, write)? {
+            return Ok(false);
+        }
+    }
+    Ok(true)
+}
+
+fn stands(alloc: Global, session: &Session) -> Result<bool, Fail> {
+    Ok(
+        goes_in_all_pieces(alloc, session)?
+            && stops_at_each_read(alloc, session)?
+            && stops_at_each_write(alloc, session)?,
+    )
+}
+
+// Whether a run ends and writes so in whatever pieces bytes come and go, and at each read and each write that fails leaves what
+// the definition of its ending says: `without_table` are the words under which the same lines are answered with no table behind
+// them.
+pub fn stands_at_each_fault(
+    alloc: Global,
+    words: &[&str],
+    without_table: &[&str],
+    input: &[u8],
+    status: Status,
+    output: &[u8],
+) -> Result<bool, Fail> {
+    let words = words_of(alloc, words)?;
+    let without_table = words_of(alloc, without_table)?;
+    let session = Session {
+        words: &words,
+        without_table: &without_table,
+        input,
+        status,
+        output,
+    };
+    stands(alloc, &session)
+}
