@@ -6,12 +6,13 @@ DESTDIR =
 take_program = mkdir -p build && { cmp -s crates/cpe/out/cpe build/cpe || \
 	{ cp crates/cpe/out/cpe build/cpe.new && mv -f build/cpe.new build/cpe; }; }
 
-.PHONY: help build demo test install bench clean need_rt need_python3
+.PHONY: help build demo test limits install bench clean need_rt need_python3
 
 help:
 	@echo 'make build    proves the program, and builds it into build/cpe'
 	@echo 'make demo     builds it, and reads examples/names.txt with it'
 	@echo 'make test     the gate: rt ci, what each crate took, then checks of the program as rt ci built it'
+	@echo 'make limits   builds it, and fills it up to its limits: minutes, and 4 GB of memory; not in the gate'
 	@echo 'make install  builds it, and puts it into PREFIX/bin (PREFIX=$(PREFIX))'
 	@echo 'make bench    builds it, and measures it against unproved Rust'
 	@echo 'make clean    removes all that was built'
@@ -29,6 +30,9 @@ test: need_rt
 	sh tests/gate.sh
 	@$(take_program)
 	sh tests/own-checks.sh build/cpe
+
+limits: build
+	sh tests/limits.sh build/cpe
 
 install: build
 	mkdir -p '$(DESTDIR)$(PREFIX)/bin'

@@ -40,6 +40,12 @@ statement    statements of three facts each, and nothing else
 unfollowed   the entries of `deprecated` and its edits without the questions; then statements over items
              that are entries, one of them for 129 entries
 followed     the same, the statements in mode follow
+mixed        a session for `watch`, in blocks of eight lines: two entries, an item, a statement in mode follow,
+             the result of its check, a deprecation by which the item is followed to its fact, a search, and in turn
+             a verdict and a restore
+watched      records of `watch`: statements in mode plain, of three facts each, as many as LINES says; then as many
+             items, as many results of checks, of the first hundred of which one in four statements asks, and half
+             of the items dropped
 edges        lines about the greatest length, long ones and odd line ends, and names whose
              attributes stand in other ways (LINES is not read); only for the comparison
              of outputs
@@ -545,6 +551,44 @@ def followed_lines(count):
     return advisories_behind(count, b"follow")
 
 
+RESULTS = (b"TRUE", b"FALSE", b"ERROR", b"UNKNOWN")
+
+
+def mixed_block(number):
+    """Eight lines about one product of two versions."""
+    product = b"p%d" % number
+    name = PREFIX + b"a:v%d:%s:" % (number % 50, product)
+    old, new = name + b"1.0" + b":*" * 7, name + b"2.0" + b":*" * 7
+    check = b'"system":"s","href":"h","id":"c%d"' % (number % 63)
+    test = b'{"op":"OR","of":[{"fact":"%s2.*%s"},{"check":{%s}}]}' % (name, b":*" * 7, check)
+    yield record(b"entry", old, b',"title":"%s 1.0"' % product)
+    yield record(b"entry", new, b',"title":"%s 2.0"' % product)
+    yield record(b"item", old)
+    yield b'{"do":"statement","id":"s%d","mode":"follow","test":%s}' % (number, test)
+    yield b'{"do":"check",%s,"result":"%s"}' % (check, RESULTS[number % 4])
+    yield record(b"deprecate", old, b',"kind":"NAME_CORRECTION","successors":["%s"],"date":"2024-01-01"' % new)
+    yield record(b"search", PREFIX + b"a:v%d:%s*" % (number % 50, product) + b":*" * 8)
+    yield record(b"restore", old, b',"date":"2024-01-02"') if number % 2 else b'{"do":"verdict","id":"s%d"}' % number
+
+
+def mixed_lines(count):
+    return itertools.islice((line for number in itertools.count() for line in mixed_block(number)), count)
+
+
+def watched_lines(count):
+    draw = Draw()
+    names = list(entry_names(draw, 2 * count))
+    for number in range(count):
+        yield statement(draw, number, names, b"plain")
+    items = names[::2]
+    for name in items:
+        yield record(b"item", name)
+    for number in range(1, count + 1):
+        yield b'{"do":"check","system":"oval","href":"defs.xml","id":"def:%d","result":"%s"}' % (number, draw.one_of(RESULTS))
+    for name in items[::2]:
+        yield record(b"drop-item", name)
+
+
 def searched_lines(count):
     """Searches, one third each for a product, for the front of a product's text, and for a part of one."""
     yield from entry_lines(count)
@@ -663,6 +707,8 @@ MODES = {
     "statement": statement_lines,
     "unfollowed": unfollowed_lines,
     "followed": followed_lines,
+    "mixed": mixed_lines,
+    "watched": watched_lines,
 }
 
 

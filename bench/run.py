@@ -1,10 +1,11 @@
 #!/usr/bin/env python3
-"""Measures `cpe unbind`, `cpe bind fs`, `cpe bind uri`, `cpe compare`, `cpe resolve` and `cpe evaluate`
-against unproved Rust programs that write the same, on the same input.
+"""Measures `cpe unbind`, `cpe bind fs`, `cpe bind uri`, `cpe compare`, `cpe resolve`, `cpe evaluate` and
+`cpe watch` against unproved Rust programs that write the same, on the same input.
 
 Prints a table for each command and input: seconds, the ratio to `cpe`, and peak memory; for `cpe resolve`
-what a line takes by the number of entries, and what a deprecation takes beside an entry; and for
-`cpe evaluate` what the table of verdicts takes, and in mode follow beside mode plain.
+what a line takes by the number of entries, and what a deprecation takes beside an entry; for
+`cpe evaluate` what the table of verdicts takes, and in mode follow beside mode plain; and for `cpe watch`
+what a line takes by the number of lines.
 README.md beside this file says how to read it.
 """
 import argparse
@@ -29,6 +30,7 @@ BUILD = TOP / "build" / "bench"
 UNBIND, BIND_FS, BIND_URI, COMPARE = "cpe unbind", "cpe bind fs", "cpe bind uri", "cpe compare"
 RESOLVE = "cpe resolve"
 EVALUATE = "cpe evaluate"
+WATCH = "cpe watch"
 BIND_TWINS = ["bind_tuned", "bind_plain"]
 TWINS = {
     UNBIND: ["unbind_tuned", "unbind_plain"],
@@ -37,6 +39,7 @@ TWINS = {
     COMPARE: ["compare_tuned", "compare_plain"],
     RESOLVE: ["resolve_tuned"],
     EVALUATE: ["resolve_tuned"],
+    WATCH: ["resolve_tuned"],
 }
 COPIES = ["lines"]
 # (it reads records as JSON and writes them again)
@@ -226,6 +229,20 @@ def measure_verdicts(with_table, without, inputs, rounds):
         print(f"{name:<14}" + "".join(f"{(one[name] - two[other]) * 1e3:>26.1f}" for one, two in turns), flush=True)
 
 
+def measure_watched(programs, sizes, rounds):
+    """What a line takes by the number of lines of a session: the more there are, the more verdicts are looked at for each."""
+    print(f"\n{WATCH}, microseconds a line by the number of lines, best of {rounds}, the start of the program taken off")
+    print(f"{'program':<14}{'lines':>10}{'mixed':>12}{'statements':>12}{'watched':>12}")
+    starts = best_times(programs, pathlib.Path(os.devnull), rounds)
+    for count in sizes:
+        statements = max(1, count // 8)
+        mixed, watched = [best_times(programs, it, rounds) for it in (made("mixed", count), made("watched", statements))]
+        for name in programs:
+            # (each statement, and for it an item, a result, and half of an item dropped)
+            line, other = [(it[name] - starts[name]) / of for it, of in ((mixed, count), (watched, 3.5 * statements))]
+            print(f"{name:<14}{count:>10,}{line * 1e6:>12.1f}{statements:>12,}{other * 1e6:>12.1f}", flush=True)
+
+
 def deprecates(words):
     """Whether the program has deprecations; where it hasn't, it refuses what would ask for a chain."""
     run = subprocess.run(words, input=b'{"do":"chain","name":"cpe:/a"}\n', stdout=subprocess.PIPE)
@@ -247,8 +264,8 @@ def reads_uris(words):
 def side_by_side(program, command, others):
     """The words of our program under this command and of the others that are measured with it, by name."""
     first, *binding = command.split()[1:]
-    # (one twin has both commands over records)
-    given = [first] if command == EVALUATE else binding
+    # (one twin has all commands over records)
+    given = [first] if command in (EVALUATE, WATCH) else binding
     twins = {name: [*others[name], *given] for name in TWINS[command] if name in others}
     copies = {name: others[name] for name in COPIES if name in others}
     return {command: [program, first, *binding], **twins, **copies}
@@ -301,10 +318,21 @@ def parts_of(program, others, lines):
         yield EVALUATE, evaluate, [*tables, statements], vectors_of(RESOLVE, EVALUATE)
     else:
         print(f"the program has no command {EVALUATE}: that part is left out")
+    watch = side_by_side(program, WATCH, others)
+    if knows(watch[WATCH]):
+        yield WATCH, watch, [made("mixed", sizes_of(lines)[-1]), made("watched", sizes_of(lines)[-1] // 8)], vectors_of(RESOLVE, EVALUATE, WATCH)
+    else:
+        print(f"the program has no command {WATCH}: that part is left out")
 
 
 def vectors_of(*commands):
     return [path for it in commands for path in sorted((VECTORS / it.split()[1]).glob("*.in"))]
+
+
+def sizes_of(lines):
+    """How many lines the sessions have in which each edit is watched, the shortest first: 600, 1,200 and 2,400 where the
+    other inputs have 1,000,000."""
+    return [max(8, lines * it // 1_000_000) for it in (600, 1_200, 2_400)]
 
 
 def evaluations_of(lines):
@@ -324,6 +352,7 @@ def said():
     parser.add_argument("program", nargs="?", default=TOP / "build" / "cpe", type=pathlib.Path, help="the program cpe (build/cpe)")
     parser.add_argument("--lines", type=int, default=1_000_000, help="lines of the inputs (1000000)")
     parser.add_argument("--rounds", type=int, default=5, help="runs of each program on each input (5)")
+    parser.add_argument("--watched", type=int, help="lines of the one session of watch that is told by the line; 24000 take some twenty minutes a run")
     given = parser.parse_args()
     if not os.access(given.program, os.X_OK) or not given.program.is_file():
         parser.error(f"{given.program} is no program: run make build first")
@@ -358,6 +387,9 @@ def main():
                 for name in COPIES:
                     it.pop(name, None)
             measure_verdicts(*pairs, evaluations_of(given.lines)[0], given.rounds)
+        if command == WATCH:
+            answering = {name: it for name, it in programs.items() if name not in COPIES}
+            measure_watched(answering, [given.watched] if given.watched else sizes_of(given.lines), given.rounds)
     print(f"\nload behind: {os.getloadavg()[0]:.1f}")
 
 

@@ -141,6 +141,59 @@ answers_vectors_without_table() {
     done
 }
 
+# The table that the changes of a watched session come to: of each statement that is left the last verdict, in the order in
+# which they were put.
+table_of_changes() {
+    awk '
+        $1 != "changed" { next }
+        $4 == "none" { at[$3] = ++last; id[last] = $3; count++ }
+        $5 == "none" { delete id[at[$3]]; count--; next }
+        { truth[$3] = $5 }
+        END {
+            print "verdicts " count + 0
+            for (i = 1; i <= last; i++) if (i in id) print "verdict " id[i] " " truth[id[i]]
+        }' "$1"
+}
+
+# without_changes FILE
+without_changes() { sed '/^changed /d' "$1"; }
+
+# On the vectors of watch the other two words write what it writes but for the changes, and these come to the table of evaluate.
+answers_watched_vectors_unwatched() {
+    needs 'the vectors of watch under resolve and evaluate' awk || return
+    for vectors in tests/vectors/watch/*.in; do
+        name=$(basename "$vectors" .in)
+        without_changes "${vectors%.in}.out" > "$room/unwatched.out"
+        wanted_status=0
+        if grep -q '^refused ' "$room/unwatched.out"; then wanted_status=1; fi
+        answers "vectors of watch: resolve, $name" "$vectors" "$room/unwatched.out" "$wanted_status" resolve
+        table_of_changes "${vectors%.in}.out" >> "$room/unwatched.out"
+        answers "vectors of watch: evaluate, $name" "$vectors" "$room/unwatched.out" "$wanted_status" evaluate
+    done
+}
+
+# watches WHAT INPUT OUTPUT: on these lines watch writes OUTPUT, that of evaluate, but for the table, which its changes come to.
+watches() {
+    limited "$program" watch < "$2" > "$room/watched" 2> "$room/error"
+    status=$?
+    wanted_status=0
+    if grep -q '^refused ' "$3"; then wanted_status=1; fi
+    { without_changes "$room/watched"; table_of_changes "$room/watched"; } > "$room/out"
+    judge "$1" "$status" "$wanted_status" "$3"
+}
+
+# The vectors of evaluate and of resolve, watched; of the latter evaluate tells the table.
+watches_vectors() {
+    needs 'the vectors of evaluate and of resolve under watch' awk || return
+    for vectors in tests/vectors/evaluate/*.in; do
+        watches "vectors of evaluate: watch, $(basename "$vectors" .in)" "$vectors" "${vectors%.in}.out"
+    done
+    for vectors in tests/vectors/resolve/*.in; do
+        limited "$program" evaluate < "$vectors" > "$room/with_table.out" 2> /dev/null
+        watches "vectors of resolve: watch, $(basename "$vectors" .in)" "$vectors" "$room/with_table.out"
+    done
+}
+
 # The sessions of the README: what stands behind a dollar sign is run, and the lines below it are what it writes.
 answers_readme() {
     what='the sessions of the README'
@@ -209,20 +262,21 @@ repeated() {
 }
 
 # answers_repeated TIMES INPUT OUTPUT: the answers to so many times INPUT, of which OUTPUT is the answer: the numbers of
-# the refused lines go on.
+# the refused lines go on, and so do those of lines that change verdicts.
 answers_repeated() {
     awk -v times="$1" -v lines="$(repeated 1 "$2" | wc -l)" '
         {
             line[NR] = $0
-            if ($1 == "refused") {
+            if ($1 == "refused" || $1 == "changed") {
+                word[NR] = $1
                 number[NR] = $2
-                sub(/^refused [0-9]+/, "", line[NR])
+                sub(/^[a-z]+ [0-9]+/, "", line[NR])
             }
         }
         END {
             for (done = 0; done < times; done++)
                 for (i = 1; i <= NR; i++)
-                    print (i in number ? "refused " (number[i] + done * lines) : "") line[i]
+                    print (i in number ? word[i] " " (number[i] + done * lines) : "") line[i]
         }' "$3"
 }
 
@@ -662,6 +716,77 @@ statements() {
         }' < /dev/null
 }
 
+# watched lines|answers COUNT: so many statements, each of one name and of two checks: one of ten, and one that all ask for; results of
+# these checks, items of every thirtieth statement, statements that are dropped, refused lines. Of each edit the changes are made
+# here from numbers alone: the first ten checks change a tenth of the statements each, and the last nearly all of them at once.
+watched() {
+    awk -v answers="$([ "$1" = answers ] && echo 1)" -v count="$2" '
+        function uri(n) { return "cpe:/a:v:p" int(n / 100) ":" n % 100 }
+        function record(text) { number++; if (!answers) print text }
+        function answer(text) { if (answers) print text }
+        function refused(text, reason) { record(text); answer("refused " number " " reason) }
+        function key(k) { return "\"system\":\"oval\",\"href\":\"defs.xml\",\"id\":\"c" k "\"" }
+        function changed(n, before, now) { answer("changed " number " s" n " " before " " now) }
+        function kept(k) { return (k in result) ? result[k] : "UNKNOWN" }
+        function verdict(n,   all) {
+            all = ((n in item) ? "TRUE " : "FALSE ") kept(n % 10) " " kept("all")
+            return all ~ /TRUE/ ? "TRUE" : all ~ /ERROR/ ? "ERROR" : all ~ /UNKNOWN/ ? "UNKNOWN" : "FALSE"
+        }
+        function look(n,   now) {
+            if (!(n in was)) return
+            now = verdict(n)
+            if (now != was[n]) changed(n, was[n], now)
+            was[n] = now
+        }
+        function put(n) {
+            record("{\"do\":\"statement\",\"id\":\"s" n "\",\"test\":{\"op\":\"OR\",\"of\":[{\"fact\":\"" uri(n) \
+                "\"},{\"check\":{" key(n % 10) "}},{\"check\":{" key("all") "}}]}}")
+            was[n] = verdict(n)
+            changed(n, "none", was[n])
+        }
+        function drop(n) {
+            record("{\"do\":\"drop-statement\",\"id\":\"s" n "\"}")
+            changed(n, was[n], "none")
+            delete was[n]
+        }
+        function look_at(k,   n) {
+            for (n = k == "all" ? 0 : k; n < count; n += k == "all" ? 1 : 10) if (!(n in again)) look(n)
+            for (n = 3; n < count; n += 21) if (n in again && (k == "all" || n % 10 == k)) look(n)
+        }
+        function set(k, one) {
+            record("{\"do\":\"check\"," key(k) ",\"result\":\"" one "\"}")
+            result[k] = one
+            look_at(k)
+        }
+        function unset(k) {
+            record("{\"do\":\"drop-check\"," key(k) "}")
+            delete result[k]
+            look_at(k)
+        }
+        function add(n) { record("{\"do\":\"item\",\"name\":\"" (n % 60 ? uri(n) : toupper(uri(n))) "\"}"); item[n]; look(n) }
+        function take(n) { record("{\"do\":\"drop-item\",\"name\":\"" uri(n) "\"}"); delete item[n]; look(n) }
+        function spoil(n) {
+            refused("{\"do\":\"item\",\"name\":\"" uri(n) "\"}", "exists")
+            refused("{\"do\":\"drop-item\",\"name\":\"" uri(n + 1) "\"}", "unknown")
+            refused("{\"do\":\"drop-check\"," key(n % 10) "1}", "json")
+        }
+        BEGIN {
+            set("all", "FALSE")
+            for (n = 0; n < count; n++) put(n)
+            for (k = 0; k < 10; k++) set(k, "FALSE")
+            for (n = 0; n < count; n += 30) { add(n); spoil(n) }
+            for (k = 0; k < 10; k++) set(k, k % 2 ? "ERROR" : "TRUE")
+            for (n = 3; n < count; n += 7) drop(n)
+            for (n = 0; n < count; n += 60) take(n)
+            for (k = 0; k < 10; k++) unset(k)
+            # some come again, and stand last
+            for (n = 3; n < count; n += 21) { again[n]; put(n) }
+            set("all", "TRUE")
+            set("all", "ERROR")
+            unset("all")
+        }' < /dev/null
+}
+
 # answers_made WHAT KIB WORD MAKER COUNT: the answers to what a maker makes, in so many KiB of address space.
 answers_made() {
     what="$1: $3" kib=$2 word=$3 maker=$4 count=$5
@@ -832,14 +957,34 @@ checks_of_resolve() {
     fails_on_closed_streams examples/dictionary.jsonl resolve
 }
 
+checks_of_watch() {
+    answers 'a watched inventory' examples/watch.jsonl examples/watch.out 1 watch
+    answers 'an empty input: watch' /dev/null /dev/null 0 watch
+    answers 'a word too many: watch' examples/watch.jsonl "$room/usage.out" 2 watch names
+    answers_in_pieces tests/vectors/watch/refused-edits.in tests/vectors/watch/refused-edits.out watch
+    answers_vectors watch watch
+    answers_watched_vectors_unwatched
+    watches_vectors
+    answers_at_once tests/vectors/watch/changes-alone.in tests/vectors/watch/changes-alone.out 0 watch
+    answers_made '3,000 statements, and edits that change a tenth of them or nearly all' 65536 watch watched 3000
+    fails_for_want_of_memory watch watched 10000
+    fails_on_a_full_device examples/watch.jsonl watch
+    fails_in_mid_write_as_made watch watched 1500
+    fails_in_mid_read_as_made watch watched 1000 '{"do":"drop-statement","id":"s0"}'
+    answers 'a read that fails ends with status 3: watch' . /dev/null 3 watch
+    fails_where_the_reader_goes examples/watch.jsonl examples/watch.out watch
+    fails_on_closed_streams examples/watch.jsonl watch
+}
+
 # each CHECK: the check under each command, on its example; under resolve on lines that may be repeated, since they
-# change nothing.
+# change nothing, and under watch on lines behind which nothing is left.
 each() {
     "$1" examples/mixed.txt examples/mixed.out unbind
     "$1" examples/wfn.txt examples/wfn.out bind fs
     "$1" examples/wfn.txt examples/wfn-uris.out bind uri
     "$1" examples/pairs.txt examples/pairs.out compare
     "$1" tests/vectors/resolve/questions.in tests/vectors/resolve/questions.out resolve
+    "$1" tests/vectors/watch/nothing-is-left.in tests/vectors/watch/nothing-is-left.out watch
 }
 
 for tool in cmp diff head tr cut grep sed basename; do
@@ -876,6 +1021,7 @@ fails_on_words_that_are_no_text
 fails_on_closed_streams examples/names.txt unbind
 checks_of_resolve
 checks_of_evaluate
+checks_of_watch
 
 [ "$skipped" = 0 ] || printf 'OWN CHECKS SKIPPED, which show nothing here:\n%s' "$missing"
 echo "own checks: $passed passed, $failed failed, $skipped skipped"

@@ -1234,16 +1234,20 @@ impl Inventory {
         }
     }
 
-    fn put_verdict(&self, statement: &Statement, dictionary: &Dictionary, covered: &Covered, buffers: &mut Buffers, out: &mut Vec<u8>) {
+    fn verdict_of(&self, statement: &Statement, dictionary: &Dictionary, covered: &Covered, buffers: &mut Buffers) -> Truth {
         let Buffers { plain, marks, .. } = buffers;
-        let truth = self.truth(&statement.test, &mut |name| {
+        self.truth(&statement.test, &mut |name| {
             if !statement.follows {
                 return covered.items.is_covered(name, plain);
             }
             let mut found = false;
             dictionary.each_end(name, marks, |end| found = found || covered.ends.is_covered(end, plain));
             found
-        });
+        })
+    }
+
+    fn put_verdict(&self, statement: &Statement, dictionary: &Dictionary, covered: &Covered, buffers: &mut Buffers, out: &mut Vec<u8>) {
+        let truth = self.verdict_of(statement, dictionary, covered, buffers);
         put_words(&["verdict", &statement.id, TRUTHS[truth as usize]], out);
     }
 
@@ -1289,6 +1293,86 @@ impl Inventory {
     }
 }
 
+/// What of a watched edit is told: the statements whose verdicts it may move, or the one that it puts or drops.
+enum Concerned {
+    Nobody,
+    Some(Vec<u64>),
+    Put,
+    Drop(Box<str>),
+}
+
+impl Test {
+    fn asks(&self, key: &[u8]) -> bool {
+        match self {
+            Test::Logic { of, .. } => of.iter().any(|it| it.asks(key)),
+            Test::Fact(_) => false,
+            Test::Check(asked) => **asked == *key,
+        }
+    }
+}
+
+impl Inventory {
+    fn numbers_where(&self, mut test: impl FnMut(&Statement) -> bool) -> Concerned {
+        Concerned::Some(self.statements.iter().filter(|(_, it)| test(it)).map(|(&number, _)| number).collect())
+    }
+
+    fn concerned(&self, verb: &str, record: &Value) -> Concerned {
+        match verb {
+            "item" | "drop-item" => self.numbers_where(|it| it.facts > 0),
+            "deprecate" | "amend" | "restore" => self.numbers_where(|it| it.facts > 0 && it.follows),
+            "check" | "drop-check" => key_of(record).map_or(Concerned::Nobody, |key| self.numbers_where(|it| it.test.asks(&key))),
+            "statement" => Concerned::Put,
+            "drop-statement" => id_of(record).map_or(Concerned::Nobody, Concerned::Drop),
+            _ => Concerned::Nobody,
+        }
+    }
+
+    fn truths(&self, numbers: &[u64], dictionary: &Dictionary, buffers: &mut Buffers) -> Vec<Truth> {
+        if numbers.is_empty() {
+            return Vec::new();
+        }
+        let all = || numbers.iter().map(|it| &self.statements[it]);
+        let covered = self.covered(dictionary, all().any(|it| it.follows), &mut buffers.marks);
+        all().map(|it| self.verdict_of(it, dictionary, &covered, buffers)).collect()
+    }
+
+    /// The verdicts, before an edit, of the statements that it concerns.
+    fn before(&self, concerned: &Concerned, dictionary: &Dictionary, buffers: &mut Buffers) -> Vec<Truth> {
+        match concerned {
+            Concerned::Some(numbers) => self.truths(numbers, dictionary, buffers),
+            Concerned::Drop(id) => self.statement_numbers.get(id).map_or(Vec::new(), |it| self.truths(&[*it], dictionary, buffers)),
+            Concerned::Nobody | Concerned::Put => Vec::new(),
+        }
+    }
+
+    /// Tells, behind an edit, whose verdict is another one.
+    fn put_changes(&self, line: u64, concerned: &Concerned, before: &[Truth], dictionary: &Dictionary, buffers: &mut Buffers, out: &mut Vec<u8>) {
+        match concerned {
+            Concerned::Nobody => {}
+            Concerned::Some(numbers) => {
+                let after = self.truths(numbers, dictionary, buffers);
+                for ((number, &old), &new) in numbers.iter().zip(before).zip(&after) {
+                    if old != new {
+                        put_change(line, &self.statements[number].id, TRUTHS[old as usize], TRUTHS[new as usize], out);
+                    }
+                }
+            }
+            Concerned::Put => {
+                let after = self.truths(&[self.next], dictionary, buffers)[0];
+                put_change(line, &self.statements[&self.next].id, "none", TRUTHS[after as usize], out);
+            }
+            Concerned::Drop(id) => put_change(line, id, TRUTHS[before[0] as usize], "none", out),
+        }
+    }
+}
+
+fn put_change(line: u64, id: &str, before: &str, after: &str, out: &mut Vec<u8>) {
+    out.extend_from_slice(b"changed ");
+    decimal(out, line);
+    out.push(b' ');
+    put_words(&[id, before, after], out);
+}
+
 /// The words with spaces between, as a line.
 fn put_words(words: &[&str], out: &mut Vec<u8>) {
     for word in words {
@@ -1324,17 +1408,29 @@ fn refuse(out: &mut Vec<u8>, number: u64, reason: &[u8]) {
 struct Kept {
     dictionary: Dictionary,
     inventory: Inventory,
+    watches: bool,
 }
 
 impl Kept {
-    fn resolve(&mut self, buffers: &mut Buffers, line: &[u8], out: &mut Vec<u8>) -> Result<(), Refusal> {
+    fn say(&mut self, buffers: &mut Buffers, number: u64, line: &[u8], out: &mut Vec<u8>) -> Result<(), Refusal> {
         let record = value_of(line).ok_or(For(b" json"))?;
         let verb = record.get("do").and_then(Value::text).unwrap_or_default();
+        if !self.watches {
+            return self.resolve(verb, &record, buffers, out);
+        }
+        let concerned = self.inventory.concerned(verb, &record);
+        let before = self.inventory.before(&concerned, &self.dictionary, buffers);
+        self.resolve(verb, &record, buffers, out)?;
+        self.inventory.put_changes(number, &concerned, &before, &self.dictionary, buffers, out);
+        Ok(())
+    }
+
+    fn resolve(&mut self, verb: &str, record: &Value, buffers: &mut Buffers, out: &mut Vec<u8>) -> Result<(), Refusal> {
         match verb {
             "entry" | "deprecate" | "amend" | "restore" | "lookup" | "search" | "chain" | "show" => {
-                self.dictionary.resolve(verb, &record, buffers, out)
+                self.dictionary.resolve(verb, record, buffers, out)
             }
-            _ => self.inventory.answer(verb, &record, &self.dictionary, buffers, out),
+            _ => self.inventory.answer(verb, record, &self.dictionary, buffers, out),
         }
     }
 }
@@ -1345,7 +1441,7 @@ fn answer(kept: &mut Kept, buffers: &mut Buffers, out: &mut Vec<u8>, number: u64
     if text.is_empty() {
         return false;
     }
-    let Err(reason) = kept.resolve(buffers, text, out) else {
+    let Err(reason) = kept.say(buffers, number, text, out) else {
         return false;
     };
     refuse(out, number, b"");
@@ -1358,8 +1454,8 @@ fn main() -> io::Result<ExitCode> {
     let (mut input, mut output) = (io::stdin().lock(), io::stdout().lock());
     let mut block = vec![0; 1 << 17];
     let mut out = Vec::with_capacity(1 << 18);
-    let (mut kept, mut buffers) = (Kept::default(), Buffers::default());
-    let is_evaluated = std::env::args().nth(1).as_deref() == Some("evaluate");
+    let word = std::env::args().nth(1).unwrap_or_default();
+    let (mut kept, mut buffers) = (Kept { watches: word == "watch", ..Kept::default() }, Buffers::default());
     // A long line is dropped as it comes, up to its newline or the end of input.
     let (mut have, mut number, mut refused, mut is_long) = (0, 0, false, false);
     loop {
@@ -1397,7 +1493,7 @@ fn main() -> io::Result<ExitCode> {
             have = 0;
         }
     }
-    if is_evaluated {
+    if word == "evaluate" {
         kept.inventory.put_table(&kept.dictionary, &mut buffers, &mut out);
     }
     output.write_all(&out)?;

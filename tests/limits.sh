@@ -1,0 +1,195 @@
+#!/bin/sh
+# Tries the limits that no other check comes to, on the built program: sh tests/limits.sh [PROGRAM]. PROGRAM is build/cpe if left
+# out. It takes minutes, and memory: where less than 4 GB is free all is SKIPPED, which is said, and counts as no pass. No
+# input is stored anywhere. The status is 0 where no check failed.
+set -u
+
+program=${1:-build/cpe}
+case $program in /*) ;; *) program=$PWD/$program ;; esac
+cd "$(dirname "$0")/.." || exit 2
+[ -x "$program" ] || { echo "$program is no program: run make build first" >&2; exit 2; }
+
+for tool in awk cmp mkfifo; do
+    command -v "$tool" > /dev/null || { echo "LIMITS SKIPPED, all of them: there is no $tool"; exit 0; }
+done
+free=$(awk '/^MemAvailable:/ { print int($2 / 1024) }' /proc/meminfo 2> /dev/null)
+if [ "${free:-0}" -lt 4096 ]; then
+    echo "LIMITS SKIPPED, all of them: they want 4096 MiB of free memory, and here are ${free:-no one tells how many}"
+    exit 0
+fi
+
+mkdir -p build
+room=$(mktemp -d build/limits.XXXXXX) || exit 2
+trap 'rm -rf "$room"' EXIT
+trap 'exit 130' HUP INT TERM
+failed=0
+
+# Records up to a limit, and the one behind it; then what is still taken. Each maker prints the lines, or the answers to them,
+# made from numbers alone.
+entries() {
+    awk -v answers="$1" '
+        function record(text) { number++; if (!answers) print text }
+        function answer(text) { if (answers) print text }
+        function name(n) { return "cpe:/a:v:p" int(n / 100) ":" n % 100 }
+        function fs(n) { return "cpe:2.3:a:v:p" int(n / 100) ":" n % 100 ":*:*:*:*:*:*:*" }
+        function add(n) { record("{\"do\":\"entry\",\"name\":\"" name(n) "\"}") }
+        function look(n, state) { record("{\"do\":\"lookup\",\"name\":\"" name(n) "\"}"); answer("lookup " fs(n) " " state) }
+        BEGIN {
+            most = 2000000
+            for (n = 0; n < most; n++) add(n)
+            look(most - 1, "active")
+            add(most)
+            answer("refused " number " full entries")
+            look(most, "absent")
+            add(7)
+            answer("refused " number " exists")
+            # what is kept can be edited, and an item is no entry
+            record("{\"do\":\"deprecate\",\"name\":\"" name(0) "\",\"kind\":\"NAME_REMOVAL\",\"date\":\"2024-01-01\"}")
+            look(0, "NAME_REMOVAL")
+            record("{\"do\":\"item\",\"name\":\"" name(most) "\"}")
+            add(most)
+            answer("refused " number " full entries")
+        }' < /dev/null
+}
+
+items() {
+    awk -v answers="$1" '
+        function record(text) { number++; if (!answers) print text }
+        function answer(text) { if (answers) print text }
+        function item(verb, n) { record("{\"do\":\"" verb "\",\"name\":\"cpe:/a:v:p" int(n / 100) ":" n % 100 "\"}") }
+        BEGIN {
+            most = 1000000
+            for (n = 0; n < most; n++) item("item", n)
+            item("item", most)
+            answer("refused " number " full items")
+            # the last goes, and there is room again
+            item("drop-item", most - 1)
+            item("item", most)
+            item("item", most - 1)
+            answer("refused " number " full items")
+        }' < /dev/null
+}
+
+# Statements of 3,000 facts each.
+facts() {
+    awk -v answers="$1" '
+        function record(text) { number++; if (!answers) print text }
+        function answer(text) { if (answers) print text }
+        function put(id, count,   all) {
+            for (; count > 0; count--) all = all (all ? "," : "") "{\"fact\":\"cpe:/a\"}"
+            record("{\"do\":\"statement\",\"id\":\"" id "\",\"test\":{\"op\":\"OR\",\"of\":[" all "]}}")
+        }
+        BEGIN {
+            for (n = 0; n < 333; n++) put(n, 3000)
+            put("more", 1001)
+            answer("refused " number " full facts")
+            put("last", 1000)
+            put("one", 1)
+            answer("refused " number " full facts")
+            # one without facts, and one in the room of another
+            record("{\"do\":\"statement\",\"id\":\"check\",\"test\":{\"op\":\"OR\",\"of\":[{\"check\":{\"system\":\"\",\"href\":\"\",\"id\":\"\"}}]}}")
+            record("{\"do\":\"drop-statement\",\"id\":\"0\"}")
+            put("more", 3000)
+            put("one", 1)
+            answer("refused " number " full facts")
+        }' < /dev/null
+}
+
+# Entries with titles of 60,000 bytes; what weighs nothing more, one byte more, and what is left by a restore and a drop. Of all
+# that is taken the weight is added up here.
+weight() {
+    awk -v answers="$1" '
+        function record(text) { number++; if (!answers) print text }
+        function answer(text) { if (answers) print text }
+        function full() { answer("refused " number " full weight") }
+        function letters(count,   text) {
+            for (text = "x"; length(text) < count; text = text text) { }
+            return substr(text, 1, count)
+        }
+        function name(n) { return "cpe:2.3:a:v:" n ":*:*:*:*:*:*:*:*" }
+        function named(n) { return 32 + length(name(n)) }
+        function add(n, title) { record("{\"do\":\"entry\",\"name\":\"" name(n) "\",\"title\":\"" title "\"}") }
+        # (a note weighs 32, the ten bytes of its date, and its comment)
+        function deprecate(n, one, two, comment) {
+            record("{\"do\":\"deprecate\",\"name\":\"" name(n) "\",\"kind\":\"ADDITIONAL_INFORMATION\",\"successors\":[\"" name(one) \
+                "\",\"" name(two) "\"],\"date\":\"2024-01-01\",\"comment\":\"" comment "\"}")
+        }
+        function check(id, result) { record("{\"do\":\"check\",\"system\":\"\",\"href\":\"\",\"id\":\"" id "\",\"result\":\"" result "\"}") }
+        BEGIN {
+            left = 536870912
+            long = letters(60000)
+            for (n = 1000; left > 64000; n++) {
+                add(n, long)
+                left -= named(n) + 60000
+            }
+            deprecate(1000, 1001, 1002, letters(1000))
+            left -= named(1001) + named(1002) + 42 + 1000
+            add("p", "")
+            left -= named("p")
+            # an entry behind which 400 are left, and before it one that weighs one too many
+            title = letters(left - named("q") - 400)
+            add("q", title letters(401))
+            full()
+            add("q", title)
+            comment = letters(400 - named("p") - named(1001) - 42)
+            deprecate("q", "p", 1001, comment "x")
+            full()
+            record("{\"do\":\"lookup\",\"name\":\"" name("q") "\"}")
+            answer("lookup " name("q") " active")
+            deprecate("q", "p", 1001, comment)
+            # now nothing is left, for any kind of row
+            add("r", "")
+            full()
+            record("{\"do\":\"item\",\"name\":\"cpe:/\"}")
+            full()
+            check("", "TRUE")
+            full()
+            record("{\"do\":\"statement\",\"id\":\"s\",\"test\":{\"op\":\"OR\",\"of\":[{\"fact\":\"cpe:/\"}]}}")
+            full()
+            record("{\"do\":\"amend\",\"name\":\"" name(1000) "\",\"kind\":\"ADDITIONAL_INFORMATION\",\"successors\":[\"" name(1001) \
+                "\",\"" name(1002) "\"],\"date\":\"2024-01-01\"}")
+            full()
+            # other reasons come before the weight
+            add("q", long)
+            answer("refused " number " exists")
+            # a restore gives back what the successors weigh, and takes a note
+            record("{\"do\":\"restore\",\"name\":\"" name("q") "\",\"date\":\"2024-01-02\"}")
+            left = named("p") + named(1001) - 42
+            check(letters(left - 31), "TRUE")
+            full()
+            check(letters(left - 32), "TRUE")
+            check(letters(left - 32), "ERROR")
+            check("", "TRUE")
+            full()
+            # what is dropped weighs nothing any more
+            record("{\"do\":\"drop-check\",\"system\":\"\",\"href\":\"\",\"id\":\"" letters(left - 32) "\"}")
+            check("", "TRUE")
+            check(letters(left - 63), "TRUE")
+            full()
+            check(letters(left - 64), "TRUE")
+        }' < /dev/null
+}
+
+# tries WHAT WORD MAKER
+tries() {
+    rm -f "$room/wanted"
+    mkfifo "$room/wanted"
+    "$3" 1 > "$room/wanted" &
+    "$3" '' | { "$program" "$2"; echo $? > "$room/status"; } | cmp - "$room/wanted" > "$room/difference" 2>&1
+    wait
+    if [ "$(cat "$room/status")" != 1 ]; then
+        failed=1
+        echo "FAILED: $1: status $(cat "$room/status") in place of 1"
+    elif [ -s "$room/difference" ]; then
+        failed=1
+        echo "FAILED: $1: $(cat "$room/difference")"
+    else
+        echo "ok: $1"
+    fi
+}
+
+tries '2,000,000 entries' resolve entries
+tries '1,000,000 items' resolve items
+tries '1,000,000 facts' resolve facts
+tries 'a weight of 536,870,912' resolve weight
+exit "$failed"
