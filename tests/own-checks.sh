@@ -222,8 +222,6 @@ answers_usage() {
     answers 'a word too many' examples/names.txt "$room/usage.out" 2 unbind names
     answers 'an empty word' examples/names.txt "$room/usage.out" 2 ''
     answers 'half of a command' examples/names.txt "$room/usage.out" 2 bind
-    answers 'a number that is none: 0' examples/names.txt "$room/usage.out" 2 make 0
-    answers 'a number that is none: 007' examples/names.txt "$room/usage.out" 2 make 007
 }
 
 # answers_at_once INPUT OUTPUT STATUS WORD..: of two lines the next is sent only when the answer to the one before is there.
@@ -976,6 +974,133 @@ checks_of_watch() {
     fails_on_closed_streams examples/watch.jsonl watch
 }
 
+# ---- make and drill, which read nothing
+
+# generated COUNT: the lines of make, made here from their numbers alone.
+generated() {
+    awk -v count="$1" '
+        function name(version) { return "cpe:2.3:a:v" k % 50 ":p" k ":" version ":*:*:*:*:*:*:*" }
+        function check() { return "\"system\":\"s\",\"href\":\"h\",\"id\":\"c" k % 63 "\"" }
+        function record(verb, members) { return "{\"do\":\"" verb "\"," members "}" }
+        function entry(version) { return record("entry", "\"name\":\"" name(version) "\",\"title\":\"p" k " " version "\"") }
+        function statement() {
+            return record("statement", "\"id\":\"s" k "\",\"mode\":\"follow\",\"test\":{\"op\":\"OR\",\"of\":[{\"fact\":\"" name("2.*") \
+                "\"},{\"check\":{" check() "}}]}")
+        }
+        function result() { return k % 4 == 0 ? "TRUE" : k % 4 == 1 ? "FALSE" : k % 4 == 2 ? "ERROR" : "UNKNOWN" }
+        function deprecation() {
+            return record("deprecate", "\"name\":\"" name("1.0") "\",\"kind\":\"NAME_CORRECTION\",\"successors\":[\"" name("2.0") \
+                "\"],\"date\":\"2024-01-01\"")
+        }
+        function search() { return record("search", "\"name\":\"cpe:2.3:a:v" k % 50 ":p" k "*:*:*:*:*:*:*:*:*\"") }
+        function last() {
+            if (k % 2) return record("restore", "\"name\":\"" name("1.0") "\",\"date\":\"2024-01-02\"")
+            return record("verdict", "\"id\":\"s" k "\"")
+        }
+        function line(place) {
+            if (place == 0) return entry("1.0")
+            if (place == 1) return entry("2.0")
+            if (place == 2) return record("item", "\"name\":\"" name("1.0") "\"")
+            if (place == 3) return statement()
+            if (place == 4) return record("check", check() ",\"result\":\"" result() "\"")
+            if (place == 5) return deprecation()
+            if (place == 6) return search()
+            return last()
+        }
+        BEGIN { for (i = 0; i < count; i++) { k = int(i / 8); print line(i % 8) } }' < /dev/null
+}
+
+# makes_at_volume: 800,000 lines in 64 MiB of address space, none of them stored.
+makes_at_volume() {
+    what='800,000 generated lines: make'
+    needs "$what" awk mkfifo || return
+    bounds "$what" || return
+    rm -f "$room/wanted.pipe"
+    mkfifo "$room/wanted.pipe"
+    generated 800000 > "$room/wanted.pipe" &
+    {
+        (ulimit -v 65536 && limited "$program" make 800000 < /dev/null) 2> "$room/error"
+        echo $? > "$room/status"
+    } | cmp - "$room/wanted.pipe" > "$room/out" 2>&1
+    wait
+    judge "$what" "$(cat "$room/status")" 0 /dev/null
+}
+
+# drills_as_evaluated COUNT: what evaluate answers to the lines of make comes to the numbers of drill.
+drills_as_evaluated() {
+    what="the lines of make under evaluate come to what drill tells: $1"
+    needs "$what" awk || return
+    limited "$program" make "$1" | limited "$program" evaluate > "$room/evaluated" 2> "$room/error"
+    limited "$program" drill "$1" > "$room/drilled" 2>> "$room/error"
+    awk '
+        NR == FNR { number[$1] = $2; next }
+        $1 == "refused" { refused++ }
+        $1 == "search" { found += $3 }
+        $1 == "verdicts" { statements = $2; is_table = 1; next }
+        is_table { times[$3]++ }
+        END {
+            print "refused " refused + 0 - number["refused"]
+            print "found " found + 0 - number["found"]
+            print "statements " statements - number["statements"]
+            for (truth in times) print truth " " times[truth] - number[truth] | "sort"
+        }' "$room/drilled" "$room/evaluated" > "$room/out"
+    printf 'refused 0\nfound 0\nstatements 0\nERROR 0\nFALSE 0\nTRUE 0\nUNKNOWN 0\n' > "$room/wanted"
+    judge "$what" 0 0 "$room/wanted"
+}
+
+# refuses_counts WORD: words that are no number, or none that is counted to.
+refuses_counts() {
+    for count in '' 0 00 007 -1 +1 ' 1' '1 ' 1.0 1e3 0x10 x '½' 9223372036854775808 18446744073709551616 \
+        18446744073709551617 99999999999999999999999999999999; do
+        answers "a number that is none: $1 '$count'" examples/names.txt "$room/usage.out" 2 "$1" "$count"
+    done
+    answers "no number: $1" examples/names.txt "$room/usage.out" 2 "$1"
+    answers "two numbers: $1" examples/names.txt "$room/usage.out" 2 "$1" 1 2
+}
+
+# makes_without_end: as many lines as a number can say, of which a reader takes the first few.
+makes_without_end() {
+    what='a reader that goes away ends the program with status 4: make'
+    {
+        "$program" make 9223372036854775807 2> "$room/error"
+        echo $? > "$room/status"
+    } | head -n 8 > "$room/out"
+    judge "$what" "$(cat "$room/status")" 4 tests/vectors/make/8.out
+}
+
+# drills_in_little_memory: in 16 MiB there is no room for so many rows, and nothing is told of those that found it.
+drills_in_little_memory() {
+    what='where memory runs out the status is 5: drill'
+    bounds "$what" || return
+    (ulimit -v 16384 && limited "$program" drill 200000) > "$room/out" 2> "$room/error"
+    judge "$what" $? 5 /dev/null
+}
+
+checks_of_generated() {
+    for count in 1 8 16; do
+        answers "generated lines: make $count" . "tests/vectors/make/$count.out" 0 make "$count"
+    done
+    for count in 1 7 16 1000 8000; do
+        answers "what generated lines come to: drill $count" . "tests/vectors/drill/$count.out" 0 drill "$count"
+    done
+    makes_at_volume
+    drills_as_evaluated 1000
+    drills_as_evaluated 5003
+    refuses_counts make
+    refuses_counts drill
+    makes_without_end
+    drills_in_little_memory
+    fails_on_a_full_device /dev/null make 100
+    fails_on_a_full_device /dev/null make 100000
+    fails_on_a_full_device /dev/null drill 100
+    limited "$program" drill 16 <&- > "$room/out" 2> "$room/error"
+    judge 'a closed standard input is not read: drill' $? 0 tests/vectors/drill/16.out
+    limited "$program" make 16 < /dev/null >&- 2> "$room/error"
+    status=$?
+    : > "$room/out"
+    judge 'a closed standard output ends with status 4: make' "$status" 4 /dev/null
+}
+
 # each CHECK: the check under each command, on its example; under resolve on lines that may be repeated, since they
 # change nothing, and under watch on lines behind which nothing is left.
 each() {
@@ -1022,6 +1147,7 @@ fails_on_closed_streams examples/names.txt unbind
 checks_of_resolve
 checks_of_evaluate
 checks_of_watch
+checks_of_generated
 
 [ "$skipped" = 0 ] || printf 'OWN CHECKS SKIPPED, which show nothing here:\n%s' "$missing"
 echo "own checks: $passed passed, $failed failed, $skipped skipped"

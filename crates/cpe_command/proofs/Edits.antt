@@ -12,7 +12,8 @@ use Rattle.cpe_records.specs.declared.read.Record.TheVariants.{Edit, Query}
 use Rattle.cpe_members.specs.declared.member.RecordFault.{RecordFault}
 use Rattle.cpe_command.specs.declared.records.RecordCommand.{RecordCommand}
 use Rattle.cpe_command.specs.declared.records.RecordCommand.TheVariants.{Resolve, Evaluate}
-use Rattle.cpe_command.specs.Records.{edit_text, by_step, by_record, record_session, stepped, edited, line_edited}
+use Rattle.cpe_records.specs.Edited.{stepped, edited, line_edited}
+use Rattle.cpe_command.specs.Records.{edit_text, by_step, by_record, record_session}
 
 step_state : (rows : Rows) (text : Rows → List ℕ) (result : Result Rows EditFault) → state_of rows (by_step text result) ≡ stepped rows result
 step_state rows text (Ok now) = refl

@@ -1,7 +1,6 @@
 -- What a line of a record says under `resolve`, `evaluate` and `watch`, what it makes of the rows (NIST IR 7697), and what is written at the
 -- end (NIST IR 7698).
-use Rattle.std.specs.Prelude.{ℕ, List, [], ◌∷◌, false, Some, None, Ok, Err}
-use Rattle.std.specs.declared.option.Option.{Option}
+use Rattle.std.specs.Prelude.{ℕ, List, [], false, Ok, Err}
 use Rattle.std.specs.declared.result.Result.{Result}
 use Rattle.cpe_session.specs.Session.{Session, Saying}
 use Rattle.cpe_rows.specs.Rows.{Rows}
@@ -50,20 +49,3 @@ record_session command = record {
   cost = λ rows number text. 0;
   end_cost = λ rows. 0;
 }
-
--- the rows that a step leaves; a refused one leaves them as they were
-abbrev pub stepped : Rows → Result Rows EditFault → Rows
-stepped rows (Ok now) = now
-stepped rows (Err fault) = rows
-
--- the rows that a record leaves
-abbrev pub edited : Rows → Result Record RecordFault → Rows
-edited rows (Ok (Edit e)) = stepped rows (step rows e)
-edited rows (Ok (Query query)) = rows
-edited rows (Err fault) = rows
-
--- the rows that a line leaves; one without bytes, or one that is too long, is no record
-abbrev pub line_edited : Rows → Option (List ℕ) → Rows
-line_edited rows None = rows
-line_edited rows (Some []) = rows
-line_edited rows (Some (x ∷ xs)) = edited rows (record_of (x ∷ xs))

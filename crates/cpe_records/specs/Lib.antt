@@ -2,3 +2,4 @@ pub mod Verbs
 pub mod Kinds
 pub mod Reading
 pub mod Taken
+pub mod Edited

@@ -1,0 +1,102 @@
+-- The session over the generated records writes its summary alone, refuses none, and comes to the outcome.
+use Rattle.std.proofs.Common.{◌≡◌, ℕ, ◌+◌, zero, suc, Bool, false, ◌||◌, List, [], ◌∷◌, ◌++◌, Some, refl, sym, ap, ◌∙◌, arith}
+use Rattle.cpe_session.specs.declared.status.Status.{Status}
+use Rattle.cpe_session.specs.declared.status.Status.TheVariants.{Done, SomeRefused, Usage, ReadFault, WriteFault, Memory, Endless}
+use Rattle.cpe_session.specs.Session.{Stage, line_says, state_of, next_writes, after_next, after, out_from, start}
+use Rattle.cpe_session.specs.Table.{made_lines}
+use Rattle.cpe_session.specs.Task.{Transcript, speech, spoken}
+use Rattle.cpe_session.specs.Statuses.{status_of}
+use Rattle.cpe_session.specs.Ran.{ReachedBy}
+use Rattle.cpe_session.proofs.SessionLemmas.{after-append, out_from-append, folded-append}
+use Rattle.cpe_rows.specs.Rows.{Rows, no_rows}
+use Rattle.cpe_records.specs.Edited.{line_edited}
+use Rattle.cpe_drill.specs.declared.drilled.Drilled.{Drilled}
+use Rattle.cpe_drill.specs.Generated.{generated}
+use Rattle.cpe_drill.specs.Outcome.{rows_behind, refusals, findings, for_line, summed}
+use Rattle.cpe_drill.specs.Summary.{summary, drill_text}
+use Rattle.cpe_drill.specs.Drill.{undrilled, drill_session, drill_transcript, LeavesRows}
+
+-- the rows behind one line more
+rows_more : (n : ℕ) → line_edited (rows_behind n) (Some (generated n)) ≡ rows_behind (suc n)
+unfolding rows_behind
+rows_more n = sym (folded-append line_edited no_rows (made_lines generated n) (Some (generated n) ∷ []))
+
+-- all that the first n lines come to
+abbrev outcome : ℕ → Drilled
+outcome n = record { engine = rows_behind n; refused = summed refusals n; found = summed findings n }
+
+-- behind a text more
+abbrev with_text : Drilled → List ℕ → Drilled
+with_text d text = record {
+  engine = line_edited d.engine (Some text);
+  refused = d.refused + for_line refusals d.engine text;
+  found = d.found + for_line findings d.engine text;
+}
+
+module _ (count : ℕ) where
+  changes : (d : Drilled) (number : ℕ) (text : List ℕ) → state_of d (line_says (drill_session count) d number (Some text)) ≡ with_text d text
+  changes d number [] =
+      let refused : d.refused ≡ d.refused + 0 = omega arith in
+      let found : d.found ≡ d.found + 0 = omega arith in
+      ap (λ (k : ℕ). let r : Drilled = record { engine = d.engine; refused = k; found = d.found } in r) refused
+      ∙ ap (λ (k : ℕ). let r : Drilled = record { engine = d.engine; refused = d.refused + 0; found = k } in r) found
+  changes d number (x ∷ xs) = refl
+
+  refuses_none : (s : Stage Drilled) (text : List ℕ) → s.refused ≡ false → (after_next (drill_session count) s (Some text)).refused ≡ false
+  refuses_none s [] none = ap (λ b. b || false) none
+  refuses_none s (x ∷ xs) none = ap (λ b. b || false) none
+
+  writes_nothing : (s : Stage Drilled) (text : List ℕ) → next_writes (drill_session count) s (Some text) ≡ []
+  writes_nothing s [] = refl
+  writes_nothing s (x ∷ xs) = refl
+
+  abbrev behind : ℕ → Stage Drilled
+  behind n = after (drill_session count) (start undrilled) (made_lines generated n)
+
+  behind_more : (n : ℕ) → behind (suc n) ≡ after_next (drill_session count) (behind n) (Some (generated n))
+  behind_more n = after-append (drill_session count) (start undrilled) (made_lines generated n) (Some (generated n) ∷ [])
+
+  outcome_more : (n : ℕ) → with_text (outcome n) (generated n) ≡ outcome (suc n)
+  unfolding summed
+  outcome_more n = ap (λ (rows : Rows). let r : Drilled = record { engine = rows; refused = summed refusals (suc n); found = summed findings (suc n) } in r) (rows_more n)
+
+  nothing_drilled : undrilled ≡ outcome 0
+  unfolding summed rows_behind
+  nothing_drilled = refl
+
+  comes_to : (n : ℕ) → (behind n).state ≡ outcome n
+  comes_to zero = nothing_drilled
+  comes_to (suc n) =
+      ap (λ (s : Stage Drilled). s.state) (behind_more n)
+      ∙ changes (behind n).state ((behind n).number + 1) (generated n)
+      ∙ ap (λ (d : Drilled). with_text d (generated n)) (comes_to n)
+      ∙ outcome_more n
+
+  none_refused : (n : ℕ) → (behind n).refused ≡ false
+  none_refused zero = refl
+  none_refused (suc n) = ap (λ (s : Stage Drilled). s.refused) (behind_more n) ∙ refuses_none (behind n) (generated n) (none_refused n)
+
+  nothing_written : (n : ℕ) → out_from (drill_session count) (start undrilled) (made_lines generated n) ≡ []
+  nothing_written zero = refl
+  nothing_written (suc n) =
+      out_from-append (drill_session count) (start undrilled) (made_lines generated n) (Some (generated n) ∷ [])
+      ∙ ap (λ (text : List ℕ). text ++ (next_writes (drill_session count) (behind n) (Some (generated n)) ++ [])) (nothing_written n)
+      ∙ ap (λ (text : List ℕ). text ++ []) (writes_nothing (behind n) (generated n))
+
+-- so the transcript is the summary of the outcome
+pub drill_is_spoken : (n : ℕ) → spoken (speech (drill_session n) undrilled) (made_lines generated n) ≡ drill_transcript n
+drill_is_spoken n =
+    ap (λ (text : List ℕ). let t : Transcript = record { text = text ++ summary n (behind n n).state.refused (behind n n).state.found (behind n n).state.engine; status = status_of (behind n n).refused } in t) (nothing_written n n)
+    ∙ ap (λ (d : Drilled). let t : Transcript = record { text = summary n d.refused d.found d.engine; status = status_of (behind n n).refused } in t) (comes_to n n)
+    ∙ ap (λ (b : Bool). let t : Transcript = record { text = drill_text n; status = status_of b } in t) (none_refused n n)
+
+-- and the rows at the end are those of all lines
+pub drill-leaves : (n : ℕ) (now : Drilled) {steps steps_now : ℕ} (status : Status)
+    → ReachedBy (drill_session n) undrilled now steps steps_now (made_lines generated n) (made_lines generated n) status → LeavesRows n now.engine status
+drill-leaves n now Done reached = ap (λ (d : Drilled). d.engine) (reached.state ∙ comes_to n n)
+drill-leaves n now SomeRefused reached = tt
+drill-leaves n now Usage reached = tt
+drill-leaves n now ReadFault reached = tt
+drill-leaves n now WriteFault reached = tt
+drill-leaves n now Memory reached = tt
+drill-leaves n now Endless reached = tt

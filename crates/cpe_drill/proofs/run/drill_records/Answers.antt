@@ -1,0 +1,37 @@
+use Rattle.std.proofs.Common.{◌≡◌, ◌⊎◌, None, refl, ap, ◌∙◌, subst, arith}
+use Rattle.cpe_session.specs.declared.status.Status.TheVariants.{Memory}
+use Rattle.cpe_session.specs.Ran.{Ran, ReachedBy}
+use Rattle.cpe_session.specs.Table.{made_lines}
+use Rattle.cpe_session.specs.Task.{Transcript, Written, speech, spoken}
+use Rattle.cpe_session.proofs.Runs.{Ran-besides, total_cost-none}
+use Rattle.cpe_drill.specs.declared.drilled.Drilled.{Drilled}
+use Rattle.cpe_drill.specs.Generated.{generated}
+use Rattle.cpe_drill.specs.Drill.{undrilled, drill_session}
+use Rattle.cpe_drill.proofs.DrillLemmas.{drill_is_spoken, drill-leaves}
+use Rattle.cpe_drill.proofs.run.drill_records.Goals as goal
+
+pub returns-clause-ran : goal.returns-clause-ran
+returns-clause-ran g c = λ left.
+    let lines = made_lines generated c.args.count in
+    let ran = subst (λ (first : Drilled). Ran left left (g.K.Sink.held c.args.sink.now) (g.K.Sink.held c.answer_made.new.sink) (Written (spoken (speech (drill_session c.args.count) first) lines))
+    (λ taken status. ReachedBy (drill_session c.args.count) first c.answer_made.new.state c.args.steps.now c.answer_made.new.steps lines lines status) c.answer_made.result)
+    c.requires.fresh (c.answer_made.ensures.ran left) in
+    Ran-besides
+    (subst (λ (all : Transcript). Ran left left (g.K.Sink.held c.args.sink.now) (g.K.Sink.held c.answer_made.new.sink) (Written all)
+    (λ taken status. ReachedBy (drill_session c.args.count) undrilled c.answer_made.new.state c.args.steps.now c.answer_made.new.steps lines lines status) c.answer_made.result)
+    (drill_is_spoken c.args.count) ran)
+    (λ taken reached. drill-leaves c.args.count c.answer_made.new.state c.answer_made.result reached)
+
+-- no record takes a step
+pub returns-clause-steps : goal.returns-clause-steps
+returns-clause-steps g c =
+    let reached = (c.answer_made.ensures.ran None).besides in
+    omega (arith, reached.later, reached.within, total_cost-none (drill_session c.args.count) c.args.drilled.now (λ before number text. refl) (λ behind. refl) (made_lines generated c.args.count))
+
+pub returns-clause-complete : goal.returns-clause-complete
+returns-clause-complete g c = λ none.
+    let ended = c.answer_made.ensures.complete none in
+    let status : (spoken (speech (drill_session c.args.count) c.args.drilled.now) (made_lines generated c.args.count)).status ≡ _ =
+    ap (λ (first : Drilled). (spoken (speech (drill_session c.args.count) first) (made_lines generated c.args.count)).status) c.requires.fresh
+    ∙ ap (λ (all : Transcript). all.status) (drill_is_spoken c.args.count) in
+    subst (λ st. (c.answer_made.result ≡ st) ⊎ (c.answer_made.result ≡ Memory)) status ended

@@ -1,0 +1,44 @@
+-- The session over the generated records: a line writes nothing, and what it comes to is kept.
+use Rattle.std.specs.Prelude.{ℕ, ◌≡◌, ◌+◌, [], true, Result, Ok}
+use Rattle.cpe_session.specs.Session.{Session}
+use Rattle.cpe_session.specs.declared.status.Status.{Status}
+use Rattle.cpe_session.specs.declared.status.Status.TheVariants.{Done}
+use Rattle.cpe_session.specs.Task.{Transcript}
+use Rattle.cpe_rows.specs.Rows.{Rows, no_rows}
+use Rattle.cpe_records.specs.Reading.{record_of}
+use Rattle.cpe_records.specs.Edited.{edited}
+use Rattle.cpe_records.specs.declared.read.Record.{Record}
+use Rattle.cpe_members.specs.declared.member.RecordFault.{RecordFault}
+use Rattle.cpe_drill.specs.declared.drilled.Drilled.{Drilled}
+use Rattle.cpe_drill.specs.Outcome.{rows_behind, refusals, findings}
+use Rattle.cpe_drill.specs.Summary.{summary, drill_text}
+
+-- before the first record
+abbrev pub undrilled : Drilled
+undrilled = record { engine = no_rows; refused = 0; found = 0 }
+
+-- behind one record more
+abbrev pub drilled : Drilled → Result Record RecordFault → Drilled
+drilled before read = record {
+  engine = edited before.engine read;
+  refused = before.refused + refusals before.engine read;
+  found = before.found + findings before.engine read;
+}
+
+abbrev pub drill_session : ℕ → Session Drilled
+drill_session count = record {
+  says = λ before number text. Ok ([], drilled before (record_of text));
+  quiet = true;
+  ends = λ behind. summary count behind.refused behind.found behind.engine;
+  cost = λ before number text. 0;
+  end_cost = λ behind. 0;
+}
+
+-- what is written, and that the run is done
+abbrev pub drill_transcript : ℕ → Transcript
+drill_transcript n = record { text = drill_text n; status = Done }
+
+-- which rows are left: at the end those of all lines
+abbrev pub LeavesRows : ℕ → Rows → Status → Type 0
+LeavesRows n rows Done = rows ≡ rows_behind n
+LeavesRows n rows status = Unit {0}

@@ -1,0 +1,4 @@
+pub mod Generated
+pub mod Outcome
+pub mod Summary
+pub mod Drill

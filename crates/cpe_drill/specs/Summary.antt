@@ -1,0 +1,50 @@
+-- What `drill` writes: twelve lines, each a word and its number.
+use Rattle.std.specs.Prelude.{ℕ, List, [], ◌∷◌, ◌++◌, codes, map, count_by}
+use Rattle.std.specs.List.{flat_map}
+use Rattle.std.specs.Fmt.{decimal}
+use Rattle.cpe_rows.specs.Rows.{Rows}
+use Rattle.cpe_rows.specs.Counts.{counts_of}
+use Rattle.cpe_rows.specs.Truth.{same_truth}
+use Rattle.cpe_rows.specs.Verdict.{verdict}
+use Rattle.cpe_rows.specs.declared.counts.Counts.{Counts}
+use Rattle.cpe_rows.specs.declared.truth.Truth.{Truth}
+use Rattle.cpe_rows.specs.declared.truth.Truth.TheVariants.{True, False, Error, Unknown}
+use Rattle.cpe_drill.specs.Outcome.{rows_behind, refusals, findings, summed}
+
+-- a line of a word and a number
+abbrev pub number_line : List ℕ → ℕ → List ℕ
+number_line word number = word ++ codes " " ++ decimal number ++ codes "\n"
+
+-- how many of the truths are this one
+abbrev pub times : Truth → List Truth → ℕ
+times truth truths = count_by (same_truth truth) truths
+
+-- the lines of these numbers and truths
+abbrev pub summary_of : (count refused found : ℕ) → Counts → List Truth → List ℕ
+summary_of count refused found counts truths =
+    flat_map (λ (line : List ℕ × ℕ). number_line line.0 line.1) (
+    (codes "drill", count)
+    ∷ (codes "refused", refused)
+    ∷ (codes "entries", counts.entries)
+    ∷ (codes "deprecated", counts.deprecated)
+    ∷ (codes "items", counts.items)
+    ∷ (codes "statements", counts.statements)
+    ∷ (codes "checks", counts.checks)
+    ∷ (codes "found", found)
+    ∷ (codes "TRUE", times True truths)
+    ∷ (codes "FALSE", times False truths)
+    ∷ (codes "ERROR", times Error truths)
+    ∷ (codes "UNKNOWN", times Unknown truths)
+    ∷ [])
+
+-- the verdicts of all statements
+abbrev pub verdicts : Rows → List Truth
+verdicts rows = map (verdict rows) rows.statements
+
+-- the lines of these numbers and rows
+unfoldable pub summary : (count refused found : ℕ) → Rows → List ℕ
+summary count refused found rows = summary_of count refused found (counts_of rows) (verdicts rows)
+
+-- what is written for the first n lines
+abbrev pub drill_text : ℕ → List ℕ
+drill_text n = summary n (summed refusals n) (summed findings n) (rows_behind n)

@@ -1,0 +1,132 @@
+// What records came to.
+ghost use Rattle.std.specs.Prelude.{◌≡◌, ◌+◌, Ok, OnOk, true};
+ghost use Rattle.cpe_session.specs.Pages.{StepsWithin};
+ghost use Rattle.cpe_rows.specs.Valid.{is_valid_edit};
+ghost use Rattle.cpe_records.specs.Reading.{record_of};
+ghost use Rattle.cpe_drill.specs.Drill.{drilled};
+ghost use Rattle.cpe_drill.specs.Outcome.{found_by};
+
+use cpe_engine::Engine;
+use cpe_members::RecordFault;
+use cpe_records::{Record, read_record};
+use cpe_rows::{Edit, EditFault, Query, Reply};
+use cpe_steps::Steps;
+use std::alloc::{AllocError, Global};
+use std::sync::ledger::Ledger;
+
+/// What records came to: the rows that they left, how many were refused, and how many entries searches found.
+#[derive(Drop)]
+pub struct Drilled {
+    pub engine: Engine,
+    pub refused: u64,
+    pub found: u64,
+}
+
+impl Drilled {
+    /// The engine that keeps the rows.
+    pub fn into_engine(self) -> Engine
+        ensures { result ≡ self.engine }
+    {
+        let Drilled { engine, .. } = self;
+        engine
+    }
+
+    /// Reads a text as a record, and makes its edit or answers its question.
+    ///
+    /// # Errors
+    /// Want of memory, or of numbers of 64 bits.
+    pub fn read<L: Ledger>(
+        &mut self,
+        alloc: Global,
+        text: &[u8],
+        steps: &mut Steps<L>,
+    ) -> Result<(), AllocError>
+        ensures outcome { OnOk result (self.new ≡ drilled self.old (record_of text.now)) }
+        ensures counts { StepsWithin steps.old steps.new 0 }
+    {
+        match read_record(alloc, text) {
+            Ok(Record::Edit(edit)) => self.edit(edit, steps),
+            Ok(Record::Query(query)) => self.ask(alloc, query, steps),
+            Err(RecordFault::Memory) => Err(AllocError),
+            Err(_) => self.refuse(),
+        }
+    }
+
+    fn edit<L: Ledger>(&mut self, edit: Edit, steps: &mut Steps<L>) -> Result<(), AllocError>
+        requires { is_valid_edit edit ≡ true }
+        ensures outcome { OnOk result (self.new ≡ drilled self.old (Ok (Record.Edit edit))) }
+        ensures counts { steps.new ≡ steps.old }
+    {
+        match self.engine.edit(edit, steps) {
+            Ok(()) => Ok(()),
+            Err(EditFault::Memory) => Err(AllocError),
+            Err(fault) => self.refuse_for(fault),
+        }
+    }
+
+    fn ask<L: Ledger>(
+        &mut self,
+        alloc: Global,
+        query: Query,
+        steps: &mut Steps<L>,
+    ) -> Result<(), AllocError>
+        ensures outcome { OnOk result (self.new ≡ drilled self.old (Ok (Record.Query query))) }
+        ensures counts { steps.new ≡ steps.old }
+    {
+        match self.engine.answer(alloc, query, steps) {
+            Ok(reply) => self.find_in(reply),
+            Err(_) => Err(AllocError),
+        }
+    }
+
+    // The same, where the fault is let go.
+    fn refuse_for(&mut self, fault: EditFault) -> Result<(), AllocError>
+        ensures { OnOk result (self.new ≡ record { engine = self.old.engine; refused = self.old.refused + 1; found = self.old.found }) }
+    {
+        drop(fault);
+        self.refuse()
+    }
+
+    fn refuse(&mut self) -> Result<(), AllocError>
+        ensures { OnOk result (self.new ≡ record { engine = self.old.engine; refused = self.old.refused + 1; found = self.old.found }) }
+    {
+        match self.refused.checked_add(1) {
+            Some(refused) => {
+                self.refused = refused;
+                Ok(())
+            }
+            None => Err(AllocError),
+        }
+    }
+
+    // What the answer found, which is let go.
+    fn find_in(&mut self, reply: Reply) -> Result<(), AllocError>
+        ensures { OnOk result (self.new ≡ record { engine = self.old.engine; refused = self.old.refused; found = self.old.found + found_by reply }) }
+    {
+        let more = found_by(&reply);
+        drop(reply);
+        self.find(more)
+    }
+
+    fn find(&mut self, more: u64) -> Result<(), AllocError>
+        ensures { OnOk result (self.new ≡ record { engine = self.old.engine; refused = self.old.refused; found = self.old.found + more }) }
+    {
+        match self.found.checked_add(more) {
+            Some(found) => {
+                self.found = found;
+                Ok(())
+            }
+            None => Err(AllocError),
+        }
+    }
+}
+
+// How many entries an answer lists as found.
+fn found_by(reply: &Reply) -> u64
+    ensures { result ≡ found_by reply.now }
+{
+    match reply {
+        Reply::Search { rows, .. } => rows.len() as u64,
+        _ => 0,
+    }
+}

@@ -1,0 +1,14 @@
+//! Lines of records that are made by number, as many as are wanted and the same on any machine: a dictionary, an inventory,
+//! statements over both, and questions. [`drill`] reads them as records, one after the other, and tells what they came to.
+#![tactic(auto)]
+
+mod drilled;
+mod line;
+mod record;
+mod run;
+mod summary;
+mod tables;
+
+pub use line::generated;
+pub use run::drill;
+pub use tables::GeneratedLines;

@@ -1,0 +1,104 @@
+// The lines by their numbers.
+ghost use Rattle.std.specs.Prelude.{◌≡◌, ◌++◌, IfOk, OnOk};
+ghost use Rattle.cpe_drill.specs.Generated.{generated, product_line, line_at, last_line, result_word};
+
+use crate::record::{
+    push_check, push_deprecation, push_entry, push_item, push_restore, push_search, push_statement,
+    push_verdict,
+};
+use cpe_session::Page;
+use itoa::Buffer;
+use std::alloc::{AllocError, Global};
+
+// Lines for each product.
+const LINES: u64 = 8;
+
+// So many vendors have all products.
+const VENDORS: u64 = 50;
+
+// So many checks serve all statements.
+const CHECKS: u64 = 63;
+
+/// The line of a number from 0, without a newline.
+///
+/// Eight lines come for each product, in this order: its two versions as entries, the first of them as an item, a statement
+/// about the second, the result of a check, the deprecation of the first for the second, a search, and in turn the verdict of
+/// the statement or the restoration of the first.
+///
+/// # Errors
+/// Want of memory alone.
+pub fn generated(alloc: Global, number: u64) -> Result<Vec<u8>, AllocError>
+    ensures { IfOk result (λ line. line.items ≡ generated number) }
+{
+    let mut page = Page::new(alloc);
+    push_generated(&mut page, number)?;
+    Ok(page.into_bytes())
+}
+
+/// Puts the line of a number from 0 behind what is gathered.
+#[tactic(auto, unfolding(crate::specs::Generated::generated))]
+pub fn push_generated(page: &mut Page, number: u64) -> Result<(), AllocError>
+    ensures { OnOk result (page.new ≡ page.old ++ generated number) }
+{
+    push_of_product(page, number % LINES, number / LINES)
+}
+
+fn push_of_product(page: &mut Page, place: u64, number: u64) -> Result<(), AllocError>
+    ensures { OnOk result (page.new ≡ page.old ++ product_line place number) }
+{
+    let mut vendor = Buffer::new();
+    let mut product = Buffer::new();
+    let mut check = Buffer::new();
+    push_at(
+        page,
+        place,
+        number,
+        vendor.format(number % VENDORS).as_bytes(),
+        product.format(number).as_bytes(),
+        check.format(number % CHECKS).as_bytes(),
+    )
+}
+
+fn push_at(
+    page: &mut Page,
+    place: u64,
+    number: u64,
+    vendor: &[u8],
+    product: &[u8],
+    check: &[u8],
+) -> Result<(), AllocError>
+    ensures { OnOk result (page.new ≡ page.old ++ line_at place number vendor.now product.now check.now) }
+{
+    match place {
+        0 => push_entry(page, vendor, product, b"1.0"),
+        1 => push_entry(page, vendor, product, b"2.0"),
+        2 => push_item(page, vendor, product),
+        3 => push_statement(page, vendor, product, check),
+        4 => push_check(page, check, result_word(number % 4)),
+        5 => push_deprecation(page, vendor, product),
+        6 => push_search(page, vendor, product),
+        _ => push_last(page, number, vendor, product),
+    }
+}
+
+fn push_last(page: &mut Page, number: u64, vendor: &[u8], product: &[u8]) -> Result<(), AllocError>
+    ensures { OnOk result (page.new ≡ page.old ++ last_line number vendor.now product.now) }
+{
+    if number % 2 == 0 {
+        push_verdict(page, product)
+    } else {
+        push_restore(page, vendor, product)
+    }
+}
+
+#[tactic(auto, unfolding(crate::specs::Generated::result_word))]
+fn result_word(turn: u64) -> &'static [u8]
+    ensures { result.now ≡ result_word turn }
+{
+    match turn {
+        0 => b"TRUE",
+        1 => b"FALSE",
+        2 => b"ERROR",
+        _ => b"UNKNOWN",
+    }
+}

@@ -1,0 +1,121 @@
+// The run over the generated records.
+ghost use Rattle.std.specs.Prelude.{◌≡◌, ◌⊎◌, ◌<◌, ◌^◌, ℕ, List};
+ghost use Rattle.std.specs.declared.option.Option.{Option};
+ghost use Rattle.cpe_io.specs.Causes.{Rose};
+ghost use Rattle.cpe_session.specs.Ran.{Ran, Counted};
+ghost use Rattle.cpe_session.specs.Task.{Written};
+ghost use Rattle.cpe_rows.specs.Rows.{no_rows};
+ghost use Rattle.cpe_drill.specs.Drill.{undrilled, drill_session, drill_transcript, LeavesRows};
+
+use crate::drilled::Drilled;
+use crate::summary::push_summary;
+use crate::tables::GeneratedRecords;
+use cpe_engine::Engine;
+use cpe_io::{Sink, SinkFault};
+use cpe_session::{Page, Speaker, Status, TooLong, answer_made};
+use cpe_steps::Steps;
+use std::alloc::{AllocError, Global};
+use std::mem::replace;
+use std::sync::ledger::Ledger;
+
+// The first generated records, so many. None is refused with a reason: refused ones are counted.
+#[derive(Clone, Copy)]
+struct Drilling {
+    count: usize,
+}
+
+impl Speaker for Drilling {
+    type State = Drilled;
+
+    type Reason = TooLong;
+
+    ghost session = { λ drill. drill_session drill.count };
+
+    fn is_quiet(&self) -> bool {
+        true
+    }
+
+    fn say<L: Ledger>(
+        &self,
+        alloc: Global,
+        state: &mut Drilled,
+        page: &mut Page,
+        number: u64,
+        text: &[u8],
+        steps: &mut Steps<L>,
+    ) -> Result<Option<TooLong>, AllocError> {
+        let _ = page;
+        let _ = number;
+        state.read(alloc, text, steps)?;
+        Ok(None)
+    }
+
+    fn say_end<K: Sink, L: Ledger>(
+        &self,
+        alloc: Global,
+        state: &Drilled,
+        page: &mut Page,
+        sink: &mut K,
+        steps: &mut Steps<L>,
+    ) -> Result<(), SinkFault> {
+        let _ = sink;
+        let _ = steps;
+        match push_summary(alloc, page, self.count, state) {
+            Ok(()) => Ok(()),
+            Err(_) => Err(SinkFault::Memory),
+        }
+    }
+}
+
+/// Makes the edits and answers the questions of the first generated records, so many, and writes twelve lines: what they came to.
+pub fn drill<K: Sink, L: Ledger>(
+    alloc: Global,
+    count: usize,
+    engine: &mut Engine,
+    sink: &mut K,
+    steps: &mut Steps<L>,
+) -> Status
+    requires empty { engine.old ≡ no_rows }
+    requires few { count < 2 ^ 63 }
+    ensures ran { (left : Option (List ℕ)) → Ran left left (K.held sink.old) (K.held sink.new) (Written (drill_transcript count))
+        (λ taken status. LeavesRows count engine.new status) result }
+    ensures steps { steps.new ≡ steps.old }
+    ensures sink { Counted Status.WriteFault (K.faults sink.old) (K.faults sink.new) result }
+    ensures read { ¬ (result ≡ Status.ReadFault) }
+    ensures complete { ¬ Rose (K.faults sink.old) (K.faults sink.new) → (result ≡ Status.Done) ⊎ (result ≡ Status.Memory) }
+{
+    let mut drilled = Drilled {
+        engine: replace(engine, Engine::new(alloc)),
+        refused: 0,
+        found: 0,
+    };
+    let status = drill_records(alloc, count, &mut drilled, sink, steps);
+    put_back(engine, drilled.into_engine());
+    status
+}
+
+fn put_back(engine: &mut Engine, kept: Engine)
+    ensures { engine.new ≡ kept }
+{
+    drop(replace(engine, kept));
+}
+
+fn drill_records<K: Sink, L: Ledger>(
+    alloc: Global,
+    count: usize,
+    drilled: &mut Drilled,
+    sink: &mut K,
+    steps: &mut Steps<L>,
+) -> Status
+    requires fresh { drilled.old ≡ undrilled }
+    requires few { count < 2 ^ 63 }
+    ensures ran { (left : Option (List ℕ)) → Ran left left (K.held sink.old) (K.held sink.new) (Written (drill_transcript count))
+        (λ taken status. LeavesRows count drilled.new.engine status) result }
+    ensures steps { steps.new ≡ steps.old }
+    ensures sink { Counted Status.WriteFault (K.faults sink.old) (K.faults sink.new) result }
+    ensures read { ¬ (result ≡ Status.ReadFault) }
+    ensures complete { ¬ Rose (K.faults sink.old) (K.faults sink.new) → (result ≡ Status.Done) ⊎ (result ≡ Status.Memory) }
+{
+    let records = GeneratedRecords { count };
+    answer_made(alloc, &Drilling { count }, drilled, &records, sink, steps)
+}

@@ -1,0 +1,51 @@
+// The first lines, as many as are asked for.
+ghost use Rattle.cpe_drill.specs.Generated.{generated, generated_line};
+
+use crate::line::push_generated;
+use cpe_session::{Page, Table};
+use std::alloc::{AllocError, Global};
+
+/// The first lines as texts to be read, so without newlines.
+#[derive(Clone, Copy, Debug)]
+pub struct GeneratedRecords {
+    /// How many there are.
+    pub count: usize,
+}
+
+impl Table for GeneratedRecords {
+    ghost count = { λ table. table.count };
+
+    ghost text = { λ _ k. generated k };
+
+    fn len(&self) -> usize {
+        self.count
+    }
+
+    fn put(&self, alloc: Global, k: usize, page: &mut Page) -> Result<(), AllocError> {
+        let _ = alloc;
+        push_generated(page, k as u64)
+    }
+}
+
+/// The first lines as they are written, each with its newline.
+#[derive(Clone, Copy, Debug)]
+pub struct GeneratedLines {
+    /// How many there are.
+    pub count: usize,
+}
+
+impl Table for GeneratedLines {
+    ghost count = { λ table. table.count };
+
+    ghost text = { λ _ k. generated_line k };
+
+    fn len(&self) -> usize {
+        self.count
+    }
+
+    fn put(&self, alloc: Global, k: usize, page: &mut Page) -> Result<(), AllocError> {
+        let _ = alloc;
+        push_generated(page, k as u64)?;
+        page.push(b"\n")
+    }
+}
