@@ -10,10 +10,11 @@ take_program = mkdir -p build && { cmp -s crates/cpe/out/cpe build/cpe || \
 
 help:
 	@echo 'make build    proves the program, and builds it into build/cpe'
-	@echo 'make demo     builds it, and reads examples/names.txt with it'
-	@echo 'make test     the gate: rt ci, what each crate took, then checks of the program as rt ci built it'
+	@echo 'make demo     builds it, reads examples/names.txt with it, and goes the whole way from feeds to advisories (needs jq)'
+	@echo 'make test     the gate: rt ci, what each crate took, then checks of the program as rt ci built it, of the manual'
+	@echo '              page, and of the recipes'
 	@echo 'make limits   builds it, and fills it up to its limits: minutes, and 4 GB of memory; not in the gate'
-	@echo 'make install  builds it, and puts it into PREFIX/bin (PREFIX=$(PREFIX))'
+	@echo 'make install  builds it, and puts it into PREFIX/bin, and its manual page into PREFIX/share/man (PREFIX=$(PREFIX))'
 	@echo 'make bench    builds it, and measures it against unproved Rust'
 	@echo 'make clean    removes all that was built'
 
@@ -23,13 +24,21 @@ build: need_rt
 	cd crates/cpe && rt run -- unbind < /dev/null
 	@$(take_program)
 
+# The samples have odd records among them, so the whole way says what it leaves out, and its status is 1.
+whole_way = CPE=build/cpe sh recipes/whole-way.sh recipes/samples/dictionary.json recipes/samples/advisories.json \
+	recipes/samples/cyclonedx.json
+
 demo: build
 	build/cpe unbind < examples/names.txt
+	@if command -v jq > /dev/null; then echo '$(whole_way)'; $(whole_way) || [ $$? = 1 ]; \
+	else echo 'SKIPPED: the whole way from feeds to advisories: there is no jq'; fi
 
 test: need_rt
 	sh tests/gate.sh
 	@$(take_program)
 	sh tests/own-checks.sh build/cpe
+	sh tests/manual-checks.sh build/cpe
+	sh tests/recipe-checks.sh build/cpe
 
 limits: build
 	sh tests/limits.sh build/cpe
@@ -37,6 +46,8 @@ limits: build
 install: build
 	mkdir -p '$(DESTDIR)$(PREFIX)/bin'
 	install -m 755 build/cpe '$(DESTDIR)$(PREFIX)/bin/cpe'
+	mkdir -p '$(DESTDIR)$(PREFIX)/share/man/man1'
+	install -m 644 docs/cpe.1 '$(DESTDIR)$(PREFIX)/share/man/man1/cpe.1'
 
 bench: need_python3 build
 	python3 bench/run.py build/cpe

@@ -1,46 +1,9 @@
 #!/bin/sh
 # Checks of the built program from outside, on real streams: sh tests/own-checks.sh [PROGRAM].
-# PROGRAM is build/cpe if left out. A check whose tool or device is missing here is SKIPPED, says so
-# in the last lines too, and counts as no pass. Nothing is written but below build/. The status is 0
-# where no check failed.
-set -u
-
-program=${1:-build/cpe}
-case $program in /*) ;; *) program=$PWD/$program ;; esac
-cd "$(dirname "$0")/.." || exit 2
-[ -x "$program" ] || { echo "$program is no program: run make build first" >&2; exit 2; }
+# The status is 0 where no check failed.
+. "$(dirname "$0")/checks.sh"
 
 usage='usage: cpe bind fs|bind uri|unbind|compare|resolve|evaluate|watch|make N|drill N'
-passed=0 failed=0 skipped=0
-missing=''
-
-mkdir -p build
-room=$(mktemp -d build/checks.XXXXXX) || exit 2
-trap 'rm -rf "$room"' EXIT
-trap 'exit 130' HUP INT TERM
-
-has() { command -v "$1" > /dev/null 2>&1; }
-
-# A program that hangs is stopped, where the system can.
-limited() { if has timeout; then timeout 60 "$@"; else "$@"; fi; }
-
-pass() { passed=$((passed + 1)); echo "ok: $1"; }
-fail() { failed=$((failed + 1)); echo "FAILED: $1: $2"; }
-skip() {
-    skipped=$((skipped + 1))
-    missing="$missing  $1: $2
-"
-    echo "SKIPPED: $1: $2"
-}
-
-# needs WHAT TOOL..: whether all tools are here that the check of this name needs.
-needs() {
-    lacking=$1
-    shift
-    for tool in "$@"; do
-        has "$tool" || { skip "$lacking" "there is no $tool"; return 1; }
-    done
-}
 
 # bounds WHAT: whether the address space can be bounded here, as the check of this name needs.
 bounds() {
@@ -49,20 +12,6 @@ bounds() {
 
 # letters COUNT: the letter a, so many times.
 letters() { printf "%$1s" '' | tr ' ' a; }
-
-# judge WHAT STATUS WANTED OUTPUT: after a run that ended with STATUS and left its streams in room.
-judge() {
-    if [ "$2" != "$3" ]; then
-        fail "$1" "status $2 in place of $3"
-    elif ! cmp -s "$room/out" "$4"; then
-        fail "$1" 'it writes something else'
-        diff "$4" "$room/out" | head -n 6 | cut -c 1-200
-    elif [ -s "$room/error" ]; then
-        fail "$1" 'it writes to standard error'
-    else
-        pass "$1"
-    fi
-}
 
 # answers WHAT INPUT OUTPUT STATUS WORD..: what the program writes under these words on this input.
 answers() {
@@ -192,26 +141,6 @@ watches_vectors() {
         limited "$program" evaluate < "$vectors" > "$room/with_table.out" 2> /dev/null
         watches "vectors of resolve: watch, $(basename "$vectors" .in)" "$vectors" "$room/with_table.out"
     done
-}
-
-# The sessions of the README: what stands behind a dollar sign is run, and the lines below it are what it writes.
-answers_readme() {
-    what='the sessions of the README'
-    needs "$what" awk || return
-    mkdir -p "$room/bin"
-    printf '#!/bin/sh\nexec "%s" "$@"\n' "$program" > "$room/bin/cpe"
-    chmod +x "$room/bin/cpe"
-    awk -v sent="$room/sent" -v wanted="$room/wanted" '
-        BEGIN { printf "" > sent; printf "" > wanted }
-        !/^    / { is_session = 0; next }
-        { text = substr($0, 5) }
-        is_input { print text > sent; if (text == "END") is_input = 0; next }
-        text ~ /^\$ / { is_session = 1; is_input = text ~ /<</; print substr(text, 3) > sent; next }
-        is_session { print text > wanted }
-        END { print "true" > sent }' README.md
-    (PATH="$room/bin:$PATH" limited sh "$room/sent") > "$room/out" 2> "$room/error"
-    grep -c -e '^cpe ' -e '| cpe ' "$room/sent" > "$room/count"
-    judge "$what, $(cat "$room/count") of them" 0 0 "$room/wanted"
 }
 
 # Words that are no command leave the input unread.
@@ -1112,9 +1041,6 @@ each() {
     "$1" tests/vectors/watch/nothing-is-left.in tests/vectors/watch/nothing-is-left.out watch
 }
 
-for tool in cmp diff head tr cut grep sed basename; do
-    has "$tool" || { echo "OWN CHECKS SKIPPED, all of them: there is no $tool"; exit 0; }
-done
 answers 'the real names' examples/names.txt examples/names.out 0 unbind
 answers 'the mixed lines' examples/mixed.txt examples/mixed.out 1 unbind
 answers 'the pairs of names' examples/pairs.txt examples/pairs.out 1 compare
@@ -1127,7 +1053,7 @@ answers_vectors bind-fs bind fs
 answers_vectors bind-uri bind uri
 answers_vectors compare compare
 answers_usage
-answers_readme
+answers_sessions 'the sessions of the README' < README.md
 answers_at_once examples/names.txt examples/names.out 0 unbind
 each answers_at_volume
 fails_on_a_full_device examples/names.txt unbind
@@ -1149,6 +1075,4 @@ checks_of_evaluate
 checks_of_watch
 checks_of_generated
 
-[ "$skipped" = 0 ] || printf 'OWN CHECKS SKIPPED, which show nothing here:\n%s' "$missing"
-echo "own checks: $passed passed, $failed failed, $skipped skipped"
-[ "$failed" = 0 ]
+end_of_checks 'own checks'

@@ -1,0 +1,189 @@
+#!/bin/sh
+# Checks of the manual page: sh tests/manual-checks.sh [PROGRAM]. It renders without a warning, its lists are those of the
+# code, and its examples write what it says.
+. "$(dirname "$0")/checks.sh"
+
+page=docs/cpe.1
+
+# heads SECTION [SUBSECTION]: the bold words of each .TP there, one line each, sorted; what is slanted is left away.
+heads() {
+    awk -v section="$1" -v part="${2-}" '
+        /^\.SH / { at = substr($0, 5); part_at = "" }
+        /^\.SS / { part_at = substr($0, 5) }
+        at != section || part_at != part { next }
+        is_head {
+            is_head = 0
+            gsub(/\\-/, "-")
+            if ($1 == ".B") print substr($0, 4)
+            else if (match($0, /^\.BI "[^"]*"/)) { head = substr($0, 6, RLENGTH - 6); sub(/ $/, "", head); print head }
+            else if ($1 == ".BI") print $2
+            else print "no head: " $0
+        }
+        $0 == ".TP" { is_head = 1 }' "$page" | sort
+}
+
+# codes FUNCTION FILE: the texts that a function of a specification gives, one line for each of its cases, sorted. A number or
+# a name behind a text is left away.
+codes() {
+    awk -v name="$1" '
+        index($0, name " ") == 1 && / = / {
+            text = ""
+            rest = $0
+            while (match(rest, /codes "[^"]*"/)) {
+                text = text substr(rest, RSTART + 7, RLENGTH - 8)
+                rest = substr(rest, RSTART + RLENGTH)
+            }
+            sub(/(\\n| )$/, "", text)
+            if (text != "") print text
+        }' "$2" | sort
+}
+
+# are_one WHAT: whether the lists in room, of the code and of the page, have the same lines; and there are some.
+are_one() {
+    if [ ! -s "$room/code" ]; then
+        fail "$1" 'no list was found in the code'
+    elif cmp -s "$room/code" "$room/page"; then
+        pass "$1: $(wc -l < "$room/code" | tr -d ' ') of them"
+    else
+        fail "$1" 'the code (<) and the page (>) have different ones'
+        diff "$room/code" "$room/page" | grep '^[<>]'
+    fi
+}
+
+# The reasons, wherever a line is refused. In two of them words of a further list stand at the end or in the middle.
+reasons_of_code() {
+    reasons=crates/cpe_replies/specs/Reasons.antt
+    sed -n 's/.*= Err (codes "\(.*\)").*/\1/p' crates/cpe_session/specs/Session.antt
+    codes name_reason_text crates/cpe_command/specs/Names.antt
+    codes pair_reason_text crates/cpe_command/specs/Pairs.antt
+    codes record_fault_text "$reasons" | grep -v '^name'
+    codes spot_text "$reasons" | sed 's/^/name /'
+    codes edit_fault_text "$reasons" | grep -v '^full'
+    codes which_word "$reasons" | sed 's/^/full /'
+}
+
+# The limits, as a word and a number.
+limits_of_code() {
+    sed -n 's/^most limit\.\([A-Z][a-z]*\) = \([0-9]*\)$/\1 \2/p' crates/cpe_rows/specs/Limits.antt | tr '[:upper:]' '[:lower:]'
+    sed -n 's/^most_\([a-z]*\) = \([0-9]*\)$/\1 \2/p' crates/cpe_rows/specs/Limits.antt
+    sed -n 's/^most_\(depth\) = \([0-9]*\)$/\1 \2/p' crates/cpe_rows/specs/Shape.antt
+    sed -n 's/^is_id .*nat_le (length id) \([0-9]*\).*/id \1/p' crates/cpe_rows/specs/Valid.antt
+    sed -n 's/^pub const LONGEST: usize = \([0-9]*\);$/line \1/p' crates/cpe_io/src/line.rt
+    sed -n 's/^const MOST_BYTES: u64 = 1 << \([0-9]*\);$/\1/p' crates/cpe_session/src/session.rt | awk '{ for (n = 1; $1 > 0; $1--) n *= 2; printf "input %.0f\n", n }'
+}
+
+limits_of_page() {
+    awk '
+        /^\.SH / { at = $2 }
+        at != "LIMITS" { next }
+        is_number { gsub(/,/, "", $1); print word, $1; is_number = 0 }
+        is_head { word = $2; is_head = 0; is_number = 1 }
+        $0 == ".TP" { is_head = 1 }' "$page" | sort
+}
+
+compares_lists() {
+    needs 'the lists of the manual page' awk sort wc || return
+    reasons_of_code | sort > "$room/code"
+    heads REASONS > "$room/page"
+    are_one 'the reasons of the manual page are those of the code'
+
+    limits_of_code | sort > "$room/code"
+    limits_of_page > "$room/page"
+    are_one 'the limits of the manual page are those of the code'
+
+    sed -n 's/.*weighs bytes = \([0-9]*\) + bytes$/\1/p' crates/cpe_rows/specs/Weight.antt > "$room/code"
+    sed -n 's/.*result of a check weighs \([0-9]*\)$/\1/p' "$page" > "$room/page"
+    are_one 'what a row weighs at least on the manual page is that of the code'
+
+    codes verb_word crates/cpe_records/specs/Verbs.antt > "$room/code"
+    heads RECORDS Kinds > "$room/page"
+    are_one 'the kinds of records on the manual page are those of the code'
+
+    codes key_of crates/cpe_members/specs/Keys.antt > "$room/code"
+    heads RECORDS Members > "$room/page"
+    are_one 'the members of records on the manual page are those of the code'
+
+    for kind in kind_word note_kind_word mode_word operator_word truth_word; do
+        codes "$kind" crates/cpe_members/specs/Words.antt
+    done | sort > "$room/code"
+    while read -r word; do
+        sed -n '/^\.SS Members/,/^\.SH /p' "$page" | grep -qE "^\.[BIR]+ $word( |\$)" || continue
+        echo "$word"
+    done < "$room/code" > "$room/page"
+    are_one 'the words of members stand on the manual page'
+
+    codes usage crates/cpe_command/specs/Command.antt | sed 's/^usage: cpe //; s/ N//g' | tr '|' '\n' | sort > "$room/code"
+    heads COMMANDS > "$room/page"
+    are_one 'the commands of the manual page are those of the usage line'
+    sed -n '/^\.SH SYNOPSIS/,/^\.SH DESCRIPTION/s/^\.BI* "*cpe \([a-z ]*[a-z]\)\( ".*\)*$/\1/p' "$page" | sort > "$room/page"
+    are_one 'the commands of the synopsis are those of the usage line'
+
+    {
+        sed -n 's/^    [A-Z][A-Za-z]* = \([0-9]*\),$/\1/p' crates/cpe_session/src/status.rt
+        sed -n 's/^const NO_WORDS: u8 = \([0-9]*\);$/\1/p' crates/cpe/src/main.rt
+    } | sort > "$room/code"
+    heads 'EXIT STATUS' > "$room/page"
+    are_one 'the statuses of the manual page are those of the code'
+}
+
+# renders WHAT TOOL WORD..: without a word about it, and with something to read.
+renders() {
+    what="the manual page renders without a warning: $1"
+    shift
+    needs "$what" "$1" || return
+    limited "$@" > "$room/rendered" 2> "$room/error"
+    status=$?
+    : > "$room/out"
+    judge "$what" "$status" 0 /dev/null
+}
+
+renders_page() {
+    # (where the system leaves manuals out, man may be a script that only says so)
+    if has man && man --version > /dev/null 2>&1; then
+        renders 'man' man --warnings -E UTF-8 -l "$page"
+        grep -q 'refused 2 name 12' "$room/rendered" || fail 'the manual page renders: man' 'an example is missing'
+    else
+        skip 'the manual page renders without a warning: man' 'there is no man'
+    fi
+    renders 'groff' groff -ww -man -T utf8 "$page"
+    what='mandoc finds nothing to complain about'
+    needs "$what" mandoc || return
+    limited mandoc -T lint "$page" > "$room/out" 2> "$room/error"
+    judge "$what" $? 0 /dev/null
+}
+
+# (the program that is installed is the one in build/, which is up to date or else no concern of this check)
+installs_page() {
+    what='make install puts the manual page where man finds it'
+    needs "$what" make install || return
+    [ -x build/cpe ] || { skip "$what" 'there is no build/cpe'; return; }
+    MAKEFLAGS='' limited make -s -o build install DESTDIR="$room/root" PREFIX=/usr > "$room/out" 2> "$room/error"
+    status=$?
+    : > "$room/out"
+    judge "$what" "$status" 0 /dev/null
+    cmp -s "$page" "$room/root/usr/share/man/man1/cpe.1" || fail "$what" 'it is not there'
+}
+
+# As sessions of a text: indented, and with each escape as the byte for which it stands.
+examples() {
+    awk '
+        /^\.SH / { is_section = $0 == ".SH EXAMPLES" }
+        $0 == ".EX" { is_example = is_section; next }
+        $0 == ".EE" { is_example = 0; print "" }
+        !is_example { next }
+        {
+            gsub(/\\\(aq/, "\047")
+            gsub(/\\-/, "-")
+            gsub(/\\&/, "")
+            # (an escape that is not known here stays, and its session fails)
+            gsub(/\\e/, "\\")
+            print "    " $0
+        }' "$page"
+}
+
+renders_page
+installs_page
+compares_lists
+examples > "$room/examples"
+answers_sessions 'the examples of the manual page' < "$room/examples"
+end_of_checks 'manual checks'

@@ -1,0 +1,208 @@
+#!/bin/sh
+# Checks of the recipes, each over its sample, over bad feeds, and where a worker dies: sh tests/recipe-checks.sh [PROGRAM].
+. "$(dirname "$0")/checks.sh"
+
+CPE=$program
+export CPE
+samples=recipes/samples
+
+# recipe WHAT STATUS OUTPUT SAID COMMAND..: what a command writes, and what it says on standard error.
+recipe() {
+    what=$1 wanted_status=$2 wanted=$3 said=$4
+    shift 4
+    limited "$@" < /dev/null > "$room/out" 2> "$room/error"
+    judge "$what" $? "$wanted_status" "$wanted" "$said"
+}
+
+# converts NAME SAMPLE: a recipe on its sample, in which there are odd records.
+converts() {
+    needs "the recipe $1 on $2" jq awk mktemp || return
+    recipe "the recipe $1 on $2" 1 "$samples/$2.jsonl" "$samples/$2.said" sh "recipes/$1.sh" "$samples/$2.json"
+    # (each record is accepted; the deprecations and statements of a dictionary need its entries alone)
+    limited "$program" resolve < "$room/out" > "$room/refused" 2> "$room/error"
+    status=$?
+    mv "$room/refused" "$room/out"
+    judge "the records of the recipe $1 on $2 are accepted" "$status" 0 /dev/null
+}
+
+# says WHAT STATUS LINE NAME FILE..: a recipe over feeds of which none gives a record, with the front of the only line that it says.
+says() {
+    what=$1 wanted_status=$2 front=$3 name=$4
+    shift 4
+    limited sh "recipes/$name.sh" "$@" > "$room/out" 2> "$room/said" < /dev/null
+    status=$?
+    : > "$room/error"
+    if [ "$(head -c ${#front} "$room/said")" != "$front" ] || [ "$(wc -l < "$room/said")" -ne 1 ]; then
+        fail "$what" "it says: $(head -n 3 "$room/said")"
+    else
+        judge "$what" "$status" "$wanted_status" /dev/null
+    fi
+}
+
+# refuses_feeds NAME SAMPLE EMPTY: bad feeds, alone and beside a good one; EMPTY is a right feed with nothing in it.
+refuses_feeds() {
+    needs "bad feeds: $1" jq awk mktemp wc || return
+    : > "$room/no-bytes.json"
+    printf '%s' "$3" > "$room/no-records.json"
+    printf '<html>too many requests</html>\n' > "$room/page.json"
+    head -c 700 "$samples/$2.json" > "$room/torn.json"
+    printf '[]\n' > "$room/array.json"
+    says "a feed without records: $1" 0 'no-records.json: no ' "$1" "$room/no-records.json"
+    says "a feed without bytes: $1" 1 'left out no-bytes.json: no JSON: it is empty' "$1" "$room/no-bytes.json"
+    says "a feed that is no JSON: $1" 1 'left out page.json: no JSON: ' "$1" "$room/page.json"
+    says "a feed that is torn off: $1" 1 'left out torn.json: no JSON: ' "$1" "$room/torn.json"
+    says "a feed of another kind: $1" 1 'left out array.json: n' "$1" "$room/array.json"
+    says "a feed that isn't there: $1" 1 'left out none.json: can not be read' "$1" "$room/none.json"
+    { echo 'left out no-bytes.json: no JSON: it is empty'; cat "$samples/$2.said"; } > "$room/wanted.said"
+    recipe "a good feed beside a bad one: $1" 1 "$samples/$2.jsonl" "$room/wanted.said" \
+        sh "recipes/$1.sh" "$room/no-bytes.json" "$samples/$2.json"
+    what="a recipe where there is no program: $1"
+    limited env CPE="$room/none" sh "recipes/$1.sh" "$samples/$2.json" > "$room/out" 2> "$room/said"
+    status=$?
+    : > "$room/error"
+    judge "$what" "$status" 2 /dev/null
+}
+
+# The samples together, which the table of the whole way has.
+goes_the_whole_way() {
+    what='the whole way'
+    needs "$what" jq awk mktemp || return
+    cat "$samples/dictionary.said" "$samples/advisories.said" "$samples/cyclonedx.said" > "$room/wanted.said"
+    recipe "$what" 1 "$samples/affected.out" "$room/wanted.said" \
+        sh recipes/whole-way.sh "$samples/dictionary.json" "$samples/advisories.json" "$samples/cyclonedx.json"
+}
+
+makes_tables() {
+    needs 'a table for people' awk || return
+    echo "$(grep -c '^refused ' examples/inventory.out) lines refused" > "$room/wanted.said"
+    recipe 'a table for people' 1 "$samples/table.out" "$room/wanted.said" sh recipes/affected.sh examples/inventory.out
+    echo 'no whole table of verdicts: cpe evaluate has not come to its end' > "$room/wanted.said"
+    sed '$d' examples/inventory.out > "$room/torn.out"
+    recipe 'a table for people, of a run that was torn off' 2 /dev/null "$room/wanted.said" sh recipes/affected.sh "$room/torn.out"
+    recipe 'a table for people, of a run that wrote nothing' 2 /dev/null "$room/wanted.said" sh recipes/affected.sh /dev/null
+    sed -n '/^verdicts /,$p' examples/inventory.out > "$room/unrefused.out"
+    recipe 'a table for people, of a run without refused lines' 0 "$samples/table.out" /dev/null sh recipes/affected.sh "$room/unrefused.out"
+}
+
+# A program in room that is cpe, but once it reads the front of its input and then kills what runs it, a shell or a worker of
+# Dask, and once itself. (The same piece may be the one that is hit twice, and a third time it would be given up.)
+killing() {
+    rm -rf "$room/killed."*
+    {
+        printf '#!/bin/sh\nprogram=%s room=%s\n' "'$program'" "'$room'"
+        cat <<'END'
+front() {
+    n=0
+    while [ $n -lt 25 ] && IFS= read -r line; do
+        printf '%s\n' "$line"
+        n=$((n + 1))
+    done
+}
+case $1 in
+resolve | unbind)
+    if mkdir "$room/killed.above" 2> /dev/null; then
+        { front; kill -9 $PPID; } | "$program" "$@"
+        exit 1
+    fi
+    if mkdir "$room/killed.itself" 2> /dev/null; then
+        { front; kill -9 $$; } | "$program" "$@"
+    fi
+    ;;
+esac
+exec "$program" "$@"
+END
+    } > "$room/killing"
+    chmod +x "$room/killing"
+}
+
+# killed WHAT: whether both deaths took place.
+killed() {
+    if ! [ -d "$room/killed.above" ] || ! [ -d "$room/killed.itself" ]; then fail "$1" 'nothing was killed'; fi
+}
+
+# The words without state: order, numbers of refused lines and statuses are those of one run.
+goes_over_lines() {
+    what='the words without state over GNU parallel'
+    needs "$what" parallel split awk mktemp || return
+    for times in 1 2 3 4 5 6 7 8; do awk 1 examples/mixed.txt; done > "$room/lines"
+    limited "$program" unbind < "$room/lines" > "$room/wanted"
+    limited env PIECE=30 WORKERS=4 sh recipes/fleet/lines.sh unbind < "$room/lines" > "$room/out" 2> "$room/error"
+    judge "$what: unbind" $? 1 "$room/wanted"
+    limited env PIECE=7 sh recipes/fleet/lines.sh bind fs < examples/names.out > "$room/out" 2> "$room/error"
+    judge "$what: bind fs" $? 0 examples/names.txt
+    limited sh recipes/fleet/lines.sh compare < /dev/null > "$room/out" 2> "$room/error"
+    judge "$what: an empty input" $? 0 /dev/null
+    killing
+    limited env CPE="$room/killing" PIECE=30 WORKERS=2 sh recipes/fleet/lines.sh unbind < "$room/lines" > "$room/out" 2> "$room/error"
+    judge "$what: pieces that are killed are done again" $? 1 "$room/wanted"
+    killed "$what"
+    printf '#!/bin/sh\nkill -9 $$\n' > "$room/killing"
+    : > "$room/error"
+    limited env CPE="$room/killing" sh recipes/fleet/lines.sh unbind < "$room/lines" > "$room/out" 2> "$room/said"
+    judge "$what: a piece that never comes to its end" $? 5 /dev/null
+}
+
+# The fleet, against cpe evaluate machine by machine.
+makes_fleet() {
+    cat "$samples/dictionary.jsonl" "$samples/advisories.jsonl" > "$room/records"
+    while read -r machine items; do
+        [ -n "$machine" ] || continue
+        for item in $items; do jq -cn --arg name "$item" '{do: "item", $name}'; done |
+            cat "$room/records" - | limited "$program" evaluate |
+            awk -v machine="$machine" 'is_table { print machine, $2, $3 } /^verdicts / { is_table = 1 }'
+    done < "$samples/machines.txt" > "$room/evaluated"
+}
+
+checks_fleet() {
+    what='the fleet of the sample is what cpe evaluate says of each machine'
+    needs "$what" jq awk || return
+    makes_fleet
+    cp "$room/evaluated" "$room/out"
+    : > "$room/error"
+    judge "$what" 0 0 "$samples/machines.out"
+}
+
+# fleet WHAT COMMAND..: the machines of the sample, once quietly, and once where workers are killed.
+fleet() {
+    fleet=$1
+    shift
+    recipe "$fleet" 1 "$samples/machines.out" "$samples/machines.said" "$@"
+    killing
+    limited env CPE="$room/killing" "$@" > "$room/out" 2> "$room/said" < /dev/null
+    status=$?
+    # (an engine may say on its own that a worker is gone)
+    grep '^left out ' "$room/said" > "$room/error"
+    judge "$fleet: workers that are killed lose nothing" "$status" 1 "$samples/machines.out" "$samples/machines.said"
+    killed "$fleet"
+}
+
+goes_over_a_fleet() {
+    cat "$samples/dictionary.jsonl" "$samples/advisories.jsonl" > "$room/records"
+    if needs 'a fleet over GNU parallel' parallel split awk mktemp; then
+        fleet 'a fleet over GNU parallel' env WORKERS=2 sh recipes/fleet/parallel.sh "$room/records" "$samples/machines.txt"
+    fi
+    for python in python3 /usr/bin/python3 ''; do
+        if [ -n "$python" ] && "$python" -c 'import distributed' 2> /dev/null; then break; fi
+    done
+    if [ -z "$python" ]; then
+        skip 'a fleet over Dask' 'no python3 has the module distributed'
+    else
+        fleet 'a fleet over Dask' "$python" recipes/fleet/dask_fleet.py "$room/records" "$samples/machines.txt" --workers 2 --block 2
+    fi
+}
+
+converts dictionary dictionary
+converts dictionary matches
+converts advisories advisories
+converts inventory cyclonedx
+converts inventory spdx
+refuses_feeds dictionary dictionary '{"resultsPerPage":0,"startIndex":0,"totalResults":0,"format":"NVD_CPE","version":"2.0","products":[]}'
+refuses_feeds advisories advisories '{"resultsPerPage":0,"startIndex":0,"totalResults":0,"format":"NVD_CVE","version":"2.0","vulnerabilities":[]}'
+refuses_feeds inventory spdx '{"spdxVersion":"SPDX-2.3","packages":[]}'
+goes_the_whole_way
+needs "the sessions of the recipes' README" jq awk && answers_sessions "the sessions of the recipes' README" < recipes/README.md
+makes_tables
+goes_over_lines
+checks_fleet
+goes_over_a_fleet
+end_of_checks 'recipe checks'
