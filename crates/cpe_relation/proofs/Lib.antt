@@ -4,3 +4,4 @@ pub mod SeenLemmas
 pub mod Tables
 pub mod ValueLaws
 pub mod NameLaws
+pub mod NearLaws

@@ -15,7 +15,9 @@ use Rattle.cpe_relation.specs.declared.relation.Relation.TheVariants.{Disjoint, 
 use Rattle.cpe_relation.specs.Table.{relation}
 use Rattle.cpe_relation.specs.NameRelation.{relation_of, is_disjoint, is_equal, is_within, is_above, relations, of_all, name_relation, covers}
 use Rattle.cpe_relation.specs.Attributes.{each_relation}
+use Rattle.cpe_relation.specs.Near.{near}
 use Rattle.cpe_relation.specs.Laws.{converse, is_plain_name}
+use Rattle.cpe_relation.proofs.NearLaws.{above_near}
 use Rattle.cpe_relation.proofs.ValueLaws.{above_through, above_one, relation_lower, relation_back, relation_self}
 
 -- ---- lists of relations
@@ -112,6 +114,17 @@ lowered_same a b (w ∷ ws) h k =
 pub covers_one : (a b : Values) → covers a b ≡ true → covers b a ≡ true → lower_name a ≡ lower_name b
 unfolding covers
 covers_one a b h k = ap named (lowered_same a b attributes h k)
+
+abbrev from_version : List Attribute
+from_version = Version ∷ Update ∷ Edition ∷ Language ∷ SwEdition ∷ TargetSw ∷ TargetHw ∷ Other ∷ []
+
+pub covers_near : (a b : Values) → covers a b ≡ true → near a.product b.product ≡ true
+unfolding covers
+covers_near a b h =
+    let p = and_parts (is_above (relation a.part b.part)) (list_all is_above (between a b (Vendor ∷ Product ∷ from_version))) h in
+    let q = and_parts (is_above (relation a.vendor b.vendor)) (list_all is_above (between a b (Product ∷ from_version))) p.1 in
+    let r = and_parts (is_above (relation a.product b.product)) (list_all is_above (between a b from_version)) q.1 in
+    above_near a.product b.product r.0
 
 -- ---- letter case
 

@@ -22,7 +22,7 @@ use Rattle.cpe_relation.proofs.Splits.{agree, matches-Decides, same_lower-Decide
 
 -- ---- what stands above a text
 
-above_unless : (x : Bool) (r : Relation) → is_above (cond x Undefined r) ≡ true → (x ≡ false) × (is_above r ≡ true)
+pub above_unless : (x : Bool) (r : Relation) → is_above (cond x Undefined r) ≡ true → (x ≡ false) × (is_above r ≡ true)
 above_unless true r h = absurd cc
 above_unless false r h = (refl, h)
 
@@ -37,10 +37,10 @@ above_cond false y true = refl
 above_cond false y false = refl
 
 -- a text is above a plain text where it matches it, or is plain and the same in lower case
-abbrev above_text : Parts → List ℕ → Bool
+abbrev pub above_text : Parts → List ℕ → Bool
 above_text s t = cond (has_special s) (matches s t) (same_lower s.body t)
 
-above_is : (s : Parts) (t : List ℕ) → is_above (to_plain s t) ≡ above_text s t
+pub above_is : (s : Parts) (t : List ℕ) → is_above (to_plain s t) ≡ above_text s t
 above_is s t = above_cond (has_special s) (matches s t) (same_lower s.body t)
 
 -- another text that is the same in lower case

@@ -6,3 +6,4 @@ pub mod NameRelation
 pub mod Laws
 pub mod Attributes
 pub mod Order
+pub mod Near

@@ -11,6 +11,7 @@ ghost use Rattle.cpe_relation.specs.Table.{relation};
 ghost use Rattle.cpe_relation.specs.Related.{Related};
 ghost use Rattle.cpe_relation.specs.NameRelation.{relations, name_relation, covers};
 ghost use Rattle.cpe_relation.specs.Laws.{converse, is_plain_name};
+ghost use Rattle.cpe_relation.specs.Near.{near};
 
 use crate::Relation;
 
@@ -22,11 +23,13 @@ pub fn one_relation()
 {}
 
 /// When a name covers another: exactly where their relation is EQUAL or SUPERSET. A name also covers what is covered by a
-/// name that it covers, and names that cover each other are the same in lower case.
+/// name that it covers, names that cover each other are the same in lower case, and the product of a name is near those of the
+/// names that it covers.
 pub fn cover_laws()
     ensures relation { (a b : Values) → IsTrue (covers a b) ↔ ((name_relation a b ≡ Relation.Equal) ⊎ (name_relation a b ≡ Relation.Superset)) }
     ensures transitive { (a b c : Values) → IsTrue (covers a b) → IsTrue (covers b c) → IsTrue (covers a c) }
     ensures mutual { (a b : Values) → IsTrue (covers a b) → IsTrue (covers b a) → lower_name a ≡ lower_name b }
+    ensures near { (a b : Values) → IsTrue (covers a b) → IsTrue (near a.product b.product) }
 {}
 
 /// What letter case and specials have to do with relations.

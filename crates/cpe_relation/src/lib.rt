@@ -14,6 +14,9 @@
 //! A name that is asked of many targets is compared by [`covers_in_order`]: [`deciding_order`] finds once which of its
 //! attributes soonest decide, and most targets are then told by one of them.
 //!
+//! [`near`] compares products alone, and more coarsely: a name covers no name to whose product its own is not near, and which
+//! products are near is found by their texts' fronts and ends.
+//!
 //! Some laws are stated as functions that do nothing: [`one_relation`], [`cover_laws`] and [`relation_laws`].
 //! What does not hold:
 //! - `8.*` against itself is UNDEFINED, as each attribute is whose target has a special; so [`covers`] is not reflexive
@@ -26,6 +29,7 @@ mod above;
 mod laws;
 mod matching;
 mod names;
+mod nearness;
 mod order;
 mod relation;
 mod seen;
@@ -33,6 +37,7 @@ mod table;
 
 pub use laws::{cover_laws, one_relation, relation_laws};
 pub use names::{compare_lent, compare_names, covers};
+pub use nearness::near;
 pub use order::{covers_in_order, deciding_order};
 pub use relation::{Relation, Relations};
 pub use table::{compare_borrowed, compare_values};

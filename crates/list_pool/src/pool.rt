@@ -68,7 +68,7 @@ impl Pool {
         ensures lists { self.new.lists ≡ self.old.lists }
         ensures err { OnErr result (self.new ≡ self.old) }
     {
-        let have = self.store.free_len as usize + self.store.room as usize;
+        let have = self.spare();
         if have >= n {
             return Ok(());
         }
@@ -76,6 +76,20 @@ impl Pool {
         self.store.items.reserve(more)?;
         self.store.room = more as u32;
         Ok(())
+    }
+
+    /// How many slots the live lists take: one each, and one for each of their values. A constant time.
+    pub fn size(&self) -> usize
+        ensures { result ≡ pool_size self.now.lists }
+    {
+        self.store.items.len() - self.store.free_len as usize
+    }
+
+    /// How many lists and cells may be added without memory. A constant time.
+    pub fn spare(&self) -> usize
+        ensures { result ≡ self.now.spare }
+    {
+        self.store.free_len as usize + self.store.room as usize
     }
 
     /// Makes an empty list, and answers its name, which no live list had. It takes one off `spare`, no memory, and a constant

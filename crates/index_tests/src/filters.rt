@@ -1,0 +1,236 @@
+// Answers of an index beside filters that go over all names: some two thousand names of products of every shape.
+ghost use Rattle.std.specs.Prelude.{◌≡◌, ◌<◌, ◌≤◌, ◌+◌, length};
+
+use crate::names::{name_of, text};
+use crate::shelf::Shelf;
+use cpe_name::{Attribute, Wfn};
+use cpe_relation::{covers, near};
+use cpe_steps::Steps;
+use cpe_values::{Edge, Value};
+use name_index::{NameId, Side};
+use std::alloc::Global;
+use std::marker::Brand;
+use std::sync::ledger::{Blank, Ledger};
+
+// Products: all pieces of one to four characters that begin in the first six, under nine pairs of edges; ANY; and NA.
+const BODIES: &[u8; 9] = b"ab!aab.ba";
+
+const PRODUCTS: usize = 218;
+
+const VERSIONS: &[u8; 10] = b"0123456789";
+
+const NAMES: usize = 2180;
+
+fn edge_at(number: usize) -> Edge {
+    match number % 3 {
+        0 => Edge::None,
+        1 => Edge::Star,
+        _ => Edge::Marks(1),
+    }
+}
+
+fn body_at(number: usize) -> &'static [u8] {
+    let from = number % 6;
+    let len = 1 + number / 6 % 4;
+    let bodies: &'static [u8] = BODIES;
+    &bodies[from..from + len]
+}
+
+fn product_at(alloc: Global, number: usize) -> Option<Value> {
+    match number % PRODUCTS {
+        0 => Some(Value::Any),
+        1 => Some(Value::Na),
+        other => {
+            let edges = other / 24;
+            text(alloc, edge_at(edges), body_at(other), edge_at(edges / 3))
+        }
+    }
+}
+
+fn version_at(alloc: Global, number: usize) -> Option<Value> {
+    let place = number / PRODUCTS % 10;
+    let versions: &[u8] = VERSIONS;
+    text(alloc, Edge::None, &versions[place..place + 1], Edge::None)
+}
+
+fn name_at(alloc: Global, number: usize) -> Option<Wfn> {
+    let product = product_at(alloc, number)?;
+    let version = version_at(alloc, number)?;
+    name_of(alloc, product, version)
+}
+
+fn all_names(alloc: Global) -> Option<Vec<Wfn>> {
+    let mut names = Vec::new(alloc);
+    for number in 0..NAMES {
+        let name = name_at(alloc, number)?;
+        if names.push(name).is_err() {
+            return None;
+        }
+    }
+    Some(names)
+}
+
+fn is_put(shelf: &mut Shelf, name: &Wfn) -> bool {
+    name.is_lower() && shelf.put(name).is_ok()
+}
+
+fn are_put(shelf: &mut Shelf, names: &[Wfn]) -> bool {
+    for name in names {
+        if !is_put(shelf, name) {
+            return false;
+        }
+    }
+    true
+}
+
+// Marks a number that isn't marked.
+fn is_marked_once(marks: &mut [bool], id: NameId) -> bool {
+    match marks.get_mut(id.0 as usize) {
+        Some(mark) => {
+            let first = !*mark;
+            *mark = true;
+            first
+        }
+        None => false,
+    }
+}
+
+fn are_near_marked(shelf: &Shelf, asked: &Wfn, side: Side, marks: &mut [bool]) -> bool {
+    if !asked.is_lower() {
+        return false;
+    }
+    for id in shelf.near(asked, side) {
+        if !is_marked_once(marks, id) {
+            return false;
+        }
+    }
+    true
+}
+
+fn are_covered_marked<L: Ledger>(
+    alloc: Global,
+    shelf: &Shelf,
+    asked: &Wfn,
+    steps: &mut Steps<L>,
+    marks: &mut [bool],
+) -> bool {
+    if !asked.is_lower() {
+        return false;
+    }
+    let Ok(found) = shelf.covered_by(alloc, asked, steps) else {
+        return false;
+    };
+    for id in &found {
+        if !is_marked_once(marks, *id) {
+            return false;
+        }
+    }
+    true
+}
+
+/// What is asked of each name.
+#[derive(Clone, Copy)]
+enum Question {
+    NearTargets,
+    NearSources,
+    Covered,
+}
+
+fn answer(question: Question, asked: &Wfn, name: &Wfn) -> bool {
+    let product = Attribute::Product;
+    match question {
+        Question::NearTargets => near(asked.get(product), name.get(product)),
+        Question::NearSources => near(name.get(product), asked.get(product)),
+        Question::Covered => covers(asked, name),
+    }
+}
+
+fn are_marked_exactly(
+    shelf: &Shelf,
+    names: &[Wfn],
+    question: Question,
+    asked: &Wfn,
+    marks: &[bool],
+) -> bool {
+    for name in names {
+        let Some(id) = shelf.find(name) else {
+            return false;
+        };
+        if marks.get(id.0 as usize).copied() != Some(answer(question, asked, name)) {
+            return false;
+        }
+    }
+    true
+}
+
+fn is_answered<L: Ledger>(
+    alloc: Global,
+    shelf: &Shelf,
+    names: &[Wfn],
+    question: Question,
+    asked: &Wfn,
+    steps: &mut Steps<L>,
+) -> bool {
+    let mut marks = [false; NAMES];
+    let found = match question {
+        Question::NearTargets => are_near_marked(shelf, asked, Side::Source, &mut marks),
+        Question::NearSources => are_near_marked(shelf, asked, Side::Target, &mut marks),
+        Question::Covered => are_covered_marked(alloc, shelf, asked, steps, &mut marks),
+    };
+    found && are_marked_exactly(shelf, names, question, asked, &marks)
+}
+
+fn asked_at(alloc: Global, number: usize) -> Option<Wfn> {
+    let product = product_at(alloc, number)?;
+    name_of(alloc, product, Value::Any)
+}
+
+fn is_each_answered<L: Ledger>(
+    alloc: Global,
+    shelf: &Shelf,
+    names: &[Wfn],
+    question: Question,
+    steps: &mut Steps<L>,
+) -> bool {
+    for number in 0..PRODUCTS {
+        let Some(asked) = asked_at(alloc, number) else {
+            return false;
+        };
+        if !is_answered(alloc, shelf, names, question, &asked, steps) {
+            return false;
+        }
+    }
+    true
+}
+
+fn is_answered_over<L: Ledger>(alloc: Global, question: Question, blank: Blank) -> bool
+    requires name { blank.name ≡ L.name }
+    requires parts { blank.parts ≡ L.parts }
+    requires some { 0 < blank.parts }
+{
+    let mut steps = Steps::<L>::new(blank);
+    let mut shelf = Shelf::new(alloc);
+    let Some(names) = all_names(alloc) else {
+        return false;
+    };
+    are_put(&mut shelf, &names) && is_each_answered(alloc, &shelf, &names, question, &mut steps)
+}
+
+fn agrees(alloc: Global, question: Question) -> bool {
+    is_answered_over::<Brand>(alloc, question, Blank::new(1))
+}
+
+#[test]
+fn near_targets_are_those_of_the_filter(rt: HostRuntime) {
+    assert!(rt; agrees(rt.alloc(), Question::NearTargets));
+}
+
+#[test]
+fn near_sources_are_those_of_the_filter(rt: HostRuntime) {
+    assert!(rt; agrees(rt.alloc(), Question::NearSources));
+}
+
+#[test]
+fn covered_names_are_those_of_the_filter(rt: HostRuntime) {
+    assert!(rt; agrees(rt.alloc(), Question::Covered));
+}

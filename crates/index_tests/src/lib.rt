@@ -1,0 +1,11 @@
+//! Tests alone: a table of names and an index of them, through their public calls.
+#![tactic(auto)]
+
+#[cfg(test)]
+mod filters;
+#[cfg(test)]
+mod looks;
+#[cfg(test)]
+mod names;
+#[cfg(test)]
+mod shelf;

@@ -1,0 +1,20 @@
+use Rattle.name_index.proofs.Fitting.{held_fits, released_fits, added_fits, dropped_fits, fresh_held, number_fresh}
+use Rattle.name_index.proofs.laws.fitting_laws.Goals as goal
+
+pub returns-clause-held : goal.returns-clause-held
+returns-clause-held c = held_fits
+
+pub returns-clause-released : goal.returns-clause-released
+returns-clause-released c = released_fits
+
+pub returns-clause-added : goal.returns-clause-added
+returns-clause-added c = added_fits
+
+pub returns-clause-dropped : goal.returns-clause-dropped
+returns-clause-dropped c = dropped_fits
+
+pub returns-clause-fresh : goal.returns-clause-fresh
+returns-clause-fresh c = fresh_held
+
+pub returns-clause-number : goal.returns-clause-number
+returns-clause-number c = number_fresh

@@ -1,0 +1,56 @@
+-- How a table lies in its lists: live names by place, and for each number its place.
+use Rattle.std.specs.Prelude.{◌≡◌, ℕ, ◌<◌, ◌≤◌, nat_lt, cond, List, [], ◌∷◌, ◌++◌, map, get_or, set, length, Option, Some, None}
+use Rattle.std.specs.List.{All, IsDistinct, slice_get}
+use Rattle.cpe_values.specs.declared.value.Value.{Value}
+use Rattle.cpe_name.specs.declared.name.Values.{Values}
+use Rattle.cpe_name.specs.Equal.{same_name}
+use Rattle.cpe_name.specs.Lower.{IsLower}
+use Rattle.cpe_name.specs.Put.{any_values}
+use Rattle.name_index.specs.declared.table.Row.{Row}
+use Rattle.name_index.specs.Table.{Kept, kept, Names}
+
+abbrev pub row : ℕ → ℕ → ℕ → Row
+row place holds product = record { place = place; holds = holds; product = product }
+
+abbrev pub row_at : List Row → ℕ → Row
+row_at rows n = get_or rows n (row 0 0 0)
+
+abbrev pub number_at : List ℕ → ℕ → ℕ
+number_at numbers place = get_or numbers place 0
+
+abbrev pub name_at : List Values → ℕ → Values
+name_at names place = get_or names place any_values
+
+abbrev pub kept_of : List Values → Row → Option Kept
+kept_of names r = cond (nat_lt 0 r.holds) (Some (kept (name_at names r.place) r.holds r.product)) None
+
+abbrev pub names_of : List Values → List Row → Names
+names_of names rows = map (kept_of names) rows
+
+-- numbers and places belong to each other; the places of live numbers are those of the names
+pub record AreRows (names : List Values) (rows : List Row) (numbers : List ℕ) (products : List Value) : Type 0 where
+  pub paired : length numbers ≡ length rows
+  pub few : length rows ≤ 4294967295
+  pub within : length names ≤ length rows
+  pub numbered : (p : ℕ) → p < length rows → number_at numbers p < length rows
+  pub placed : (n : ℕ) → n < length rows → (row_at rows n).place < length rows
+  pub there : (p : ℕ) → p < length rows → (row_at rows (number_at numbers p)).place ≡ p
+  pub back : (n : ℕ) → n < length rows → number_at numbers (row_at rows n).place ≡ n
+  pub live : (n : ℕ) → n < length rows → nat_lt 0 (row_at rows n).holds ≡ nat_lt (row_at rows n).place (length names)
+  pub small : (n : ℕ) → (row_at rows n).holds < 4294967296
+  pub different : IsDistinct same_name names
+  pub lower : All IsLower names
+  pub product : (n : ℕ) → n < length rows → (row_at rows n).place < length names → slice_get products (row_at rows n).product ≡ Some (name_at names (row_at rows n).place).product
+
+-- a number is free at this place: one that was, or a new one
+pub data Grows (rows : List Row) (numbers : List ℕ) (place : ℕ) (new_rows : List Row) (new_numbers : List ℕ) : Type 0 where
+  kept_room : place < length rows → new_rows ≡ rows → new_numbers ≡ numbers → Grows rows numbers place new_rows new_numbers
+  one_more : place ≡ length rows → place < 4294967295 → new_rows ≡ rows ++ row place 0 0 ∷ [] → new_numbers ≡ numbers ++ place ∷ [] → Grows rows numbers place new_rows new_numbers
+
+-- the number of the last place takes the place of a number that is freed
+abbrev pub freed_numbers : List Row → List ℕ → ℕ → ℕ → List ℕ
+freed_numbers rows numbers n last = set (set numbers (row_at rows n).place (number_at numbers last)) last n
+
+abbrev pub freed_rows : List Row → List ℕ → ℕ → ℕ → List Row
+freed_rows rows numbers n last =
+    set (set rows (number_at numbers last) (row (row_at rows n).place (row_at rows (number_at numbers last)).holds (row_at rows (number_at numbers last)).product)) n (row last 0 0)

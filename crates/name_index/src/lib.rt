@@ -1,0 +1,23 @@
+//! Names by number, and indexes of them by product, so that a search looks at few of them.
+//!
+//! A [`NameTable`] keeps different names in lower case, each with a count of its holds and the number of its product. A
+//! [`NameIndex`] holds some of its numbers, by product. [`NameIndex::near`] walks over those whose products are near a name's,
+//! and [`NameIndex::covered_by`] gives those that a name covers, with at most one look at each name to which it is near.
+//!
+//! A look is a call of [`NameTable::look`], which counts a step. No other call hands out a kept name. To find a name by its
+//! hash, and to look a product up, is no look.
+//!
+//! An index fits a table where each number that it holds is live there, with the product number that is kept for it.
+//! [`fitting_laws`] says which changes leave it so: a number is let go before its name is released for the last time.
+#![tactic(auto)]
+
+mod index;
+mod laws;
+mod near;
+mod table;
+
+pub use index::NameIndex;
+pub use laws::fitting_laws;
+pub use near::Near;
+pub use product_orders::Side;
+pub use table::{NameId, NameTable, ProductId};

@@ -1,0 +1,151 @@
+// A walk over the held names whose products are near a product.
+ghost use Rattle.std.specs.Prelude.{◌≡◌, ◌+◌, ◌≤◌, map, filter, slice_get, count_by, IfOk};
+ghost use Rattle.std.specs.List.Sorted.{IsStrictlyIncreasing};
+ghost use Rattle.std.specs.Iterator.{YieldsFirst, item_count};
+ghost use Rattle.cpe_values.specs.Lower.{lower_value};
+ghost use Rattle.cpe_name.specs.Lower.{IsLower};
+ghost use Rattle.product_orders.specs.Elements.{SameElements};
+ghost use Rattle.cpe_relation.specs.NameRelation.{covers};
+ghost use Rattle.cpe_relation.specs.Order.{IsOrder};
+ghost use Rattle.product_orders.specs.declared.products.Side.TheVariants as side;
+ghost use Rattle.name_index.specs.Index.{ids, Fits, is_near, is_covered};
+
+use crate::index::NameIndex;
+use crate::{NameId, NameTable};
+use cpe_name::{Attribute, Wfn};
+use cpe_relation::{cover_laws, covers_in_order, deciding_order};
+use cpe_steps::Steps;
+use cpe_values::{Memory, Value};
+use list_pool::{CellName, ListName, Pool};
+use product_orders::{NearProducts, Side};
+use std::alloc::Global;
+use std::marker::Model;
+use std::sync::ledger::Ledger;
+
+/// The held names that are near, each once. Contracts see those that are left. A step takes no memory.
+#[derive(Drop)]
+pub struct Near<'a> {
+    pool: &'a Pool,
+    heads: &'a [ListName],
+    // The products to come; the list that is gone over, how many of its values are left, and the cell of the first of these.
+    products: NearProducts<'a>,
+    list: ListName,
+    left: usize,
+    cell: CellName,
+}
+
+impl<'a> Model for Near<'a> {
+    ghost use Rattle.std.specs.Prelude.{List};
+    ghost use Rattle.name_index.specs.declared.table.NameId.{NameId};
+    ghost use Rattle.name_index.specs.Index.{walk_left, StandsAt};
+
+    ghost Value = { List NameId };
+
+    ghost view = { λ a. walk_left a.pool.now.lists a.heads.now a.list.0 a.left a.products };
+
+    ghost invariant = { λ a. StandsAt a.pool.now.lists a.heads.now a.list.0 a.left a.cell.0 };
+}
+
+// Whether a name covers another, by an order of the attributes.
+fn is_covering(order: &[Attribute], name: &Wfn, other: &Wfn) -> bool
+    requires { IsOrder order.now }
+    ensures { result ≡ covers name.now other.now }
+{
+    covers_in_order(order, name, other)
+}
+
+fn product_of(name: &Wfn) -> &Value
+    ensures { result.now ≡ name.now.product }
+{
+    name.get(Attribute::Product)
+}
+
+fn head_of(heads: &[ListName], product: u32) -> Option<ListName>
+    ensures { result ≡ slice_get heads.now product }
+{
+    match heads.get(product as usize) {
+        Some(head) => Some(*head),
+        None => None,
+    }
+}
+
+impl<'a> Iterator for Near<'a> {
+    type Item = NameId;
+
+    ghost next_gives = { YieldsFirst (λ rest. rest) };
+
+    ghost remaining = { item_count (λ rest. rest) };
+
+    fn next(&mut self) -> Option<NameId> {
+        while self.left == 0 {
+            let Some(product) = self.products.next() else {
+                return None;
+            };
+            if let Some(head) = head_of(self.heads, product) {
+                self.list = head;
+                self.left = self.pool.len(head);
+                if let Some(cell) = self.pool.first(head) {
+                    self.cell = cell;
+                }
+            }
+        }
+        let value = self.pool.value(self.cell);
+        self.left -= 1;
+        if let Some(cell) = self.pool.next(self.cell) {
+            self.cell = cell;
+        }
+        Some(NameId(value))
+    }
+}
+
+impl NameIndex {
+    /// A walk over the held names whose products are near the name's: with `Source` those to which it is near, and with `Target`
+    /// those that are near it. It takes no memory and no step.
+    pub fn near<'a>(&'a self, table: &'a NameTable, name: &'a Wfn, side: Side) -> Near<'a>
+        requires fits { Fits self.now.held table.now }
+        requires lower { IsLower name.now }
+        ensures { SameElements (filter (is_near table.now side name.now.product) (ids self.now.held)) result }
+    {
+        Near {
+            pool: &self.pool,
+            heads: &self.heads,
+            products: table.near_products(product_of(name), side),
+            list: ListName(0),
+            left: 0,
+            cell: CellName(0),
+        }
+    }
+
+    /// The held names that the name covers, in rising order of their numbers. It looks at each held name to whose product the
+    /// name's is near, once, and at no other.
+    ///
+    /// # Errors
+    ///
+    /// Want of memory alone. The bound on steps holds then, too.
+    pub fn covered_by<L: Ledger>(
+        &self,
+        alloc: Global,
+        table: &NameTable,
+        name: &Wfn,
+        steps: &mut Steps<L>,
+    ) -> Result<Vec<NameId>, Memory>
+        requires fits { Fits self.now.held table.now }
+        requires lower { IsLower name.now }
+        ensures covered { IfOk result (λ v. SameElements (filter (is_covered table.now name.now) (ids self.now.held)) v.items) }
+        ensures rising { IfOk result (λ v. IsStrictlyIncreasing (map (λ id. id.0) v.items)) }
+        ensures steps { steps.new ≤ steps.old + count_by (is_near table.now side.Source name.now.product) (ids self.now.held) }
+    {
+        self.lawful();
+        cover_laws();
+        let order = deciding_order(alloc, name)?;
+        let mut found = Vec::new(alloc);
+        for id in self.near(table, name, Side::Source) {
+            let other = table.look(id, steps);
+            if is_covering(&order, name, other) {
+                found.push(id)?;
+            }
+        }
+        found.sort_by_key(|id| id.0)?;
+        Ok(found)
+    }
+}

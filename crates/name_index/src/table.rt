@@ -1,0 +1,353 @@
+// Names by number.
+ghost use Rattle.std.specs.Prelude.{◌≡◌, ◌≢◌, ℕ, ◌+◌, ◌-◌, ◌<◌, ◌≤◌, [], length, set, slice_get, Some, IsNone, IfSome, IfOk, OnOk, OnErr};
+ghost use Rattle.std.specs.Prelude.{vec_len, vec_capacity};
+ghost use Rattle.std.specs.List.{IsDistinct};
+ghost use Rattle.indexmap.specs.IndexSet.{spare};
+ghost use Rattle.cpe_name.specs.Equal.{same_name};
+ghost use Rattle.cpe_values.specs.declared.value.Value.{Value};
+ghost use Rattle.cpe_values.specs.Lower.{lower_value};
+ghost use Rattle.cpe_name.specs.Lower.{IsLower};
+ghost use Rattle.name_index.specs.Table.{Kept, find_kept, IsLive, kept_at, HasName, Holds, Releases, AreNames};
+ghost use Rattle.name_index.specs.Index.{WalksNear};
+ghost use Rattle.name_index.specs.Rows.{row, row_at, number_at, Grows, freed_rows, freed_numbers};
+
+use cpe_name::{Attribute, Wfn};
+use cpe_steps::Steps;
+use cpe_values::{Memory, Value};
+use indexmap::IndexSet;
+use product_orders::{NearProducts, Products, Side};
+use std::alloc::Global;
+use std::marker::Model;
+use std::sync::ledger::Ledger;
+
+/// The number of a name in a [`NameTable`].
+#[derive(Clone, Copy, Debug, PartialEq, Eq, PartialOrd, Ord)]
+pub struct NameId(pub u32);
+
+/// The number of a product in a [`NameTable`].
+#[derive(Clone, Copy, Debug, PartialEq, Eq, PartialOrd, Ord)]
+pub struct ProductId(pub u32);
+
+// What is kept of a number. Without holds it is free, and its place lies behind those of the names.
+#[derive(Clone, Copy)]
+pub(crate) struct Row {
+    pub(crate) place: u32,
+    pub(crate) holds: u32,
+    pub(crate) product: u32,
+}
+
+/// Different names in lower case by number, each with a count of its holds and the number of its product. Two names have
+/// the same product number exactly where their products are equal.
+///
+/// A name is found by its hash, so [`hold`](NameTable::hold) and [`find`](NameTable::find) do not slow down as names are
+/// added, but for the place of a product that is new. Numbers of released names are used again. A product keeps its number
+/// and its memory after the last of its names is released.
+#[derive(Drop)]
+pub struct NameTable {
+    alloc: Global,
+    // The live names, and the number of each place; behind them the numbers that are free.
+    names: IndexSet<Wfn>,
+    numbers: Vec<u32>,
+    rows: Vec<Row>,
+    products: Products,
+}
+
+impl Model for NameTable {
+    ghost use Rattle.name_index.specs.Table.{Names};
+    ghost use Rattle.name_index.specs.Rows.{names_of, AreRows};
+
+    ghost Value = { Names };
+
+    ghost view = { λ t. names_of t.names.keys t.rows.items };
+
+    ghost invariant = { λ t. AreRows t.names.keys t.rows.items t.numbers.items t.products };
+}
+
+// The number of a product, which is added where it is new.
+fn product_number(alloc: Global, products: &mut Products, value: &Value) -> Result<u32, Memory>
+    requires { lower_value value.now ≡ value.now }
+    ensures number { IfOk result (λ number. slice_get products.new number ≡ Some value.now) }
+    ensures kept { (number : ℕ) (v : Value) → slice_get products.old number ≡ Some v → slice_get products.new number ≡ Some v }
+{
+    if let Some(number) = products.find(value) {
+        return Ok(number);
+    }
+    let copied = value.copy(alloc)?;
+    products.add(copied)
+}
+
+fn number_of(numbers: &Vec<u32>, place: usize) -> u32
+    requires { place < length numbers.now.items }
+    ensures { result ≡ number_at numbers.now.items place }
+{
+    numbers[place]
+}
+
+fn row_of(rows: &Vec<Row>, number: u32) -> Row
+    requires { number < length rows.now.items }
+    ensures { result ≡ row_at rows.now.items number }
+{
+    rows[number as usize]
+}
+
+// Makes room for a number at the first place behind the names.
+fn reserve_number(numbers: &mut Vec<u32>, rows: &mut Vec<Row>, place: usize) -> Result<(), Memory>
+    ensures numbers { numbers.new.items ≡ numbers.old.items }
+    ensures rows { rows.new.items ≡ rows.old.items }
+    ensures few { OnOk result (length rows.old.items ≤ place → place < 4294967295) }
+    ensures numbers_room { OnOk result (length rows.old.items ≤ place → vec_len numbers.new < vec_capacity numbers.new) }
+    ensures rows_room { OnOk result (length rows.old.items ≤ place → vec_len rows.new < vec_capacity rows.new) }
+{
+    if place < rows.len() {
+        return Ok(());
+    }
+    if place >= u32::MAX as usize {
+        return Err(Memory);
+    }
+    numbers.reserve(1)?;
+    rows.reserve(1)?;
+    Ok(())
+}
+
+// Makes room for one more name, and gives the number of its product. Nothing that a table shows changes.
+fn make_room(
+    alloc: Global,
+    names: &mut IndexSet<Wfn>,
+    numbers: &mut Vec<u32>,
+    rows: &mut Vec<Row>,
+    products: &mut Products,
+    name: &Wfn,
+) -> Result<u32, Memory>
+    requires { lower_value name.now.product ≡ name.now.product }
+    ensures product { IfOk result (λ number. slice_get products.new number ≡ Some name.now.product) }
+    ensures products { (number : ℕ) (v : Value) → slice_get products.old number ≡ Some v → slice_get products.new number ≡ Some v }
+    ensures names { names.new.keys ≡ names.old.keys }
+    ensures unique { IsDistinct same_name names.new.keys }
+    ensures numbers { numbers.new.items ≡ numbers.old.items }
+    ensures rows { rows.new.items ≡ rows.old.items }
+    ensures spare { OnOk result (0 < spare names.new) }
+    ensures few { OnOk result (length rows.old.items ≤ length names.old.keys → length names.old.keys < 4294967295) }
+    ensures numbers_room { OnOk result (length rows.old.items ≤ length names.old.keys → vec_len numbers.new < vec_capacity numbers.new) }
+    ensures rows_room { OnOk result (length rows.old.items ≤ length names.old.keys → vec_len rows.new < vec_capacity rows.new) }
+{
+    names.reserve(1)?;
+    reserve_number(numbers, rows, names.len())?;
+    product_number(alloc, products, name.get(Attribute::Product))
+}
+
+// The number of the first place behind the names; a new one where none is free.
+fn free_number(numbers: &mut Vec<u32>, rows: &mut Vec<Row>, place: usize) -> u32
+    requires paired { length numbers.old.items ≡ length rows.old.items }
+    requires within { place ≤ length rows.old.items }
+    requires few { length rows.old.items ≤ place → place < 4294967295 }
+    requires numbers_room { length rows.old.items ≤ place → vec_len numbers.old < vec_capacity numbers.old }
+    requires rows_room { length rows.old.items ≤ place → vec_len rows.old < vec_capacity rows.old }
+    ensures number { result ≡ number_at numbers.new.items place }
+    ensures grown { Grows rows.old.items numbers.old.items place rows.new.items numbers.new.items }
+{
+    if place < rows.len() {
+        return number_of(numbers, place);
+    }
+    let number = place as u32;
+    numbers.push_reserved(number);
+    rows.push_reserved(Row {
+        place: number,
+        holds: 0,
+        product: 0,
+    });
+    number
+}
+
+// One hold more.
+fn raise(rows: &mut Vec<Row>, number: u32)
+    requires known { number < length rows.old.items }
+    requires few { (row_at rows.old.items number).holds < 4294967295 }
+    ensures { rows.new.items ≡ set rows.old.items number (row (row_at rows.old.items number).place ((row_at rows.old.items number).holds + 1) (row_at rows.old.items number).product) }
+{
+    let row = row_of(rows, number);
+    rows[number as usize] = Row {
+        place: row.place,
+        holds: row.holds + 1,
+        product: row.product,
+    };
+}
+
+// Gives a number, and what is kept of it.
+fn set_row(rows: &mut Vec<Row>, number: u32, row: Row)
+    requires { number < length rows.old.items }
+    ensures { rows.new.items ≡ set rows.old.items number row }
+{
+    rows[number as usize] = row;
+}
+
+// Frees a number: the number of the last name's place takes its place.
+fn free_row(rows: &mut Vec<Row>, numbers: &mut Vec<u32>, number: u32, last: usize)
+    requires number { number < length rows.old.items }
+    requires place { (row_at rows.old.items number).place < length numbers.old.items }
+    requires last { last < length numbers.old.items }
+    requires moved { number_at numbers.old.items last < length rows.old.items }
+    requires few { last < 4294967296 }
+    ensures rows { rows.new.items ≡ freed_rows rows.old.items numbers.old.items number last }
+    ensures numbers { numbers.new.items ≡ freed_numbers rows.old.items numbers.old.items number last }
+{
+    let place = row_of(rows, number).place;
+    let moved = number_of(numbers, last);
+    let row = row_of(rows, moved);
+    numbers[place as usize] = moved;
+    numbers[last] = number;
+    set_row(
+        rows,
+        moved,
+        Row {
+            place,
+            holds: row.holds,
+            product: row.product,
+        },
+    );
+    set_row(
+        rows,
+        number,
+        Row {
+            place: last as u32,
+            holds: 0,
+            product: 0,
+        },
+    );
+}
+
+impl NameTable {
+    /// A table without names. It takes no memory.
+    pub fn new(alloc: Global) -> NameTable
+        ensures { result ≡ [] }
+    {
+        NameTable {
+            alloc,
+            names: IndexSet::new(alloc),
+            numbers: Vec::new(alloc),
+            rows: Vec::new(alloc),
+            products: Products::new(alloc),
+        }
+    }
+
+    /// The number of a name. None exactly where no live number has it.
+    pub fn find(&self, name: &Wfn) -> Option<NameId>
+        ensures found { IfSome result (λ id. HasName self.now id.0 name.now) }
+        ensures none { IsNone result → (id : ℕ) → HasName self.now id name.now → ⊥ }
+    {
+        match self.names.get_index_of(name) {
+            Some(place) => Some(NameId(number_of(&self.numbers, place))),
+            None => None,
+        }
+    }
+
+    /// The number of a name, with one hold more: its own, where it has one, and else one that no name has.
+    ///
+    /// # Errors
+    /// Want of memory, or of a number below 2^32 - 1; the table is then as it was.
+    pub fn hold(&mut self, name: &Wfn) -> Result<NameId, Memory>
+        requires lower { IsLower name.now }
+        requires few { (id : ℕ) → HasName self.old id name.now → (kept_at self.old id).holds < 4294967295 }
+        ensures held { IfOk result (λ id. Holds self.old self.new id.0 name.now) }
+        ensures err { OnErr result (self.new ≡ self.old) }
+    {
+        if let Some(place) = self.names.get_index_of(name) {
+            let number = number_of(&self.numbers, place);
+            raise(&mut self.rows, number);
+            return Ok(NameId(number));
+        }
+        let product = make_room(
+            self.alloc,
+            &mut self.names,
+            &mut self.numbers,
+            &mut self.rows,
+            &mut self.products,
+            name,
+        )?;
+        let copied = name.copy(self.alloc)?;
+        let place = self.names.len();
+        let number = free_number(&mut self.numbers, &mut self.rows, place);
+        if self.names.insert(copied).is_err() {
+            unreachable!();
+        }
+        let row = Row {
+            place: place as u32,
+            holds: 1,
+            product,
+        };
+        set_row(&mut self.rows, number, row);
+        Ok(NameId(number))
+    }
+
+    /// One hold less. After the last the number isn't live any more, and the name's memory is given back.
+    pub fn release(&mut self, id: NameId)
+        requires { IsLive self.old id.0 }
+        ensures { Releases self.old self.new id.0 }
+    {
+        let row = row_of(&self.rows, id.0);
+        if row.holds > 1 {
+            let less = Row {
+                place: row.place,
+                holds: row.holds - 1,
+                product: row.product,
+            };
+            set_row(&mut self.rows, id.0, less);
+            return;
+        }
+        let last = self.names.len() - 1;
+        let _ = self.names.swap_remove_index(row.place as usize);
+        free_row(&mut self.rows, &mut self.numbers, id.0, last);
+    }
+
+    /// The number of the product of a name.
+    pub fn product(&self, id: NameId) -> ProductId
+        requires { IsLive self.now id.0 }
+        ensures { result.0 ≡ (kept_at self.now id.0).product }
+    {
+        let row = row_of(&self.rows, id.0);
+        ProductId(row.product)
+    }
+
+    /// A look at a name, which is one step. No other call hands out a kept name.
+    pub fn look<L: Ledger>(&self, id: NameId, steps: &mut Steps<L>) -> &Wfn
+        requires { IsLive self.now id.0 }
+        ensures name { result.now ≡ (kept_at self.now id.0).name }
+        ensures step { steps.new ≡ steps.old + 1 }
+    {
+        steps.tick();
+        self.name_of(id)
+    }
+
+    fn name_of(&self, id: NameId) -> &Wfn
+        requires { IsLive self.now id.0 }
+        ensures { result.now ≡ (kept_at self.now id.0).name }
+    {
+        let row = row_of(&self.rows, id.0);
+        match self.names.get_index(row.place as usize) {
+            Some(name) => name,
+            None => unreachable!(),
+        }
+    }
+
+    /// Every table is lawful: its names are in lower case and different, and names have the same product number exactly
+    /// where their products are equal. It does nothing.
+    pub fn lawful(&self)
+        ensures { AreNames self.now }
+    {
+        self.products.lawful();
+    }
+
+    // How many products have a number.
+    pub(crate) fn product_count(&self) -> usize
+        ensures { (id : ℕ) (k : Kept) → find_kept self.now id ≡ Some k → k.product < result }
+    {
+        self.products.len()
+    }
+
+    // The numbers of the products near a product on a side.
+    pub(crate) fn near_products<'a>(&'a self, asked: &'a Value, side: Side) -> NearProducts<'a>
+        requires { lower_value asked.now ≡ asked.now }
+        ensures { WalksNear self.now side asked.now result }
+    {
+        self.products.near(asked, side)
+    }
+}

@@ -1,0 +1,9 @@
+pub mod Texts
+pub mod Runs
+pub mod Orders
+pub mod Added
+pub mod WalkSteps
+pub mod Lower
+pub mod Sums
+pub mod NearRuns
+pub mod Rearranged

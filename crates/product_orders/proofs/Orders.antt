@@ -1,0 +1,169 @@
+-- Numbers in the order of their products: what stands before a run, and in it.
+use Rattle.std.proofs.Common.{◌≡◌, ◌⊎◌, ℕ, zero, suc, ◌+◌, ◌-◌, ◌<◌, ◌≤◌, Bool, true, false, ◌||◌, ◌&&◌, cond, List, ◌∷◌, length, take, drop, reverse, refl, sym, ap, subst, ◌∙◌, inl, inr, is_lt, Ordering, Less, Equal, Greater, true≢false, arith}
+use Rattle.std.specs.Prelude.{nat_eq}
+use Rattle.std.specs.List.{filter, insert, starts_with, slice_index_or}
+use Rattle.std.specs.List.Sorted.{IsPartitionedBy, IsPartitionPoint}
+use Rattle.std.specs.Ordering.{ordering_reverse}
+use Rattle.std.proofs.lemmas.Bool.{cases_Bool, or_parts, false_from_ne_true, both_ways}
+use Rattle.std.proofs.lemmas.List.{reverse-reverse}
+use Rattle.std.proofs.lemmas.Cmp.{nat_list_cmp_total}
+use Rattle.std.proofs.lemmas.Map.Lookups.{exact_bytes}
+use Rattle.std.proofs.lemmas.Slice.Eq.{slice_eq-Decides}
+use lib.Pointwise.{pointwise}
+use Rattle.cpe_values.specs.declared.value.Value.{Value}
+use Rattle.product_orders.specs.declared.keys.End.{End}
+use Rattle.product_orders.specs.declared.keys.End.TheVariants as end
+use Rattle.product_orders.specs.declared.keys.Shape.{Shape}
+use Rattle.product_orders.specs.Keys.{shape_of, rank, body_of, turned, text_order, key, in_run, is_below, value_at, NotAbove, Rises}
+use Rattle.product_orders.proofs.Texts.{text_itself, below_or_starts, not_below, touches_key, nat_Decides}
+use Rattle.product_orders.proofs.Runs.{filter_run, parted, insert_sorted}
+
+pub lt_is : (r : Ordering) → is_lt r ≡ true → r ≡ Less
+lt_is Less h = refl
+lt_is Equal h = absurd (true≢false (sym h))
+lt_is Greater h = absurd (true≢false (sym h))
+
+or_second : (a b : Bool) → (a || b) ≡ true → a ≡ false → b ≡ true
+or_second true b h f = absurd (true≢false f)
+or_second false b h f = h
+
+or_first : (a b : Bool) → a ≡ true → (a || b) ≡ true
+or_first true b h = refl
+or_first false b h = absurd (true≢false (sym h))
+
+or_last : (a b : Bool) → b ≡ true → (a || b) ≡ true
+or_last true b h = refl
+or_last false b h = h
+
+-- ---- keys
+
+abbrev meets : Bool → List ℕ → List ℕ → Bool
+meets whole k x = cond whole (pointwise nat_eq k x) (starts_with nat_eq x k)
+
+pub same_text : (a b : List ℕ) → pointwise nat_eq a b ≡ true → a ≡ b
+same_text a b h = (slice_eq-Decides nat_Decides a b (pointwise nat_eq a b) refl).0 h
+
+pub text_same : (a b : List ℕ) → a ≡ b → pointwise nat_eq a b ≡ true
+text_same a b e = (slice_eq-Decides nat_Decides a b (pointwise nat_eq a b) refl).1 e
+
+pub agree : (a b : Bool) → (a ≡ true → b ≡ true) → (b ≡ true → a ≡ true) → a ≡ b
+agree true b f g = sym (f refl)
+agree false true f g = g refl
+agree false false f g = refl
+
+pointwise_turned : (e : End) (a b : List ℕ) → pointwise nat_eq a b ≡ pointwise nat_eq (turned e a) (turned e b)
+pointwise_turned end.Front a b = refl
+pointwise_turned end.Back a b = agree (pointwise nat_eq a b) (pointwise nat_eq (reverse a) (reverse b))
+    (λ h. text_same (reverse a) (reverse b) (ap reverse (same_text a b h)))
+    (λ h. text_same a b (sym (reverse-reverse a) ∙ ap reverse (same_text (reverse a) (reverse b) h) ∙ reverse-reverse b))
+
+-- to be in a run is to have its key, or its key in front
+pub in_key : (e : End) (s : Shape) (body : List ℕ) (whole : Bool) (v : Value) → in_run e s body whole v ≡ meets whole (rank s ∷ turned e body) (key e v)
+in_key e s body true v = ap (λ (b : Bool). nat_eq (rank s) (rank (shape_of v)) && b) (pointwise_turned e body (body_of v))
+in_key e s body false v = ap (λ (b : Bool). nat_eq (rank s) (rank (shape_of v)) && b) (touches_key e body (body_of v))
+
+-- a text that isn't above another is less, or the same
+not_above : (x y : List ℕ) → is_lt (text_order y x) ≡ false → (text_order x y ≡ Less) ⊎ (x ≡ y)
+not_above x y h = by (text_order x y) refl where
+  by : (r : Ordering) → text_order x y ≡ r → (text_order x y ≡ Less) ⊎ (x ≡ y)
+  by Less is = inl is
+  by Equal is = inr (exact_bytes x y is)
+  by Greater is = absurd (both_ways _ h (ap is_lt (nat_list_cmp_total.antisymm y x ∙ ap ordering_reverse is)))
+
+below_down : (k x y : List ℕ) → is_lt (text_order y x) ≡ false → is_lt (text_order y k) ≡ true → is_lt (text_order x k) ≡ true
+below_down k x y le h = elim (not_above x y le) [
+  | inl l ↦ ap is_lt (nat_list_cmp_total.trans x y k l (lt_is _ h))
+  | inr same ↦ ap (λ (z : List ℕ). is_lt (text_order z k)) same ∙ h
+]
+
+meets_down : (whole : Bool) (k x y : List ℕ) → text_order x y ≡ Less → meets whole k y ≡ true → (is_lt (text_order x k) || meets whole k x) ≡ true
+meets_down true k x y l h = or_first _ _ (ap is_lt (ap (text_order x) (same_text k y h) ∙ l))
+meets_down false k x y l h = below_or_starts k x y h l
+
+within_down : (whole : Bool) (k x y : List ℕ) → is_lt (text_order y x) ≡ false → (is_lt (text_order y k) || meets whole k y) ≡ true → (is_lt (text_order x k) || meets whole k x) ≡ true
+within_down whole k x y le h = elim (cases_Bool (is_lt (text_order y k))) [
+  | inl first ↦ or_first _ _ (below_down k x y le first)
+  | inr later ↦ elim (not_above x y le) [
+    | inl l ↦ meets_down whole k x y l (or_second _ _ h later)
+    | inr same ↦ or_last _ _ (ap (meets whole k) same ∙ or_second _ _ h later)
+  ]
+]
+
+meets_not_below : (whole : Bool) (k x : List ℕ) → meets whole k x ≡ true → is_lt (text_order x k) ≡ false
+meets_not_below true k x h = ap is_lt (ap (λ (z : List ℕ). text_order z k) (sym (same_text k x h)) ∙ text_itself k)
+meets_not_below false k x h = not_below k x h
+
+-- ---- numbers
+
+module _ (values : List Value) (e : End) (r : Shape) (body : List ℕ) (whole : Bool) where
+  abbrev pub before : ℕ → Bool
+  before n = is_below e r body (value_at values n)
+
+  abbrev pub has : ℕ → Bool
+  has n = in_run e r body whole (value_at values n)
+
+  abbrev pub within : ℕ → Bool
+  within n = before n || has n
+
+  within_is : (n : ℕ) → within n ≡ (before n || meets whole (rank r ∷ turned e body) (key e (value_at values n)))
+  within_is n = ap (λ (b : Bool). before n || b) (in_key e r body whole (value_at values n))
+
+  pub before_parted : (order : List ℕ) → Rises e values order → IsPartitionedBy before order
+  before_parted order s = parted (NotAbove e values) before (λ x y le h. below_down (rank r ∷ turned e body) (key e (value_at values x)) (key e (value_at values y)) le h) order s
+
+  pub within_parted : (order : List ℕ) → Rises e values order → IsPartitionedBy within order
+  within_parted order s = parted (NotAbove e values) within (λ x y le h. within_is x ∙ within_down whole (rank r ∷ turned e body) (key e (value_at values x)) (key e (value_at values y)) le (sym (within_is y) ∙ h)) order s
+
+  has_not_before : (n : ℕ) → has n ≡ true → before n ≡ false
+  has_not_before n h = meets_not_below whole (rank r ∷ turned e body) (key e (value_at values n)) (sym (in_key e r body whole (value_at values n)) ∙ h)
+
+  before_has_not : (n : ℕ) → before n ≡ true → has n ≡ false
+  before_has_not n h = false_from_ne_true _ (λ is. both_ways _ (has_not_before n is) h)
+
+  abbrev Point : (ℕ → Bool) → List ℕ → ℕ → Type 0
+  Point p order k = IsPartitionPoint (λ n. p n ≡ true) (λ n. p n ≡ false) order k
+
+  ends_apart : (order : List ℕ) (from to : ℕ) → from ≤ length order → Point before order from → Point within order to → from ≤ to
+  ends_apart order from to fits first second = by (le_or_lt from to) where
+    le_or_lt : (m n : ℕ) → (m ≤ n) ⊎ (n < m)
+    le_or_lt zero n = inl (omega arith)
+    le_or_lt (suc m) zero = inr (omega arith)
+    le_or_lt (suc m) (suc n) = up (le_or_lt m n) where
+      up : (m ≤ n) ⊎ (n < m) → (suc m ≤ suc n) ⊎ (suc n < suc m)
+      up (inl le) = inl (omega (arith, le))
+      up (inr lt) = inr (omega (arith, lt))
+
+    by : (from ≤ to) ⊎ (to < from) → from ≤ to
+    by (inl le) = le
+    by (inr lt) =
+        let n = slice_index_or order to 0 in
+        absurd (both_ways _ (second.1 to 0 (omega arith) (omega (arith, lt, fits))) (or_first (before n) (has n) (first.0 to 0 (omega arith) lt)))
+
+  pub run_ends : (order : List ℕ) (from to : ℕ) → from ≤ length order → Point before order from → Point within order to → from ≤ to
+  run_ends = ends_apart
+
+  run_is : (order : List ℕ) (from n : ℕ) → from + n ≤ length order → Point before order from → Point within order (from + n) → filter has order ≡ take n (drop from order)
+  run_is order from n le first second =
+      filter_run has order from n le
+      (λ k d low high. before_has_not (slice_index_or order k d) (first.0 k d low high))
+      (λ k d low high. or_second (before (slice_index_or order k d)) (has (slice_index_or order k d)) (second.0 k d (omega arith) high) (first.1 k d low (omega (arith, high, le))))
+      (λ k d low high. (or_parts (before (slice_index_or order k d)) (has (slice_index_or order k d)) (second.1 k d low high)).1)
+
+  pub with_is : (order : List ℕ) (from to : ℕ) → from ≤ length order → to ≤ length order → Point before order from → Point within order to → take (to - from) (drop from order) ≡ filter has order
+  with_is order from to low high first second =
+      let le = ends_apart order from to low first second in
+      let same : from + (to - from) ≡ to = omega (arith, le) in
+      sym (run_is order from (to - from) (omega (arith, same, high)) first (subst (Point within order) (sym same) second))
+
+-- ---- to put
+
+less_not_above : (x y : List ℕ) → is_lt (text_order x y) ≡ true → is_lt (text_order y x) ≡ false
+less_not_above x y h = ap is_lt (nat_list_cmp_total.antisymm y x ∙ ap ordering_reverse (lt_is _ h))
+
+pub put_rises : (e : End) (values : List Value) (order : List ℕ) (place n : ℕ) → Rises e values order → place ≤ length order
+    → IsPartitionPoint (λ m. is_below e (shape_of (value_at values n)) (body_of (value_at values n)) (value_at values m) ≡ true) (λ m. is_below e (shape_of (value_at values n)) (body_of (value_at values n)) (value_at values m) ≡ false) order place
+    → Rises e values (insert order place n)
+put_rises e values order place n s fits point =
+    insert_sorted (NotAbove e values) order place n s fits
+    (λ k d low high. less_not_above (key e (value_at values (slice_index_or order k d))) (key e (value_at values n)) (point.0 k d low high))
+    (λ k d low high. point.1 k d low high)
