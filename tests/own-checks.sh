@@ -148,6 +148,7 @@ answers_usage() {
     echo "$usage" > "$room/usage.out"
     answers 'no words' examples/names.txt "$room/usage.out" 2
     answers 'a wrong word' examples/names.txt "$room/usage.out" 2 unbound
+    answers 'a word in capitals' examples/names.txt "$room/usage.out" 2 Compare
     answers 'a word too many' examples/names.txt "$room/usage.out" 2 unbind names
     answers 'an empty word' examples/names.txt "$room/usage.out" 2 ''
     answers 'half of a command' examples/names.txt "$room/usage.out" 2 bind

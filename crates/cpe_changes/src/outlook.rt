@@ -1,9 +1,7 @@
 // The verdicts before and after an edit that is not made yet.
 ghost use Rattle.std.specs.Prelude.{◌≡◌, ◌<◌, ◌^◌, ◌++◌, [], length, false, IfOk, OnOk};
 ghost use Rattle.std.specs.List.{cons_option};
-ghost use Rattle.cpe_rows.specs.Rows.{Rows};
-ghost use Rattle.cpe_rows.specs.Verdict.{verdict};
-ghost use Rattle.cpe_rows.specs.Changes.{others};
+ghost use Rattle.cpe_rows.specs.Prelude.{others, Rows, verdict};
 ghost use Rattle.cpe_changes.specs.Between.{change_between};
 
 use cpe_rows::{Changed, List, Statement, Truth};

@@ -1,6 +1,6 @@
 -- A dictionary and its graph: answers, and what a change leaves.
 use Rattle.std.proofs.Common.{◌≡◌, ℕ, zero, suc, ◌+◌, ◌<◌, ◌≤◌, Bool, true, false, cond, not, List, [], ◌∷◌, map, find, length, refl, sym, ap, subst, ◌∙◌, position, slice_set, eqb, arith}
-use Rattle.std.specs.Prelude.{⊤, Option, Some, None, Result, Err, IfErr, is_some}
+use Rattle.std.specs.Prelude.{Option, Some, None, Result, Err, IfErr, is_some}
 use Rattle.std.specs.List.{Contains, list_any, range_with_len}
 use Rattle.std.proofs.lemmas.Option.{same_Some, none-some, slice_get_within}
 use Rattle.std.proofs.lemmas.Map.Keys.{IsDistinct-from_apart}
@@ -12,7 +12,6 @@ use Rattle.cpe_rows.specs.Chains.{chain, ends}
 use Rattle.cpe_rows.specs.Lawful.{IsDictionary}
 use Rattle.cpe_rows.specs.Limits.{most}
 use Rattle.cpe_rows.specs.Rows.{is_named}
-use Rattle.cpe_rows.specs.Step.{first_some}
 use Rattle.cpe_rows.specs.declared.entry.Entry.{Entry}
 use Rattle.cpe_rows.specs.declared.entry.Deprecation.{Deprecation}
 use Rattle.cpe_rows.specs.declared.entry.Note.{Note}

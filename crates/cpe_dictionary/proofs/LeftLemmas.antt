@@ -1,7 +1,7 @@
 -- The entries that a planned change leaves: their names, their places and their ends.
 use Rattle.std.proofs.Common.{◌≡◌, ℕ, zero, suc, ◌+◌, ◌<◌, Bool, cond, List, [], ◌∷◌, map, filter, refl, sym, ap, subst, ◌∙◌, position, slice_get, slice_set, if◌then◌else◌}
-use Rattle.std.specs.Prelude.{Option, Some, None, is_some, option_map}
-use Rattle.std.specs.List.{cons_option, list_any, position_from}
+use Rattle.std.specs.Prelude.{Option, Some, None, option_map}
+use Rattle.std.specs.List.{cons_option, position_from}
 use Rattle.std.specs.Option.{option_map_or}
 use Rattle.std.proofs.lemmas.Option.{same_Some}
 use Rattle.std.proofs.lemmas.Iterator.Adapters.{position_from-zero}
@@ -18,8 +18,8 @@ use Rattle.numbered_entries.specs.Edits.{NamesStayDifferent}
 use Rattle.numbered_entries.specs.Faults.{AreDifferent}
 use Rattle.numbered_entries.specs.Numbers.{entries_at, node_of_entry, nodes_of_entries, ChangesByNumber, EndsByNumber, NodesAreMarked, NodesAreNumbered}
 use Rattle.numbered_entries.proofs.Numbering.{entry_at}
-use Rattle.cpe_dictionary.specs.Kept.{names_at, rewritten, written}
-use Rattle.cpe_dictionary.specs.Plans.{AreLeftBy, IsAllowed, PlansLead, ends_at, ends_by, numbered}
+use Rattle.cpe_dictionary.specs.Kept.{names_at, rewritten}
+use Rattle.cpe_dictionary.specs.Plans.{PlansLead, ends_at}
 use Rattle.cpe_dictionary.specs.declared.plans.Plan.{Plan}
 use Rattle.cpe_dictionary.proofs.DictionaryLemmas.{ends_named, no_entry}
 use Rattle.cpe_dictionary.proofs.Translating.{nodes_rewritten, written_set}

@@ -20,6 +20,7 @@ use Rattle.numbered_entries.specs.Faults.{AreDifferent, AreEntries, WritesByNumb
 use Rattle.numbered_entries.specs.Edits.{EditsAreChanges, KnownAreEntries, WidthAfterByNumber}
 use Rattle.cpe_dictionary.specs.Kept.{rows_of}
 use Rattle.cpe_dictionary.specs.Causes.{named_fault, width_cause, deprecation_causes}
+use Rattle.cpe_dictionary.specs.Plans.{AreAsked}
 use Rattle.cpe_rows.proofs.CauseLemmas.{first_behind}
 use Rattle.cpe_dictionary.proofs.Translating.{wide_fault, stands_at, width_found}
 
@@ -79,14 +80,6 @@ module _ (es : List Entry) (n : Values) (k : ℕ) (place : position (is_named n)
 
     pub causes_absent : first_some (earlier_causes es d) ≡ None → change_fault (nodes_of_entries es) k (Some numbers) ≡ None → first_some (deprecation_causes es n d note) ≡ None
     causes_absent h none = causes_named h ∙ ap (option_and_then (named_fault es)) none
-
--- successors for which the graph may be asked
-pub record AreAsked (es : List Entry) (d : Deprecation) (ks : List ℕ) : Type 0 where
-  pub count : is_count d.kind (length d.successors) ≡ true
-  pub known : place_of (λ n. not (list_any (is_named n) es)) d.successors ≡ None
-  pub entries : AreEntries es d.successors
-  pub apart : repeated_from is_same [] 1 d.successors ≡ None
-  pub numbers : ks ≡ numbers_of es d.successors
 
 pub are_asked : (es : List Entry) (d : Deprecation) (names : List Values) (ks : List ℕ) (is_good : Bool) → KnownAreEntries → RepeatsByNumber → names ≡ d.successors → is_good ≡ is_count d.kind (length names) → is_good ≡ true
     → place_of (λ n. not (list_any (is_named n) es)) names ≡ None → ks ≡ numbers_of es names → repeated_from nat_eq [] 1 ks ≡ None → AreAsked es d ks

@@ -17,7 +17,7 @@ use Rattle.cpe_rows.specs.declared.fault.EditFault.{EditFault}
 use Rattle.cpe_rows.specs.declared.fault.EditFault.TheVariants as fault
 use Rattle.deprecation_graph.specs.Graph.{node_of, changed as changed_nodes}
 use Rattle.deprecation_graph.specs.Faults.{wide_in}
-use Rattle.numbered_entries.specs.Numbers.{numbers_of, node_of_entry, nodes_of_entries, ChangesByNumber}
+use Rattle.numbered_entries.specs.Numbers.{node_of_entry, nodes_of_entries, ChangesByNumber}
 use Rattle.numbered_entries.specs.Edits.{WidthAfterByNumber}
 use Rattle.numbered_entries.specs.Faults.{AreDifferent, WritesByNumber}
 use Rattle.cpe_dictionary.specs.Kept.{rows_of, rewritten, written}

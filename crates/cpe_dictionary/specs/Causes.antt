@@ -1,5 +1,5 @@
 -- Why a deprecation is refused, part by part.
-use Rattle.std.specs.Prelude.{◌≡◌, ◌++◌, ◌∷◌, ℕ, List, [], Bool, if◌then◌else◌, Option, Some, None, option_map, slice_get, not}
+use Rattle.std.specs.Prelude.{◌++◌, ◌∷◌, List, [], Bool, if◌then◌else◌, Option, Some, option_map, slice_get, not}
 use Rattle.cpe_name.specs.declared.name.Values.{Values}
 use Rattle.cpe_rows.specs.After.{changed}
 use Rattle.cpe_rows.specs.Faults.{when, is_deprecated, successor_faults, too_wide}

@@ -1,18 +1,29 @@
 -- Changes of deprecations that are planned before they are made.
-use Rattle.std.specs.Prelude.{◌≡◌, ◌∷◌, [], ℕ, List, Option, Some, None, option_map, position}
+use Rattle.std.specs.Prelude.{◌≡◌, ◌∷◌, [], ℕ, List, Option, Some, None, length, not, option_map, position, true}
+use Rattle.std.specs.List.{list_any}
 use Rattle.std.specs.Option.{option_map_or}
 use Rattle.cpe_name.specs.declared.name.Values.{Values}
 use Rattle.cpe_rows.specs.Chains.{ends}
+use Rattle.cpe_rows.specs.Faults.{is_count, place_of, repeated_from}
+use Rattle.cpe_rows.specs.Names.{is_same}
 use Rattle.cpe_rows.specs.Rows.{is_named}
 use Rattle.cpe_rows.specs.declared.entry.Entry.{Entry}
 use Rattle.cpe_rows.specs.declared.entry.Deprecation.{Deprecation}
 use Rattle.cpe_rows.specs.declared.entry.Note.{Note}
 use Rattle.deprecation_graph.specs.Faults.{change_fault}
 use Rattle.deprecation_graph.specs.Graph.{IsChange, changed, ends_in}
-use Rattle.numbered_entries.specs.Faults.{AreDifferent}
+use Rattle.numbered_entries.specs.Faults.{AreDifferent, AreEntries}
 use Rattle.numbered_entries.specs.Numbers.{nodes_of_entries, numbers_of}
 use Rattle.cpe_dictionary.specs.Kept.{names_at, rewritten, written}
 use Rattle.cpe_dictionary.specs.declared.plans.Plan.{Plan}
+
+-- successors for which the graph may be asked
+pub record AreAsked (es : List Entry) (d : Deprecation) (ks : List ℕ) : Type 0 where
+  pub count : is_count d.kind (length d.successors) ≡ true
+  pub known : place_of (λ n. not (list_any (is_named n) es)) d.successors ≡ None
+  pub entries : AreEntries es d.successors
+  pub apart : repeated_from is_same [] 1 d.successors ≡ None
+  pub numbers : ks ≡ numbers_of es d.successors
 
 -- the entry of this number may have successors of these numbers
 pub record IsAllowed (es : List Entry) (k : ℕ) (next : Option (List ℕ)) : Type 0 where

@@ -1,7 +1,7 @@
 // Why an entry can't be added.
 ghost use Rattle.std.specs.Prelude.{◌≡◌};
 ghost use Rattle.cpe_rows.specs.Causes.{entry_causes};
-ghost use Rattle.cpe_rows.specs.Step.{first_some};
+ghost use Rattle.cpe_rows.specs.Prelude.{first_some};
 
 use crate::dictionary::Dictionary;
 use cpe_rows::{EditFault, Entry, Which, has_wildcards, is_identifier};

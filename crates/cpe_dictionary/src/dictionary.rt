@@ -2,15 +2,10 @@
 ghost use Rattle.std.specs.Prelude.{◌≡◌, ◌+◌, ◌++◌, ◌∷◌, [], ◌<◌, ◌≤◌, IfOk, IfErr, OnOk, OnErr, None, Some, filter, find, length, map, nat_lt, not, option_and_then, option_map, position, slice_get, true, false};
 ghost use Rattle.std.specs.List.{list_any};
 ghost use Rattle.std.specs.Option.{option_copied};
-ghost use Rattle.cpe_rows.specs.Answers.{row_of, rows_found as found, state_of};
-ghost use Rattle.cpe_rows.specs.Chains.{chain as chain_of, ends, is_active};
-ghost use Rattle.cpe_rows.specs.Lawful.{IsDictionary};
-ghost use Rattle.cpe_rows.specs.Limits.{most};
-ghost use Rattle.cpe_rows.specs.Rows.{is_named};
+ghost use Rattle.cpe_rows.specs.Prelude.{chain as chain_of, ends, is_active, is_named, IsCause, IsDictionary, most, row_of, rows_found as found, state_of};
 ghost use Rattle.deprecation_graph.specs.Faults.{change_fault};
 ghost use Rattle.deprecation_graph.specs.Graph.{IsChange};
 ghost use Rattle.numbered_entries.specs.Numbers.{nodes_of_entries};
-ghost use Rattle.cpe_rows.specs.Causes.{IsCause};
 ghost use Rattle.cpe_dictionary.specs.Causes.{named_fault};
 ghost use Rattle.cpe_dictionary.specs.Kept.{rewritten, written};
 ghost use Rattle.cpe_dictionary.specs.Plans.{IsAllowed, numbered};

@@ -1,7 +1,6 @@
 // Where deprecations lead: the ends of names, as they are and as a planned change would leave them.
 ghost use Rattle.std.specs.Prelude.{◌≡◌, IfOk, Some, position};
-ghost use Rattle.cpe_rows.specs.Chains.{ends, leads_to};
-ghost use Rattle.cpe_rows.specs.Rows.{is_named};
+ghost use Rattle.cpe_rows.specs.Prelude.{ends, is_named, leads_to};
 ghost use Rattle.cpe_dictionary.specs.Kept.{names_at};
 ghost use Rattle.cpe_dictionary.specs.Plans.{IsAllowed, ends_by};
 

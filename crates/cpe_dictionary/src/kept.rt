@@ -2,16 +2,13 @@
 ghost use Rattle.std.specs.Prelude.{◌≡◌, ◌≤◌, ◌++◌, ◌∷◌, [], IfOk, OnOk, OnErr, filter, find, map, length, not, position, false, option_map};
 ghost use Rattle.std.specs.List.{list_any};
 ghost use Rattle.std.specs.Option.{option_map_or};
-ghost use Rattle.cpe_rows.specs.Chains.{is_active};
-ghost use Rattle.cpe_rows.specs.Rows.{is_named};
-ghost use Rattle.cpe_rows.specs.Answers.{state_of, row_of};
-ghost use Rattle.cpe_rows.specs.Limits.{most};
+ghost use Rattle.cpe_rows.specs.Prelude.{is_active, is_named, most, row_of, state_of};
 ghost use Rattle.cpe_rows.specs.declared.fault.Which.TheVariants as limit;
 ghost use Rattle.cpe_dictionary.specs.Kept.{entry_from, rewritten, written};
 ghost use Rattle.cpe_rows.specs.declared.entry.Deprecation.{Deprecation};
 
 use cpe_name::Wfn;
-use cpe_rows::{Deprecation, Entry, Note, Provenance, Row, State, Text};
+use cpe_rows::{Deprecation, Entry, Note, Provenance, Row, State, Text, copy_of_deprecation};
 use cpe_values::Memory;
 use indexmap::IndexMap;
 use std::alloc::Global;
@@ -22,18 +19,6 @@ pub(crate) struct Details {
     pub(crate) title: Text,
     pub(crate) provenance: Provenance,
     pub(crate) deprecation: Option<Deprecation>,
-}
-
-fn copy_of_deprecation(
-    alloc: Global,
-    deprecation: &Option<Deprecation>,
-) -> Result<Option<Deprecation>, Memory>
-    ensures { IfOk result (λ d. d ≡ deprecation.now) }
-{
-    match deprecation {
-        Some(deprecation) => Ok(Some(deprecation.copy(alloc)?)),
-        None => Ok(None),
-    }
 }
 
 /// A copy of the entry of a name and these details.

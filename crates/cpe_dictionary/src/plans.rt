@@ -1,10 +1,7 @@
 // Changes of an entry's deprecation, which are planned before they are made.
 ghost use Rattle.std.specs.Prelude.{◌≡◌, ◌++◌, ◌∷◌, [], ℕ, IfOk, IfErr, List, None, Some, if◌then◌else◌, not, position};
 ghost use Rattle.std.specs.Option.{option_copied};
-ghost use Rattle.cpe_rows.specs.Causes.{IsCause, causes};
-ghost use Rattle.cpe_rows.specs.Faults.{when};
-ghost use Rattle.cpe_rows.specs.Rows.{is_named};
-ghost use Rattle.cpe_rows.specs.Step.{first_some};
+ghost use Rattle.cpe_rows.specs.Prelude.{causes, first_some, is_named, IsCause, when};
 ghost use Rattle.cpe_rows.specs.declared.entry.Note.{Note};
 ghost use Rattle.cpe_dictionary.specs.Causes.{deprecation_causes, state_causes};
 ghost use Rattle.cpe_dictionary.specs.Kept.{rows_of};

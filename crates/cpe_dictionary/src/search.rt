@@ -1,7 +1,8 @@
 // Going over the entries.
 ghost use Rattle.std.specs.Prelude.{◌≡◌, ◌||◌, IfOk, is_none, map, not};
 ghost use Rattle.cpe_relation.specs.Order.{IsOrder};
-ghost use Rattle.cpe_rows.specs.Answers.{row_of, is_found, rows_found};
+ghost use Rattle.cpe_rows.specs.Prelude.{row_of, rows_found};
+ghost use Rattle.cpe_rows.specs.Answers.{is_found};
 ghost use Rattle.cpe_dictionary.specs.Kept.{entry_from};
 
 use crate::kept::{Details, row_of};

@@ -2,15 +2,13 @@
 ghost use Rattle.std.specs.Prelude.{◌≡◌, ◌∷◌, [], ◌≤◌, IfOk, IfErr, None, Some, length, nat_eq, not, option_map, position};
 ghost use Rattle.std.specs.List.{list_any};
 ghost use Rattle.cpe_rows.specs.Faults.{is_count, place_of, repeated_from, successor_faults};
-ghost use Rattle.cpe_rows.specs.Limits.{most_successors};
-ghost use Rattle.cpe_rows.specs.Rows.{is_named};
-ghost use Rattle.cpe_rows.specs.Step.{first_some};
+ghost use Rattle.cpe_rows.specs.Prelude.{first_some, is_named, IsCause, most_successors};
 ghost use Rattle.cpe_rows.specs.declared.entry.Note.{Note};
 ghost use Rattle.cpe_rows.specs.declared.fault.EditFault.TheVariants as fault;
 ghost use Rattle.numbered_entries.specs.Numbers.{numbers_of};
-ghost use Rattle.cpe_rows.specs.Causes.{IsCause};
 ghost use Rattle.cpe_dictionary.specs.Causes.{deprecation_causes};
-ghost use Rattle.cpe_dictionary.specs.Plans.{IsAllowed};
+ghost use Rattle.cpe_dictionary.specs.Plans.{AreAsked, IsAllowed};
+ghost use Rattle.cpe_name.specs.declared.name.Values.{Values};
 
 use crate::dictionary::Dictionary;
 use cpe_name::Wfn;
@@ -72,6 +70,29 @@ fn find_repeated(numbers: &[u32]) -> Option<u32>
     None
 }
 
+// The numbers of the successors of a deprecation, of which the graph may be asked.
+fn find_different(
+    alloc: Global,
+    dictionary: &Dictionary,
+    deprecation: &Deprecation,
+) -> Result<List<u32>, EditFault>
+    ensures ok { IfOk result (λ ks. AreAsked dictionary.now deprecation.now ks) }
+    ensures err { IfErr result (λ f. (n : Values) (note : Note) → IsCause f (first_some (deprecation_causes dictionary.now n deprecation.now note))) }
+{
+    edits_by_number();
+    edits_are_changes();
+    faults_by_number();
+    let names = deprecation.successors.as_slice();
+    if !is_count(deprecation.kind, names.len()) {
+        return Err(EditFault::BadCount);
+    }
+    let numbers = find_numbers(alloc, dictionary, names)?;
+    if let Some(place) = find_repeated(numbers.as_slice()) {
+        return Err(EditFault::RepeatedSuccessor(place));
+    }
+    Ok(numbers)
+}
+
 /// The numbers of the successors that a deprecation gives the entry of this name and number, where it may have them.
 ///
 /// # Errors
@@ -93,14 +114,7 @@ pub(crate) fn find_successors(
     edits_are_changes();
     dictionary.lawful();
     faults_by_number();
-    let names = deprecation.successors.as_slice();
-    if !is_count(deprecation.kind, names.len()) {
-        return Err(EditFault::BadCount);
-    }
-    let numbers = find_numbers(alloc, dictionary, names)?;
-    if let Some(place) = find_repeated(numbers.as_slice()) {
-        return Err(EditFault::RepeatedSuccessor(place));
-    }
+    let numbers = find_different(alloc, dictionary, deprecation)?;
     dictionary.check(number, Some(numbers.as_slice()))?;
     Ok(numbers)
 }

@@ -1,12 +1,13 @@
 -- What follows for the lists of rows where an edit has no fault.
-use Rattle.std.proofs.Common.{◌≡◌, ◌≤◌, ◌<◌, ◌+◌, ◌∙◌, ℕ, ap, zero-add, Bool, true, false, List, ◌∷◌, arith, refl, Some, None}
+use Rattle.std.proofs.Common.{◌≡◌, ◌≤◌, ◌<◌, ◌+◌, ◌∙◌, ℕ, ap, sym, subst, zero-add, Bool, true, false, List, ◌∷◌, arith, refl, Some, None}
 use Rattle.std.proofs.Math.Nat.{min-eq_left}
-use Rattle.std.proofs.lemmas.Bool.{lt-ltb}
+use Rattle.std.proofs.lemmas.Bool.{le-ltb, lt-ltb, ltb-false}
 use Rattle.std.specs.Prelude.{Option, Result, Ok, Err, OnOk, OnErr}
 use Rattle.cpe_rows.specs.After.{after}
 use Rattle.cpe_rows.specs.Causes.{heavy}
 use Rattle.cpe_rows.specs.Faults.{when}
-use Rattle.cpe_rows.specs.Limits.{most}
+use Rattle.cpe_rows.specs.Limits.{AreWithin, most}
+use Rattle.cpe_rows.specs.Lawful.{IsLawful}
 use Rattle.cpe_rows.specs.Rows.{Rows}
 use Rattle.cpe_rows.specs.Step.{first_some}
 use Rattle.cpe_rows.specs.Weight.{weight}
@@ -14,7 +15,10 @@ use Rattle.cpe_rows.specs.declared.edit.Edit.{Edit}
 use Rattle.cpe_rows.specs.declared.fault.EditFault.{EditFault}
 use Rattle.cpe_rows.specs.declared.fault.EditFault.TheVariants as fault
 use Rattle.cpe_rows.specs.declared.fault.Which.TheVariants as limit
+use Rattle.cpe_rows.proofs.Limited.{each_within}
 use Rattle.cpe_weight.specs.Capped.{capped}
+use Rattle.cpe_engine.specs.Parts.{AreKept, rows_in}
+use Rattle.cpe_engine.specs.declared.parts.Parts.{Parts}
 
 -- where there is no cause, this isn't one, and there is none behind it
 pub none_here : (b : Bool) (f : EditFault) (os : List (Option EditFault)) → first_some (when b f ∷ os) ≡ None → b ≡ false
@@ -46,3 +50,28 @@ pub is_heavy : (rows : Rows) (e : Edit) (n : ℕ) → n ≡ capped (weight (afte
 is_heavy rows e n counted above =
     let less : most limit.Weight < weight (after rows e) = omega (arith, counted, above) in
     ap (λ (b : Bool). when b (fault.Full limit.Weight)) (lt-ltb (most limit.Weight) (weight (after rows e)) less)
+
+-- rows within their limits weigh no more than theirs
+pub weight_within : (rows : Rows) → AreWithin rows → weight rows ≤ most limit.Weight
+weight_within rows h = ltb-false (most limit.Weight) (weight rows) (each_within rows h limit.Weight)
+
+-- rows that aren't too heavy, and weigh this
+pub record IsLight (next : Rows) (n : ℕ) : Type 0 where
+  pub light : heavy next ≡ None
+  pub exact : n ≡ weight next
+
+-- a weight that is counted within the limit is as it was counted
+pub is_light : (next : Rows) (n : ℕ) → n ≡ capped (weight next) → n ≤ 536870912 → IsLight next n
+is_light next n counted below =
+    let within : weight next ≤ most limit.Weight = omega (arith, counted, below) in
+    record {
+      light = ap (λ (b : Bool). when b (fault.Full limit.Weight)) (le-ltb (most limit.Weight) (weight next) within);
+      exact = counted ∙ min-eq_left (omega (arith, within));
+    }
+
+-- lawful rows, and the weight that they were found to have
+pub stay_kept : (made : Parts) (rows : Rows) (n : ℕ) → IsLawful rows → rows_in made ≡ rows → made.weight ≡ n → n ≡ weight rows → AreKept made
+stay_kept made rows n lawful same counted weighs = record {
+  lawful = subst IsLawful (sym same) lawful;
+  weight = counted ∙ weighs ∙ ap weight (sym same);
+}

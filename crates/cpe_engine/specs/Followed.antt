@@ -4,16 +4,11 @@ use Rattle.std.specs.Prelude.{◌++◌, Bool, List, [], Option, if◌then◌else
 use Rattle.std.specs.List.{flat_map, list_any}
 use Rattle.cpe_name.specs.declared.name.Values.{Values}
 use Rattle.cpe_relation.specs.NameRelation.{covers}
-use Rattle.cpe_rows.specs.Chains.{ends}
 use Rattle.cpe_rows.specs.Chains.{leads_to}
-use Rattle.cpe_rows.specs.Evaluation.{test_truth}
-use Rattle.cpe_rows.specs.Rows.{Rows}
-use Rattle.cpe_rows.specs.Verdict.{truth, check_truth}
+use Rattle.cpe_rows.specs.Verdict.{truth}
 use Rattle.cpe_rows.specs.declared.entry.Entry.{Entry}
 use Rattle.cpe_rows.specs.declared.statement.Mode.{Mode}
 use Rattle.cpe_rows.specs.declared.statement.Mode.TheVariants.{Plain, Follow}
-use Rattle.cpe_rows.specs.declared.test.CheckKey.{CheckKey}
-use Rattle.cpe_rows.specs.declared.test.Test.{Test}
 use Rattle.cpe_rows.specs.declared.truth.Truth.{Truth}
 use Rattle.cpe_dictionary.specs.Plans.{ends_by}
 use Rattle.cpe_dictionary.specs.declared.plans.Plan.{Plan}

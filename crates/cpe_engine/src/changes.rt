@@ -2,11 +2,7 @@
 ghost use Rattle.std.specs.Prelude.{◌≡◌, ◌<◌, ◌≤◌, ◌^◌, ◌∷◌, ◌++◌, [], IfOk, OnOk, None, Some, length};
 ghost use Rattle.cpe_changes.specs.Touching.{deprecation_changed};
 ghost use Rattle.cpe_inventory.specs.Asked.{all_names, result_truth};
-ghost use Rattle.cpe_rows.specs.Accepted.{IsAccepted};
-ghost use Rattle.cpe_rows.specs.After.{after};
-ghost use Rattle.cpe_rows.specs.Changes.{change, changes};
-ghost use Rattle.cpe_rows.specs.Limits.{most};
-ghost use Rattle.cpe_rows.specs.Verdict.{check_truth, verdict};
+ghost use Rattle.cpe_rows.specs.Prelude.{after, change, changes, check_truth, IsAccepted, most, verdict};
 ghost use Rattle.cpe_rows.specs.declared.fault.Which.TheVariants as limit;
 ghost use Rattle.cpe_engine.specs.Changing.{check_given, item_moved};
 ghost use Rattle.cpe_engine.specs.Followed.{ends_if_led, ends_led};

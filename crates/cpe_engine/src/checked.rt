@@ -1,8 +1,6 @@
 // Edits that are looked at before they are made.
 ghost use Rattle.std.specs.Prelude.{◌≡◌, IfOk, IfErr, true};
-ghost use Rattle.cpe_rows.specs.Applied.{Refuses};
-ghost use Rattle.cpe_rows.specs.Step.{step};
-ghost use Rattle.cpe_rows.specs.Valid.{is_valid_edit};
+ghost use Rattle.cpe_rows.specs.Prelude.{is_valid_edit, Refuses, step};
 ghost use Rattle.cpe_engine.specs.Checked.{IsChecked};
 ghost use Rattle.cpe_engine.specs.Parts.{AreKept, rows_in};
 

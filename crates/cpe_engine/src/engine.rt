@@ -1,12 +1,7 @@
 // The engine, its edits and its answers.
 ghost use Rattle.std.specs.Prelude.{◌≡◌, IfOk, true};
-ghost use Rattle.cpe_rows.specs.Answers.{answer};
-ghost use Rattle.cpe_rows.specs.Applied.{Applied};
-ghost use Rattle.cpe_rows.specs.Changes.{changes};
+ghost use Rattle.cpe_rows.specs.Prelude.{answer, Applied, changes, is_valid_edit, IsLawful, no_rows};
 ghost use Rattle.cpe_rows.specs.Counts.{counts_of};
-ghost use Rattle.cpe_rows.specs.Lawful.{IsLawful};
-ghost use Rattle.cpe_rows.specs.Rows.{no_rows};
-ghost use Rattle.cpe_rows.specs.Valid.{is_valid_edit};
 
 use crate::parts::Parts;
 use cpe_name::Wfn;
@@ -159,29 +154,37 @@ impl Engine {
     fn show(&self, alloc: Global, name: Wfn) -> Result<Reply, Memory>
         ensures { IfOk result (λ r. r ≡ answer self.now (Query.Show name)) }
     {
-        let entry = self.parts.dictionary.entry_of(alloc, &name)?;
-        Ok(Reply::Show { name, entry })
+        match self.parts.dictionary.entry_of(alloc, &name) {
+            Ok(entry) => Ok(Reply::Show { name, entry }),
+            Err(memory) => Err(let_go(name, memory)),
+        }
     }
 
     fn search(&self, alloc: Global, name: Wfn, active_only: bool) -> Result<Reply, Memory>
         ensures { IfOk result (λ r. r ≡ answer self.now (Query.Search name active_only)) }
     {
-        let rows = self.parts.dictionary.rows_found(alloc, &name, active_only)?;
-        Ok(Reply::Search { name, rows })
+        match self.parts.dictionary.rows_found(alloc, &name, active_only) {
+            Ok(rows) => Ok(Reply::Search { name, rows }),
+            Err(memory) => Err(let_go(name, memory)),
+        }
     }
 
     fn items_covered(&self, alloc: Global, name: Wfn) -> Result<Reply, Memory>
         ensures { IfOk result (λ r. r ≡ answer self.now (Query.Items name)) }
     {
-        let rows = self.parts.items.covered(alloc, &name)?;
-        Ok(Reply::Items { name, rows })
+        match self.parts.items.covered(alloc, &name) {
+            Ok(rows) => Ok(Reply::Items { name, rows }),
+            Err(memory) => Err(let_go(name, memory)),
+        }
     }
 
     fn chain(&self, alloc: Global, name: Wfn) -> Result<Reply, Memory>
         ensures { IfOk result (λ r. r ≡ answer self.now (Query.Chain name)) }
     {
-        let (links, ends) = self.parts.dictionary.chain(alloc, &name)?;
-        Ok(Reply::Chain { name, links, ends })
+        match self.parts.dictionary.chain(alloc, &name) {
+            Ok((links, ends)) => Ok(Reply::Chain { name, links, ends }),
+            Err(memory) => Err(let_go(name, memory)),
+        }
     }
 
     fn verdict_of(&self, alloc: Global, id: Text) -> Result<Reply, Memory>
@@ -193,4 +196,10 @@ impl Engine {
         };
         Ok(Reply::Verdict { id, truth })
     }
+}
+
+// Lets the name of a query go that memory was wanting for. Under a `?` each of its eleven values would be let go in place.
+fn let_go(name: Wfn, memory: Memory) -> Memory {
+    drop(name);
+    memory
 }

@@ -1,12 +1,6 @@
 // The parts of an engine: the lists of rows that it keeps.
 ghost use Rattle.std.specs.Prelude.{◌≡◌, ◌∷◌, [], IfOk, IfErr, None, OnOk, OnErr, not, true};
-ghost use Rattle.cpe_rows.specs.After.{after, changed};
-ghost use Rattle.cpe_rows.specs.Causes.{IsCause, causes};
-ghost use Rattle.cpe_rows.specs.Faults.{when};
-ghost use Rattle.cpe_rows.specs.Lawful.{IsDictionary, IsLawful};
-ghost use Rattle.cpe_rows.specs.Rows.{no_rows};
-ghost use Rattle.cpe_rows.specs.Step.{first_some};
-ghost use Rattle.cpe_rows.specs.Valid.{is_valid_edit};
+ghost use Rattle.cpe_rows.specs.Prelude.{after, causes, changed, first_some, is_valid_edit, IsCause, IsDictionary, IsLawful, no_rows, when};
 ghost use Rattle.cpe_dictionary.specs.Kept.{rewritten};
 ghost use Rattle.cpe_engine.specs.Checked.{IsChecked};
 ghost use Rattle.cpe_engine.specs.Parts.{rows_in};

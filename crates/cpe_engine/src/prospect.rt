@@ -1,6 +1,6 @@
 // The verdicts before an edit, and as the edit will leave them.
 ghost use Rattle.std.specs.Prelude.{◌≡◌};
-ghost use Rattle.cpe_rows.specs.After.{after as left_by};
+ghost use Rattle.cpe_rows.specs.Prelude.{after as left_by};
 ghost use Rattle.cpe_engine.specs.Parts.{rows_in};
 ghost use Rattle.cpe_engine.specs.Prospects.{Keeps};
 ghost use Rattle.cpe_engine.specs.Scenes.{Shows};

@@ -1,8 +1,7 @@
 // What verdicts are asked of.
 ghost use Rattle.std.specs.Prelude.{◌≡◌, IfOk};
 ghost use Rattle.cpe_rows.specs.Evaluation.{test_truth};
-ghost use Rattle.cpe_rows.specs.Rows.{Rows};
-ghost use Rattle.cpe_rows.specs.Verdict.{verdict};
+ghost use Rattle.cpe_rows.specs.Prelude.{Rows, verdict};
 ghost use Rattle.cpe_inventory.specs.Asked.{all_names, result_truth};
 ghost use Rattle.cpe_engine.specs.Followed.{fact_in, item_ends};
 ghost use Rattle.cpe_engine.specs.Scenes.{Shows};

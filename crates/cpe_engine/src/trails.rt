@@ -3,7 +3,7 @@ ghost use Rattle.std.specs.Prelude.{◌≡◌, ◌++◌, [], IfOk, List, OnOk, N
 ghost use Rattle.std.specs.List.{cons_option, list_any};
 ghost use Rattle.std.specs.Option.{option_map_or};
 ghost use Rattle.cpe_relation.specs.NameRelation.{covers};
-ghost use Rattle.cpe_rows.specs.Rows.{is_named};
+ghost use Rattle.cpe_rows.specs.Prelude.{is_named};
 ghost use Rattle.cpe_dictionary.specs.Kept.{names_at};
 ghost use Rattle.cpe_dictionary.specs.Plans.{IsAllowed, ends_by};
 ghost use Rattle.cpe_engine.specs.Followed.{is_covering, item_ends};

@@ -1,6 +1,6 @@
 // The verdicts of an engine's statements.
 ghost use Rattle.std.specs.Prelude.{◌≡◌, ◌<◌, IfOk, None, length, slice_get, Some};
-ghost use Rattle.cpe_rows.specs.Verdict.{verdict};
+ghost use Rattle.cpe_rows.specs.Prelude.{verdict};
 ghost use Rattle.cpe_rows.specs.declared.statement.Statement.{Statement};
 ghost use Rattle.cpe_engine.specs.Followed.{item_ends};
 

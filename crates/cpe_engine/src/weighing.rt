@@ -1,10 +1,6 @@
 // What an edit makes of the weight.
 ghost use Rattle.std.specs.Prelude.{◌≡◌, ◌≤◌, ◌+◌, None};
-ghost use Rattle.cpe_rows.specs.After.{after};
-ghost use Rattle.cpe_rows.specs.Causes.{causes};
-ghost use Rattle.cpe_rows.specs.Limits.{most};
-ghost use Rattle.cpe_rows.specs.Step.{first_some};
-ghost use Rattle.cpe_rows.specs.Rows.{has_id, is_named};
+ghost use Rattle.cpe_rows.specs.Prelude.{after, causes, first_some, has_id, is_named, most};
 ghost use Rattle.cpe_rows.specs.Weight.{statement_weight, weight as weight_of};
 ghost use Rattle.cpe_rows.specs.declared.fault.Which.TheVariants as limit;
 ghost use Rattle.cpe_weight.specs.Gain.{deprecated_weight, gain, loss, weight_of_first};

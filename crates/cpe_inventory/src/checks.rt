@@ -2,8 +2,7 @@
 ghost use Rattle.std.specs.Prelude.{◌≡◌, [], OnOk, OnErr, length};
 ghost use Rattle.std.specs.Bool.{OnFalse};
 ghost use Rattle.std.specs.List.{list_any};
-ghost use Rattle.cpe_rows.specs.Rows.{has_key};
-ghost use Rattle.cpe_rows.specs.After.{with_check, without_first};
+ghost use Rattle.cpe_rows.specs.Prelude.{has_key, with_check, without_first};
 ghost use Rattle.cpe_rows.specs.declared.test.CheckKey.{CheckKey};
 ghost use Rattle.cpe_inventory.specs.Kept.{kept_truth};
 ghost use Rattle.cpe_inventory.specs.Asked.{given_truth, result_truth};

@@ -1,6 +1,6 @@
 // How many fact references a test has.
 ghost use Rattle.std.specs.Prelude.{◌≡◌, ◌+◌, ◌-◌, ◌^◌, length, min};
-ghost use Rattle.cpe_rows.specs.FactNames.{fact_names};
+ghost use Rattle.cpe_rows.specs.Prelude.{fact_names};
 
 use cpe_rows::Test;
 

@@ -1,11 +1,8 @@
 // Why edits of an inventory are refused.
 ghost use Rattle.std.specs.Prelude.{◌≡◌, ◌++◌, ◌∷◌, [], length, nat_lt};
-ghost use Rattle.cpe_rows.specs.After.{with_check};
-ghost use Rattle.cpe_rows.specs.Limits.{most};
-ghost use Rattle.cpe_rows.specs.Step.{first_some};
+ghost use Rattle.cpe_rows.specs.Prelude.{first_some, most, number_of_facts, with_check};
 ghost use Rattle.cpe_rows.specs.declared.truth.Truth.{Truth};
 ghost use Rattle.cpe_rows.specs.declared.fault.Which.TheVariants as which;
-ghost use Rattle.cpe_rows.specs.FactNames.{number_of_facts};
 ghost use Rattle.cpe_rows.specs.Causes.{item_causes, statement_causes, check_causes};
 
 use crate::count::with_facts_of;

@@ -4,7 +4,7 @@ ghost use Rattle.std.specs.Bool.{OnFalse};
 ghost use Rattle.std.specs.List.{list_any};
 ghost use Rattle.cpe_relation.specs.NameRelation.{covers};
 ghost use Rattle.cpe_rows.specs.Names.{is_same};
-ghost use Rattle.cpe_rows.specs.After.{without_first};
+ghost use Rattle.cpe_rows.specs.Prelude.{without_first};
 ghost use Rattle.cpe_inventory.specs.Asked.{all_names};
 
 use crate::Names;

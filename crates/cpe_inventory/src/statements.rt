@@ -5,10 +5,7 @@ ghost use Rattle.std.specs.Bool.{OnFalse};
 ghost use Rattle.std.specs.List.{list_any};
 ghost use Rattle.std.specs.Map.{values_of};
 ghost use Rattle.std.specs.Option.{option_copied};
-ghost use Rattle.cpe_rows.specs.Rows.{has_id};
-ghost use Rattle.cpe_rows.specs.After.{without_first};
-ghost use Rattle.cpe_rows.specs.FactNames.{fact_names, number_of_facts};
-ghost use Rattle.cpe_rows.specs.Limits.{most};
+ghost use Rattle.cpe_rows.specs.Prelude.{fact_names, has_id, most, number_of_facts, without_first};
 ghost use Rattle.cpe_inventory.specs.Kept.{facts_by_id, AreByIds};
 ghost use Rattle.cpe_rows.specs.declared.fault.Which.TheVariants as which;
 

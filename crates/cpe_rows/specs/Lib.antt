@@ -24,3 +24,4 @@ pub mod Answers
 pub mod Changes
 pub mod Lawful
 pub mod Accepted
+pub mod Prelude

@@ -136,7 +136,11 @@ fn copy_of_notes(alloc: Global, notes: &[Note]) -> Result<List<Note>, Memory>
     Ok(copies)
 }
 
-fn copy_of_deprecation(
+/// The deprecation of an entry again, if it has one.
+///
+/// # Errors
+/// Want of memory alone.
+pub fn copy_of_deprecation(
     alloc: Global,
     deprecation: &Option<Deprecation>,
 ) -> Result<Option<Deprecation>, Memory>

@@ -25,7 +25,7 @@ mod truth;
 pub use counts::Counts;
 pub use date::Date;
 pub use edit::{Edit, Query, is_id};
-pub use entry::{Deprecation, Entry, Kind, Note, NoteKind, Provenance};
+pub use entry::{Deprecation, Entry, Kind, Note, NoteKind, Provenance, copy_of_deprecation};
 pub use facts::{Facts, FindFacts, evaluate, find_truth};
 pub use fault::{EditFault, Which};
 pub use laws::{

@@ -12,14 +12,13 @@ use std::test::Fail;
 // As many bytes as any write here has.
 const ALL: usize = 65_536;
 
-// Lines of a command, and how a run goes in which nothing fails.
+// Lines of a command, some of which are refused, and what a run writes in which nothing fails.
 #[derive(Clone, Copy)]
 struct Session<'s> {
     words: &'s [String],
     // The words under which the same lines are answered with no table behind them.
     without_table: &'s [String],
     input: &'s [u8],
-    status: Status,
     output: &'s [u8],
 }
 
@@ -82,7 +81,7 @@ fn goes_in_pieces(
         most,
         writes: &[],
     };
-    goes(alloc, session, &ends, session.status, session.output)
+    goes(alloc, session, &ends, Status::SomeRefused, session.output)
 }
 
 fn goes_in_all_pieces(alloc: Global, session: &Session) -> Result<bool, Fail> {
@@ -146,7 +145,7 @@ fn stops_at_end(alloc: Global, session: &Session, lines: &[u8]) -> Result<bool, 
     let behind = end.saturating_add(1);
     Ok(
         stops_at_read(alloc, session, end, lines)?
-            && goes_until_read(alloc, session, behind, session.status, session.output)?,
+            && goes_until_read(alloc, session, behind, Status::SomeRefused, session.output)?,
     )
 }
 
@@ -179,15 +178,13 @@ fn stands(alloc: Global, session: &Session) -> Result<bool, Fail> {
     )
 }
 
-// Whether a run ends and writes so in whatever pieces bytes come and go, and at each read and each write that fails leaves what
-// the definition of its ending says: `without_table` are the words under which the same lines are answered with no table behind
-// them.
-pub fn stands_at_each_fault(
+// Whether a run writes so in whatever pieces bytes come and go, and at each read and each write that fails leaves what the
+// definition of its ending says: `without_table` are the words under which the same lines are answered with no table behind them.
+pub fn stands_without_table<'w>(
     alloc: Global,
-    words: &[&str],
-    without_table: &[&str],
+    words: &[&'w str],
+    without_table: &[&'w str],
     input: &[u8],
-    status: Status,
     output: &[u8],
 ) -> Result<bool, Fail> {
     let words = words_of(alloc, words)?;
@@ -196,8 +193,17 @@ pub fn stands_at_each_fault(
         words: &words,
         without_table: &without_table,
         input,
-        status,
         output,
     };
     stands(alloc, &session)
+}
+
+// The same of a command that puts no table behind the answers.
+pub fn stands_at_each_fault(
+    alloc: Global,
+    words: &[&str],
+    input: &[u8],
+    output: &[u8],
+) -> Result<bool, Fail> {
+    stands_without_table(alloc, words, words, input, output)
 }

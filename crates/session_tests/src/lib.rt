@@ -4,8 +4,6 @@
 #![tactic(auto)]
 
 #[cfg(test)]
-mod commands;
-#[cfg(test)]
 mod faults;
 #[cfg(test)]
 mod limits;

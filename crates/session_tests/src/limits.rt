@@ -20,6 +20,17 @@ const MOST_WEIGHT: u64 = 536_870_912;
 // The marks with which the heavy statement and an item weigh as much: the statement weighs 126 and its marks, the item 61.
 const MOST_MARKS: u32 = 536_870_725;
 
+// What an edit is of.
+#[derive(Clone, Copy)]
+enum Sample {
+    Application,
+    System,
+    Entry,
+    // The statement of a fact with so many marks.
+    Heavy(u32),
+    NoStatement,
+}
+
 // How an edit ends.
 #[derive(Clone, Copy, PartialEq, Eq)]
 enum End {
@@ -106,6 +117,16 @@ fn no_statement(alloc: Global) -> Result<Edit, Memory> {
     Ok(Edit::DropStatement(Text::new(alloc, "s")?))
 }
 
+fn edit_of(alloc: Global, sample: Sample) -> Result<Edit, Memory> {
+    match sample {
+        Sample::Application => an_application(alloc),
+        Sample::System => a_system(alloc),
+        Sample::Entry => an_entry(alloc),
+        Sample::Heavy(marks) => a_heavy_statement(alloc, marks),
+        Sample::NoStatement => no_statement(alloc),
+    }
+}
+
 // ---- their ends
 
 fn end_of_valid<L: Ledger>(engine: &mut Engine, edit: Edit, steps: &mut Steps<L>) -> End {
@@ -121,74 +142,112 @@ fn end_of_valid<L: Ledger>(engine: &mut Engine, edit: Edit, steps: &mut Steps<L>
     }
 }
 
-fn end_of<L: Ledger>(engine: &mut Engine, edit: Result<Edit, Memory>, steps: &mut Steps<L>) -> End {
-    match edit {
+fn end_of<L: Ledger>(
+    alloc: Global,
+    engine: &mut Engine,
+    sample: Sample,
+    steps: &mut Steps<L>,
+) -> End {
+    match edit_of(alloc, sample) {
         Ok(edit) => end_of_valid(engine, edit, steps),
         Err(Memory) => End::Other,
     }
 }
 
-fn is_made<L: Ledger>(
-    engine: &mut Engine,
-    edit: Result<Edit, Memory>,
-    steps: &mut Steps<L>,
-) -> bool {
-    end_of(engine, edit, steps) == End::Made
-}
-
-// Whether the edit ends so, and the rows count as before.
-fn is_refused<L: Ledger>(
-    engine: &mut Engine,
-    edit: Result<Edit, Memory>,
-    end: End,
-    steps: &mut Steps<L>,
-) -> bool {
-    let before = engine.counts();
-    end_of(engine, edit, steps) == end && engine.counts() == before
+fn counts_of(engine: &Engine) -> Counts {
+    engine.counts()
 }
 
 // ---- engines
 
-// What is tried with an engine.
+// What is asked of an engine.
 #[derive(Clone, Copy)]
-enum Trial {
-    Filled,
-    PassedByOne,
-    Refused,
-    Counted,
+enum Asked {
+    // That it makes the edit.
+    Makes(Sample),
+    // That it ends so, and the rows count as before.
+    Refuses(Sample, End),
+    // That all rows weigh as much.
+    Weighs(u64),
+    Counts(Counts),
+}
+
+fn holds<L: Ledger>(
+    alloc: Global,
+    engine: &mut Engine,
+    asked: Asked,
+    steps: &mut Steps<L>,
+) -> bool {
+    let before = counts_of(engine);
+    match asked {
+        Asked::Makes(sample) => end_of(alloc, engine, sample, steps) == End::Made,
+        Asked::Refuses(sample, end) => {
+            end_of(alloc, engine, sample, steps) == end && counts_of(engine) == before
+        }
+        Asked::Weighs(weight) => before.weight == weight,
+        Asked::Counts(counts) => before == counts,
+    }
+}
+
+fn succeeds_over<L: Ledger>(alloc: Global, all: &[Asked], blank: Blank) -> bool
+    requires name { blank.name ≡ L.name }
+    requires parts { blank.parts ≡ L.parts }
+    requires some { 0 < blank.parts }
+{
+    let mut engine = Engine::new(alloc);
+    let mut steps = Steps::<L>::new(blank);
+    for asked in all {
+        if !holds(alloc, &mut engine, *asked, &mut steps) {
+            return false;
+        }
+    }
+    true
+}
+
+// Whether all holds of an engine, one after the other.
+fn succeeds(alloc: Global, all: &[Asked]) -> bool {
+    succeeds_over::<Brand>(alloc, all, Blank::new(1))
 }
 
 // A statement and an item fill the engine; another item has no room before the statement is gone.
-fn is_filled<L: Ledger>(alloc: Global, engine: &mut Engine, steps: &mut Steps<L>) -> bool {
-    is_made(engine, a_heavy_statement(alloc, MOST_MARKS), steps)
-        && is_made(engine, an_application(alloc), steps)
-        && engine.counts().weight == MOST_WEIGHT
-        && is_refused(engine, a_system(alloc), End::TooHeavy, steps)
-        && is_made(engine, no_statement(alloc), steps)
-        && is_made(engine, a_system(alloc), steps)
-        && engine.counts().weight == 122
+#[test]
+fn the_limit_of_the_weight_is_reached(rt: HostRuntime) {
+    let all = [
+        Asked::Makes(Sample::Heavy(MOST_MARKS)),
+        Asked::Makes(Sample::Application),
+        Asked::Weighs(MOST_WEIGHT),
+        Asked::Refuses(Sample::System, End::TooHeavy),
+        Asked::Makes(Sample::NoStatement),
+        Asked::Makes(Sample::System),
+        Asked::Weighs(122),
+    ];
+    assert!(rt; succeeds(rt.alloc(), &all));
 }
 
 // With one mark more there is no room for the item.
-fn is_passed_by_one<L: Ledger>(alloc: Global, engine: &mut Engine, steps: &mut Steps<L>) -> bool {
-    is_made(engine, a_heavy_statement(alloc, MOST_MARKS + 1), steps)
-        && engine.counts().weight == MOST_WEIGHT - 60
-        && is_refused(engine, an_application(alloc), End::TooHeavy, steps)
+#[test]
+fn the_limit_of_the_weight_is_not_passed_by_one(rt: HostRuntime) {
+    let all = [
+        Asked::Makes(Sample::Heavy(MOST_MARKS + 1)),
+        Asked::Weighs(MOST_WEIGHT - 60),
+        Asked::Refuses(Sample::Application, End::TooHeavy),
+    ];
+    assert!(rt; succeeds(rt.alloc(), &all));
 }
 
 // A statement that is too heavy by itself is refused, and so is what is not there.
-fn is_refused_alone<L: Ledger>(alloc: Global, engine: &mut Engine, steps: &mut Steps<L>) -> bool {
-    is_made(engine, an_entry(alloc), steps)
-        && is_refused(
-            engine,
-            a_heavy_statement(alloc, u32::MAX),
-            End::TooHeavy,
-            steps,
-        )
-        && is_refused(engine, no_statement(alloc), End::Unknown, steps)
+#[test]
+fn a_refused_edit_changes_no_count(rt: HostRuntime) {
+    let all = [
+        Asked::Makes(Sample::Entry),
+        Asked::Refuses(Sample::Heavy(u32::MAX), End::TooHeavy),
+        Asked::Refuses(Sample::NoStatement, End::Unknown),
+    ];
+    assert!(rt; succeeds(rt.alloc(), &all));
 }
 
-fn is_counted<L: Ledger>(alloc: Global, engine: &mut Engine, steps: &mut Steps<L>) -> bool {
+#[test]
+fn an_entry_and_an_item_are_counted(rt: HostRuntime) {
     let counts = Counts {
         entries: 1,
         deprecated: 0,
@@ -198,46 +257,10 @@ fn is_counted<L: Ledger>(alloc: Global, engine: &mut Engine, steps: &mut Steps<L
         checks: 0,
         weight: 123,
     };
-    is_made(engine, an_entry(alloc), steps)
-        && is_made(engine, an_application(alloc), steps)
-        && engine.counts() == counts
-}
-
-fn succeeds_over<L: Ledger>(alloc: Global, trial: Trial, blank: Blank) -> bool
-    requires name { blank.name ≡ L.name }
-    requires parts { blank.parts ≡ L.parts }
-    requires some { 0 < blank.parts }
-{
-    let mut engine = Engine::new(alloc);
-    let mut steps = Steps::<L>::new(blank);
-    match trial {
-        Trial::Filled => is_filled(alloc, &mut engine, &mut steps),
-        Trial::PassedByOne => is_passed_by_one(alloc, &mut engine, &mut steps),
-        Trial::Refused => is_refused_alone(alloc, &mut engine, &mut steps),
-        Trial::Counted => is_counted(alloc, &mut engine, &mut steps),
-    }
-}
-
-fn succeeds(alloc: Global, trial: Trial) -> bool {
-    succeeds_over::<Brand>(alloc, trial, Blank::new(1))
-}
-
-#[test]
-fn the_limit_of_the_weight_is_reached(rt: HostRuntime) {
-    assert!(rt; succeeds(rt.alloc(), Trial::Filled));
-}
-
-#[test]
-fn the_limit_of_the_weight_is_not_passed_by_one(rt: HostRuntime) {
-    assert!(rt; succeeds(rt.alloc(), Trial::PassedByOne));
-}
-
-#[test]
-fn a_refused_edit_changes_no_count(rt: HostRuntime) {
-    assert!(rt; succeeds(rt.alloc(), Trial::Refused));
-}
-
-#[test]
-fn an_entry_and_an_item_are_counted(rt: HostRuntime) {
-    assert!(rt; succeeds(rt.alloc(), Trial::Counted));
+    let all = [
+        Asked::Makes(Sample::Entry),
+        Asked::Makes(Sample::Application),
+        Asked::Counts(counts),
+    ];
+    assert!(rt; succeeds(rt.alloc(), &all));
 }

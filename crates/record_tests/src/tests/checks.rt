@@ -1,6 +1,6 @@
-// Records of checks, and the first of their members that fails.
-use super::reading::{fails_at, is_wrong, read};
-use cpe_records::{Member, Record};
+// Records of checks.
+use super::reading::read;
+use cpe_records::Record;
 use cpe_rows::{CheckKey, Edit, Truth};
 use std::alloc::Global;
 
@@ -17,10 +17,21 @@ fn says(edit: &Edit, id: &str, wanted: Option<Truth>) -> bool {
     }
 }
 
+fn is_of(record: &Record, id: &str, wanted: Option<Truth>) -> bool {
+    match record {
+        Record::Edit(edit) => says(edit, id, wanted),
+        Record::Query(_) => false,
+    }
+}
+
 fn is_check(alloc: Global, line: &str, id: &str, wanted: Option<Truth>) -> bool {
     match read(alloc, line.as_bytes()) {
-        Ok(Record::Edit(edit)) => says(&edit, id, wanted),
-        _ => false,
+        Ok(record) => {
+            let is = is_of(&record, id, wanted);
+            drop(record);
+            is
+        }
+        Err(_) => false,
     }
 }
 
@@ -32,37 +43,4 @@ fn a_check_has_any_texts(rt: HostRuntime) {
     assert!(rt; is_check(rt.alloc(), error, "a é", Some(Truth::Error)));
     assert!(rt; is_check(rt.alloc(), unknown, "", Some(Truth::Unknown)));
     assert!(rt; is_check(rt.alloc(), dropped, " ", None));
-}
-
-#[test]
-fn the_first_member_of_a_check_that_fails(rt: HostRuntime) {
-    assert!(rt;
-        fails_at(
-            rt.alloc(),
-            r#"{"do":"check","href":1,"id":1}"#,
-            Member::System
-        )
-    );
-    assert!(rt;
-        fails_at(
-            rt.alloc(),
-            r#"{"do":"drop-check","system":"","id":1}"#,
-            Member::Href
-        )
-    );
-    assert!(rt;
-        fails_at(
-            rt.alloc(),
-            r#"{"do":"check","system":"","href":"","result":1}"#,
-            Member::Id
-        )
-    );
-    assert!(rt;
-        fails_at(
-            rt.alloc(),
-            r#"{"do":"check","system":"","href":"","id":""}"#,
-            Member::Result
-        )
-    );
-    assert!(rt; is_wrong(rt.alloc(), "check", Member::Result, "\"true\""));
 }

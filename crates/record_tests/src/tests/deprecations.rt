@@ -1,22 +1,12 @@
 // Records that deprecate an entry, deprecate it otherwise, or end its deprecation.
+use super::entries::appends;
 use super::kinds::word_of_edit;
-use super::reading::{fails_at, is_refused, read};
-use cpe_entry_text::append_entry;
+use super::reading::read;
 use cpe_members::provenance_or_empty;
 use cpe_name::Wfn;
-use cpe_records::{Member, NameSpot, Record, RecordFault};
+use cpe_records::Record;
 use cpe_rows::{Date, Deprecation, Edit, Entry, Text};
 use std::alloc::Global;
-
-fn is_written(alloc: Global, date: Date, entry: &Entry, text: &str) -> bool {
-    let Ok(buffer) = date.bytes().to_vec(alloc) else {
-        return false;
-    };
-    match append_entry(alloc, buffer, entry) {
-        Ok(written) => written.as_slice() == text.as_bytes(),
-        Err(_) => false,
-    }
-}
 
 // Whether an edit says what the text says: its date, and then an entry whose title is its comment.
 fn says(
@@ -27,16 +17,25 @@ fn says(
     date: Date,
     comment: Text,
 ) -> bool {
-    let Ok(provenance) = provenance_or_empty(alloc, None) else {
-        return false;
-    };
-    let entry = Entry {
-        name,
-        title: comment,
-        provenance,
-        deprecation,
-    };
-    is_written(alloc, date, &entry, text)
+    match provenance_or_empty(alloc, None) {
+        Ok(provenance) => {
+            let entry = Entry {
+                name,
+                title: comment,
+                provenance,
+                deprecation,
+            };
+            let says = appends(alloc, date.bytes(), &entry, text);
+            drop(entry);
+            says
+        }
+        Err(_) => {
+            drop(name);
+            drop(deprecation);
+            drop(comment);
+            false
+        }
+    }
 }
 
 fn says_so(alloc: Global, edit: Edit, text: &str) -> bool {
@@ -58,14 +57,29 @@ fn says_so(alloc: Global, edit: Edit, text: &str) -> bool {
             date,
             comment,
         } => says(alloc, text, name, None, date, comment),
-        _ => false,
+        other => {
+            drop(other);
+            false
+        }
     }
+}
+
+fn is_of(alloc: Global, edit: Edit, word: &str, text: &str) -> bool {
+    if word_of_edit(&edit) != word {
+        drop(edit);
+        return false;
+    }
+    says_so(alloc, edit, text)
 }
 
 fn is_edit(alloc: Global, line: &str, word: &str, text: &str) -> bool {
     match read(alloc, line.as_bytes()) {
-        Ok(Record::Edit(edit)) => word_of_edit(&edit) == word && says_so(alloc, edit, text),
-        _ => false,
+        Ok(Record::Edit(edit)) => is_of(alloc, edit, word, text),
+        Ok(record) => {
+            drop(record);
+            false
+        }
+        Err(_) => false,
     }
 }
 
@@ -103,40 +117,4 @@ fn the_end_of_a_deprecation(rt: HostRuntime) {
     let text =
         r#"2024-03-06{"deprecation":null,"name":"cpe:2.3:a:v:p:*:*:*:*:*:*:*:*","provenance":{"authority":"","changes":[],"submitter":""},"title":"Too early"}"#;
     assert!(rt; is_edit(rt.alloc(), line, "restore", text));
-}
-
-#[test]
-fn the_first_member_that_fails(rt: HostRuntime) {
-    let kind = r#"{"do":"deprecate","name":"cpe:/a","successors":1,"date":1,"comment":1}"#;
-    let successors =
-        r#"{"do":"amend","name":"cpe:/a","kind":"NAME_REMOVAL","successors":1,"date":1,"comment":1}"#;
-    let date = r#"{"do":"deprecate","name":"cpe:/a","kind":"NAME_REMOVAL","comment":1}"#;
-    let restored = r#"{"do":"restore","name":"cpe:/a","comment":1}"#;
-    assert!(rt; fails_at(rt.alloc(), r#"{"do":"deprecate","kind":1}"#, Member::Name));
-    assert!(rt; fails_at(rt.alloc(), kind, Member::Kind));
-    assert!(rt; fails_at(rt.alloc(), successors, Member::Successors));
-    assert!(rt; fails_at(rt.alloc(), date, Member::Date));
-    assert!(rt; fails_at(rt.alloc(), restored, Member::Date));
-}
-
-#[test]
-fn a_successor_that_is_no_name(rt: HostRuntime) {
-    let first =
-        br#"{"do":"amend","name":"cpe:/a","kind":"NAME_CORRECTION","successors":["cpe:/x","cpe:/a:v:%zz"],"date":1}"#;
-    let second =
-        br#"{"do":"deprecate","name":"cpe:/a","kind":"NAME_CORRECTION","successors":["cpe:/a","cpe:/a:v:%zz"],"date":1}"#;
-    assert!(rt;
-        is_refused(
-            rt.alloc(),
-            first,
-            RecordFault::Name(NameSpot::Successor(1), 5)
-        )
-    );
-    assert!(rt;
-        is_refused(
-            rt.alloc(),
-            second,
-            RecordFault::Name(NameSpot::Successor(2), 10)
-        )
-    );
 }

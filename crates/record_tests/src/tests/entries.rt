@@ -2,29 +2,57 @@
 use super::reading::read;
 use cpe_entry_text::{append_entry, write_entry};
 use cpe_records::Record;
-use cpe_rows::Edit;
+use cpe_rows::{Edit, Entry};
 use std::alloc::Global;
 
-fn is_written(alloc: Global, line: &str, text: &str) -> bool {
+fn entry_of(alloc: Global, line: &str) -> Option<Entry> {
     match read(alloc, line.as_bytes()) {
-        Ok(Record::Edit(Edit::Entry(entry))) => match write_entry(alloc, &entry) {
-            Ok(written) => written.as_slice() == text.as_bytes(),
-            Err(_) => false,
-        },
-        _ => false,
+        Ok(Record::Edit(Edit::Entry(entry))) => Some(entry),
+        Ok(record) => {
+            drop(record);
+            None
+        }
+        Err(_) => None,
+    }
+}
+
+fn writes(alloc: Global, entry: &Entry, text: &str) -> bool {
+    match write_entry(alloc, entry) {
+        Ok(written) => written.as_slice() == text.as_bytes(),
+        Err(_) => false,
+    }
+}
+
+fn is_written(alloc: Global, line: &str, text: &str) -> bool {
+    match entry_of(alloc, line) {
+        Some(entry) => {
+            let is = writes(alloc, &entry, text);
+            drop(entry);
+            is
+        }
+        None => false,
+    }
+}
+
+/// Whether an entry is written so behind a front.
+pub(crate) fn appends(alloc: Global, front: &[u8], entry: &Entry, text: &str) -> bool {
+    let Ok(buffer) = front.to_vec(alloc) else {
+        return false;
+    };
+    match append_entry(alloc, buffer, entry) {
+        Ok(written) => written.as_slice() == text.as_bytes(),
+        Err(_) => false,
     }
 }
 
 fn is_appended(alloc: Global, line: &str, front: &[u8], text: &str) -> bool {
-    let Ok(buffer) = front.to_vec(alloc) else {
-        return false;
-    };
-    match read(alloc, line.as_bytes()) {
-        Ok(Record::Edit(Edit::Entry(entry))) => match append_entry(alloc, buffer, &entry) {
-            Ok(written) => written.as_slice() == text.as_bytes(),
-            Err(_) => false,
-        },
-        _ => false,
+    match entry_of(alloc, line) {
+        Some(entry) => {
+            let is = appends(alloc, front, &entry, text);
+            drop(entry);
+            is
+        }
+        None => false,
     }
 }
 

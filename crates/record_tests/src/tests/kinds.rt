@@ -1,6 +1,6 @@
-// The kind of a record is that of its word, and no member of it is `null`.
-use super::reading::{is_wrong, line_with, read};
-use cpe_records::{Member, Record};
+// The kind of a record is that of its word.
+use super::reading::{line_with, read};
+use cpe_records::Record;
 use cpe_rows::{Edit, Query};
 use std::alloc::Global;
 
@@ -45,7 +45,11 @@ fn is_read_as_itself(alloc: Global, word: &str) -> bool {
         return false;
     };
     match read(alloc, line.as_bytes()) {
-        Ok(record) => word_of(&record) == word,
+        Ok(record) => {
+            let is = word_of(&record) == word;
+            drop(record);
+            is
+        }
         Err(_) => false,
     }
 }
@@ -75,38 +79,21 @@ fn each_word_has_its_kind(rt: HostRuntime) {
     }
 }
 
-#[test]
-fn null_is_no_member_of_an_edit_of_entries(rt: HostRuntime) {
-    for member in [Member::Name, Member::Title, Member::Provenance] {
-        assert!(rt; is_wrong(rt.alloc(), "entry", member, "null"));
-    }
-    for member in [
-        Member::Kind,
-        Member::Successors,
-        Member::Date,
-        Member::Comment,
-    ] {
-        assert!(rt; is_wrong(rt.alloc(), "amend", member, "null"));
-    }
-}
-
-#[test]
-fn null_is_no_member_of_other_records(rt: HostRuntime) {
-    for member in [Member::Id, Member::Title, Member::Mode, Member::Test] {
-        assert!(rt; is_wrong(rt.alloc(), "statement", member, "null"));
-    }
-    for member in [Member::System, Member::Href, Member::Id, Member::Result] {
-        assert!(rt; is_wrong(rt.alloc(), "check", member, "null"));
-    }
-    for member in [Member::Do, Member::Name, Member::Active] {
-        assert!(rt; is_wrong(rt.alloc(), "search", member, "null"));
+fn asks(record: &Record, wanted: bool) -> bool {
+    match record {
+        Record::Query(Query::Search { active_only, .. }) => *active_only == wanted,
+        _ => false,
     }
 }
 
 fn is_search(alloc: Global, line: &str, wanted: bool) -> bool {
     match read(alloc, line.as_bytes()) {
-        Ok(Record::Query(Query::Search { active_only, .. })) => active_only == wanted,
-        _ => false,
+        Ok(record) => {
+            let is = asks(&record, wanted);
+            drop(record);
+            is
+        }
+        Err(_) => false,
     }
 }
 

@@ -1,4 +1,5 @@
-// Lines of tests, which are short.
+// Lines of tests, which are short. A record is let go by one call: at the end of a scope each of its names would be let go in
+// place, value by value, which proves slowly.
 use cpe_records::{Member, Record, RecordFault, read_record};
 use std::alloc::{AllocError, Global};
 
@@ -17,14 +18,22 @@ pub(crate) fn read(alloc: Global, line: &[u8]) -> Result<Record, RecordFault> {
 /// Whether the line is no record, for this cause.
 pub(crate) fn is_refused(alloc: Global, line: &[u8], fault: RecordFault) -> bool {
     match read(alloc, line) {
-        Ok(_) => false,
+        Ok(record) => {
+            drop(record);
+            false
+        }
         Err(found) => found == fault,
     }
 }
 
-/// Whether the line is no record, since this member is the first that fails.
-pub(crate) fn fails_at(alloc: Global, line: &str, member: Member) -> bool {
-    is_refused(alloc, line.as_bytes(), RecordFault::Member(member))
+fn is_record(alloc: Global, line: &str) -> bool {
+    match read(alloc, line.as_bytes()) {
+        Ok(record) => {
+            drop(record);
+            true
+        }
+        Err(_) => false,
+    }
 }
 
 /// A record of this word with each member that its kind may want, where the member of this key is the value.
@@ -46,29 +55,10 @@ pub(crate) fn line_with(
     Ok(line)
 }
 
-/// Whether the record with this member is refused, for this cause.
-pub(crate) fn is_refused_with(
-    alloc: Global,
-    word: &str,
-    member: Member,
-    value: &str,
-    fault: RecordFault,
-) -> bool {
-    match line_with(alloc, word, member.key(), value) {
-        Ok(line) => is_refused(alloc, line.as_bytes(), fault),
-        Err(_) => false,
-    }
-}
-
-/// Whether the record with this member is refused, since this member fails.
-pub(crate) fn is_wrong(alloc: Global, word: &str, member: Member, value: &str) -> bool {
-    is_refused_with(alloc, word, member, value, RecordFault::Member(member))
-}
-
 /// Whether there is a record with this member.
 pub(crate) fn is_right(alloc: Global, word: &str, member: Member, value: &str) -> bool {
     match line_with(alloc, word, member.key(), value) {
-        Ok(line) => read(alloc, line.as_bytes()).is_ok(),
+        Ok(line) => is_record(alloc, &line),
         Err(_) => false,
     }
 }

@@ -1,6 +1,5 @@
 // Commands over names and pairs of names.
 use crate::faults::stands_at_each_fault;
-use cpe_command::Status;
 use std::test::Fail;
 
 const NAMES: &[u8] =
@@ -11,10 +10,7 @@ const UNBOUND: &[u8] =
 
 #[test]
 fn unbind_stands_at_each_fault(rt: HostRuntime) -> Result<(), Fail> {
-    let alloc = rt.alloc();
-    let words = &["unbind"];
-    let some = Status::SomeRefused;
-    assert!(rt; stands_at_each_fault(alloc, words, words, NAMES, some, UNBOUND)?);
+    assert!(rt; stands_at_each_fault(rt.alloc(), &["unbind"], NAMES, UNBOUND)?);
     Ok(())
 }
 
@@ -25,10 +21,7 @@ const BOUND: &[u8] = b"cpe:/a:v\nrefused 3 wfn\ncpe:/-::p%01\nrefused 5 wfn\n";
 
 #[test]
 fn bind_stands_at_each_fault(rt: HostRuntime) -> Result<(), Fail> {
-    let alloc = rt.alloc();
-    let words = &["bind", "uri"];
-    let some = Status::SomeRefused;
-    assert!(rt; stands_at_each_fault(alloc, words, words, TEXTS, some, BOUND)?);
+    assert!(rt; stands_at_each_fault(rt.alloc(), &["bind", "uri"], TEXTS, BOUND)?);
     Ok(())
 }
 
@@ -40,9 +33,6 @@ const COMPARED: &[u8] =
 
 #[test]
 fn compare_stands_at_each_fault(rt: HostRuntime) -> Result<(), Fail> {
-    let alloc = rt.alloc();
-    let words = &["compare"];
-    let some = Status::SomeRefused;
-    assert!(rt; stands_at_each_fault(alloc, words, words, PAIRS, some, COMPARED)?);
+    assert!(rt; stands_at_each_fault(rt.alloc(), &["compare"], PAIRS, COMPARED)?);
     Ok(())
 }

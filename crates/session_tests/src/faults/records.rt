@@ -1,6 +1,5 @@
 // Commands over records: a dictionary, an inventory, statements, and questions.
-use crate::faults::stands_at_each_fault;
-use cpe_command::Status;
+use crate::faults::{stands_at_each_fault, stands_without_table};
 use std::test::Fail;
 
 const SESSION: &[u8] =
@@ -14,21 +13,17 @@ const EVALUATED: &[u8] =
 
 #[test]
 fn resolve_stands_at_each_fault(rt: HostRuntime) -> Result<(), Fail> {
-    let alloc = rt.alloc();
-    let words = &["resolve"];
-    let some = Status::SomeRefused;
-    assert!(rt; stands_at_each_fault(alloc, words, words, SESSION, some, ANSWERS)?);
+    assert!(rt; stands_at_each_fault(rt.alloc(), &["resolve"], SESSION, ANSWERS)?);
     Ok(())
 }
 
 // Behind a read that fails there is no table: what stands is what resolve says of the same lines.
 #[test]
 fn evaluate_stands_at_each_fault(rt: HostRuntime) -> Result<(), Fail> {
-    let alloc = rt.alloc();
-    let words = &["evaluate"];
     let without_table = &["resolve"];
-    let some = Status::SomeRefused;
-    assert!(rt; stands_at_each_fault(alloc, words, without_table, SESSION, some, EVALUATED)?);
+    assert!(rt;
+        stands_without_table(rt.alloc(), &["evaluate"], without_table, SESSION, EVALUATED)?
+    );
     Ok(())
 }
 
@@ -37,9 +32,6 @@ const WATCHED: &[u8] =
 
 #[test]
 fn watch_stands_at_each_fault(rt: HostRuntime) -> Result<(), Fail> {
-    let alloc = rt.alloc();
-    let words = &["watch"];
-    let some = Status::SomeRefused;
-    assert!(rt; stands_at_each_fault(alloc, words, words, SESSION, some, WATCHED)?);
+    assert!(rt; stands_at_each_fault(rt.alloc(), &["watch"], SESSION, WATCHED)?);
     Ok(())
 }

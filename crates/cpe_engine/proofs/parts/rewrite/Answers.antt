@@ -1,4 +1,4 @@
-use Rattle.std.proofs.Common.{◌≡◌, sym, subst, ◌∙◌}
+use Rattle.std.proofs.Common.{sym, subst, ◌∙◌}
 use Rattle.std.specs.Prelude.{Option}
 use Rattle.cpe_rows.specs.Lawful.{IsDictionary}
 use Rattle.cpe_dictionary.specs.declared.plans.Plan.{Plan}

@@ -1,4 +1,4 @@
-use Rattle.std.proofs.Common.{sym, ap, ◌∙◌}
+use Rattle.std.proofs.Common.{sym, ◌∙◌}
 use Rattle.cpe_rows.proofs.CauseLemmas.{is_cause}
 use Rattle.cpe_rows.specs.Step.{first_some}
 use Rattle.cpe_dictionary.specs.Causes.{state_causes}

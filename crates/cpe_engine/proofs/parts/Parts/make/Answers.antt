@@ -1,4 +1,4 @@
-use Rattle.std.proofs.Common.{◌≡◌, None, Some, sym, ap, subst, ◌∙◌}
+use Rattle.std.proofs.Common.{None, Some, sym, ap, subst, ◌∙◌}
 use Rattle.cpe_rows.specs.After.{after, changed}
 use Rattle.cpe_rows.specs.Lawful.{IsDictionary, IsLawful}
 use Rattle.cpe_rows.specs.declared.edit.Edit.{Edit}

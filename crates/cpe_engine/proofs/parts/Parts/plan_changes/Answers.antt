@@ -1,6 +1,5 @@
-use Rattle.std.proofs.Common.{◌||◌, List, None, Some, refl, ap, subst, ◌∙◌}
+use Rattle.std.proofs.Common.{◌||◌, List, refl, ap, subst, ◌∙◌}
 use Rattle.std.specs.Prelude.{Option}
-use Rattle.cpe_name.specs.declared.name.Values.{Values}
 use Rattle.cpe_rows.specs.After.{after}
 use Rattle.cpe_rows.specs.Chains.{leads_to}
 use Rattle.cpe_rows.specs.declared.entry.Entry.{Entry}

@@ -1,0 +1,16 @@
+-- What most contracts over the plain state name, in one place.
+pub use Rattle.cpe_rows.specs.Rows.{Rows, no_rows, is_named, has_id, has_key}
+pub use Rattle.cpe_rows.specs.Limits.{most, most_successors}
+pub use Rattle.cpe_rows.specs.FactNames.{fact_names, number_of_facts}
+pub use Rattle.cpe_rows.specs.Valid.{is_valid_edit}
+pub use Rattle.cpe_rows.specs.Lawful.{IsDictionary, IsLawful}
+pub use Rattle.cpe_rows.specs.Chains.{chain, ends, is_active, leads_to}
+pub use Rattle.cpe_rows.specs.Answers.{answer, row_of, rows_found, state_of}
+pub use Rattle.cpe_rows.specs.Verdict.{check_truth, verdict}
+pub use Rattle.cpe_rows.specs.After.{after, changed, with_check, without_first}
+pub use Rattle.cpe_rows.specs.Faults.{when}
+pub use Rattle.cpe_rows.specs.Causes.{IsCause, causes}
+pub use Rattle.cpe_rows.specs.Step.{first_some, step}
+pub use Rattle.cpe_rows.specs.Applied.{Applied, Refuses}
+pub use Rattle.cpe_rows.specs.Accepted.{IsAccepted}
+pub use Rattle.cpe_rows.specs.Changes.{change, changes, others}
