@@ -7,6 +7,7 @@ use crate::record::{
     push_verdict,
 };
 use cpe_session::Page;
+use cpe_values::Memory;
 use itoa::Buffer;
 use std::alloc::{AllocError, Global};
 
@@ -27,7 +28,7 @@ const CHECKS: u64 = 63;
 ///
 /// # Errors
 /// Want of memory alone.
-pub fn generated(alloc: Global, number: u64) -> Result<Vec<u8>, AllocError>
+pub fn generated(alloc: Global, number: u64) -> Result<Vec<u8>, Memory>
     ensures { IfOk result (λ line. line.items ≡ generated number) }
 {
     let mut page = Page::new(alloc);

@@ -1,5 +1,6 @@
 // Runs in which one read or one write fails, at each call in turn, and in which bytes come and go in pieces, beside runs without
 // faults. What is owned is made at once and handed on by reference: so the proofs are quick.
+mod generated;
 mod names;
 mod records;
 
