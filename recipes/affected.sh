@@ -4,6 +4,7 @@
 # were refused, and 2 where the output has no whole table, since the run ended before its end.
 exec awk '
     function say(text) { print text | "cat >&2"; close("cat >&2") }
+    function counted(number, word) { return number + 0 " " word (number == 1 ? "" : "s") }
     /^refused / { refused++ }
     /^verdicts [0-9]+$/ { wanted = $2; is_table = 1; next }
     # (above the table stand answers to questions)
@@ -14,7 +15,8 @@ exec awk '
             exit 2
         }
         printf "VERDICT  STATEMENT\n%s%s%s", rows["TRUE"], rows["ERROR"], rows["UNKNOWN"]
-        printf "\n%d statements: %d TRUE, %d ERROR, %d UNKNOWN, %d FALSE\n", all, count["TRUE"], count["ERROR"], count["UNKNOWN"], count["FALSE"]
-        if (refused) say(refused " lines refused")
+        printf "\n%s: %d TRUE, %d ERROR, %d UNKNOWN, %d FALSE\n", counted(all, "statement"), count["TRUE"], count["ERROR"],
+            count["UNKNOWN"], count["FALSE"]
+        if (refused) say(counted(refused, "line") " refused")
         exit refused > 0
     }' "$@"

@@ -46,7 +46,11 @@ candidates() {
         elif [ -f "$feed" ] && ! grep -q '[^[:space:]]' "$feed"; then
             printf '%s\tno JSON: it is empty\n' "$name"
         elif ! jq -r --arg feed "$name" "$definitions$program" < "$feed" 2> "$room/fault"; then
-            printf '%s\t%s\n' "$name" "no JSON: $(tr '\n\t' '  ' < "$room/fault")"
+            fault=$(tr '\n\t' '  ' < "$room/fault")
+            case $fault in
+            *'parse error'*) printf '%s\tno JSON: %s\n' "$name" "$fault" ;;
+            *) printf '%s\tnot of the published form: %s\n' "$name" "$fault" ;;
+            esac
         fi
     done
 }

@@ -69,7 +69,7 @@ limits_of_code() {
     sed -n 's/^most_\(depth\) = \([0-9]*\)$/\1 \2/p' crates/cpe_rows/specs/Shape.antt
     sed -n 's/^is_id .*nat_le (length id) \([0-9]*\).*/id \1/p' crates/cpe_rows/specs/Valid.antt
     sed -n 's/^pub const LONGEST: usize = \([0-9]*\);$/line \1/p' crates/cpe_io/src/line.rt
-    sed -n 's/^const MOST_BYTES: u64 = 1 << \([0-9]*\);$/\1/p' crates/cpe_session/src/session.rt | awk '{ for (n = 1; $1 > 0; $1--) n *= 2; printf "input %.0f\n", n }'
+    sed -n 's/^const MOST_BYTES: u64 = 1 << \([0-9]*\);$/\1/p' crates/cpe_session/src/session.rt | awk '{ n = 1; for (k = 0; k < $1; k++) n *= 2; printf "input %.0f\n", n }'
 }
 
 limits_of_page() {

@@ -47,11 +47,13 @@ refuses_feeds() {
     printf '<html>too many requests</html>\n' > "$room/page.json"
     head -c 700 "$samples/$2.json" > "$room/torn.json"
     printf '[]\n' > "$room/array.json"
+    printf '{"products":7,"vulnerabilities":7,"bomFormat":"CycloneDX","components":7}' > "$room/list.json"
     says "a feed without records: $1" 0 'no-records.json: no ' "$1" "$room/no-records.json"
     says "a feed without bytes: $1" 1 'left out no-bytes.json: no JSON: it is empty' "$1" "$room/no-bytes.json"
     says "a feed that is no JSON: $1" 1 'left out page.json: no JSON: ' "$1" "$room/page.json"
     says "a feed that is torn off: $1" 1 'left out torn.json: no JSON: ' "$1" "$room/torn.json"
     says "a feed of another kind: $1" 1 'left out array.json: n' "$1" "$room/array.json"
+    says "a feed whose list is none: $1" 1 'left out list.json: n' "$1" "$room/list.json"
     says "a feed that isn't there: $1" 1 'left out none.json: can not be read' "$1" "$room/none.json"
     { echo 'left out no-bytes.json: no JSON: it is empty'; cat "$samples/$2.said"; } > "$room/wanted.said"
     recipe "a good feed beside a bad one: $1" 1 "$samples/$2.jsonl" "$room/wanted.said" \

@@ -19,7 +19,7 @@ import tempfile
 import threading
 import warnings
 
-from distributed import Client, LocalCluster, get_worker
+from distributed import Client, LocalCluster, get_worker, wait
 
 
 class Records:
@@ -61,7 +61,7 @@ class Session:
         return line[:-1]
 
     def machine(self, name, items):
-        """The lines of a machine: of what is refused, and of each verdict."""
+        """Of a machine what is refused, and its verdicts, each as bytes of whole lines."""
         first = self.last + 1
         self.last += 2 * len(items) + self.statements
         self.to_write.put(
@@ -69,8 +69,8 @@ class Session:
             + self.ask
             + b"".join(b'{"do":"drop-item","name":%s}\n' % text(item) for item in items)
         )
-        lines, left = [], self.statements
-        while left:
+        refused, verdicts = [], []
+        while len(verdicts) < self.statements:
             answer = self.answer()
             word, rest = answer.split(b" ", 1)
             if word == b"refused":
@@ -78,11 +78,10 @@ class Session:
                 place = int(number) - first
                 # (drops of the machine before are refused too: what was no item can not be dropped)
                 if 0 <= place < len(items) and reason != b"exists":
-                    lines.append(b" ".join([name, b"refused", items[place], reason]))
+                    refused.append(b"left out %s refused %s %s\n" % (name, items[place], reason))
             else:
-                lines.append(name + b" " + rest)
-                left -= 1
-        return lines
+                verdicts.append(b"%s %s\n" % (name, rest))
+        return b"".join(refused), b"".join(verdicts)
 
     def end(self):
         self.to_write.put(b"")
@@ -99,7 +98,7 @@ def records_of(cpe, lines, answers, statements):
 
 
 def evaluate(machines, records):
-    """The lines of these machines. A worker has a session for each of its threads."""
+    """What `machine` gives, of each of these. A worker has a session for each of its threads."""
     worker, thread = get_worker(), threading.get_ident()
     sessions = worker.__dict__.setdefault("sessions_of_cpe", {})
     session = sessions.get(thread)
@@ -109,7 +108,7 @@ def evaluate(machines, records):
     if session is None:
         session = sessions[thread] = Session(records)
     try:
-        return [line for name, *items in machines for line in session.machine(name, items)]
+        return [session.machine(name, items) for name, *items in machines]
     except (OSError, EOFError):
         # the machines are tried again, by a session from the start
         sessions.pop(thread).end()
@@ -160,6 +159,9 @@ def run(client, options, lines, answers, statements, is_left_out):
     # are in the graph, of which Dask warns where they are large.
     warnings.filterwarnings("ignore", message="Large object")
     records = client.submit(records_of, options.cpe, lines, answers, statements)
+    # (else most of the work goes to the worker that has them first)
+    wait(records)
+    client.replicate([records])
     blocks = options.blocks
     futures = client.map(evaluate, blocks, records=records, retries=3, pure=False)
     status = 1 if is_left_out else 0
@@ -167,17 +169,16 @@ def run(client, options, lines, answers, statements, is_left_out):
         try:
             results = future.result()
         except Exception as fault:
-            names = f"{block[0][0].decode()} to {block[-1][0].decode()}"
+            names = f"{block[0][0].decode(errors='replace')} to {block[-1][0].decode(errors='replace')}"
             print(f"left out {names}, {len(block)} machines: {fault!r}", file=sys.stderr)
             status = 5
             continue
-        for line in results:
-            if line.count(b" ") > 2:
-                print(f"left out {line.decode(errors='replace')}", file=sys.stderr)
-                status = max(status, 1)
-            else:
-                sys.stdout.buffer.write(line + b"\n")
+        for refused, verdicts in results:
+            sys.stderr.buffer.write(refused)
+            sys.stdout.buffer.write(verdicts)
+            status = max(status, 1 if refused else 0)
         future.release()
+    sys.stderr.flush()
     sys.stdout.flush()
     return status
 

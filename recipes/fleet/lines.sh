@@ -19,11 +19,8 @@ trap 'exit 130' HUP INT TERM
 # (a piece is a file, since it must be there once more where its process dies)
 split -a 5 -l "${PIECE:-100000}" - "$room/piece." || exit 2
 set -- sh "$here/piece.sh" "$cpe" "${PIECE:-100000}" "$@"
-{
-    for piece in "$room"/piece.*; do [ ! -f "$piece" ] || echo "$piece"; done |
-        parallel --will-cite --keep-order --retries 3 --jobs "${WORKERS:-100%}" --quote "$@" '{#}' '{}'
-    echo $? > "$room/status"
-} | awk '{ print } $1 == "refused" { refused = 1 } END { exit refused }'
+for piece in "$room"/piece.*; do [ ! -f "$piece" ] || echo "$piece"; done |
+    parallel --will-cite --keep-order --retries 3 --jobs "${WORKERS:-100%}" --quote "$@" '{#}' '{}'
 status=$?
-[ "$(cat "$room/status")" = 0 ] || { echo "$0: $(cat "$room/status") pieces came to no end" >&2; exit 5; }
-exit "$status"
+[ "$status" = 0 ] || { echo "$0: $status pieces came to no end" >&2; exit 5; }
+for piece in "$room"/*.refused; do [ ! -f "$piece" ] || exit 1; done
