@@ -70,6 +70,8 @@ limits_of_code() {
     sed -n 's/^is_id .*nat_le (length id) \([0-9]*\).*/id \1/p' crates/cpe_rows/specs/Valid.antt
     sed -n 's/^pub const LONGEST: usize = \([0-9]*\);$/line \1/p' crates/cpe_io/src/line.rt
     sed -n 's/^const MOST_BYTES: u64 = 1 << \([0-9]*\);$/\1/p' crates/cpe_session/src/session.rt | awk '{ n = 1; for (k = 0; k < $1; k++) n *= 2; printf "input %.0f\n", n }'
+    # (the largest number below this one, which awk can not count to)
+    sed -n 's/.*nat_lt (digits_value 10 word) (2 ^ 63)).*/N 9223372036854775807/p' crates/cpe_command/specs/Command.antt
 }
 
 limits_of_page() {
