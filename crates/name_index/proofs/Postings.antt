@@ -1,6 +1,7 @@
 -- The held numbers of an index, product by product, under a change of one list.
 use Rattle.std.proofs.Common.{◌≡◌, ◌≢◌, ℕ, zero, suc, ◌+◌, ◌<◌, ◌≤◌, Bool, true, false, cond, eqb, ltb, List, [], ◌∷◌, ◌++◌, map, length, Option, Some, None, refl, sym, ap, subst, ◌∙◌, inl, inr, arith, eqb-true, eq-eqb}
 use Rattle.std.specs.Prelude.{nat_eq, IsSome, slice_get}
+use Rattle.std.specs.Bool.{OnTrue}
 use Rattle.std.specs.List.{sum_by, flat_map, range_with_len, Contains}
 use Rattle.std.proofs.lemmas.Bool.{cases_Bool, ltb-true, both_ways, false_from_ne_true}
 use Rattle.std.proofs.lemmas.Option.{slice_get_within, same_Some}
@@ -267,3 +268,19 @@ longer old new heads list x fresh up = record { index = record { live = live; ap
 
         old_live : (p : ℕ) (g : ListName) → slice_get (heads ++ list ∷ []) p ≡ Some g → p ≢ length heads → IsLive old g.0
         old_live p g e np = x.live p g (old_read p g e np)
+
+-- what is taken out of the list of its product, where it stands
+pub record Removal (old new : List (Option (List CellRow))) (heads : List ListName) (id product : ℕ) (result : Bool) : Type 0 where
+  pub there : result ≡ true
+  pub index : IsIndex new heads
+  pub held : SameElements (pairs old heads) ((id, product) ∷ pairs new heads)
+
+pub when_true : {P : Type 0} {b : Bool} → b ≡ true → OnTrue b P → P
+when_true {P} {b} e h = subst (λ (x : Bool). OnTrue x P) e h
+
+pub removal : (old new : List (Option (List CellRow))) (heads : List ListName) (id product : ℕ) (h : ListName) (result : Bool) → IsIndex old heads → slice_get heads product ≡ Some h → Contains (pairs old heads) (id, product)
+    → result ≡ has_value id (list_at old h.0) → OnTrue result (Updates old new h.0 (Some (without_first id (list_at old h.0)))) → Removal old new heads id product result
+removal old new heads id product h result x at has is up =
+    let found = found_there old heads id product has h at in
+    let d = dropped old new heads id product h x at found (when_true (is ∙ found) up) in
+    record { there = is ∙ found; index = d.index; held = d.held }
