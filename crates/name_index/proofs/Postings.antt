@@ -6,12 +6,13 @@ use Rattle.std.specs.List.{sum_by, flat_map, range_with_len, Contains}
 use Rattle.std.proofs.lemmas.Bool.{cases_Bool, ltb-true, both_ways, false_from_ne_true}
 use Rattle.std.proofs.lemmas.Option.{slice_get_within, same_Some}
 use Rattle.std.proofs.lemmas.List.{map_push, length_push}
-use Rattle.std.proofs.lemmas.List.Sums.{sum_by-cons, sum_by-append, sum_by_push, get_or-le-sum_by}
+use Rattle.std.proofs.lemmas.List.Sums.{sum_by-cons, sum_by-append, sum_by_push}
 use Rattle.list_pool.specs.Pool.{Row as CellRow, list_at, find_list, IsLive, Updates, Pushes, has_value, without_first}
 use Rattle.list_pool.specs.declared.ListName.{ListName}
 use Rattle.product_orders.specs.Elements.{SameElements}
 use Rattle.product_orders.specs.Keys.{numbers}
 use Rattle.name_index.specs.Index.{values, posting_of, posting, pairs_at, pairs, times_held, IsIndex}
+use Rattle.name_index.proofs.Fitting.{is_pair, pair_counts}
 use Rattle.name_index.proofs.TableChanges.{same_or, at_least}
 
 -- ---- reads
@@ -145,15 +146,9 @@ no_value value (x ∷ xs) h = by (eqb x.1 value) refl (λ k. no_value value xs k
 
 -- ---- what is held stands in its product's list
 
-abbrev is_pair : ℕ → ℕ → ℕ × ℕ → ℕ
-is_pair id product x = cond (nat_eq product x.1) (cond (nat_eq id x.0) 1 0) 0
-
 module _ (lists : List (Option (List CellRow))) (heads : List ListName) (id product : ℕ) (has : Contains (pairs lists heads) (id, product)) where
-  here : ◌≡◌ {A = ℕ} (cond (nat_eq product product) (cond (nat_eq id id) 1 0) 0) 1
-  here = ap {B = ℕ} (λ (b : Bool). cond b (cond (nat_eq id id) 1 0) 0) (eq-eqb product product refl) ∙ ap {B = ℕ} (λ (b : Bool). cond b 1 0) (eq-eqb id id refl)
-
   counted : 1 ≤ sum_by (is_pair id product) (pairs lists heads)
-  counted = omega (arith, get_or-le-sum_by (is_pair id product) (pairs lists heads) has.0 (id, product) has.1, ap (is_pair id product) has.2, here)
+  counted = pair_counts id product (pairs lists heads) has
 
   elsewhere : (p : ℕ) → p ≢ product → weighs lists heads (is_pair id product) p ≡ 0
   elsewhere p ne = none (posting lists heads p)
