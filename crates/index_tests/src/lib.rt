@@ -8,4 +8,6 @@ mod looks;
 #[cfg(test)]
 mod names;
 #[cfg(test)]
+mod released;
+#[cfg(test)]
 mod shelf;

@@ -1,10 +1,10 @@
 -- Held numbers fit a table: what each change leaves.
-use Rattle.std.proofs.Common.{◌≡◌, ℕ, ◌+◌, Bool, true, false, cond, eqb, List, [], ◌∷◌, Option, Some, None, refl, sym, ap, subst, ◌∙◌, arith, eqb-true, eq-eqb}
+use Rattle.std.proofs.Common.{◌≡◌, ℕ, suc, ◌+◌, ◌≤◌, Bool, true, false, cond, eqb, List, [], ◌∷◌, Option, Some, None, refl, sym, ap, subst, ◌∙◌, arith, eqb-true, eq-eqb}
 use Rattle.std.specs.Prelude.{nat_eq, IsSome}
-use Rattle.std.specs.List.{sum_by, AllByRecursion}
+use Rattle.std.specs.List.{sum_by, AllByRecursion, Contains}
 use Rattle.std.proofs.lemmas.Bool.{both_ways}
 use Rattle.std.proofs.lemmas.Option.{none-some, same_Some}
-use Rattle.std.proofs.lemmas.List.Sums.{sum_by-cons}
+use Rattle.std.proofs.lemmas.List.Sums.{sum_by-cons, get_or-le-sum_by}
 use Rattle.std.proofs.lemmas.List.Elements.{recursion_from_All, All-from_recursion}
 use Rattle.cpe_name.specs.declared.name.Values.{Values}
 use Rattle.product_orders.specs.Elements.{SameElements}
@@ -126,3 +126,28 @@ none_held names id (x ∷ held) fits none = by (nat_eq id x.0) refl (none_held n
 
 pub fresh_held : (names : Names) (id : ℕ) (held : List (ℕ × ℕ)) → Fits held names → find_kept names id ≡ None → times_held held id ≡ 0
 fresh_held names id held fits none = none_held names id held (opened names held fits) none
+
+-- ---- what stands in a list
+
+abbrev pub is_pair : ℕ → ℕ → ℕ × ℕ → ℕ
+is_pair id product x = cond (nat_eq product x.1) (cond (nat_eq id x.0) 1 0) 0
+
+pub pair_counts : (id product : ℕ) (xs : List (ℕ × ℕ)) → Contains xs (id, product) → 1 ≤ sum_by (is_pair id product) xs
+pair_counts id product xs has =
+    let itself : is_pair id product (id, product) ≡ 1 = ap {B = ℕ} (λ (b : Bool). cond b (cond (nat_eq id id) 1 0) 0) (eq-eqb product product refl) ∙ ap {B = ℕ} (λ (b : Bool). cond b 1 0) (eq-eqb id id refl) in
+    omega (arith, get_or-le-sum_by (is_pair id product) xs has.0 (id, product) has.1, ap (is_pair id product) has.2, itself)
+
+pair_stands : (id product : ℕ) (xs : List (ℕ × ℕ)) → 1 ≤ sum_by (is_pair id product) xs → Contains xs (id, product)
+pair_stands id product [] h = absurd (omega (arith, h))
+pair_stands id product (x ∷ xs) h = by (nat_eq product x.1) (nat_eq id x.0) refl refl (λ more. pair_stands id product xs more)
+  where
+    further : Contains xs (id, product) → Contains (x ∷ xs) (id, product)
+    further has = (suc has.0, omega (arith, has.1), has.2)
+
+    by : (a b : Bool) → nat_eq product x.1 ≡ a → nat_eq id x.0 ≡ b → (1 ≤ sum_by (is_pair id product) xs → Contains xs (id, product)) → Contains (x ∷ xs) (id, product)
+    by true true e f more = (0, omega arith, sym (ap (λ (n : ℕ). (n, product)) (eqb-true id x.0 f) ∙ ap (λ (n : ℕ). (x.0, n)) (eqb-true product x.1 e)))
+    by true false e f more = further (more (omega (arith, h, sum_by-cons (is_pair id product) x xs, ap {B = ℕ} (λ (b : Bool). cond b (cond (nat_eq id x.0) 1 0) 0) e, ap {B = ℕ} (λ (b : Bool). cond b 1 0) f)))
+    by false b e f more = further (more (omega (arith, h, sum_by-cons (is_pair id product) x xs, ap {B = ℕ} (λ (b : Bool). cond b (cond (nat_eq id x.0) 1 0) 0) e)))
+
+pub pair_moves : (held more : List (ℕ × ℕ)) (id product : ℕ) → SameElements held more → Contains held (id, product) → Contains more (id, product)
+pair_moves held more id product same has = pair_stands id product more (omega (arith, same (is_pair id product), pair_counts id product held has))

@@ -264,6 +264,38 @@ live_there names rows n live = by (find_kept (names_of names rows) n) refl live
         let t = kept_there names rows n k e in
         record { known = t.known; held = t.held; is = find_at names rows n t.known ∙ kept_of_read names (row_at rows n) t.held }
 
+-- a live number has holds, and its name's place is one of the names'
+pub record Lived (names : List Values) (rows : List Row) (n : ℕ) : Type 0 where
+  pub known : n < length rows
+  pub held : ltb 0 (row_at rows n).holds ≡ true
+  pub inside : (row_at rows n).place < length names
+
+pub lived : (names : List Values) (rows : List Row) (numbers : List ℕ) (products : List Value) (n : ℕ) → AreRows names rows numbers products → IsLive (names_of names rows) n → Lived names rows n
+lived names rows numbers products n a live =
+    let l = live_there names rows n live in
+    record { known = l.known; held = l.held; inside = place_inside names rows numbers products a n l.known l.held }
+
+-- a number is freed, and its name taken out
+pub record Gone (names new_names : List Values) (rows new_rows : List Row) (new_numbers : List ℕ) (products : List Value) (n : ℕ) : Type 0 where
+  pub rows_are : AreRows new_names new_rows new_numbers products
+  pub names_are : Releases (names_of names rows) (names_of new_names new_rows) n
+
+pub gone : (names : List Values) (rows : List Row) (numbers : List ℕ) (products : List Value) (n last : ℕ) → AreRows names rows numbers products → Lived names rows n → last + 1 ≡ length names → (row_at rows n).holds ≤ 1
+    → (new_names : List Values) (new_rows : List Row) (new_numbers : List ℕ) → new_names ≡ swap_remove names (row_at rows n).place (name_at names (row_at rows n).place) → IsDistinct same_name new_names
+    → new_rows ≡ freed_rows rows numbers n last → new_numbers ≡ freed_numbers rows numbers n last → Gone names new_names rows new_rows new_numbers products n
+gone names rows numbers products n last a l is_last few new_names new_rows new_numbers names_are different rows_are numbers_are =
+    let w = name_at names (row_at rows n).place in
+    let left = swap_remove names (row_at rows n).place w in
+    record {
+      rows_are = subst (λ (ws : List Values). AreRows ws new_rows new_numbers products) (sym names_are)
+          (subst (λ (rs : List Row). AreRows left rs new_numbers products) (sym rows_are)
+          (subst (λ (ns : List ℕ). AreRows left (freed_rows rows numbers n last) ns products) (sym numbers_are)
+          (freed names rows numbers products n last w a l.known l.inside is_last (subst (λ (ws : List Values). IsDistinct same_name ws) names_are different))));
+      names_are = subst (λ (ws : List Values). Releases (names_of names rows) (names_of ws new_rows) n) (sym names_are)
+          (subst (λ (rs : List Row). Releases (names_of names rows) (names_of left rs) n) (sym rows_are)
+          (releases names rows numbers products n last w a l.known l.inside is_last (freed_none names rows numbers products n last w a l.known l.inside is_last few l.held)));
+    }
+
 pub are_names : (names : List Values) (rows : List Row) (numbers : List ℕ) (products : List Value) → AreRows names rows numbers products → ((m n : ℕ) (v : Value) → slice_get products m ≡ Some v → slice_get products n ≡ Some v → m ≡ n) → AreNames (names_of names rows)
 are_names names rows numbers products a one = record {
   lower = λ id k h. let t = kept_there names rows id k h in subst (λ (x : Kept). IsLower x.name) t.is (All-get_or IsLower names (row_at rows id).place any_values (inside id t.known t.held) a.lower);

@@ -1,16 +1,18 @@
 -- The held numbers of an index, product by product, under a change of one list.
 use Rattle.std.proofs.Common.{◌≡◌, ◌≢◌, ℕ, zero, suc, ◌+◌, ◌<◌, ◌≤◌, Bool, true, false, cond, eqb, ltb, List, [], ◌∷◌, ◌++◌, map, length, Option, Some, None, refl, sym, ap, subst, ◌∙◌, inl, inr, arith, eqb-true, eq-eqb}
 use Rattle.std.specs.Prelude.{nat_eq, IsSome, slice_get}
+use Rattle.std.specs.Bool.{OnTrue}
 use Rattle.std.specs.List.{sum_by, flat_map, range_with_len, Contains}
 use Rattle.std.proofs.lemmas.Bool.{cases_Bool, ltb-true, both_ways, false_from_ne_true}
 use Rattle.std.proofs.lemmas.Option.{slice_get_within, same_Some}
 use Rattle.std.proofs.lemmas.List.{map_push, length_push}
-use Rattle.std.proofs.lemmas.List.Sums.{sum_by-cons, sum_by-append, sum_by_push, get_or-le-sum_by}
+use Rattle.std.proofs.lemmas.List.Sums.{sum_by-cons, sum_by-append, sum_by_push}
 use Rattle.list_pool.specs.Pool.{Row as CellRow, list_at, find_list, IsLive, Updates, Pushes, has_value, without_first}
 use Rattle.list_pool.specs.declared.ListName.{ListName}
 use Rattle.product_orders.specs.Elements.{SameElements}
 use Rattle.product_orders.specs.Keys.{numbers}
 use Rattle.name_index.specs.Index.{values, posting_of, posting, pairs_at, pairs, times_held, IsIndex}
+use Rattle.name_index.proofs.Fitting.{is_pair, pair_counts}
 use Rattle.name_index.proofs.TableChanges.{same_or, at_least}
 
 -- ---- reads
@@ -144,15 +146,9 @@ no_value value (x ∷ xs) h = by (eqb x.1 value) refl (λ k. no_value value xs k
 
 -- ---- what is held stands in its product's list
 
-abbrev is_pair : ℕ → ℕ → ℕ × ℕ → ℕ
-is_pair id product x = cond (nat_eq product x.1) (cond (nat_eq id x.0) 1 0) 0
-
 module _ (lists : List (Option (List CellRow))) (heads : List ListName) (id product : ℕ) (has : Contains (pairs lists heads) (id, product)) where
-  here : ◌≡◌ {A = ℕ} (cond (nat_eq product product) (cond (nat_eq id id) 1 0) 0) 1
-  here = ap {B = ℕ} (λ (b : Bool). cond b (cond (nat_eq id id) 1 0) 0) (eq-eqb product product refl) ∙ ap {B = ℕ} (λ (b : Bool). cond b 1 0) (eq-eqb id id refl)
-
   counted : 1 ≤ sum_by (is_pair id product) (pairs lists heads)
-  counted = omega (arith, get_or-le-sum_by (is_pair id product) (pairs lists heads) has.0 (id, product) has.1, ap (is_pair id product) has.2, here)
+  counted = pair_counts id product (pairs lists heads) has
 
   elsewhere : (p : ℕ) → p ≢ product → weighs lists heads (is_pair id product) p ≡ 0
   elsewhere p ne = none (posting lists heads p)
@@ -267,3 +263,19 @@ longer old new heads list x fresh up = record { index = record { live = live; ap
 
         old_live : (p : ℕ) (g : ListName) → slice_get (heads ++ list ∷ []) p ≡ Some g → p ≢ length heads → IsLive old g.0
         old_live p g e np = x.live p g (old_read p g e np)
+
+-- what is taken out of the list of its product, where it stands
+pub record Removal (old new : List (Option (List CellRow))) (heads : List ListName) (id product : ℕ) (result : Bool) : Type 0 where
+  pub there : result ≡ true
+  pub index : IsIndex new heads
+  pub held : SameElements (pairs old heads) ((id, product) ∷ pairs new heads)
+
+pub when_true : {P : Type 0} {b : Bool} → b ≡ true → OnTrue b P → P
+when_true {P} {b} e h = subst (λ (x : Bool). OnTrue x P) e h
+
+pub removal : (old new : List (Option (List CellRow))) (heads : List ListName) (id product : ℕ) (h : ListName) (result : Bool) → IsIndex old heads → slice_get heads product ≡ Some h → Contains (pairs old heads) (id, product)
+    → result ≡ has_value id (list_at old h.0) → OnTrue result (Updates old new h.0 (Some (without_first id (list_at old h.0)))) → Removal old new heads id product result
+removal old new heads id product h result x at has is up =
+    let found = found_there old heads id product has h at in
+    let d = dropped old new heads id product h x at found (when_true (is ∙ found) up) in
+    record { there = is ∙ found; index = d.index; held = d.held }

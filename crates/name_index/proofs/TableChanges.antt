@@ -1,6 +1,6 @@
 -- What a table's rows are after a change, and what is kept of each number then.
 use Rattle.std.proofs.Common.{◌≡◌, ◌≢◌, ◌⊎◌, ℕ, zero, suc, ◌+◌, ◌<◌, ◌≤◌, Bool, true, false, cond, eqb, ltb, List, [], ◌∷◌, ◌++◌, length, set, Option, Some, None, refl, sym, ap, subst, ◌∙◌, inl, inr, arith, eqb-true, eq-eqb, length-set}
-use Rattle.std.specs.List.{AllByRecursion, IsDistinct, list_any, slice_get}
+use Rattle.std.specs.List.{AllByRecursion, IsDistinct, slice_get}
 use Rattle.std.proofs.lemmas.Bool.{ltb-true, lt-ltb, both_ways, cases_Bool, false_from_ne_true}
 use Rattle.std.proofs.lemmas.List.{get_or_append_left, get_or_push, get_or-set_same, get_or-set_other, length_push, get_or_past}
 use Rattle.std.proofs.lemmas.List.Elements.{All-push}
@@ -426,6 +426,3 @@ module _ (names : List Values) (rows grown_rows : List Row) (numbers grown_numbe
         others = λ other ne. h.others other ne ∙ ready.finds other;
         same = λ other w. absurd (new other w);
       })))
-
-pub put_last : (names : List Values) (name : Values) (new_names : List Values) → list_any (same_name name) names ≡ false → new_names ≡ cond (list_any (same_name name) names) names (names ++ name ∷ []) → new_names ≡ names ++ name ∷ []
-put_last names name new_names none h = h ∙ ap (λ (b : Bool). cond b names (names ++ name ∷ [])) none

@@ -1,7 +1,7 @@
 // Names by number.
-ghost use Rattle.std.specs.Prelude.{◌≡◌, ◌≢◌, ℕ, ◌+◌, ◌-◌, ◌<◌, ◌≤◌, [], length, set, slice_get, Some, IsNone, IfSome, IfOk, OnOk, OnErr};
+ghost use Rattle.std.specs.Prelude.{◌≡◌, ◌≢◌, ℕ, ◌+◌, ◌-◌, ◌<◌, ◌≤◌, false, [], ◌∷◌, ◌++◌, length, set, slice_get, Some, IsNone, IfSome, IfOk, OnOk, OnErr};
 ghost use Rattle.std.specs.Prelude.{vec_len, vec_capacity};
-ghost use Rattle.std.specs.List.{IsDistinct};
+ghost use Rattle.std.specs.List.{IsDistinct, list_any, swap_remove};
 ghost use Rattle.indexmap.specs.IndexSet.{spare};
 ghost use Rattle.cpe_name.specs.Equal.{same_name};
 ghost use Rattle.cpe_values.specs.declared.value.Value.{Value};
@@ -9,7 +9,7 @@ ghost use Rattle.cpe_values.specs.Lower.{lower_value};
 ghost use Rattle.cpe_name.specs.Lower.{IsLower};
 ghost use Rattle.name_index.specs.Table.{Kept, find_kept, IsLive, kept_at, HasName, Holds, Releases, AreNames};
 ghost use Rattle.name_index.specs.Index.{WalksNear};
-ghost use Rattle.name_index.specs.Rows.{row, row_at, number_at, Grows, freed_rows, freed_numbers};
+ghost use Rattle.name_index.specs.Rows.{row, row_at, number_at, name_at, Grows, freed_rows, freed_numbers};
 
 use cpe_name::{Attribute, Wfn};
 use cpe_steps::Steps;
@@ -180,6 +180,27 @@ fn set_row(rows: &mut Vec<Row>, number: u32, row: Row)
     rows[number as usize] = row;
 }
 
+// Puts a name last that isn't there. It takes no memory.
+fn put_name(names: &mut IndexSet<Wfn>, name: Wfn)
+    requires fresh { list_any (same_name name) names.old.keys ≡ false }
+    requires room { 0 < spare names.old }
+    ensures keys { names.new.keys ≡ names.old.keys ++ name ∷ [] }
+    ensures unique { IsDistinct same_name names.new.keys }
+{
+    if names.insert(name).is_err() {
+        unreachable!();
+    }
+}
+
+// Takes out the name at a place, and puts the last one there.
+fn take_name(names: &mut IndexSet<Wfn>, place: u32)
+    requires { place < length names.old.keys }
+    ensures keys { names.new.keys ≡ swap_remove names.old.keys place (name_at names.old.keys place) }
+    ensures unique { IsDistinct same_name names.new.keys }
+{
+    let _ = names.swap_remove_index(place as usize);
+}
+
 // Frees a number: the number of the last name's place takes its place.
 fn free_row(rows: &mut Vec<Row>, numbers: &mut Vec<u32>, number: u32, last: usize)
     requires number { number < length rows.old.items }
@@ -266,9 +287,7 @@ impl NameTable {
         let copied = name.copy(self.alloc)?;
         let place = self.names.len();
         let number = free_number(&mut self.numbers, &mut self.rows, place);
-        if self.names.insert(copied).is_err() {
-            unreachable!();
-        }
+        put_name(&mut self.names, copied);
         let row = Row {
             place: place as u32,
             holds: 1,
@@ -294,7 +313,7 @@ impl NameTable {
             return;
         }
         let last = self.names.len() - 1;
-        let _ = self.names.swap_remove_index(row.place as usize);
+        take_name(&mut self.names, row.place);
         free_row(&mut self.rows, &mut self.numbers, id.0, last);
     }
 

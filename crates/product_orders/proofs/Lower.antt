@@ -16,6 +16,7 @@ use Rattle.cpe_relation.specs.Near.{near, near_plain}
 use Rattle.cpe_relation.specs.Near as nearness
 use Rattle.product_orders.specs.declared.keys.End.{End}
 use Rattle.product_orders.specs.declared.keys.End.TheVariants as end
+use Rattle.product_orders.specs.declared.keys.Shape.{Shape}
 use Rattle.product_orders.specs.declared.keys.Shape.TheVariants as shape
 use Rattle.product_orders.specs.Keys.{shape_by, shape_of, rank, body_of, has_by, in_run}
 use Rattle.product_orders.proofs.Orders.{agree, same_text}
@@ -104,37 +105,37 @@ near_to p whole e body says (value.Text t) h =
     ap (λ (b : Bool). not (has_special t) && b) (says t.body (lower_body (value.Text t) h))
     ∙ ap (λ (b : Bool). b && has_by whole e body t.body) (sym (no_special (is_nothing t.lead) (is_nothing t.trail)))
 
+-- whether nothing stands before the body of such a text, and nothing behind it
+abbrev edges_of : Shape → Bool × Bool
+edges_of shape.Any = (true, true)
+edges_of shape.Na = (true, true)
+edges_of shape.Plain = (true, true)
+edges_of shape.WithTrail = (true, false)
+edges_of shape.WithLead = (false, true)
+edges_of shape.WithBoth = (false, false)
+
+edges_back : (x y : Bool) → edges_of (shape_by x y) ≡ (x, y)
+edges_back true true = refl
+edges_back true false = refl
+edges_back false true = refl
+edges_back false false = refl
+
 module _ (p : Parts) (low : lower_value (value.Text p) ≡ value.Text p) where
   as_is : (x y : Bool) → is_nothing p.lead ≡ x → is_nothing p.trail ≡ y → (t : List ℕ) → lower t ≡ t → near_plain p t ≡ near_by x y p.body t
   as_is x y e f t k =
       near_plain_is p t (lower_body (value.Text p) low) k ∙ ap (λ (b : Bool). near_by b (is_nothing p.trail) p.body t) e ∙ ap (λ (b : Bool). near_by x b p.body t) f
 
+  edges_are : (s : Shape) → shape_of (value.Text p) ≡ s → (is_nothing p.lead, is_nothing p.trail) ≡ edges_of s
+  edges_are s r = sym (edges_back (is_nothing p.lead) (is_nothing p.trail)) ∙ ap edges_of r
+
   pub plain_is : shape_of (value.Text p) ≡ shape.Plain → (v : Value) → lower_value v ≡ v → near (value.Text p) v ≡ in_run end.Front shape.Plain p.body true v
-  plain_is r = by (is_nothing p.lead) (is_nothing p.trail) refl refl r
-    where
-      by : (x y : Bool) → is_nothing p.lead ≡ x → is_nothing p.trail ≡ y → shape_by x y ≡ shape.Plain → (v : Value) → lower_value v ≡ v → near (value.Text p) v ≡ in_run end.Front shape.Plain p.body true v
-      by true true e f r = near_to p true end.Front p.body (as_is true true e f)
-      by true false e f r = absurd (omega (arith, ap rank r))
-      by false true e f r = absurd (omega (arith, ap rank r))
-      by false false e f r = absurd (omega (arith, ap rank r))
+  plain_is r = let e = edges_are shape.Plain r in near_to p true end.Front p.body (as_is true true (ap (λ (z : Bool × Bool). z.0) e) (ap (λ (z : Bool × Bool). z.1) e))
 
   pub trail_is : shape_of (value.Text p) ≡ shape.WithTrail → (v : Value) → lower_value v ≡ v → near (value.Text p) v ≡ in_run end.Front shape.Plain p.body false v
-  trail_is r = by (is_nothing p.lead) (is_nothing p.trail) refl refl r
-    where
-      by : (x y : Bool) → is_nothing p.lead ≡ x → is_nothing p.trail ≡ y → shape_by x y ≡ shape.WithTrail → (v : Value) → lower_value v ≡ v → near (value.Text p) v ≡ in_run end.Front shape.Plain p.body false v
-      by true true e f r = absurd (omega (arith, ap rank r))
-      by true false e f r = near_to p false end.Front p.body (as_is true false e f)
-      by false true e f r = absurd (omega (arith, ap rank r))
-      by false false e f r = absurd (omega (arith, ap rank r))
+  trail_is r = let e = edges_are shape.WithTrail r in near_to p false end.Front p.body (as_is true false (ap (λ (z : Bool × Bool). z.0) e) (ap (λ (z : Bool × Bool). z.1) e))
 
   pub lead_is : shape_of (value.Text p) ≡ shape.WithLead → (v : Value) → lower_value v ≡ v → near (value.Text p) v ≡ in_run end.Back shape.Plain p.body false v
-  lead_is r = by (is_nothing p.lead) (is_nothing p.trail) refl refl r
-    where
-      by : (x y : Bool) → is_nothing p.lead ≡ x → is_nothing p.trail ≡ y → shape_by x y ≡ shape.WithLead → (v : Value) → lower_value v ≡ v → near (value.Text p) v ≡ in_run end.Back shape.Plain p.body false v
-      by true true e f r = absurd (omega (arith, ap rank r))
-      by true false e f r = absurd (omega (arith, ap rank r))
-      by false true e f r = near_to p false end.Back p.body (as_is false true e f)
-      by false false e f r = absurd (omega (arith, ap rank r))
+  lead_is r = let e = edges_are shape.WithLead r in near_to p false end.Back p.body (as_is false true (ap (λ (z : Bool × Bool). z.0) e) (ap (λ (z : Bool × Bool). z.1) e))
 
   -- with both edges it is near each plain text
   pub both_is : (shape_of (value.Text p) ≡ shape.Plain → ⊥) → (shape_of (value.Text p) ≡ shape.WithTrail → ⊥) → (shape_of (value.Text p) ≡ shape.WithLead → ⊥) → (v : Value) → lower_value v ≡ v → near (value.Text p) v ≡ in_run end.Front shape.Plain [] false v

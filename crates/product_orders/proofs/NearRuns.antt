@@ -107,9 +107,6 @@ one_more m k w = by (eqb m k) (ltb m k) refl refl
         omega (arith, ap {B = ℕ} (λ (c : Bool). cond c w 0) e, ap {B = ℕ} (λ (c : Bool). cond c w 0) l, ap {B = ℕ} (λ (c : Bool). cond c w 0) up)
 
 module _ (r : Shape) (n : ℕ) (piece : ℕ → List ℕ) (v : Value) (s : Bool) (is : (k : ℕ) → k ≤ n → pointwise nat_eq (piece k) (body_of v) ≡ (s && eqb (length (body_of v)) k)) where
-  passes : (g b : Bool) (w : ℕ) → Bool
-  passes g b w = g && (s && b)
-
   step : (g t a b c : Bool) (w : ℕ) → cond a w 0 + cond b w 0 ≡ cond c w 0 → cond (g && (t && a)) w 0 + cond (g && (t && b)) w 0 ≡ cond (g && (t && c)) w 0
   step true true a b c w h = h
   step true false a b c w h = refl

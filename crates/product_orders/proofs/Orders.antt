@@ -139,9 +139,6 @@ module _ (values : List Value) (e : End) (r : Shape) (body : List ℕ) (whole : 
         let n = slice_index_or order to 0 in
         absurd (both_ways _ (second.1 to 0 (omega arith) (omega (arith, lt, fits))) (or_first (before n) (has n) (first.0 to 0 (omega arith) lt)))
 
-  pub run_ends : (order : List ℕ) (from to : ℕ) → from ≤ length order → Point before order from → Point within order to → from ≤ to
-  run_ends = ends_apart
-
   run_is : (order : List ℕ) (from n : ℕ) → from + n ≤ length order → Point before order from → Point within order (from + n) → filter has order ≡ take n (drop from order)
   run_is order from n le first second =
       filter_run has order from n le

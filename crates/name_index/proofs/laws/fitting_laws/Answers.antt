@@ -1,4 +1,4 @@
-use Rattle.name_index.proofs.Fitting.{held_fits, released_fits, added_fits, dropped_fits, fresh_held, number_fresh}
+use Rattle.name_index.proofs.Fitting.{held_fits, released_fits, added_fits, dropped_fits, fresh_held, number_fresh, pair_moves}
 use Rattle.name_index.proofs.laws.fitting_laws.Goals as goal
 
 pub returns-clause-held : goal.returns-clause-held
@@ -18,3 +18,6 @@ returns-clause-fresh c = fresh_held
 
 pub returns-clause-number : goal.returns-clause-number
 returns-clause-number c = number_fresh
+
+pub returns-clause-stands : goal.returns-clause-stands
+returns-clause-stands c = pair_moves

@@ -1,4 +1,4 @@
-use Rattle.std.proofs.Common.{rules, ◌≡◌, ◌∷◌, ◌++◌, [], ℕ, false, cond, List, sym, ap, subst, ◌∙◌}
+use Rattle.std.proofs.Common.{rules, ◌≡◌, ◌∷◌, ◌++◌, [], ℕ, false, List, sym, ap, subst, ◌∙◌}
 use Rattle.std.specs.List.{list_any}
 use Rattle.std.proofs.lemmas.Bool.{both_ways}
 use Rattle.cpe_name.specs.Equal.{same_name}
@@ -7,7 +7,7 @@ use Rattle.name_index.specs.declared.table.Row.{Row}
 use Rattle.name_index.specs.Table.{Names, HasName, Holds}
 use Rattle.name_index.specs.Rows.{names_of, AreRows}
 use Rattle.name_index.proofs.Names.{found_at, name_found}
-use Rattle.name_index.proofs.TableChanges.{few_holds, raised_rows, raised_holds, same_rows, same_view, put_last, held_rows, held_names}
+use Rattle.name_index.proofs.TableChanges.{few_holds, raised_rows, raised_holds, same_rows, same_view, held_rows, held_names}
 use Rattle.name_index.proofs.table.NameTable.hold.Goals as goal
 
 pub raise-requires-clause-few : goal.raise-requires-clause-few
@@ -36,28 +36,21 @@ pub invariant_of-self-2 : goal.invariant_of-self-2
 invariant_of-self-2 c =
     let i = c.self.inside in
     let m = c.make_room.new in
-    let name = c.args.name.now in
-    let keys = m.names.keys in
-    let a = same_rows i.names.keys keys i.rows.items m.rows.items i.numbers.items m.numbers.items i.products m.products c.make_room.ensures.names c.make_room.ensures.rows c.make_room.ensures.numbers c.make_room.ensures.products c.self.invariant in
-    let none : list_any (same_name name) i.names.keys ≡ false = search rules in
-    let pushed : c.insert.new.self.keys ≡ cond (list_any (same_name c.in_ok-copied.copied) keys) keys (keys ++ c.in_ok-copied.copied ∷ []) = search rules in
-    let put = put_last keys name c.insert.new.self.keys (ap (list_any (same_name name)) c.make_room.ensures.names ∙ none) (subst (λ (w : Values). c.insert.new.self.keys ≡ cond (list_any (same_name w) keys) keys (keys ++ w ∷ [])) c.in_ok-copied.ensures pushed) in
-    held_rows keys m.rows.items c.free_number-number.new.rows.items m.numbers.items c.free_number-number.new.numbers.items m.products name c.len-place.result c.free_number-number.result c.in_ok-product.product c.requires.lower
-    c.len-place.ensures.len a c.free_number-number.ensures.grown c.free_number-number.ensures.number c.in_ok-product.ensures.product c.insert.new.self.keys put c.set_row.new.rows.items c.set_row.ensures c.insert.ensures.unique
+    let a = same_rows i.names.keys m.names.keys i.rows.items m.rows.items i.numbers.items m.numbers.items i.products m.products c.make_room.ensures.names c.make_room.ensures.rows c.make_room.ensures.numbers c.make_room.ensures.products c.self.invariant in
+    let put = subst (λ (w : Values). c.put_name.new.names.keys ≡ m.names.keys ++ w ∷ []) c.in_ok-copied.ensures c.put_name.ensures.keys in
+    held_rows m.names.keys m.rows.items c.free_number-number.new.rows.items m.numbers.items c.free_number-number.new.numbers.items m.products c.args.name.now c.len-place.result c.free_number-number.result c.in_ok-product.product c.requires.lower
+    c.len-place.ensures.len a c.free_number-number.ensures.grown c.free_number-number.ensures.number c.in_ok-product.ensures.product c.put_name.new.names.keys put c.set_row.new.rows.items c.set_row.ensures c.put_name.ensures.unique
 
 pub returns-clause-held : goal.returns-clause-held
 returns-clause-held c =
     let i = c.self.inside in
     let m = c.make_room.new in
     let name = c.args.name.now in
-    let keys = m.names.keys in
-    let a = same_rows i.names.keys keys i.rows.items m.rows.items i.numbers.items m.numbers.items i.products m.products c.make_room.ensures.names c.make_room.ensures.rows c.make_room.ensures.numbers c.make_room.ensures.products c.self.invariant in
+    let a = same_rows i.names.keys m.names.keys i.rows.items m.rows.items i.numbers.items m.numbers.items i.products m.products c.make_room.ensures.names c.make_room.ensures.rows c.make_room.ensures.numbers c.make_room.ensures.products c.self.invariant in
+    let put = subst (λ (w : Values). c.put_name.new.names.keys ≡ m.names.keys ++ w ∷ []) c.in_ok-copied.ensures c.put_name.ensures.keys in
     let none : list_any (same_name name) i.names.keys ≡ false = search rules in
-    let none2 : list_any (same_name name) keys ≡ false = ap (list_any (same_name name)) c.make_room.ensures.names ∙ none in
-    let pushed : c.insert.new.self.keys ≡ cond (list_any (same_name c.in_ok-copied.copied) keys) keys (keys ++ c.in_ok-copied.copied ∷ []) = search rules in
-    let put = put_last keys name c.insert.new.self.keys none2 (subst (λ (w : Values). c.insert.new.self.keys ≡ cond (list_any (same_name w) keys) keys (keys ++ w ∷ [])) c.in_ok-copied.ensures pushed) in
-    let view = same_view i.names.keys keys i.rows.items m.rows.items c.args.self.now c.make_room.ensures.names c.make_room.ensures.rows c.self.view_is in
-    let new = λ (other : ℕ) (h : HasName (names_of keys m.rows.items) other name). both_ways _ none2 (name_found keys m.rows.items m.numbers.items m.products a other name h) in
-    subst (λ (old : Names). Holds old (names_of c.insert.new.self.keys c.set_row.new.rows.items) c.free_number-number.result name) view
-    (held_names keys m.rows.items c.free_number-number.new.rows.items m.numbers.items c.free_number-number.new.numbers.items m.products name c.len-place.result c.free_number-number.result c.in_ok-product.product c.requires.lower
-    c.len-place.ensures.len a c.free_number-number.ensures.grown c.free_number-number.ensures.number c.in_ok-product.ensures.product c.insert.new.self.keys put c.set_row.new.rows.items c.set_row.ensures new)
+    let view = same_view i.names.keys m.names.keys i.rows.items m.rows.items c.args.self.now c.make_room.ensures.names c.make_room.ensures.rows c.self.view_is in
+    let new = λ (other : ℕ) (h : HasName (names_of m.names.keys m.rows.items) other name). both_ways _ (ap (list_any (same_name name)) c.make_room.ensures.names ∙ none) (name_found m.names.keys m.rows.items m.numbers.items m.products a other name h) in
+    subst (λ (old : Names). Holds old (names_of c.put_name.new.names.keys c.set_row.new.rows.items) c.free_number-number.result name) view
+    (held_names m.names.keys m.rows.items c.free_number-number.new.rows.items m.numbers.items c.free_number-number.new.numbers.items m.products name c.len-place.result c.free_number-number.result c.in_ok-product.product c.requires.lower
+    c.len-place.ensures.len a c.free_number-number.ensures.grown c.free_number-number.ensures.number c.in_ok-product.ensures.product c.put_name.new.names.keys put c.set_row.new.rows.items c.set_row.ensures new)

@@ -1,17 +1,16 @@
-use Rattle.std.proofs.Common.{◌≡◌, ◌<◌, ◌≤◌, set, ◌+◌, ◌-◌, ℕ, List, length, Some, sym, ap, subst, ◌∙◌, arith}
-use Rattle.std.specs.List.{swap_remove, slice_get, IsDistinct}
+use Rattle.std.proofs.Common.{◌≡◌, ◌<◌, ◌≤◌, set, ◌-◌, List, length, sym, ap, subst, ◌∙◌, arith}
+use Rattle.std.specs.List.{swap_remove}
 use Rattle.std.proofs.lemmas.Bool.{lt-ltb}
-use Rattle.std.proofs.lemmas.Option.{slice_get-get_or, MatchOption-at_some}
 use Rattle.cpe_name.specs.declared.name.Values.{Values}
-use Rattle.cpe_name.specs.Equal.{same_name}
-use Rattle.cpe_name.specs.Put.{any_values}
 use Rattle.name_index.specs.declared.table.Row.{Row}
 use Rattle.name_index.specs.Table.{Names, IsLive, Releases}
-use Rattle.name_index.specs.Rows.{row, row_at, name_at, names_of, AreRows, freed_rows}
-use Rattle.name_index.proofs.Names.{place_inside}
+use Rattle.name_index.specs.Rows.{row, row_at, name_at, names_of, AreRows}
 use Rattle.name_index.proofs.TableChanges.{with_holds}
-use Rattle.name_index.proofs.Freed.{live_there, lowered, freed, releases, freed_none}
+use Rattle.name_index.proofs.Freed.{live_there, lowered, lived, gone}
 use Rattle.name_index.proofs.table.NameTable.release.Goals as goal
+
+left : (names new_names : List Values) (row other : Row) → row ≡ other → new_names ≡ swap_remove names row.place (name_at names row.place) → new_names ≡ swap_remove names other.place (name_at names other.place)
+left names new_names row other is h = h ∙ ap (λ (r : Row). swap_remove names r.place (name_at names r.place)) is
 
 pub invariant_of-self : goal.invariant_of-self
 invariant_of-self c =
@@ -37,61 +36,32 @@ returns-then-row-gt1 c =
 pub overflow_sub-last : goal.overflow_sub-last
 overflow_sub-last c =
     let i = c.self.inside in
-    let id = c.args.id.0 in
-    let l = live_there i.names.keys i.rows.items c.args.id.0 (subst (λ (names : Names). IsLive names c.args.id.0) (sym c.self.view_is) c.requires) in
-    let p = (row_at i.rows.items c.args.id.0).place in
-    let inside = place_inside i.names.keys i.rows.items i.numbers.items i.products c.self.invariant c.args.id.0 l.known l.held in
-    let there : slice_get i.names.keys c.row_of-row.result.place ≡ Some (name_at i.names.keys p) = ap (λ (r : Row). slice_get i.names.keys r.place) c.row_of-row.ensures ∙ slice_get-get_or i.names.keys p any_values inside in
-    omega (arith, c.len-last.ensures.len, inside)
+    let l = lived i.names.keys i.rows.items i.numbers.items i.products c.args.id.0 c.self.invariant (subst (λ (names : Names). IsLive names c.args.id.0) (sym c.self.view_is) c.requires) in
+    omega (arith, c.len-last.ensures.len, l.inside)
+
+pub take_name-requires : goal.take_name-requires
+take_name-requires c =
+    let i = c.self.inside in
+    let l = lived i.names.keys i.rows.items i.numbers.items i.products c.args.id.0 c.self.invariant (subst (λ (names : Names). IsLive names c.args.id.0) (sym c.self.view_is) c.requires) in
+    subst (λ (r : Row). r.place < length i.names.keys) (sym c.row_of-row.ensures) l.inside
 
 pub free_row-requires-clause-place : goal.free_row-requires-clause-place
 free_row-requires-clause-place c =
     let i = c.self.inside in
-    let id = c.args.id.0 in
-    let l = live_there i.names.keys i.rows.items c.args.id.0 (subst (λ (names : Names). IsLive names c.args.id.0) (sym c.self.view_is) c.requires) in
-    let p = (row_at i.rows.items c.args.id.0).place in
-    let inside = place_inside i.names.keys i.rows.items i.numbers.items i.products c.self.invariant c.args.id.0 l.known l.held in
-    let there : slice_get i.names.keys c.row_of-row.result.place ≡ Some (name_at i.names.keys p) = ap (λ (r : Row). slice_get i.names.keys r.place) c.row_of-row.ensures ∙ slice_get-get_or i.names.keys p any_values inside in
-    omega (arith, inside, c.self.invariant.within, c.self.invariant.paired)
+    let l = lived i.names.keys i.rows.items i.numbers.items i.products c.args.id.0 c.self.invariant (subst (λ (names : Names). IsLive names c.args.id.0) (sym c.self.view_is) c.requires) in
+    omega (arith, l.inside, c.self.invariant.within, c.self.invariant.paired)
 
 pub invariant_of-self-2 : goal.invariant_of-self-2
 invariant_of-self-2 c =
     let i = c.self.inside in
-    let id = c.args.id.0 in
-    let l = live_there i.names.keys i.rows.items c.args.id.0 (subst (λ (names : Names). IsLive names c.args.id.0) (sym c.self.view_is) c.requires) in
-    let p = (row_at i.rows.items c.args.id.0).place in
-    let inside = place_inside i.names.keys i.rows.items i.numbers.items i.products c.self.invariant c.args.id.0 l.known l.held in
-    let there : slice_get i.names.keys c.row_of-row.result.place ≡ Some (name_at i.names.keys p) = ap (λ (r : Row). slice_get i.names.keys r.place) c.row_of-row.ensures ∙ slice_get-get_or i.names.keys p any_values inside in
-    let last = c.len-last.result - 1 in
-    let is_last : last + 1 ≡ length i.names.keys = omega (arith, c.len-last.ensures.len, inside) in
-    let w = name_at i.names.keys p in
-    let gone : c.swap_remove_index.result ≡ Some w = c.swap_remove_index.ensures.key ∙ there in
-    let keys : c.swap_remove_index.new.self.keys ≡ swap_remove i.names.keys p w =
-    MatchOption-at_some _ (λ (k : Values). c.swap_remove_index.new.self.keys ≡ swap_remove i.names.keys c.row_of-row.result.place k) w gone c.swap_remove_index.ensures.keys ∙ ap (λ (r : Row). swap_remove i.names.keys r.place w) c.row_of-row.ensures in
-    let few = subst (λ (r : Row). r.holds ≤ 1) c.row_of-row.ensures c.if-row-gt1.false in
-    let different = subst (λ (ws : List Values). IsDistinct same_name ws) keys c.swap_remove_index.ensures.unique in
-    subst (λ (ws : List Values). AreRows ws c.free_row.new.rows.items c.free_row.new.numbers.items i.products) (sym keys)
-    (subst (λ (rows : List Row). AreRows (swap_remove i.names.keys p w) rows c.free_row.new.numbers.items i.products) (sym c.free_row.ensures.rows)
-    (subst (λ (ns : List ℕ). AreRows (swap_remove i.names.keys p w) (freed_rows i.rows.items i.numbers.items id last) ns i.products) (sym c.free_row.ensures.numbers)
-    (freed i.names.keys i.rows.items i.numbers.items i.products id last w c.self.invariant l.known inside is_last different)))
+    let l = lived i.names.keys i.rows.items i.numbers.items i.products c.args.id.0 c.self.invariant (subst (λ (names : Names). IsLive names c.args.id.0) (sym c.self.view_is) c.requires) in
+    (gone i.names.keys i.rows.items i.numbers.items i.products c.args.id.0 (c.len-last.result - 1) c.self.invariant l (omega (arith, c.len-last.ensures.len, l.inside)) (subst (λ (r : Row). r.holds ≤ 1) c.row_of-row.ensures c.if-row-gt1.false)
+    c.take_name.new.names.keys c.free_row.new.rows.items c.free_row.new.numbers.items (left c.self.inside.names.keys c.take_name.new.names.keys c.row_of-row.result _ c.row_of-row.ensures c.take_name.ensures.keys) c.take_name.ensures.unique c.free_row.ensures.rows c.free_row.ensures.numbers).rows_are
 
 pub returns : goal.returns
 returns c =
     let i = c.self.inside in
-    let id = c.args.id.0 in
-    let l = live_there i.names.keys i.rows.items c.args.id.0 (subst (λ (names : Names). IsLive names c.args.id.0) (sym c.self.view_is) c.requires) in
-    let p = (row_at i.rows.items c.args.id.0).place in
-    let inside = place_inside i.names.keys i.rows.items i.numbers.items i.products c.self.invariant c.args.id.0 l.known l.held in
-    let there : slice_get i.names.keys c.row_of-row.result.place ≡ Some (name_at i.names.keys p) = ap (λ (r : Row). slice_get i.names.keys r.place) c.row_of-row.ensures ∙ slice_get-get_or i.names.keys p any_values inside in
-    let last = c.len-last.result - 1 in
-    let is_last : last + 1 ≡ length i.names.keys = omega (arith, c.len-last.ensures.len, inside) in
-    let w = name_at i.names.keys p in
-    let gone : c.swap_remove_index.result ≡ Some w = c.swap_remove_index.ensures.key ∙ there in
-    let keys : c.swap_remove_index.new.self.keys ≡ swap_remove i.names.keys p w =
-    MatchOption-at_some _ (λ (k : Values). c.swap_remove_index.new.self.keys ≡ swap_remove i.names.keys c.row_of-row.result.place k) w gone c.swap_remove_index.ensures.keys ∙ ap (λ (r : Row). swap_remove i.names.keys r.place w) c.row_of-row.ensures in
-    let few = subst (λ (r : Row). r.holds ≤ 1) c.row_of-row.ensures c.if-row-gt1.false in
-    subst (λ (old : Names). Releases old (names_of c.swap_remove_index.new.self.keys c.free_row.new.rows.items) id) c.self.view_is
-    (subst (λ (ws : List Values). Releases (names_of i.names.keys i.rows.items) (names_of ws c.free_row.new.rows.items) id) (sym keys)
-    (subst (λ (rows : List Row). Releases (names_of i.names.keys i.rows.items) (names_of (swap_remove i.names.keys p w) rows) id) (sym c.free_row.ensures.rows)
-    (releases i.names.keys i.rows.items i.numbers.items i.products id last w c.self.invariant l.known inside is_last
-    (freed_none i.names.keys i.rows.items i.numbers.items i.products id last w c.self.invariant l.known inside is_last few l.held))))
+    let l = lived i.names.keys i.rows.items i.numbers.items i.products c.args.id.0 c.self.invariant (subst (λ (names : Names). IsLive names c.args.id.0) (sym c.self.view_is) c.requires) in
+    let g = gone i.names.keys i.rows.items i.numbers.items i.products c.args.id.0 (c.len-last.result - 1) c.self.invariant l (omega (arith, c.len-last.ensures.len, l.inside)) (subst (λ (r : Row). r.holds ≤ 1) c.row_of-row.ensures c.if-row-gt1.false)
+    c.take_name.new.names.keys c.free_row.new.rows.items c.free_row.new.numbers.items (left c.self.inside.names.keys c.take_name.new.names.keys c.row_of-row.result _ c.row_of-row.ensures c.take_name.ensures.keys) c.take_name.ensures.unique c.free_row.ensures.rows c.free_row.ensures.numbers in
+    subst (λ (old : Names). Releases old (names_of c.take_name.new.names.keys c.free_row.new.rows.items) c.args.id.0) c.self.view_is g.names_are
