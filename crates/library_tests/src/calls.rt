@@ -1,4 +1,5 @@
-// The calls that read and write names.
+// The calls that read and write names. A name is let go by one call wherever it is: at the end of a scope each of its eleven values
+// would be let go in place, which proves slowly.
 use cpe_fs::{bind_fs, unbind_fs};
 use cpe_name::{Wfn, read_wfn, write_wfn};
 use cpe_uri::{bind_uri, unbind_any, unbind_uri};
@@ -21,9 +22,13 @@ pub(crate) fn of_either(alloc: Global, text: &[u8]) -> Option<Wfn> {
 }
 
 pub(crate) fn both(alloc: Global, fs: &[u8], other: &[u8]) -> Option<(Wfn, Wfn)> {
-    match (of_fs(alloc, fs), of_fs(alloc, other)) {
-        (Some(name), Some(other)) => Some((name, other)),
-        _ => None,
+    let name = of_fs(alloc, fs)?;
+    match of_fs(alloc, other) {
+        Some(other) => Some((name, other)),
+        None => {
+            drop(name);
+            None
+        }
     }
 }
 

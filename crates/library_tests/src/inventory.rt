@@ -19,18 +19,32 @@ fn is_none(fault: Option<EditFault>) -> bool {
     }
 }
 
+fn has_fault(items: &Items, name: &Wfn) -> bool {
+    !is_none(item_fault(items, name))
+}
+
+fn add(items: &mut Items, name: Wfn) -> bool {
+    if items.has(&name) || has_fault(items, &name) {
+        drop(name);
+        return false;
+    }
+    items.add(name).is_ok()
+}
+
 fn adds(alloc: Global, items: &mut Items, name: &[u8]) -> bool {
     match of_either(alloc, name) {
-        Some(name) => is_none(item_fault(items, &name))
-            && !items.has(&name)
-            && items.add(name).is_ok(),
+        Some(name) => add(items, name),
         None => false,
     }
 }
 
 fn drops(alloc: Global, items: &mut Items, name: &[u8]) -> bool {
     match of_either(alloc, name) {
-        Some(name) => items.remove(&name),
+        Some(name) => {
+            let removed = items.remove(&name);
+            drop(name);
+            removed
+        }
         None => false,
     }
 }
@@ -42,12 +56,18 @@ fn stands_at(alloc: Global, names: &[Wfn], place: usize, fs: &[u8]) -> bool {
     }
 }
 
-fn number_covered(alloc: Global, items: &Items, name: &[u8]) -> Option<usize> {
-    let name = of_either(alloc, name)?;
-    match items.covered(alloc, &name) {
+fn number_of(found: Result<List<Wfn>, Memory>) -> Option<usize> {
+    match found {
         Ok(found) => Some(found.len()),
         Err(Memory) => None,
     }
+}
+
+fn number_covered(alloc: Global, items: &Items, name: &[u8]) -> Option<usize> {
+    let name = of_either(alloc, name)?;
+    let number = number_of(items.covered(alloc, &name));
+    drop(name);
+    number
 }
 
 #[test]
@@ -88,11 +108,12 @@ fn a_test(alloc: Global, name: Wfn) -> Result<Test, Memory> {
 }
 
 fn a_statement(alloc: Global, id: &str, name: Wfn) -> Result<Statement, Memory> {
+    let test = a_test(alloc, name)?;
     Ok(Statement {
         id: Text::new(alloc, id)?,
         title: Text::new(alloc, "")?,
         mode: Mode::Plain,
-        test: a_test(alloc, name)?,
+        test,
     })
 }
 
@@ -112,6 +133,7 @@ fn put(alloc: Global, statements: &mut Statements, statement: Statement) -> bool
     match statement_fault(statements, &statement) {
         Some(fault) => {
             drop(fault);
+            drop(statement);
             false
         }
         None => statements.put(alloc, statement).is_ok(),
@@ -125,9 +147,17 @@ fn takes_out(alloc: Global, statements: &mut Statements, id: &str) -> bool {
     }
 }
 
+fn set(checks: &mut Checks, key: CheckKey, truth: Truth) -> bool {
+    if !is_none(check_fault(checks, &key)) {
+        drop(key);
+        return false;
+    }
+    checks.set(key, truth).is_ok()
+}
+
 fn keeps(alloc: Global, checks: &mut Checks, truth: Truth) -> bool {
     match a_key(alloc) {
-        Ok(key) => is_none(check_fault(checks, &key)) && checks.set(key, truth).is_ok(),
+        Ok(key) => set(checks, key, truth),
         Err(Memory) => false,
     }
 }
@@ -169,7 +199,9 @@ fn verdict_with(
     name: &[u8],
 ) -> Option<Truth> {
     let name = of_either(alloc, name)?;
-    verdict_over(&items.names_with(&name), &checks.results(), statements, 0)
+    let truth = verdict_over(&items.names_with(&name), &checks.results(), statements, 0);
+    drop(name);
+    truth
 }
 
 // The verdict of the first statement once the item of this name is dropped.
@@ -181,12 +213,10 @@ fn verdict_without(
     name: &[u8],
 ) -> Option<Truth> {
     let name = of_either(alloc, name)?;
-    verdict_over(
-        &items.names_without(&name),
-        &checks.results(),
-        statements,
-        0,
-    )
+    let names = items.names_without(&name);
+    let truth = verdict_over(&names, &checks.results(), statements, 0);
+    drop(name);
+    truth
 }
 
 // The verdict of the first statement once the check has this truth.

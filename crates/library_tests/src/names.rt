@@ -31,7 +31,11 @@ fn made(part: Value, language: Value) -> Result<Wfn, NameFault> {
 
 fn is_made(alloc: Global, part: &[u8], language: &[u8], text: &[u8]) -> bool {
     match made(plain(alloc, part), plain(alloc, language)) {
-        Ok(name) => has_text(alloc, &name, text),
+        Ok(name) => {
+            let has = has_text(alloc, &name, text);
+            drop(name);
+            has
+        }
         Err(_) => false,
     }
 }
@@ -60,7 +64,11 @@ fn is_na(name: &Wfn, which: Attribute) -> bool {
 
 fn is_copied(alloc: Global, name: &Wfn) -> bool {
     match name.copy(alloc) {
-        Ok(copy) => copy == *name,
+        Ok(copy) => {
+            let is = copy == *name;
+            drop(copy);
+            is
+        }
         Err(_) => false,
     }
 }
@@ -81,7 +89,11 @@ fn has_some(name: &Wfn) -> bool {
 
 fn has_wildcards(alloc: Global, text: &[u8]) -> bool {
     match of_text(alloc, text) {
-        Some(name) => has_some(&name),
+        Some(name) => {
+            let has = has_some(&name);
+            drop(name);
+            has
+        }
         None => false,
     }
 }
@@ -102,14 +114,22 @@ fn is_lower(name: &Wfn) -> bool {
 
 fn is_lowered_to(alloc: Global, name: &Wfn, lower: &[u8]) -> bool {
     match lowered(alloc, name) {
-        Some(name) => is_lower(&name) && has_fs(alloc, &name, lower),
+        Some(name) => {
+            let is = is_lower(&name) && has_fs(alloc, &name, lower);
+            drop(name);
+            is
+        }
         None => false,
     }
 }
 
 fn lowers(alloc: Global, fs: &[u8], lower: &[u8]) -> bool {
     match of_fs(alloc, fs) {
-        Some(name) => !is_lower(&name) && is_lowered_to(alloc, &name, lower),
+        Some(name) => {
+            let lowers = !is_lower(&name) && is_lowered_to(alloc, &name, lower);
+            drop(name);
+            lowers
+        }
         None => false,
     }
 }
@@ -120,7 +140,12 @@ fn is_same(name: &Wfn, other: &Wfn) -> bool {
 
 fn are_same(alloc: Global, fs: &[u8], other: &[u8]) -> bool {
     match both(alloc, fs, other) {
-        Some((name, other)) => is_same(&name, &other),
+        Some((name, other)) => {
+            let are = is_same(&name, &other);
+            drop(name);
+            drop(other);
+            are
+        }
         None => false,
     }
 }
@@ -151,13 +176,19 @@ const FS: &[u8] = b"cpe:2.3:a:-:??b.r??:*:*:*:fr-ca:*:b*:*:*";
 
 const URI: &[u8] = b"cpe:/a:-:%01%01b.r%01%01:::~~~b%02~~:fr-ca";
 
+fn has_each(alloc: Global, name: &Wfn) -> bool {
+    has_text(alloc, name, TEXT)
+        && has_fs(alloc, name, FS)
+        && has_uri(alloc, name, URI)
+        && fs_len(name) == 40
+}
+
 fn is_bound(alloc: Global, name: Option<Wfn>) -> bool {
     match name {
         Some(name) => {
-            has_text(alloc, &name, TEXT)
-                && has_fs(alloc, &name, FS)
-                && has_uri(alloc, &name, URI)
-                && fs_len(&name) == 40
+            let has = has_each(alloc, &name);
+            drop(name);
+            has
         }
         None => false,
     }

@@ -22,7 +22,12 @@ fn are_related(
     target: &[u8],
 ) -> bool {
     match both(alloc, source, target) {
-        Some((source, target)) => relate(&source, &target) == (products, names),
+        Some((source, target)) => {
+            let related = relate(&source, &target);
+            drop(source);
+            drop(target);
+            related == (products, names)
+        }
         None => false,
     }
 }
@@ -33,7 +38,12 @@ fn is_covered(source: &Wfn, target: &Wfn) -> bool {
 
 fn covers_name(alloc: Global, source: &[u8], target: &[u8]) -> bool {
     match both(alloc, source, target) {
-        Some((source, target)) => is_covered(&source, &target),
+        Some((source, target)) => {
+            let covered = is_covered(&source, &target);
+            drop(source);
+            drop(target);
+            covered
+        }
         None => false,
     }
 }

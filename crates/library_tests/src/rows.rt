@@ -84,7 +84,9 @@ fn copy_of(alloc: Global, entry: &Entry) -> Result<Entry, Memory> {
 
 fn copied_entry(alloc: Global, date: Date) -> Result<Entry, Memory> {
     let entry = an_entry(alloc, date)?;
-    copy_of(alloc, &entry)
+    let copy = copy_of(alloc, &entry);
+    drop(entry);
+    copy
 }
 
 fn a_key(alloc: Global) -> Result<CheckKey, Memory> {
@@ -115,16 +117,42 @@ fn put(of: &mut List<Test>, test: Test) -> Result<(), Memory> {
     of.push(test)
 }
 
-fn copied_statement(alloc: Global) -> Result<Statement, Memory> {
-    let statement = Statement {
+fn a_statement(alloc: Global) -> Result<Statement, Memory> {
+    let test = a_test(alloc)?;
+    Ok(Statement {
         id: Text::new(alloc, "adv-1")?,
         title: Text::new(alloc, "")?,
         mode: Mode::Follow,
-        test: a_test(alloc)?,
-    };
-    statement.copy(alloc)
+        test,
+    })
 }
 
+fn copied_statement(alloc: Global) -> Result<Statement, Memory> {
+    let statement = a_statement(alloc)?;
+    let copy = statement.copy(alloc);
+    drop(statement);
+    copy
+}
+
+fn is_the_entry(entry: &Entry) -> bool {
+    is_same(&entry.name, &Wfn::any())
+        && entry.title.as_str() == "Träger 1.0"
+        && is_the_provenance(&entry.provenance)
+        && matches!(&entry.deprecation, Some(given) if is_the_deprecation(given))
+}
+
+fn is_the_statement(statement: &Statement) -> bool {
+    statement.id.as_str() == "adv-1"
+        && statement.title.as_str() == ""
+        && statement.mode == Mode::Follow
+}
+
+// The truth of the test, where the check has this one.
+fn truth_of(statement: &Statement, check: Truth) -> Truth {
+    evaluate(&statement.test, &Known { check })
+}
+
+#[derive(Drop)]
 struct Known {
     check: Truth,
 }
@@ -152,27 +180,18 @@ fn an_entry_and_its_copy(rt: HostRuntime) -> Result<(), Fail> {
         return Ok(());
     };
     let entry = copied_entry(rt.alloc(), date)?;
-    assert!(rt; is_same(&entry.name, &Wfn::any()));
-    assert!(rt; entry.title.as_str() == "Träger 1.0");
-    assert!(rt; is_the_provenance(&entry.provenance));
-    assert!(rt; matches!(&entry.deprecation, Some(given) if is_the_deprecation(given)));
+    assert!(rt; is_the_entry(&entry));
+    drop(entry);
     Ok(())
 }
 
 #[test]
 fn a_statement_and_its_copy(rt: HostRuntime) -> Result<(), Fail> {
     let statement = copied_statement(rt.alloc())?;
-    assert!(rt; statement.id.as_str() == "adv-1" && statement.title.as_str() == "");
-    assert!(rt; statement.mode == Mode::Follow);
-    let truth = evaluate(&statement.test, &Known { check: Truth::True });
-    assert!(rt; truth == Truth::False);
-    let truth = evaluate(
-        &statement.test,
-        &Known {
-            check: Truth::Error,
-        },
-    );
-    assert!(rt; truth == Truth::Error);
+    assert!(rt; is_the_statement(&statement));
+    assert!(rt; truth_of(&statement, Truth::True) == Truth::False);
+    assert!(rt; truth_of(&statement, Truth::Error) == Truth::Error);
+    drop(statement);
     Ok(())
 }
 
