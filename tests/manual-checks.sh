@@ -159,11 +159,11 @@ installs_page() {
     what='make install puts the manual page where man finds it'
     needs "$what" make install || return
     [ -x build/cpe ] || { skip "$what" 'there is no build/cpe'; return; }
-    MAKEFLAGS='' limited make -s -o build install DESTDIR="$room/root" PREFIX=/usr > "$room/out" 2> "$room/error"
+    MAKEFLAGS='' limited make -s -o build install DESTDIR="$room/installed" PREFIX=/usr > "$room/out" 2> "$room/error"
     status=$?
     : > "$room/out"
     judge "$what" "$status" 0 /dev/null
-    cmp -s "$page" "$room/root/usr/share/man/man1/cpe.1" || fail "$what" 'it is not there'
+    cmp -s "$page" "$room/installed/usr/share/man/man1/cpe.1" || fail "$what" 'it is not there'
 }
 
 # As sessions of a text: indented, and with each escape as the byte for which it stands.
