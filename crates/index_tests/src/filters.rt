@@ -203,6 +203,18 @@ fn is_each_answered<L: Ledger>(
     true
 }
 
+fn are_answered<L: Ledger>(
+    alloc: Global,
+    shelf: &mut Shelf,
+    question: Question,
+    steps: &mut Steps<L>,
+) -> bool {
+    let Some(names) = all_names(alloc) else {
+        return false;
+    };
+    are_put(shelf, &names) && is_each_answered(alloc, shelf, &names, question, steps)
+}
+
 fn is_answered_over<L: Ledger>(alloc: Global, question: Question, blank: Blank) -> bool
     requires name { blank.name ≡ L.name }
     requires parts { blank.parts ≡ L.parts }
@@ -210,10 +222,7 @@ fn is_answered_over<L: Ledger>(alloc: Global, question: Question, blank: Blank) 
 {
     let mut steps = Steps::<L>::new(blank);
     let mut shelf = Shelf::new(alloc);
-    let Some(names) = all_names(alloc) else {
-        return false;
-    };
-    are_put(&mut shelf, &names) && is_each_answered(alloc, &shelf, &names, question, &mut steps)
+    are_answered(alloc, &mut shelf, question, &mut steps)
 }
 
 fn agrees(alloc: Global, question: Question) -> bool {
