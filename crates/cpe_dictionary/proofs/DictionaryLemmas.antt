@@ -36,6 +36,12 @@ at_error r f P e h = subst (λ x. IfErr x P) (sym e) h
 
 -- ---- chains
 
+-- what is read of a chain by its numbers is what its entries say
+pub at_chain : {A : Type 0} (f : List Entry → A) (xs es : List Entry) (ns : List Node) (ks : List ℕ) (k : ℕ) → ks ≡ chain_in ns k → ns ≡ nodes_of_entries xs → xs ≡ es → f (entries_at xs ks) ≡ f (entries_at es (chain_in (nodes_of_entries es) k))
+at_chain f xs es ns ks k read numbered view =
+    ap (λ (ms : List ℕ). f (entries_at xs ms)) (read ∙ ap (λ (n : List Node). chain_in n k) numbered)
+    ∙ ap (λ (e : List Entry). f (entries_at e (chain_in (nodes_of_entries e) k))) view
+
 module _ (es : List Entry) (n : Values) (k : ℕ) (place : position (is_named n) es ≡ Some k) (different : AreDifferent es) where
   pub links_at : ChainsOfNodes → map row_of (entries_at es (chain_in (nodes_of_entries es) k)) ≡ map row_of (chain es n)
   links_at chains =
