@@ -13,7 +13,7 @@ use Rattle.cpe_name.specs.Lower.{IsLower}
 use Rattle.cpe_name.specs.Put.{any_values}
 use Rattle.name_index.specs.declared.table.Row.{Row}
 use Rattle.name_index.specs.Table.{Kept, kept, find_kept, IsLive, released, Releases, AreNames}
-use Rattle.name_index.specs.Rows.{row, row_at, number_at, name_at, kept_of, names_of, AreRows, freed_numbers, freed_rows}
+use Rattle.name_index.specs.Rows.{row_with, row_at, number_at, name_at, kept_of, names_of, AreRows, freed_numbers, freed_rows}
 use Rattle.name_index.proofs.Names.{find_at, find_past, place_inside, KeptThere, kept_there}
 use Rattle.name_index.proofs.TableChanges.{same_or, not_less, at_least, read_same, read_other, kept_of_read, find_written, find_unwritten, one_place}
 
@@ -34,7 +34,7 @@ module _ (names : List Values) (rows : List Row) (numbers : List ℕ) (products 
   new_names = swap_remove names p w
 
   abbrev moved : Row
-  moved = row p (row_at rows m).holds (row_at rows m).product
+  moved = row_with p (row_at rows m).holds (row_at rows m).product
 
   last_known : last < length rows
   last_known = omega (arith, is_last, a.within)
@@ -49,7 +49,7 @@ module _ (names : List Values) (rows : List Row) (numbers : List ℕ) (products 
   at_p = a.back n known
 
   rows_len : length new_rows ≡ length rows
-  rows_len = length-set (set rows m moved) n (row last 0 0) ∙ length-set rows m moved
+  rows_len = length-set (set rows m moved) n (row_with last 0 0) ∙ length-set rows m moved
 
   numbers_len : length new_numbers ≡ length rows
   numbers_len = length-set (set numbers p m) last n ∙ length-set numbers p m ∙ a.paired
@@ -61,14 +61,14 @@ module _ (names : List Values) (rows : List Row) (numbers : List ℕ) (products 
 
   -- ---- reads
 
-  row_n : row_at new_rows n ≡ row last 0 0
-  row_n = read_same (set rows m moved) n (row last 0 0) (omega (arith, known, length-set rows m moved))
+  row_n : row_at new_rows n ≡ row_with last 0 0
+  row_n = read_same (set rows m moved) n (row_with last 0 0) (omega (arith, known, length-set rows m moved))
 
   row_m : m ≢ n → row_at new_rows m ≡ moved
-  row_m ne = read_other (set rows m moved) n m (row last 0 0) ne ∙ read_same rows m moved m_known
+  row_m ne = read_other (set rows m moved) n m (row_with last 0 0) ne ∙ read_same rows m moved m_known
 
   row_o : (k : ℕ) → k ≢ n → k ≢ m → row_at new_rows k ≡ row_at rows k
-  row_o k ne nm = read_other (set rows m moved) n k (row last 0 0) ne ∙ read_other rows m k moved nm
+  row_o k ne nm = read_other (set rows m moved) n k (row_with last 0 0) ne ∙ read_other rows m k moved nm
 
   number_last : number_at new_numbers last ≡ n
   number_last = get_or-set_same (set numbers p m) last n 0 (omega (arith, last_known, a.paired, length-set numbers p m))
@@ -237,10 +237,10 @@ module _ (names : List Values) (rows : List Row) (numbers : List ℕ) (products 
 -- ---- one hold less, of several
 
 pub lowered : (names : List Values) (rows : List Row) (n : ℕ) → n < length rows → 1 < (row_at rows n).holds
-    → Releases (names_of names rows) (names_of names (set rows n (row (row_at rows n).place ((row_at rows n).holds - 1) (row_at rows n).product))) n
+    → Releases (names_of names rows) (names_of names (set rows n (row_with (row_at rows n).place ((row_at rows n).holds - 1) (row_at rows n).product))) n
 lowered names rows n known many =
     let r = row_at rows n in
-    let s = row r.place (r.holds - 1) r.product in
+    let s = row_with r.place (r.holds - 1) r.product in
     let old : find_kept (names_of names rows) n ≡ Some (kept (name_at names r.place) r.holds r.product) = find_at names rows n known ∙ kept_of_read names r (lt-ltb 0 r.holds (omega (arith, many))) in
     let new : find_kept (names_of names (set rows n s)) n ≡ Some (kept (name_at names r.place) (r.holds - 1) r.product) = find_written names rows n s known ∙ kept_of_read names s (lt-ltb 0 (r.holds - 1) (omega (arith, many))) in
     record {

@@ -11,13 +11,13 @@ use Rattle.cpe_name.specs.Equal.{same_name, same_name-Decides}
 use Rattle.cpe_name.specs.Put.{any_values}
 use Rattle.name_index.specs.declared.table.Row.{Row}
 use Rattle.name_index.specs.Table.{Kept, kept, find_kept, HasName}
-use Rattle.name_index.specs.Rows.{row, row_at, number_at, name_at, kept_of, names_of, AreRows}
+use Rattle.name_index.specs.Rows.{row_with, row_at, number_at, name_at, kept_of, names_of, AreRows}
 
 -- ---- what is kept of a number
 
 module _ (names : List Values) (rows : List Row) where
   pub find_at : (n : ℕ) → n < length rows → find_kept (names_of names rows) n ≡ kept_of names (row_at rows n)
-  find_at n lt = get_or-map (kept_of names) rows n (row 0 0 0) None lt
+  find_at n lt = get_or-map (kept_of names) rows n (row_with 0 0 0) None lt
 
   pub find_past : (n : ℕ) → length rows ≤ n → find_kept (names_of names rows) n ≡ None
   find_past n le = get_or_past (names_of names rows) n None (omega (arith, le, length-map rows (kept_of names)))

@@ -11,7 +11,7 @@ use Rattle.cpe_name.specs.Lower.{IsLower}
 use Rattle.cpe_name.specs.Put.{any_values}
 use Rattle.name_index.specs.declared.table.Row.{Row}
 use Rattle.name_index.specs.Table.{Kept, kept, kept_or, kept_at, Names, find_kept, HasName, Holding, Holds}
-use Rattle.name_index.specs.Rows.{row, row_at, number_at, name_at, kept_of, names_of, AreRows, Grows}
+use Rattle.name_index.specs.Rows.{row_with, row_at, number_at, name_at, kept_of, names_of, AreRows, Grows}
 use Rattle.name_index.proofs.Names.{find_at, find_past, kept_there, FoundAt, place_inside}
 
 pub same_or : (a b : ℕ) → (a ≡ b) ⊎ (a ≢ b)
@@ -40,10 +40,10 @@ one_place (w ∷ names) (suc p) zero d l k e = absurd (apart names w p d.0 (omeg
 one_place (w ∷ names) (suc p) (suc q) d l k e = ap suc (one_place names p q d.1 (omega (arith, l)) (omega (arith, k)) e)
 
 pub read_same : (rows : List Row) (n : ℕ) (r : Row) → n < length rows → row_at (set rows n r) n ≡ r
-read_same rows n r lt = get_or-set_same rows n r (row 0 0 0) lt
+read_same rows n r lt = get_or-set_same rows n r (row_with 0 0 0) lt
 
 pub read_other : (rows : List Row) (n m : ℕ) (r : Row) → m ≢ n → row_at (set rows n r) m ≡ row_at rows m
-read_other rows n m r ne = get_or-set_other rows n m r (row 0 0 0) ne
+read_other rows n m r ne = get_or-set_other rows n m r (row_with 0 0 0) ne
 
 -- what a field is after a write of the same
 field_kept : {X : Type 0} (f : Row → X) (rows : List Row) (n : ℕ) (r : Row) → n < length rows → f r ≡ f (row_at rows n) → (m : ℕ) → f (row_at (set rows n r) m) ≡ f (row_at rows m)
@@ -55,9 +55,9 @@ field_kept f rows n r lt e m = elim (same_or m n) [
 -- ---- other holds
 
 pub with_holds : (names : List Values) (rows : List Row) (numbers : List ℕ) (products : List Value) (n h : ℕ) → AreRows names rows numbers products → n < length rows → ltb 0 h ≡ ltb 0 (row_at rows n).holds → h < 4294967296
-    → AreRows names (set rows n (row (row_at rows n).place h (row_at rows n).product)) numbers products
+    → AreRows names (set rows n (row_with (row_at rows n).place h (row_at rows n).product)) numbers products
 with_holds names rows numbers products n h a lt sign small =
-    let r = row (row_at rows n).place h (row_at rows n).product in
+    let r = row_with (row_at rows n).place h (row_at rows n).product in
     let len : length (set rows n r) ≡ length rows = length-set rows n r in
     let place = field_kept (λ (x : Row). x.place) rows n r lt refl in
     let product = field_kept (λ (x : Row). x.product) rows n r lt refl in
@@ -101,10 +101,10 @@ module _ (names : List Values) (rows : List Row) (n : ℕ) (r : Row) (lt : n < l
 
 pub raised : (names : List Values) (rows : List Row) (numbers : List ℕ) (products : List Value) (name : Values) (n : ℕ) → AreRows names rows numbers products → n < length rows → ltb 0 (row_at rows n).holds ≡ true → name_at names (row_at rows n).place ≡ name
     → ((other : ℕ) → HasName (names_of names rows) other name → other ≡ n)
-    → Holds (names_of names rows) (names_of names (set rows n (row (row_at rows n).place ((row_at rows n).holds + 1) (row_at rows n).product))) n name
+    → Holds (names_of names rows) (names_of names (set rows n (row_with (row_at rows n).place ((row_at rows n).holds + 1) (row_at rows n).product))) n name
 raised names rows numbers products name n a lt held is only =
     let r = row_at rows n in
-    let s = row r.place (r.holds + 1) r.product in
+    let s = row_with r.place (r.holds + 1) r.product in
     let before : find_kept (names_of names rows) n ≡ Some (kept (name_at names r.place) r.holds r.product) = find_at names rows n lt ∙ kept_of_read names r held in
     let after : find_kept (names_of names (set rows n s)) n ≡ Some (kept (name_at names r.place) (r.holds + 1) r.product) = find_written names rows n s lt ∙ kept_of_read names s (lt-ltb 0 (r.holds + 1) (omega arith)) in
     record {
@@ -116,10 +116,10 @@ raised names rows numbers products name n a lt held is only =
 -- ---- a new place
 
 pub grown : (names : List Values) (rows : List Row) (numbers : List ℕ) (products : List Value) → AreRows names rows numbers products → length names ≡ length rows → length rows < 4294967295
-    → AreRows names (rows ++ row (length rows) 0 0 ∷ []) (numbers ++ length rows ∷ []) products
+    → AreRows names (rows ++ row_with (length rows) 0 0 ∷ []) (numbers ++ length rows ∷ []) products
 grown names rows numbers products a full few =
     let n = length rows in
-    let r = row n 0 0 in
+    let r = row_with n 0 0 in
     let len : length (rows ++ r ∷ []) ≡ n + 1 = length_push rows r in
     record {
       paired = length_push numbers n ∙ ap (λ (k : ℕ). k + 1) a.paired ∙ sym len;
@@ -149,7 +149,7 @@ grown names rows numbers products a full few =
         | inl l ↦ subst (λ (x : Row). x.holds < 4294967296) (sym (row_old m (ltb-true m n l))) (a.small m)
         | inr l ↦ elim (same_or m n) [
           | inl is ↦ subst (λ (x : Row). x.holds < 4294967296) (sym (row_new m is)) (omega arith)
-          | inr ne ↦ subst (λ (x : Row). x.holds < 4294967296) (sym (get_or_past (rows ++ r ∷ []) m (row 0 0 0) (past m ne l))) (omega arith)
+          | inr ne ↦ subst (λ (x : Row). x.holds < 4294967296) (sym (get_or_past (rows ++ r ∷ []) m (row_with 0 0 0) (past m ne l))) (omega arith)
         ]
       ];
       different = a.different;
@@ -165,14 +165,14 @@ grown names rows numbers products a full few =
     split : (k : ℕ) → k < length rows + 1 → (k < length rows) ⊎ (k ≡ length rows)
     split k l = elim (cases_Bool (ltb k (length rows))) [ inl t ↦ inl (ltb-true k (length rows) t) | inr t ↦ elim (same_or k (length rows)) [ inl is ↦ inr is | inr ne ↦ inl (omega (arith, l, ne)) ] ]
 
-    past : (m : ℕ) → m ≢ length rows → ltb m (length rows) ≡ false → length (rows ++ row (length rows) 0 0 ∷ []) ≤ m
-    past m ne l = omega (arith, at_least m (length rows) l, ne, length_push rows (row (length rows) 0 0))
+    past : (m : ℕ) → m ≢ length rows → ltb m (length rows) ≡ false → length (rows ++ row_with (length rows) 0 0 ∷ []) ≤ m
+    past m ne l = omega (arith, at_least m (length rows) l, ne, length_push rows (row_with (length rows) 0 0))
 
-    row_old : (m : ℕ) → m < length rows → row_at (rows ++ row (length rows) 0 0 ∷ []) m ≡ row_at rows m
-    row_old m old = get_or_append_left rows (row (length rows) 0 0 ∷ []) (row 0 0 0) m old
+    row_old : (m : ℕ) → m < length rows → row_at (rows ++ row_with (length rows) 0 0 ∷ []) m ≡ row_at rows m
+    row_old m old = get_or_append_left rows (row_with (length rows) 0 0 ∷ []) (row_with 0 0 0) m old
 
-    row_new : (m : ℕ) → m ≡ length rows → row_at (rows ++ row (length rows) 0 0 ∷ []) m ≡ row (length rows) 0 0
-    row_new m is = get_or_push rows (row (length rows) 0 0) (row 0 0 0) m (sym is)
+    row_new : (m : ℕ) → m ≡ length rows → row_at (rows ++ row_with (length rows) 0 0 ∷ []) m ≡ row_with (length rows) 0 0
+    row_new m is = get_or_push rows (row_with (length rows) 0 0) (row_with 0 0 0) m (sym is)
 
     number_old : (p : ℕ) → p < length rows → number_at (numbers ++ length rows ∷ []) p ≡ number_at numbers p
     number_old p old = get_or_append_left numbers (length rows ∷ []) 0 p (omega (arith, old, a.paired))
@@ -181,22 +181,22 @@ grown names rows numbers products a full few =
     number_new p is = get_or_push numbers (length rows) 0 p (omega (arith, is, a.paired))
 
 -- the new number has nothing kept, as all numbers behind the last
-pub find_grown : (names : List Values) (rows : List Row) (m : ℕ) → find_kept (names_of names (rows ++ row (length rows) 0 0 ∷ [])) m ≡ find_kept (names_of names rows) m
+pub find_grown : (names : List Values) (rows : List Row) (m : ℕ) → find_kept (names_of names (rows ++ row_with (length rows) 0 0 ∷ [])) m ≡ find_kept (names_of names rows) m
 find_grown names rows m = elim (cases_Bool (ltb m (length rows))) [
   | inl l ↦
       let old = ltb-true m (length rows) l in
-      find_at names more m (omega (arith, old, len)) ∙ ap (kept_of names) (get_or_append_left rows (row (length rows) 0 0 ∷ []) (row 0 0 0) m old) ∙ sym (find_at names rows m old)
+      find_at names more m (omega (arith, old, len)) ∙ ap (kept_of names) (get_or_append_left rows (row_with (length rows) 0 0 ∷ []) (row_with 0 0 0) m old) ∙ sym (find_at names rows m old)
   | inr l ↦ elim (same_or m (length rows)) [
-    | inl is ↦ find_at names more m (omega (arith, is, len)) ∙ ap (kept_of names) (get_or_push rows (row (length rows) 0 0) (row 0 0 0) m (sym is)) ∙ sym (find_past names rows m (omega (arith, is)))
+    | inl is ↦ find_at names more m (omega (arith, is, len)) ∙ ap (kept_of names) (get_or_push rows (row_with (length rows) 0 0) (row_with 0 0 0) m (sym is)) ∙ sym (find_past names rows m (omega (arith, is)))
     | inr ne ↦ find_past names more m (omega (arith, past ne l, len)) ∙ sym (find_past names rows m (omega (arith, past ne l)))
   ]
 ]
   where
     more : List Row
-    more = rows ++ row (length rows) 0 0 ∷ []
+    more = rows ++ row_with (length rows) 0 0 ∷ []
 
-    len : length (rows ++ row (length rows) 0 0 ∷ []) ≡ length rows + 1
-    len = length_push rows (row (length rows) 0 0)
+    len : length (rows ++ row_with (length rows) 0 0 ∷ []) ≡ length rows + 1
+    len = length_push rows (row_with (length rows) 0 0)
 
     past : m ≢ length rows → ltb m (length rows) ≡ false → length rows < m
     past ne l = omega (arith, at_least m (length rows) l, ne)
@@ -212,7 +212,7 @@ module _ (names : List Values) (rows : List Row) (numbers : List ℕ) (products 
   n = number_at numbers p
 
   abbrev new_row : Row
-  new_row = row p 1 product
+  new_row = row_with p 1 product
 
   abbrev new_rows : List Row
   new_rows = set rows n new_row
@@ -366,10 +366,10 @@ module _ (names : List Values) (rows : List Row) (numbers : List ℕ) (products 
   pub few_holds : (m : ℕ) → ((id : ℕ) → HasName (names_of names rows) id name → (kept_at (names_of names rows) id).holds < m) → (row_at rows n).holds < m
   few_holds m few = subst (λ (o : Option Kept). (kept_or o).holds < m) its_kept (few n (kept (name_at names (row_at rows n).place) (row_at rows n).holds (row_at rows n).product, its_kept, its_name))
 
-  pub raised_rows : (row_at rows n).holds < 4294967295 → AreRows names (set rows n (row (row_at rows n).place ((row_at rows n).holds + 1) (row_at rows n).product)) numbers products
+  pub raised_rows : (row_at rows n).holds < 4294967295 → AreRows names (set rows n (row_with (row_at rows n).place ((row_at rows n).holds + 1) (row_at rows n).product)) numbers products
   raised_rows few = with_holds names rows numbers products n ((row_at rows n).holds + 1) a n_known (lt-ltb 0 ((row_at rows n).holds + 1) (omega arith) ∙ sym is_held) (omega (arith, few))
 
-  pub raised_holds : Holds (names_of names rows) (names_of names (set rows n (row (row_at rows n).place ((row_at rows n).holds + 1) (row_at rows n).product))) n name
+  pub raised_holds : Holds (names_of names rows) (names_of names (set rows n (row_with (row_at rows n).place ((row_at rows n).holds + 1) (row_at rows n).product))) n name
   raised_holds = raised names rows numbers products name n a n_known is_held its_name (λ other h. only other h)
     where
       only : (other : ℕ) → HasName (names_of names rows) other name → other ≡ n
@@ -391,23 +391,23 @@ prepared names rows new_rows numbers new_numbers products place at a (Grows.kept
     subst (λ (rs : List Row). Prepared names rs new_numbers products rows) (sym e) (subst (λ (ns : List ℕ). Prepared names rows ns products rows) (sym f) (record { rows_are = a; free = omega (arith, lt, at); finds = λ m. refl }))
 prepared names rows new_rows numbers new_numbers products place at a (Grows.one_more is few e f) =
     let full : length names ≡ length rows = omega (arith, at, is) in
-    let here = λ (k : ℕ). row k 0 0 in
-    subst (λ (rs : List Row). Prepared names rs new_numbers products rows) (sym (e ∙ ap (λ (k : ℕ). rows ++ row k 0 0 ∷ []) is))
-    (subst (λ (ns : List ℕ). Prepared names (rows ++ row (length rows) 0 0 ∷ []) ns products rows) (sym (f ∙ ap (λ (k : ℕ). numbers ++ k ∷ []) is)) (record {
+    let here = λ (k : ℕ). row_with k 0 0 in
+    subst (λ (rs : List Row). Prepared names rs new_numbers products rows) (sym (e ∙ ap (λ (k : ℕ). rows ++ row_with k 0 0 ∷ []) is))
+    (subst (λ (ns : List ℕ). Prepared names (rows ++ row_with (length rows) 0 0 ∷ []) ns products rows) (sym (f ∙ ap (λ (k : ℕ). numbers ++ k ∷ []) is)) (record {
       rows_are = grown names rows numbers products a full (omega (arith, few, is));
-      free = omega (arith, full, length_push rows (row (length rows) 0 0));
+      free = omega (arith, full, length_push rows (row_with (length rows) 0 0));
       finds = find_grown names rows;
     }))
 
 -- everything that `hold` does for a name that is new
 module _ (names : List Values) (rows grown_rows : List Row) (numbers grown_numbers : List ℕ) (products : List Value) (name : Values) (place n product : ℕ) (low : IsLower name)
     (at : place ≡ length names) (a : AreRows names rows numbers products) (grows : Grows rows numbers place grown_rows grown_numbers) (e : n ≡ number_at grown_numbers place)
-    (is_product : slice_get products product ≡ Some name.product) (new_names : List Values) (put : new_names ≡ names ++ name ∷ []) (new_rows : List Row) (written : new_rows ≡ set grown_rows n (row place 1 product)) where
+    (is_product : slice_get products product ≡ Some name.product) (new_names : List Values) (put : new_names ≡ names ++ name ∷ []) (new_rows : List Row) (written : new_rows ≡ set grown_rows n (row_with place 1 product)) where
   ready : Prepared names grown_rows grown_numbers products rows
   ready = prepared names rows grown_rows numbers grown_numbers products place at a grows
 
-  rows_eq : new_rows ≡ set grown_rows (number_at grown_numbers (length names)) (row (length names) 1 product)
-  rows_eq = written ∙ ap (λ (k : ℕ). set grown_rows k (row place 1 product)) (e ∙ ap (number_at grown_numbers) at) ∙ ap (λ (k : ℕ). set grown_rows (number_at grown_numbers (length names)) (row k 1 product)) at
+  rows_eq : new_rows ≡ set grown_rows (number_at grown_numbers (length names)) (row_with (length names) 1 product)
+  rows_eq = written ∙ ap (λ (k : ℕ). set grown_rows k (row_with place 1 product)) (e ∙ ap (number_at grown_numbers) at) ∙ ap (λ (k : ℕ). set grown_rows (number_at grown_numbers (length names)) (row_with k 1 product)) at
 
   pub held_rows : IsDistinct same_name new_names → AreRows new_names new_rows grown_numbers products
   held_rows different =
@@ -422,7 +422,7 @@ module _ (names : List Values) (rows grown_rows : List Row) (numbers grown_numbe
       subst (λ (k : ℕ). Holds (names_of names rows) (names_of new_names new_rows) k name) (sym number)
       (subst (λ (ws : List Values). Holds (names_of names rows) (names_of ws new_rows) (number_at grown_numbers (length names)) name) (sym put)
       (subst (λ (rs : List Row). Holds (names_of names rows) (names_of (names ++ name ∷ []) rs) (number_at grown_numbers (length names)) name) (sym rows_eq) (record {
-        held = subst (λ (o : Option Kept). Holding o name (find_kept (names_of (names ++ name ∷ []) (set grown_rows (number_at grown_numbers (length names)) (row (length names) 1 product))) (number_at grown_numbers (length names)))) (ready.finds (number_at grown_numbers (length names))) h.held;
+        held = subst (λ (o : Option Kept). Holding o name (find_kept (names_of (names ++ name ∷ []) (set grown_rows (number_at grown_numbers (length names)) (row_with (length names) 1 product))) (number_at grown_numbers (length names)))) (ready.finds (number_at grown_numbers (length names))) h.held;
         others = λ other ne. h.others other ne ∙ ready.finds other;
         same = λ other w. absurd (new other w);
       })))

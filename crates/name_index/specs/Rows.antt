@@ -9,11 +9,11 @@ use Rattle.cpe_name.specs.Put.{any_values}
 use Rattle.name_index.specs.declared.table.Row.{Row}
 use Rattle.name_index.specs.Table.{Kept, kept, Names}
 
-abbrev pub row : ℕ → ℕ → ℕ → Row
-row place holds product = record { place = place; holds = holds; product = product }
+abbrev pub row_with : ℕ → ℕ → ℕ → Row
+row_with place holds product = record { place = place; holds = holds; product = product }
 
 abbrev pub row_at : List Row → ℕ → Row
-row_at rows n = get_or rows n (row 0 0 0)
+row_at rows n = get_or rows n (row_with 0 0 0)
 
 abbrev pub number_at : List ℕ → ℕ → ℕ
 number_at numbers place = get_or numbers place 0
@@ -45,7 +45,7 @@ pub record AreRows (names : List Values) (rows : List Row) (numbers : List ℕ) 
 -- a number is free at this place: one that was, or a new one
 pub data Grows (rows : List Row) (numbers : List ℕ) (place : ℕ) (new_rows : List Row) (new_numbers : List ℕ) : Type 0 where
   kept_room : place < length rows → new_rows ≡ rows → new_numbers ≡ numbers → Grows rows numbers place new_rows new_numbers
-  one_more : place ≡ length rows → place < 4294967295 → new_rows ≡ rows ++ row place 0 0 ∷ [] → new_numbers ≡ numbers ++ place ∷ [] → Grows rows numbers place new_rows new_numbers
+  one_more : place ≡ length rows → place < 4294967295 → new_rows ≡ rows ++ row_with place 0 0 ∷ [] → new_numbers ≡ numbers ++ place ∷ [] → Grows rows numbers place new_rows new_numbers
 
 -- the number of the last place takes the place of a number that is freed
 abbrev pub freed_numbers : List Row → List ℕ → ℕ → ℕ → List ℕ
@@ -53,4 +53,4 @@ freed_numbers rows numbers n last = set (set numbers (row_at rows n).place (numb
 
 abbrev pub freed_rows : List Row → List ℕ → ℕ → ℕ → List Row
 freed_rows rows numbers n last =
-    set (set rows (number_at numbers last) (row (row_at rows n).place (row_at rows (number_at numbers last)).holds (row_at rows (number_at numbers last)).product)) n (row last 0 0)
+    set (set rows (number_at numbers last) (row_with (row_at rows n).place (row_at rows (number_at numbers last)).holds (row_at rows (number_at numbers last)).product)) n (row_with last 0 0)

@@ -9,7 +9,7 @@ ghost use Rattle.cpe_values.specs.Lower.{lower_value};
 ghost use Rattle.cpe_name.specs.Lower.{IsLower};
 ghost use Rattle.name_index.specs.Table.{Kept, find_kept, IsLive, kept_at, HasName, Holds, Releases, AreNames};
 ghost use Rattle.name_index.specs.Index.{WalksNear};
-ghost use Rattle.name_index.specs.Rows.{row, row_at, number_at, name_at, Grows, freed_rows, freed_numbers};
+ghost use Rattle.name_index.specs.Rows.{row_with, row_at, number_at, name_at, Grows, freed_rows, freed_numbers};
 
 use cpe_name::{Attribute, Wfn};
 use cpe_steps::Steps;
@@ -162,7 +162,7 @@ fn free_number(numbers: &mut Vec<u32>, rows: &mut Vec<Row>, place: usize) -> u32
 fn raise(rows: &mut Vec<Row>, number: u32)
     requires known { number < length rows.old.items }
     requires few { (row_at rows.old.items number).holds < 4294967295 }
-    ensures { rows.new.items ≡ set rows.old.items number (row (row_at rows.old.items number).place ((row_at rows.old.items number).holds + 1) (row_at rows.old.items number).product) }
+    ensures { rows.new.items ≡ set rows.old.items number (row_with (row_at rows.old.items number).place ((row_at rows.old.items number).holds + 1) (row_at rows.old.items number).product) }
 {
     let row = row_of(rows, number);
     rows[number as usize] = Row {

@@ -4,20 +4,20 @@ use Rattle.std.proofs.lemmas.Bool.{lt-ltb}
 use Rattle.cpe_name.specs.declared.name.Values.{Values}
 use Rattle.name_index.specs.declared.table.Row.{Row}
 use Rattle.name_index.specs.Table.{Names, IsLive, Releases}
-use Rattle.name_index.specs.Rows.{row, row_at, name_at, names_of, AreRows}
+use Rattle.name_index.specs.Rows.{row_with, row_at, name_at, names_of, AreRows}
 use Rattle.name_index.proofs.TableChanges.{with_holds}
 use Rattle.name_index.proofs.Freed.{live_there, lowered, lived, gone}
 use Rattle.name_index.proofs.table.NameTable.release.Goals as goal
 
-left : (names new_names : List Values) (row other : Row) → row ≡ other → new_names ≡ swap_remove names row.place (name_at names row.place) → new_names ≡ swap_remove names other.place (name_at names other.place)
-left names new_names row other is h = h ∙ ap (λ (r : Row). swap_remove names r.place (name_at names r.place)) is
+left : (names new_names : List Values) (one other : Row) → one ≡ other → new_names ≡ swap_remove names one.place (name_at names one.place) → new_names ≡ swap_remove names other.place (name_at names other.place)
+left names new_names one other is h = h ∙ ap (λ (r : Row). swap_remove names r.place (name_at names r.place)) is
 
 pub invariant_of-self : goal.invariant_of-self
 invariant_of-self c =
     let i = c.self.inside in
     let id = c.args.id.0 in
     let l = live_there i.names.keys i.rows.items c.args.id.0 (subst (λ (names : Names). IsLive names c.args.id.0) (sym c.self.view_is) c.requires) in
-    let written = c.set_row.ensures ∙ ap (λ (r : Row). set i.rows.items id (row r.place (r.holds - 1) r.product)) c.row_of-row.ensures in
+    let written = c.set_row.ensures ∙ ap (λ (r : Row). set i.rows.items id (row_with r.place (r.holds - 1) r.product)) c.row_of-row.ensures in
     let many = subst (λ (r : Row). 1 < r.holds) c.row_of-row.ensures c.if-row-gt1.true in
     let h = (row_at i.rows.items id).holds in
     subst (λ (rows : List Row). AreRows i.names.keys rows i.numbers.items i.products) (sym written)
@@ -28,7 +28,7 @@ returns-then-row-gt1 c =
     let i = c.self.inside in
     let id = c.args.id.0 in
     let l = live_there i.names.keys i.rows.items c.args.id.0 (subst (λ (names : Names). IsLive names c.args.id.0) (sym c.self.view_is) c.requires) in
-    let written = c.set_row.ensures ∙ ap (λ (r : Row). set i.rows.items id (row r.place (r.holds - 1) r.product)) c.row_of-row.ensures in
+    let written = c.set_row.ensures ∙ ap (λ (r : Row). set i.rows.items id (row_with r.place (r.holds - 1) r.product)) c.row_of-row.ensures in
     let many = subst (λ (r : Row). 1 < r.holds) c.row_of-row.ensures c.if-row-gt1.true in
     subst (λ (old : Names). Releases old (names_of i.names.keys c.set_row.new.rows.items) id) c.self.view_is
     (subst (λ (rows : List Row). Releases (names_of i.names.keys i.rows.items) (names_of i.names.keys rows) id) (sym written) (lowered i.names.keys i.rows.items id l.known many))
