@@ -978,6 +978,17 @@ drills_as_evaluated() {
     judge "$what" 0 0 "$room/wanted"
 }
 
+# makes_what_is_accepted: up to 800,000 lines each record is accepted; then the statements are there that may be kept.
+makes_what_is_accepted() {
+    what='generated records are accepted up to 800,000: make'
+    needs "$what" awk || return
+    limited "$program" make 800020 | awk '!/"do":"(search|verdict)"/ { print; lines[++n] = NR } END { for (k in lines) print k, lines[k] > "'"$room/places"'" }' |
+        limited "$program" resolve > "$room/answers" 2> "$room/error"
+    awk 'NR == FNR { place[$1] = $2; next } { print place[$2], $3, $4 }' "$room/places" "$room/answers" > "$room/out"
+    printf '800004 full statements\n800012 full statements\n800020 full statements\n' > "$room/wanted"
+    judge "$what" 0 0 "$room/wanted"
+}
+
 # refuses_counts WORD: words that are no number, or none that is counted to.
 refuses_counts() {
     for count in '' 0 00 007 -1 +1 ' 1' '1 ' 1.0 1e3 0x10 x '½' 9223372036854775808 18446744073709551616 \
@@ -992,7 +1003,7 @@ refuses_counts() {
 makes_without_end() {
     what='a reader that goes away ends the program with status 4: make'
     {
-        "$program" make 9223372036854775807 2> "$room/error"
+        limited "$program" make 9223372036854775807 2> "$room/error"
         echo $? > "$room/status"
     } | head -n 8 > "$room/out"
     judge "$what" "$(cat "$room/status")" 4 tests/vectors/make/8.out
@@ -1014,6 +1025,7 @@ checks_of_generated() {
         answers "what generated lines come to: drill $count" . "tests/vectors/drill/$count.out" 0 drill "$count"
     done
     makes_at_volume
+    makes_what_is_accepted
     drills_as_evaluated 1000
     drills_as_evaluated 5003
     refuses_counts make

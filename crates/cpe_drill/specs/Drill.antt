@@ -1,5 +1,5 @@
 -- The session over the generated records: a line writes nothing, and what it comes to is kept.
-use Rattle.std.specs.Prelude.{ℕ, ◌≡◌, ◌+◌, [], true, Result, Ok}
+use Rattle.std.specs.Prelude.{ℕ, ◌≡◌, ◌+◌, [], false, Result, Ok}
 use Rattle.cpe_session.specs.Session.{Session}
 use Rattle.cpe_session.specs.declared.status.Status.{Status}
 use Rattle.cpe_session.specs.declared.status.Status.TheVariants.{Done}
@@ -28,7 +28,7 @@ drilled before read = record {
 abbrev pub drill_session : ℕ → Session Drilled
 drill_session count = record {
   says = λ before number text. Ok ([], drilled before (record_of text));
-  quiet = true;
+  quiet = false;
   ends = λ behind. summary count behind.refused behind.found behind.engine;
   cost = λ before number text. 0;
   end_cost = λ behind. 0;

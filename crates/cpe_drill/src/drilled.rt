@@ -17,12 +17,26 @@ use std::sync::ledger::Ledger;
 /// What records came to: the rows that they left, how many were refused, and how many entries searches found.
 #[derive(Drop)]
 pub struct Drilled {
+    /// Keeps the rows.
     pub engine: Engine,
+    /// How many records were refused, or could not be read.
     pub refused: u64,
+    /// How many entries all searches found.
     pub found: u64,
 }
 
 impl Drilled {
+    /// Nothing was read yet, and the engine keeps its rows.
+    pub fn new(engine: Engine) -> Drilled
+        ensures { result ≡ record { engine = engine; refused = 0; found = 0 } }
+    {
+        Drilled {
+            engine,
+            refused: 0,
+            found: 0,
+        }
+    }
+
     /// The engine that keeps the rows.
     pub fn into_engine(self) -> Engine
         ensures { result ≡ self.engine }
@@ -34,7 +48,7 @@ impl Drilled {
     /// Reads a text as a record, and makes its edit or answers its question.
     ///
     /// # Errors
-    /// Want of memory, or of numbers of 64 bits.
+    /// Want of memory, or of numbers of 64 bits. Nothing is said then of what was counted.
     pub fn read<L: Ledger>(
         &mut self,
         alloc: Global,

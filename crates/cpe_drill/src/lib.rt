@@ -9,6 +9,7 @@ mod run;
 mod summary;
 mod tables;
 
+pub use drilled::Drilled;
 pub use line::generated;
 pub use run::drill;
 pub use tables::GeneratedLines;

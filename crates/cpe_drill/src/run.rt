@@ -32,7 +32,7 @@ impl Speaker for Drilling {
     ghost session = { λ drill. drill_session drill.count };
 
     fn is_quiet(&self) -> bool {
-        true
+        false
     }
 
     fn say<L: Ledger>(
@@ -84,11 +84,7 @@ pub fn drill<K: Sink, L: Ledger>(
     ensures read { ¬ (result ≡ Status.ReadFault) }
     ensures complete { ¬ Rose (K.faults sink.old) (K.faults sink.new) → (result ≡ Status.Done) ⊎ (result ≡ Status.Memory) }
 {
-    let mut drilled = Drilled {
-        engine: replace(engine, Engine::new(alloc)),
-        refused: 0,
-        found: 0,
-    };
+    let mut drilled = Drilled::new(replace(engine, Engine::new(alloc)));
     let status = drill_records(alloc, count, &mut drilled, sink, steps);
     put_back(engine, drilled.into_engine());
     status

@@ -13,10 +13,7 @@ use std::alloc::{AllocError, Global};
 
 // A word, and its number.
 #[derive(Clone, Copy)]
-struct Line {
-    word: &'static [u8],
-    number: u64,
-}
+struct Line(&'static [u8], u64);
 
 /// Puts the numbers of all that came of so many records behind what is gathered.
 ///
@@ -56,63 +53,27 @@ fn push_numbers(
     push_lines(
         page,
         &[
-            Line {
-                word: b"drill",
-                number: count,
-            },
-            Line {
-                word: b"refused",
-                number: refused,
-            },
-            Line {
-                word: b"entries",
-                number: counts.entries,
-            },
-            Line {
-                word: b"deprecated",
-                number: counts.deprecated,
-            },
-            Line {
-                word: b"items",
-                number: counts.items,
-            },
-            Line {
-                word: b"statements",
-                number: counts.statements,
-            },
-            Line {
-                word: b"checks",
-                number: counts.checks,
-            },
-            Line {
-                word: b"found",
-                number: found,
-            },
-            Line {
-                word: b"TRUE",
-                number: times(Truth::True, truths),
-            },
-            Line {
-                word: b"FALSE",
-                number: times(Truth::False, truths),
-            },
-            Line {
-                word: b"ERROR",
-                number: times(Truth::Error, truths),
-            },
-            Line {
-                word: b"UNKNOWN",
-                number: times(Truth::Unknown, truths),
-            },
+            Line(b"drill", count),
+            Line(b"refused", refused),
+            Line(b"entries", counts.entries),
+            Line(b"deprecated", counts.deprecated),
+            Line(b"items", counts.items),
+            Line(b"statements", counts.statements),
+            Line(b"checks", counts.checks),
+            Line(b"found", found),
+            Line(b"TRUE", times(Truth::True, truths)),
+            Line(b"FALSE", times(Truth::False, truths)),
+            Line(b"ERROR", times(Truth::Error, truths)),
+            Line(b"UNKNOWN", times(Truth::Unknown, truths)),
         ],
     )
 }
 
 fn push_lines(page: &mut Page, lines: &[Line]) -> Result<(), AllocError>
-    ensures { OnOk result (page.new ≡ page.old ++ flat_map (λ line. number_line line.word.now line.number) lines.now) }
+    ensures { OnOk result (page.new ≡ page.old ++ flat_map (λ line. number_line line.0.now line.1) lines.now) }
 {
     for line in lines {
-        push_line(page, line.word, line.number)?;
+        push_line(page, line.0, line.1)?;
     }
     Ok(())
 }

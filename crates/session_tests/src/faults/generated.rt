@@ -6,7 +6,7 @@ use std::alloc::Global;
 use std::test::Fail;
 
 // Whether a run ends and writes so, where the first read would fail, and so many bytes go at a time.
-fn goes(
+fn goes_unread(
     alloc: Global,
     words: &[String],
     most: usize,
@@ -31,7 +31,7 @@ fn stops_at_write(
     write: usize,
 ) -> Result<bool, Fail> {
     let left = front(output, write);
-    goes(alloc, words, 1, &[write as u64], Status::WriteFault, left)
+    goes_unread(alloc, words, 1, &[write as u64], Status::WriteFault, left)
 }
 
 fn stops_at_each_write(alloc: Global, words: &[String], output: &[u8]) -> Result<bool, Fail> {
@@ -47,8 +47,8 @@ fn stops_at_each_write(alloc: Global, words: &[String], output: &[u8]) -> Result
 fn stands(alloc: Global, words: &[&str], output: &[u8]) -> Result<bool, Fail> {
     let words = words_of(alloc, words)?;
     Ok(
-        goes(alloc, &words, ALL, &[], Status::Done, output)?
-            && goes(alloc, &words, 1, &[], Status::Done, output)?
+        goes_unread(alloc, &words, ALL, &[], Status::Done, output)?
+            && goes_unread(alloc, &words, 1, &[], Status::Done, output)?
             && stops_at_each_write(alloc, &words, output)?,
     )
 }
