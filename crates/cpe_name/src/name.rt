@@ -36,7 +36,7 @@ pub struct Wfn {
 }
 
 // Names are kept by the million.
-const _: () = prove!(size_of::<Wfn>() == 440);
+const _: () = prove!(size_of::<Wfn>() == 264);
 
 impl Model for Wfn {
     ghost use Rattle.cpe_name.specs.declared.name.Values.{Values};

@@ -18,8 +18,8 @@ fn make_lower_form(form: &mut Form)
     ensures { form_parts form.new ≡ lower_parts (form_parts form.old) }
 {
     match form {
-        Form::Plain(body) => make_lower_body(body),
-        Form::Special(text) => make_lower_body(&mut text.body),
+        Form::Short(body) => body.make_lower(),
+        Form::Long(text) => make_lower_body(&mut text.body),
     }
 }
 

@@ -10,6 +10,7 @@ mod borrowed;
 mod case;
 mod equal;
 mod memory;
+mod short;
 mod spelling;
 mod unspell;
 mod value;

@@ -7,7 +7,7 @@ ghost use Rattle.cpe_values.specs.Spelled.{IsSpelling};
 ghost use Rattle.cpe_values.specs.Borrowed.{text_lent};
 ghost use Rattle.cpe_values.specs.Unspelling.{marks_count, edge_at, behind_edge, body_at, behind_body, ends_body, parts_at};
 
-use crate::value::own_text;
+use crate::value::{own_text, text_of};
 use crate::{Edge, Memory, Pattern, TextRef, skip_bare};
 use std::alloc::Global;
 
@@ -63,8 +63,9 @@ fn split_body(alloc: Global, bytes: &[u8]) -> Result<(Vec<u8>, &[u8]), Memory>
     Ok((body, rest))
 }
 
+// The text in front, its body taken character by character.
 #[tactic(auto, using(crate::proofs::Unspelled::marks_fit))]
-fn text_of(alloc: Global, bytes: &[u8]) -> Result<Pattern, Memory>
+fn split_text(alloc: Global, bytes: &[u8]) -> Result<Pattern, Memory>
     requires { IsText (parts_at bytes.now) }
     ensures { IfOk result (λ text. text ≡ parts_at bytes.now) }
 {
@@ -72,17 +73,6 @@ fn text_of(alloc: Global, bytes: &[u8]) -> Result<Pattern, Memory>
     let (body, rest) = split_body(alloc, rest)?;
     let (trail, _) = split_edge(rest);
     own_text(alloc, lead, body, trail)
-}
-
-/// The text that is spelled so, in one style or the other: no two texts are spelled alike.
-///
-/// # Errors
-/// Want of memory alone.
-pub fn read_spelling(alloc: Global, bytes: &[u8]) -> Result<Pattern, Memory>
-    requires { IsSpelling bytes.now }
-    ensures { (style : Style) (t : Parts) → IsText t → spelling style t ≡ bytes.now → IfOk result (λ text. text ≡ t) }
-{
-    text_of(alloc, bytes)
 }
 
 // Whether a body ends in front: at a special, or at the end of the spelling.
@@ -114,6 +104,28 @@ fn lend_text(bytes: &[u8]) -> Option<TextRef<'_>>
     let (stem, behind) = lend_body(rest)?;
     let (trail, _) = split_edge(behind);
     Some(TextRef { lead, stem, trail })
+}
+
+// The text in front. Where its body stands there as it is, it is copied at once.
+fn read_text(alloc: Global, bytes: &[u8]) -> Result<Pattern, Memory>
+    requires { IsText (parts_at bytes.now) }
+    ensures { IfOk result (λ text. text ≡ parts_at bytes.now) }
+{
+    match lend_text(bytes) {
+        Some(text) => text_of(alloc, text.lead, text.stem, text.trail),
+        None => split_text(alloc, bytes),
+    }
+}
+
+/// The text that is spelled so, in one style or the other: no two texts are spelled alike.
+///
+/// # Errors
+/// Want of memory alone.
+pub fn read_spelling(alloc: Global, bytes: &[u8]) -> Result<Pattern, Memory>
+    requires { IsSpelling bytes.now }
+    ensures { (style : Style) (t : Parts) → IsText t → spelling style t ≡ bytes.now → IfOk result (λ text. text ≡ t) }
+{
+    read_text(alloc, bytes)
 }
 
 /// The text that is spelled so, borrowed from its spelling where its body stands there as it is: `None` where a

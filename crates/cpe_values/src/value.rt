@@ -1,11 +1,14 @@
 // What an attribute may have.
-ghost use Rattle.std.specs.Prelude.{◌≡◌, ◌≢◌, IfOk, IfErr, IfSome, OnOk, Err, position, not, ◌||◌, false};
+ghost use Rattle.std.specs.Prelude.{◌≡◌, ◌≢◌, ◌≤◌, IfOk, IfErr, IfSome, IsTrue, OnOk, Err, length, position, not, ◌||◌, false};
+ghost use Rattle.cpe_values.specs.declared.short.TheConstants.{SHORT};
+ghost use Rattle.cpe_values.specs.declared.value.Edge.TheVariants as edge;
 ghost use Rattle.cpe_values.specs.Parts.{parts, is_character, is_nothing, has_special, IsEdge, IsText};
 ghost use Rattle.cpe_values.specs.Faults.{first_fault, is_lone_hyphen, has_no_marks};
 ghost use Rattle.cpe_values.specs.Values.{IsValue};
 ghost use Rattle.cpe_values.specs.Lower.{has_specials};
 
 use crate::Memory;
+use crate::short::{SHORT, ShortBody};
 use crate::spelling::is_printable_byte;
 use std::alloc::Global;
 use std::marker::Model;
@@ -30,15 +33,16 @@ pub struct Pattern {
     pub(crate) form: Form,
 }
 
-// Few texts have a special, and names, with eleven values each, are kept by the million: so the edges lie elsewhere.
+// Names, with eleven values each, are kept by the million, and most of their texts are short and have no special: such a text
+// lies in its value, any other one elsewhere.
 #[derive(Debug, Drop)]
 pub(crate) enum Form {
-    Plain(Vec<u8>),
-    Special(Box<SpecialText>),
+    Short(ShortBody),
+    Long(Box<LongText>),
 }
 
 #[derive(Debug, Drop)]
-pub(crate) struct SpecialText {
+pub(crate) struct LongText {
     pub lead: Edge,
     pub body: Vec<u8>,
     pub trail: Edge,
@@ -66,8 +70,8 @@ pub enum Value {
     Text(Pattern),
 }
 
-// (a name takes 440 bytes)
-const _: () = prove!(size_of::<Value>() == 40);
+// (a name takes 264 bytes)
+const _: () = prove!(size_of::<Value>() == 24);
 
 /// Why a lead, a body and a trail make no text: the first cause, in this order.
 #[derive(Clone, Copy, Debug, PartialEq, Eq, Error)]
@@ -103,6 +107,26 @@ pub(crate) fn is_special(lead: Edge, trail: Edge) -> bool
     !matches!((lead, trail), (Edge::None, Edge::None))
 }
 
+// The text of these parts, whose body lies elsewhere.
+fn long_text(alloc: Global, lead: Edge, body: Vec<u8>, trail: Edge) -> Result<Pattern, Memory>
+    requires { IsText (parts lead body.items trail) }
+    ensures { IfOk result (λ p. p ≡ parts lead body.items trail) }
+{
+    let text = Box::new(alloc, LongText { lead, body, trail })?;
+    let form = Form::Long(text);
+    Ok(Pattern { form })
+}
+
+// The text without specials of a short body.
+fn short_text(body: &[u8]) -> Pattern
+    requires short { length body.now ≤ SHORT }
+    requires text { IsText (parts edge.None body.now edge.None) }
+    ensures { result ≡ parts edge.None body.now edge.None }
+{
+    let form = Form::Short(ShortBody::new(body));
+    Pattern { form }
+}
+
 // The text of these parts.
 pub(crate) fn own_text(
     alloc: Global,
@@ -113,22 +137,34 @@ pub(crate) fn own_text(
     requires { IsText (parts lead body.items trail) }
     ensures { IfOk result (λ p. p ≡ parts lead body.items trail) }
 {
-    if !is_special(lead, trail) {
-        let form = Form::Plain(body);
-        return Ok(Pattern { form });
+    if is_short(lead, &body, trail) {
+        return Ok(short_text(&body));
     }
-    let text = Box::new(alloc, SpecialText { lead, body, trail })?;
-    let form = Form::Special(text);
-    Ok(Pattern { form })
+    long_text(alloc, lead, body, trail)
 }
 
 // The text of these parts, its body copied.
-fn text_of(alloc: Global, lead: Edge, body: &[u8], trail: Edge) -> Result<Pattern, Memory>
+pub(crate) fn text_of(
+    alloc: Global,
+    lead: Edge,
+    body: &[u8],
+    trail: Edge,
+) -> Result<Pattern, Memory>
     requires { IsText (parts lead body.now trail) }
     ensures { IfOk result (λ p. p ≡ parts lead body.now trail) }
 {
+    if is_short(lead, body, trail) {
+        return Ok(short_text(body));
+    }
     let body = Vec::from_slice(alloc, body)?;
-    own_text(alloc, lead, body, trail)
+    long_text(alloc, lead, body, trail)
+}
+
+// Whether the text of these parts has no special, and a body that a value has room for.
+fn is_short(lead: Edge, body: &[u8], trail: Edge) -> bool
+    ensures { IsTrue result → (lead ≡ edge.None) × (trail ≡ edge.None) × (length body.now ≤ SHORT) }
+{
+    !is_special(lead, trail) && body.len() <= SHORT
 }
 
 fn is_lone(lead: Edge, body: &[u8], trail: Edge) -> bool
@@ -184,8 +220,8 @@ impl Pattern {
         ensures { result ≡ self.now.lead }
     {
         match &self.form {
-            Form::Plain(_) => Edge::None,
-            Form::Special(text) => text.lead,
+            Form::Short(_) => Edge::None,
+            Form::Long(text) => text.lead,
         }
     }
 
@@ -194,8 +230,8 @@ impl Pattern {
         ensures { result.now ≡ self.now.body }
     {
         match &self.form {
-            Form::Plain(body) => body,
-            Form::Special(text) => &text.body,
+            Form::Short(body) => body.as_slice(),
+            Form::Long(text) => &text.body,
         }
     }
 
@@ -204,8 +240,8 @@ impl Pattern {
         ensures { result ≡ self.now.trail }
     {
         match &self.form {
-            Form::Plain(_) => Edge::None,
-            Form::Special(text) => text.trail,
+            Form::Short(_) => Edge::None,
+            Form::Long(text) => text.trail,
         }
     }
 }
