@@ -1,13 +1,14 @@
 // Answers of an index beside filters that go over all names: some two thousand names of products of every shape.
 ghost use Rattle.std.specs.Prelude.{◌≡◌, ◌<◌, ◌≤◌, ◌+◌, length};
 
+use crate::marks::is_marked_once;
 use crate::names::{name_of, text};
 use crate::shelf::Shelf;
 use cpe_name::{Attribute, Wfn};
 use cpe_relation::{covers, near};
 use cpe_steps::Steps;
 use cpe_values::{Edge, Value};
-use name_index::{NameId, Side};
+use name_index::Side;
 use std::alloc::Global;
 use std::marker::Brand;
 use std::sync::ledger::{Blank, Ledger};
@@ -20,6 +21,9 @@ const PRODUCTS: usize = 218;
 const VERSIONS: &[u8; 10] = b"0123456789";
 
 const NAMES: usize = 2180;
+
+// Asked are all products, and behind them a body longer than each of theirs, under the nine pairs of edges.
+const QUESTIONS: usize = 227;
 
 fn edge_at(number: usize) -> Edge {
     match number % 3 {
@@ -83,24 +87,12 @@ fn are_put(shelf: &mut Shelf, names: &[Wfn]) -> bool {
     true
 }
 
-// Marks a number that isn't marked.
-fn is_marked_once(marks: &mut [bool], id: NameId) -> bool {
-    match marks.get_mut(id.0 as usize) {
-        Some(mark) => {
-            let first = !*mark;
-            *mark = true;
-            first
-        }
-        None => false,
-    }
-}
-
 fn are_near_marked(shelf: &Shelf, asked: &Wfn, side: Side, marks: &mut [bool]) -> bool {
     if !asked.is_lower() {
         return false;
     }
     for id in shelf.near(asked, side) {
-        if !is_marked_once(marks, id) {
+        if !is_marked_once(marks, id.0) {
             return false;
         }
     }
@@ -121,7 +113,7 @@ fn are_covered_marked<L: Ledger>(
         return false;
     };
     for id in &found {
-        if !is_marked_once(marks, *id) {
+        if !is_marked_once(marks, id.0) {
             return false;
         }
     }
@@ -180,8 +172,17 @@ fn is_answered<L: Ledger>(
     found && are_marked_exactly(shelf, names, question, asked, &marks)
 }
 
+fn asked_product(alloc: Global, number: usize) -> Option<Value> {
+    if number < PRODUCTS {
+        return product_at(alloc, number);
+    }
+    let edges = number - PRODUCTS;
+    let body: &[u8] = BODIES;
+    text(alloc, edge_at(edges), body, edge_at(edges / 3))
+}
+
 fn asked_at(alloc: Global, number: usize) -> Option<Wfn> {
-    let product = product_at(alloc, number)?;
+    let product = asked_product(alloc, number)?;
     name_of(alloc, product, Value::Any)
 }
 
@@ -192,7 +193,7 @@ fn is_each_answered<L: Ledger>(
     question: Question,
     steps: &mut Steps<L>,
 ) -> bool {
-    for number in 0..PRODUCTS {
+    for number in 0..QUESTIONS {
         let Some(asked) = asked_at(alloc, number) else {
             return false;
         };

@@ -1,10 +1,14 @@
-//! Tests alone: a table of names and an index of them, through their public calls.
+//! Tests alone: products in their orders, a table of names and an index of them, through their public calls.
 #![tactic(auto)]
 
+#[cfg(test)]
+mod blocks;
 #[cfg(test)]
 mod filters;
 #[cfg(test)]
 mod looks;
+#[cfg(test)]
+mod marks;
 #[cfg(test)]
 mod names;
 #[cfg(test)]

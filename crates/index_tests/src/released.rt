@@ -1,8 +1,8 @@
-// A name is held, let go and released: it isn't found any more.
-ghost use Rattle.std.specs.Prelude.{◌≡◌, [], IfSome};
+// A name is held, let go and released: it isn't found any more. Then it is held again.
+ghost use Rattle.std.specs.Prelude.{◌≡◌, ℕ, [], IfSome};
 ghost use Rattle.std.specs.List.{Contains};
 ghost use Rattle.cpe_name.specs.Lower.{IsLower};
-ghost use Rattle.name_index.specs.Table.{IsLive, kept_at};
+ghost use Rattle.name_index.specs.Table.{IsLive, HasName, kept_at};
 
 use crate::names::{name_of, text};
 use cpe_name::Wfn;
@@ -28,14 +28,28 @@ fn hold_first(table: &mut NameTable, index: &mut NameIndex, name: &Wfn) -> Optio
     Some(id)
 }
 
+fn is_held_again(table: &mut NameTable, name: &Wfn) -> bool
+    requires lower { IsLower name.now }
+    requires gone { (id : ℕ) → HasName table.old id name.now → ⊥ }
+{
+    match table.hold(name) {
+        Ok(id) => table.find(name) == Some(id),
+        Err(_) => false,
+    }
+}
+
 fn is_let_go(table: &mut NameTable, index: &mut NameIndex, id: NameId, name: &Wfn) -> bool
+    requires lower { IsLower name.now }
     requires live { IsLive table.old id.0 }
     requires held { Contains index.old.held (id.0, (kept_at table.old id.0).product) }
 {
     let there = table.find(name) == Some(id);
     index.drop_name(table, id);
     table.release(id);
-    there && table.find(name).is_none()
+    if let Some(_) = table.find(name) {
+        return false;
+    }
+    there && is_held_again(table, name)
 }
 
 fn is_released(table: &mut NameTable, index: &mut NameIndex, name: &Wfn) -> bool
@@ -66,7 +80,7 @@ fn releases_a_text(alloc: Global) -> bool {
 }
 
 #[test]
-fn a_released_name_is_not_found(rt: HostRuntime) {
+fn a_released_name_is_not_found_until_it_is_held_again(rt: HostRuntime) {
     assert!(rt; releases(rt.alloc(), Value::Any));
     assert!(rt; releases_a_text(rt.alloc()));
 }

@@ -1,5 +1,5 @@
 // The pool, and its public calls.
-ghost use Rattle.std.specs.Prelude.{◌≡◌, ◌+◌, ◌≤◌, ◌↔◌, [], length, IsNone, IsSome, IsTrue, OnOk, OnErr, IfSome, None, Some};
+ghost use Rattle.std.specs.Prelude.{◌≡◌, ◌+◌, ◌≤◌, ◌↔◌, [], length, IsNone, IsSome, IsTrue, IsOk, OnOk, OnErr, IfSome, None, Some};
 ghost use Rattle.std.specs.Option.{option_map};
 ghost use Rattle.std.specs.Bool.{OnTrue, OnFalse};
 ghost use Rattle.list_pool.specs.Pool.{list_at, IsLive, pool_size, live_count, Updates, Pushes, find_list, cell_at, IsCell, AreApart, NextIs, ValueIs, has_value, without_first};
@@ -60,10 +60,11 @@ impl Pool {
     ///
     /// # Errors
     ///
-    /// [`Memory`] where memory ran out; the pool is as before.
+    /// [`Memory`] where memory ran out, and `spare` was less than `n`; the pool is as before.
     pub fn reserve(&mut self, n: usize) -> Result<(), Memory>
         requires { pool_size self.old.lists + n ≤ MOST_SLOTS }
         ensures spare { OnOk result (n ≤ self.new.spare) }
+        ensures succeeds { n ≤ self.old.spare → IsOk result }
         ensures kept { self.old.spare ≤ self.new.spare }
         ensures lists { self.new.lists ≡ self.old.lists }
         ensures err { OnErr result (self.new ≡ self.old) }

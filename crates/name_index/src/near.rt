@@ -1,11 +1,12 @@
 // A walk over the held names whose products are near a product.
-ghost use Rattle.std.specs.Prelude.{◌≡◌, ◌+◌, ◌≤◌, map, filter, slice_get, count_by, IfOk};
+ghost use Rattle.std.specs.Prelude.{◌≡◌, map, filter, slice_get, count_by, IfOk};
 ghost use Rattle.std.specs.List.Sorted.{IsStrictlyIncreasing};
 ghost use Rattle.std.specs.Iterator.{YieldsFirst, item_count};
 ghost use Rattle.cpe_values.specs.Lower.{lower_value};
 ghost use Rattle.cpe_name.specs.Lower.{IsLower};
 ghost use Rattle.product_orders.specs.Elements.{SameElements};
 ghost use Rattle.cpe_relation.specs.NameRelation.{covers};
+ghost use Rattle.cpe_steps.specs.Within.{StepsWithin};
 ghost use Rattle.cpe_relation.specs.Order.{IsOrder};
 ghost use Rattle.product_orders.specs.declared.products.Side.TheVariants as side;
 ghost use Rattle.name_index.specs.Index.{ids, Fits, is_near, is_covered};
@@ -116,8 +117,8 @@ impl NameIndex {
         }
     }
 
-    /// The held names that the name covers, in rising order of their numbers. It looks at each held name to whose product the
-    /// name's is near, once, and at no other.
+    /// The held names that the name covers, in rising order of their numbers. It looks at most once at each held name to whose
+    /// product the name's is near, and at no other.
     ///
     /// # Errors
     ///
@@ -133,7 +134,7 @@ impl NameIndex {
         requires lower { IsLower name.now }
         ensures covered { IfOk result (λ v. SameElements (filter (is_covered table.now name.now) (ids self.now.held)) v.items) }
         ensures rising { IfOk result (λ v. IsStrictlyIncreasing (map (λ id. id.0) v.items)) }
-        ensures steps { steps.new ≤ steps.old + count_by (is_near table.now side.Source name.now.product) (ids self.now.held) }
+        ensures steps { StepsWithin steps.old steps.new (count_by (is_near table.now side.Source name.now.product) (ids self.now.held)) }
     {
         self.lawful();
         cover_laws();

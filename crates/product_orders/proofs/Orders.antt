@@ -1,22 +1,24 @@
 -- Numbers in the order of their products: what stands before a run, and in it.
-use Rattle.std.proofs.Common.{◌≡◌, ◌⊎◌, ℕ, zero, suc, ◌+◌, ◌-◌, ◌<◌, ◌≤◌, Bool, true, false, ◌||◌, ◌&&◌, cond, List, ◌∷◌, length, take, drop, reverse, refl, sym, ap, subst, ◌∙◌, inl, inr, is_lt, Ordering, Less, Equal, Greater, true≢false, arith}
+use Rattle.std.proofs.Common.{◌≡◌, ◌⊎◌, ℕ, Bool, true, false, not, ◌||◌, ◌&&◌, cond, List, [], ◌∷◌, ◌++◌, reverse, refl, sym, ap, subst, ◌∙◌, inl, inr, is_lt, Ordering, Less, Equal, Greater, true≢false}
 use Rattle.std.specs.Prelude.{nat_eq}
-use Rattle.std.specs.List.{filter, insert, starts_with, slice_index_or}
-use Rattle.std.specs.List.Sorted.{IsPartitionedBy, IsPartitionPoint}
+use Rattle.std.specs.List.{AllByRecursion, filter, starts_with}
+use Rattle.std.specs.List.Sorted.{IsPermutation}
 use Rattle.std.specs.Ordering.{ordering_reverse}
-use Rattle.std.proofs.lemmas.Bool.{cases_Bool, or_parts, false_from_ne_true, both_ways}
+use Rattle.std.proofs.lemmas.Bool.{cases_Bool, both_ways}
 use Rattle.std.proofs.lemmas.List.{reverse-reverse}
 use Rattle.std.proofs.lemmas.Cmp.{nat_list_cmp_total}
 use Rattle.std.proofs.lemmas.Map.Lookups.{exact_bytes}
 use Rattle.std.proofs.lemmas.Slice.Eq.{slice_eq-Decides}
+use Rattle.std.proofs.lemmas.List.Sorted.{IsPermutation-middle, IsPermutation-sym}
 use lib.Pointwise.{pointwise}
+use Rattle.number_blocks.specs.Blocks.{AllAre, IsParted, IsPut}
 use Rattle.cpe_values.specs.declared.value.Value.{Value}
 use Rattle.product_orders.specs.declared.keys.End.{End}
 use Rattle.product_orders.specs.declared.keys.End.TheVariants as end
 use Rattle.product_orders.specs.declared.keys.Shape.{Shape}
 use Rattle.product_orders.specs.Keys.{shape_of, rank, body_of, turned, text_order, key, in_run, is_below, value_at, NotAbove, Rises}
 use Rattle.product_orders.proofs.Texts.{text_itself, below_or_starts, not_below, touches_key, nat_Decides}
-use Rattle.product_orders.proofs.Runs.{filter_run, parted, insert_sorted}
+use Rattle.product_orders.proofs.Runs.{parted, put_ordered}
 
 pub lt_is : (r : Ordering) → is_lt r ≡ true → r ≡ Less
 lt_is Less h = refl
@@ -108,59 +110,51 @@ module _ (values : List Value) (e : End) (r : Shape) (body : List ℕ) (whole : 
   within_is : (n : ℕ) → within n ≡ (before n || meets whole (rank r ∷ turned e body) (key e (value_at values n)))
   within_is n = ap (λ (b : Bool). before n || b) (in_key e r body whole (value_at values n))
 
-  pub before_parted : (order : List ℕ) → Rises e values order → IsPartitionedBy before order
+  pub before_parted : (order : List ℕ) → Rises e values order → IsParted before order
   before_parted order s = parted (NotAbove e values) before (λ x y le h. below_down (rank r ∷ turned e body) (key e (value_at values x)) (key e (value_at values y)) le h) order s
 
-  pub within_parted : (order : List ℕ) → Rises e values order → IsPartitionedBy within order
+  pub within_parted : (order : List ℕ) → Rises e values order → IsParted within order
   within_parted order s = parted (NotAbove e values) within (λ x y le h. within_is x ∙ within_down whole (rank r ∷ turned e body) (key e (value_at values x)) (key e (value_at values y)) le (sym (within_is y) ∙ h)) order s
 
   has_not_before : (n : ℕ) → has n ≡ true → before n ≡ false
   has_not_before n h = meets_not_below whole (rank r ∷ turned e body) (key e (value_at values n)) (sym (in_key e r body whole (value_at values n)) ∙ h)
 
-  before_has_not : (n : ℕ) → before n ≡ true → has n ≡ false
-  before_has_not n h = false_from_ne_true _ (λ is. both_ways _ (has_not_before n is) h)
+  -- to be in a run is to stand before it or in it, and not before it
+  has_is : (n : ℕ) → has n ≡ (not (before n) && within n)
+  has_is n = by (has n) (before n) (has_not_before n)
+    where
+      by : (h b : Bool) → (h ≡ true → b ≡ false) → h ≡ (not b && (b || h))
+      by true b f = ap (λ (c : Bool). not c && (c || true)) (sym (f refl))
+      by false true f = refl
+      by false false f = refl
 
-  abbrev Point : (ℕ → Bool) → List ℕ → ℕ → Type 0
-  Point p order k = IsPartitionPoint (λ n. p n ≡ true) (λ n. p n ≡ false) order k
-
-  ends_apart : (order : List ℕ) (from to : ℕ) → from ≤ length order → Point before order from → Point within order to → from ≤ to
-  ends_apart order from to fits first second = by (le_or_lt from to) where
-    le_or_lt : (m n : ℕ) → (m ≤ n) ⊎ (n < m)
-    le_or_lt zero n = inl (omega arith)
-    le_or_lt (suc m) zero = inr (omega arith)
-    le_or_lt (suc m) (suc n) = up (le_or_lt m n) where
-      up : (m ≤ n) ⊎ (n < m) → (suc m ≤ suc n) ⊎ (suc n < suc m)
-      up (inl le) = inl (omega (arith, le))
-      up (inr lt) = inr (omega (arith, lt))
-
-    by : (from ≤ to) ⊎ (to < from) → from ≤ to
-    by (inl le) = le
-    by (inr lt) =
-        let n = slice_index_or order to 0 in
-        absurd (both_ways _ (second.1 to 0 (omega arith) (omega (arith, lt, fits))) (or_first (before n) (has n) (first.0 to 0 (omega arith) lt)))
-
-  run_is : (order : List ℕ) (from n : ℕ) → from + n ≤ length order → Point before order from → Point within order (from + n) → filter has order ≡ take n (drop from order)
-  run_is order from n le first second =
-      filter_run has order from n le
-      (λ k d low high. before_has_not (slice_index_or order k d) (first.0 k d low high))
-      (λ k d low high. or_second (before (slice_index_or order k d)) (has (slice_index_or order k d)) (second.0 k d (omega arith) high) (first.1 k d low (omega (arith, high, le))))
-      (λ k d low high. (or_parts (before (slice_index_or order k d)) (has (slice_index_or order k d)) (second.1 k d low high)).1)
-
-  pub with_is : (order : List ℕ) (from to : ℕ) → from ≤ length order → to ≤ length order → Point before order from → Point within order to → take (to - from) (drop from order) ≡ filter has order
-  with_is order from to low high first second =
-      let le = ends_apart order from to low first second in
-      let same : from + (to - from) ≡ to = omega (arith, le) in
-      sym (run_is order from (to - from) (omega (arith, same, high)) first (subst (Point within order) (sym same) second))
+  pub run_is : (order : List ℕ) → filter (λ n. not (before n) && within n) order ≡ filter has order
+  run_is [] = refl
+  run_is (n ∷ order) =
+      ap (λ (b : Bool). cond b (n ∷ filter (λ m. not (before m) && within m) order) (filter (λ m. not (before m) && within m) order)) (sym (has_is n))
+      ∙ ap (λ (u : List ℕ). cond (has n) (n ∷ u) u) (run_is order)
 
 -- ---- to put
 
 less_not_above : (x y : List ℕ) → is_lt (text_order x y) ≡ true → is_lt (text_order y x) ≡ false
 less_not_above x y h = ap is_lt (nat_list_cmp_total.antisymm y x ∙ ap ordering_reverse (lt_is _ h))
 
-pub put_rises : (e : End) (values : List Value) (order : List ℕ) (place n : ℕ) → Rises e values order → place ≤ length order
-    → IsPartitionPoint (λ m. is_below e (shape_of (value_at values n)) (body_of (value_at values n)) (value_at values m) ≡ true) (λ m. is_below e (shape_of (value_at values n)) (body_of (value_at values n)) (value_at values m) ≡ false) order place
-    → Rises e values (insert order place n)
-put_rises e values order place n s fits point =
-    insert_sorted (NotAbove e values) order place n s fits
-    (λ k d low high. less_not_above (key e (value_at values (slice_index_or order k d))) (key e (value_at values n)) (point.0 k d low high))
-    (λ k d low high. point.1 k d low high)
+module _ (e : End) (values : List Value) (n : ℕ) where
+  -- which products stand before that of the number
+  abbrev pub earlier : ℕ → Bool
+  earlier m = is_below e (shape_of (value_at values n)) (body_of (value_at values n)) (value_at values m)
+
+  not_above_all : (xs : List ℕ) → AllAre earlier true xs → AllByRecursion (λ m. NotAbove e values m n) xs
+  not_above_all [] h = tt
+  not_above_all (m ∷ xs) h = (less_not_above (key e (value_at values m)) (key e (value_at values n)) h.0, not_above_all xs h.1)
+
+  pub put_rises : (old new : List ℕ) → Rises e values old → IsPut earlier n old new → Rises e values new
+  put_rises old new s put =
+      subst (Rises e values) (sym put.put)
+      (put_ordered (NotAbove e values) put.front put.back n (subst (Rises e values) put.whole s) (not_above_all put.front put.passing) put.failing)
+
+  pub put_permutes : (p : ℕ → Bool) (old new : List ℕ) → IsPut p n old new → IsPermutation (n ∷ old) new
+  put_permutes p old new put =
+      subst (λ (u : List ℕ). IsPermutation (n ∷ old) u) (sym put.put)
+      (subst (λ (u : List ℕ). IsPermutation (n ∷ u) (put.front ++ (n ∷ put.back))) (sym put.whole)
+      (IsPermutation-sym (put.front ++ (n ∷ put.back)) (n ∷ (put.front ++ put.back)) (IsPermutation-middle put.front n put.back)))

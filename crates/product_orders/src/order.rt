@@ -1,13 +1,13 @@
 // Numbers in the order of their products.
-ghost use Rattle.std.specs.Prelude.{◌≡◌, ◌≤◌, ◌<◌, ◌||◌, ◌∷◌, true, false, length};
-ghost use Rattle.std.specs.Prelude.{vec_len, vec_capacity};
+ghost use Rattle.std.specs.Prelude.{◌≡◌, ◌||◌, ◌∷◌, true};
 ghost use Rattle.std.specs.List.{filter};
-ghost use Rattle.std.specs.List.Sorted.{IsPartitionPoint, IsPermutation};
+ghost use Rattle.std.specs.List.Sorted.{IsPermutation};
 ghost use Rattle.product_orders.specs.Keys.{shape_of, body_of, in_run, is_below, value_at, Rises};
 
 use crate::keys::{End, Shape, body_of, compare_keys, has_body, rank, shape_of};
 use cpe_values::Value;
 use indexmap::IndexSet;
+use number_blocks::{Blocks, Piece, Test};
 use std::cmp::Ordering;
 
 // The products of a shape that have a body at an end, or whose body it is.
@@ -51,38 +51,52 @@ fn is_within(values: &IndexSet<Value>, run: Run, number: u32) -> bool
     is_below(values, run, number) || is_in(values, run, number)
 }
 
-// How many numbers stand before the run.
-fn count_below(values: &IndexSet<Value>, order: &[u32], run: Run) -> usize
-    requires { Rises run.end values.now.keys order.now }
-    ensures bound { result ≤ length order.now }
-    ensures point { IsPartitionPoint (λ n. is_below run.entry.end run.entry.shape run.entry.body.now (value_at values.now.keys n) ≡ true) (λ n. is_below run.entry.end run.entry.shape run.entry.body.now (value_at values.now.keys n) ≡ false) order.now result }
-{
-    order.partition_point(|number| is_below(values, run, *number))
+// Which numbers stand before the run.
+#[derive(Clone, Copy)]
+struct Below<'a> {
+    values: &'a IndexSet<Value>,
+    run: Run<'a>,
 }
 
-// How many numbers stand before the run or in it.
-fn count_within(values: &IndexSet<Value>, order: &[u32], run: Run) -> usize
-    requires { Rises run.end values.now.keys order.now }
-    ensures bound { result ≤ length order.now }
-    ensures point { IsPartitionPoint (λ n. (is_below run.entry.end run.entry.shape run.entry.body.now (value_at values.now.keys n) || in_run run.entry.end run.entry.shape run.entry.body.now run.entry.whole (value_at values.now.keys n)) ≡ true) (λ n. (is_below run.entry.end run.entry.shape run.entry.body.now (value_at values.now.keys n) || in_run run.entry.end run.entry.shape run.entry.body.now run.entry.whole (value_at values.now.keys n)) ≡ false) order.now result }
-{
-    order.partition_point(|number| is_within(values, run, *number))
+impl<'a> Test for Below<'a> {
+    ghost passes = { λ b n. is_below b.run.end b.run.shape b.run.body.now (value_at b.values.now.keys n) };
+
+    #[inline(always)]
+    fn test(&self, number: u32) -> bool {
+        is_below(self.values, self.run, number)
+    }
+}
+
+// Which numbers stand before the run or in it.
+#[derive(Clone, Copy)]
+struct Within<'a> {
+    values: &'a IndexSet<Value>,
+    run: Run<'a>,
+}
+
+impl<'a> Test for Within<'a> {
+    ghost passes = { λ b n. (is_below b.run.end b.run.shape b.run.body.now (value_at b.values.now.keys n) || in_run b.run.end b.run.shape b.run.body.now b.run.whole (value_at b.values.now.keys n)) };
+
+    #[inline(always)]
+    fn test(&self, number: u32) -> bool {
+        is_within(self.values, self.run, number)
+    }
 }
 
 // The numbers whose products are in the run.
-pub(crate) fn in_run<'a>(values: &IndexSet<Value>, order: &'a [u32], run: Run) -> &'a [u32]
-    requires { Rises run.end values.now.keys order.now }
-    ensures { result.now ≡ filter (λ n. in_run run.entry.end run.entry.shape run.entry.body.now run.entry.whole (value_at values.now.keys n)) order.now }
+pub(crate) fn in_run<'a>(values: &IndexSet<Value>, order: &'a Blocks, run: Run) -> Piece<'a>
+    requires { Rises run.end values.now.keys order.now.items }
+    ensures { result ≡ filter (λ n. in_run run.entry.end run.entry.shape run.entry.body.now run.entry.whole (value_at values.now.keys n)) order.now.items }
 {
-    let from = count_below(values, order, run);
-    let to = count_within(values, order, run);
-    &order[from..to]
+    let below = Below { values, run };
+    let within = Within { values, run };
+    order.between(&below, &within)
 }
 
 // Puts a number behind those whose products stand before its own. It takes no memory.
-pub(crate) fn put_number(values: &IndexSet<Value>, order: &mut Vec<u32>, end: End, number: u32)
+pub(crate) fn put_number(values: &IndexSet<Value>, order: &mut Blocks, end: End, number: u32)
     requires rises { Rises end values.now.keys order.old.items }
-    requires room { vec_len order.old < vec_capacity order.old }
+    requires ready { order.old.ready ≡ true }
     ensures rises { Rises end values.now.keys order.new.items }
     ensures added { IsPermutation (number ∷ order.old.items) order.new.items }
 {
@@ -93,8 +107,6 @@ pub(crate) fn put_number(values: &IndexSet<Value>, order: &mut Vec<u32>, end: En
         body,
         whole: true,
     };
-    let place = count_below(values, order, run);
-    if order.insert(place, number).is_err() {
-        unreachable!();
-    }
+    let below = Below { values, run };
+    order.put(&below, number);
 }

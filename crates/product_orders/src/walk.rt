@@ -17,17 +17,18 @@ use crate::order::{Run, in_run};
 use crate::products::{Products, Side};
 use cpe_values::{Pattern, Value};
 use indexmap::IndexSet;
+use number_blocks::{Blocks, Piece};
 use std::marker::Model;
 
 /// The numbers of products near a product on a side, each once. Contracts see those that are left. A step takes no memory.
 #[derive(Drop)]
 pub struct NearProducts<'a> {
     values: &'a IndexSet<Value>,
-    order: &'a [u32],
+    order: &'a Blocks,
     // What is left of three runs, one after another.
-    first: &'a [u32],
-    second: &'a [u32],
-    third: &'a [u32],
+    first: Piece<'a>,
+    second: Piece<'a>,
+    third: Piece<'a>,
     // A plain text, and how many of its fronts and of its ends, from the longest, may still be the body of a product with
     // only a trail or only a lead.
     text: &'a [u8],
@@ -41,9 +42,9 @@ impl<'a> Model for NearProducts<'a> {
 
     ghost Value = { List ℕ };
 
-    ghost view = { λ a. a.first.now ++ a.second.now ++ a.third.now ++ all_runs a.values.now.keys a.order.now a.text.now a.fronts a.ends };
+    ghost view = { λ a. a.first ++ a.second ++ a.third ++ all_runs a.values.now.keys a.order.now.items a.text.now a.fronts a.ends };
 
-    ghost invariant = { λ a. StandsIn a.values.now.keys a.order.now a.text.now a.fronts a.ends };
+    ghost invariant = { λ a. StandsIn a.values.now.keys a.order.now.items a.text.now a.fronts a.ends };
 }
 
 // So many last bytes.
@@ -54,7 +55,7 @@ fn end_of(text: &[u8], len: usize) -> &[u8]
     &text[text.len() - len..]
 }
 
-fn are_empty(run: &[u32], other: &[u32]) -> bool
+fn are_empty(run: &Piece<'_>, other: &Piece<'_>) -> bool
     ensures empty { OnTrue result ((run.now ≡ []) × (other.now ≡ [])) }
     ensures some { OnFalse result (0 < length run.now + length other.now) }
 {
@@ -70,10 +71,10 @@ impl<'a> Iterator for NearProducts<'a> {
 
     fn next(&mut self) -> Option<u32> {
         while self.first.is_empty() {
-            if !are_empty(self.second, self.third) {
-                self.first = self.second;
-                self.second = self.third;
-                self.third = &[];
+            if !are_empty(&self.second, &self.third) {
+                self.first = self.second.again();
+                self.second = self.third.again();
+                self.third = Piece::none();
             } else if self.fronts > 0 {
                 self.fronts -= 1;
                 let run = Run {
@@ -96,16 +97,14 @@ impl<'a> Iterator for NearProducts<'a> {
                 return None;
             }
         }
-        let (number, rest) = self.first.split_first()?;
-        self.first = rest;
-        Some(*number)
+        self.first.next()
     }
 }
 
 impl Products {
     // The products of a shape that have the body in front, or whose body it is.
-    fn front_run(&self, shape: Shape, body: &[u8], whole: bool) -> &[u32]
-        ensures { SameElements (filter (λ n. in_run end.Front shape body.now whole (value_at self.now n)) (numbers (length self.now))) result.now }
+    fn front_run(&self, shape: Shape, body: &[u8], whole: bool) -> Piece<'_>
+        ensures { SameElements (filter (λ n. in_run end.Front shape body.now whole (value_at self.now n)) (numbers (length self.now))) result }
     {
         let run = Run {
             end: End::Front,
@@ -117,8 +116,8 @@ impl Products {
     }
 
     // The products of a shape that have the body at the end.
-    fn end_run(&self, shape: Shape, body: &[u8]) -> &[u32]
-        ensures { SameElements (filter (λ n. in_run end.Back shape body.now false (value_at self.now n)) (numbers (length self.now))) result.now }
+    fn end_run(&self, shape: Shape, body: &[u8]) -> Piece<'_>
+        ensures { SameElements (filter (λ n. in_run end.Back shape body.now false (value_at self.now n)) (numbers (length self.now))) result }
     {
         let run = Run {
             end: End::Back,
@@ -129,16 +128,16 @@ impl Products {
         in_run(&self.values, &self.backs, run)
     }
 
-    fn all(&self) -> &[u32]
-        ensures { SameElements (numbers (length self.now)) result.now }
+    fn all(&self) -> Piece<'_>
+        ensures { SameElements (numbers (length self.now)) result }
     {
-        &self.fronts
+        self.fronts.all()
     }
 
     // The products to which a text is near: one run.
-    fn near_text(&self, text: &Pattern) -> &[u32]
+    fn near_text(&self, text: &Pattern) -> Piece<'_>
         requires { lower_value (Text text.now) ≡ Text text.now }
-        ensures { SameElements (filter (λ n. near (Text text.now) (value_at self.now n)) (numbers (length self.now))) result.now }
+        ensures { SameElements (filter (λ n. near (Text text.now) (value_at self.now n)) (numbers (length self.now))) result }
     {
         self.lawful();
         match text_shape(text) {
@@ -150,9 +149,9 @@ impl Products {
     }
 
     // The products to which a product is near: one run.
-    fn near_targets(&self, asked: &Value) -> &[u32]
+    fn near_targets(&self, asked: &Value) -> Piece<'_>
         requires { lower_value asked.now ≡ asked.now }
-        ensures { SameElements (filter (λ n. near asked.now (value_at self.now n)) (numbers (length self.now))) result.now }
+        ensures { SameElements (filter (λ n. near asked.now (value_at self.now n)) (numbers (length self.now))) result }
     {
         self.lawful();
         match asked {
@@ -177,16 +176,16 @@ impl Products {
     // and those with only a lead whose bodies are ends of it that are shorter than `ends`.
     fn in_runs<'a>(
         &'a self,
-        first: &'a [u32],
-        second: &'a [u32],
-        third: &'a [u32],
+        first: Piece<'a>,
+        second: Piece<'a>,
+        third: Piece<'a>,
         text: &'a [u8],
         fronts: usize,
         ends: usize,
     ) -> NearProducts<'a>
         requires fronts { fronts ≤ length text.now + 1 }
         requires ends { ends ≤ length text.now + 1 }
-        ensures { SameElements (first.now ++ second.now ++ third.now ++ all_runs self.now (numbers (length self.now)) text.now fronts ends) result }
+        ensures { SameElements (first.entry ++ second.entry ++ third.entry ++ all_runs self.now (numbers (length self.now)) text.now fronts ends) result }
     {
         NearProducts {
             values: &self.values,
@@ -201,10 +200,10 @@ impl Products {
     }
 
     // The products that are near a plain text.
-    fn near_plain<'a>(&'a self, any: &'a [u32], text: &'a Pattern) -> NearProducts<'a>
+    fn near_plain<'a>(&'a self, any: Piece<'a>, text: &'a Pattern) -> NearProducts<'a>
         requires lower { lower_value (Text text.now) ≡ Text text.now }
         requires plain { shape_of (Text text.now) ≡ shapes.Plain }
-        requires any { SameElements (filter (λ n. in_run end.Front shapes.Any [] false (value_at self.now n)) (numbers (length self.now))) any.now }
+        requires any { SameElements (filter (λ n. in_run end.Front shapes.Any [] false (value_at self.now n)) (numbers (length self.now))) any }
         ensures { SameElements (filter (λ n. near (value_at self.now n) (Text text.now)) (numbers (length self.now))) result }
     {
         self.lawful();
@@ -223,11 +222,18 @@ impl Products {
     {
         let any = self.front_run(Shape::Any, &[], false);
         match asked {
-            Value::Any => self.in_runs(any, &[], &[], &[], 0, 0),
-            Value::Na => self.in_runs(any, self.front_run(Shape::Na, &[], false), &[], &[], 0, 0),
+            Value::Any => self.in_runs(any, Piece::none(), Piece::none(), &[], 0, 0),
+            Value::Na => self.in_runs(
+                any,
+                self.front_run(Shape::Na, &[], false),
+                Piece::none(),
+                &[],
+                0,
+                0,
+            ),
             Value::Text(text) => match text_shape(text) {
                 Shape::Plain => self.near_plain(any, text),
-                _ => self.in_runs(any, &[], &[], &[], 0, 0),
+                _ => self.in_runs(any, Piece::none(), Piece::none(), &[], 0, 0),
             },
         }
     }
@@ -240,7 +246,14 @@ impl Products {
         ensures { SameElements (filter (λ n. near_on side asked.now (value_at self.now n)) (numbers (length self.now))) result }
     {
         match side {
-            Side::Source => self.in_runs(self.near_targets(asked), &[], &[], &[], 0, 0),
+            Side::Source => self.in_runs(
+                self.near_targets(asked),
+                Piece::none(),
+                Piece::none(),
+                &[],
+                0,
+                0,
+            ),
             Side::Target => self.near_sources(asked),
         }
     }

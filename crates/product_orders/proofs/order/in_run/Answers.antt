@@ -1,5 +1,14 @@
-use Rattle.product_orders.proofs.Orders.{with_is}
+use Rattle.std.proofs.Common.{◌∙◌}
+use Rattle.product_orders.proofs.Orders.{before_parted, within_parted, run_is}
 use Rattle.product_orders.proofs.order.in_run.Goals as goal
 
+pub between-requires-clause-first : goal.between-requires-clause-first
+between-requires-clause-first c =
+    before_parted c.args.values.now.keys c.args.run.end c.args.run.shape c.args.run.body.now c.args.run.whole c.args.order.now.items c.requires
+
+pub between-requires-clause-second : goal.between-requires-clause-second
+between-requires-clause-second c =
+    within_parted c.args.values.now.keys c.args.run.end c.args.run.shape c.args.run.body.now c.args.run.whole c.args.order.now.items c.requires
+
 pub returns : goal.returns
-returns c = with_is c.args.values.now.keys c.args.run.end c.args.run.shape c.args.run.body.now c.args.run.whole c.args.order.now c.count_below-from.result c.count_within-to.result c.count_below-from.ensures.bound c.count_within-to.ensures.bound c.count_below-from.ensures.point c.count_within-to.ensures.point
+returns c = c.between.ensures ∙ run_is c.args.values.now.keys c.args.run.end c.args.run.shape c.args.run.body.now c.args.run.whole c.args.order.now.items

@@ -1,20 +1,16 @@
-use Rattle.std.proofs.Common.{◌≡◌, ◌∷◌, List, ℕ, sym, subst, rules}
-use Rattle.std.specs.List.{insert}
-use Rattle.std.specs.List.Sorted.{IsPermutation}
-use Rattle.std.proofs.lemmas.List.Sorted.{IsPermutation-insert}
-use Rattle.product_orders.specs.Keys.{Rises}
-use Rattle.product_orders.proofs.Orders.{put_rises}
+use Rattle.std.proofs.Common.{true}
+use Rattle.product_orders.proofs.Orders.{before_parted, before, put_rises, put_permutes}
 use Rattle.product_orders.proofs.order.put_number.Goals as goal
+
+pub put-requires-clause-parted : goal.put-requires-clause-parted
+put-requires-clause-parted c =
+    before_parted c.args.values.now.keys c.args.end c.key_of-shape.result.0 c.key_of-shape.result.1.now true c.args.order.now.items c.requires.rises
 
 pub returns-clause-rises : goal.returns-clause-rises
 returns-clause-rises c =
-    let items : c.insert.new.self.items ≡ insert c.args.order.now.items c.count_below-place.result c.args.number = search rules in
-    let point = rw (c.deref.ensures.value, c.key_of-shape.ensures.shape, c.key_of-shape.ensures.body) at c.count_below-place.ensures.point in
-    let bound = rw c.deref.ensures.value at c.count_below-place.ensures.bound in
-    subst (λ (l : List ℕ). Rises c.args.end c.args.values.now.keys l) (sym items)
-    (put_rises c.args.end c.args.values.now.keys c.args.order.now.items c.count_below-place.result c.args.number c.requires.rises bound point)
+    let put = rw (c.key_of-shape.ensures.shape, c.key_of-shape.ensures.body) at c.put.ensures in
+    put_rises c.args.end c.args.values.now.keys c.args.number c.args.order.now.items c.put.new.self.items c.requires.rises put
 
 pub returns-clause-added : goal.returns-clause-added
 returns-clause-added c =
-    let items : c.insert.new.self.items ≡ insert c.args.order.now.items c.count_below-place.result c.args.number = search rules in
-    subst (λ (l : List ℕ). IsPermutation (c.args.number ∷ c.args.order.now.items) l) (sym items) (IsPermutation-insert c.args.order.now.items c.count_below-place.result c.args.number)
+    put_permutes c.args.end c.args.values.now.keys c.args.number (before c.args.values.now.keys c.args.end c.key_of-shape.result.0 c.key_of-shape.result.1.now true) c.args.order.now.items c.put.new.self.items c.put.ensures

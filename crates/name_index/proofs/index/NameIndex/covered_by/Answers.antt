@@ -15,6 +15,7 @@ use Rattle.name_index.proofs.index.NameIndex.covered_by.Goals as goal
 pub loop-id-init : goal.loop-id-init
 loop-id-init g c = record {
   live = walk_live c.args.table.now c.args.self.now.held (is_near c.args.table.now side.Source c.args.name.now.product) c.into_iter-id-iterator.result c.requires.fits (subst (SameElements (filter (is_near c.args.table.now side.Source c.args.name.now.product) (ids c.args.self.now.held))) (sym c.into_iter-id-iterator.ensures.into_iter_gives) c.near-id-items.ensures);
+  later = omega arith;
   looked = refl;
   found = ap (λ (xs : List NameId). xs ++ filter (is_covered c.args.table.now c.args.name.now) c.into_iter-id-iterator.result) c.new-found.ensures.items;
 }
@@ -25,6 +26,7 @@ look-other-requires g c = (tail_live c.args.table.now c.in-Some.id c.next.new.se
 pub loop-id-preserved : goal.loop-id-preserved
 loop-id-preserved g c = record {
   live = (tail_live c.args.table.now c.in-Some.id c.next.new.self c.loop-id.id-iterator c.in-Some.ensures.steps c.loop-id.invariant.live).1;
+  later = omega (arith, c.loop-id.invariant.later, c.look-other.ensures.step);
   looked = omega (arith, c.loop-id.invariant.looked, c.look-other.ensures.step, ap length c.in-Some.ensures.steps);
   found = found_more (is_covered c.args.table.now c.args.name.now) c.loop-id.found.items _ c.next.new.self c.loop-id.id-iterator c.in-Some.id false c.in-Some.ensures.steps (ap (covers c.args.name.now) (sym c.look-other.ensures.name) ∙ sym c.is_covering.ensures ∙ c.if-is_covering.false) c.loop-id.invariant.found;
 }
@@ -46,13 +48,19 @@ returns-clause-rising g c =
     (λ n. subst (λ (m : ℕ). m ≤ 1) (same _) (once_filtered c.args.self.now.held q n c.lawful.ensures))
 
 pub returns-in_err-push-clause-steps : goal.returns-in_err-push-clause-steps
-returns-in_err-push-clause-steps g c =
-    omega (arith, c.loop-id.invariant.looked, c.look-other.ensures.step, ap length c.in-Some.ensures.steps, walk_length (is_near c.args.table.now side.Source c.args.name.now.product) (ids c.args.self.now.held) c.into_iter-id-iterator.result (subst (SameElements (filter (is_near c.args.table.now side.Source c.args.name.now.product) (ids c.args.self.now.held))) (sym c.into_iter-id-iterator.ensures.into_iter_gives) c.near-id-items.ensures))
+returns-in_err-push-clause-steps g c = (
+  omega (arith, c.loop-id.invariant.later, c.look-other.ensures.step),
+  omega (arith, c.loop-id.invariant.looked, c.look-other.ensures.step, ap length c.in-Some.ensures.steps, walk_length (is_near c.args.table.now side.Source c.args.name.now.product) (ids c.args.self.now.held) c.into_iter-id-iterator.result (subst (SameElements (filter (is_near c.args.table.now side.Source c.args.name.now.product) (ids c.args.self.now.held))) (sym c.into_iter-id-iterator.ensures.into_iter_gives) c.near-id-items.ensures)),
+)
 
 pub returns-in_err-sort_by_key-clause-steps : goal.returns-in_err-sort_by_key-clause-steps
-returns-in_err-sort_by_key-clause-steps g c =
-    omega (arith, c.loop-id.invariant.looked, walk_length (is_near c.args.table.now side.Source c.args.name.now.product) (ids c.args.self.now.held) c.into_iter-id-iterator.result (subst (SameElements (filter (is_near c.args.table.now side.Source c.args.name.now.product) (ids c.args.self.now.held))) (sym c.into_iter-id-iterator.ensures.into_iter_gives) c.near-id-items.ensures))
+returns-in_err-sort_by_key-clause-steps g c = (
+  c.loop-id.invariant.later,
+  omega (arith, c.loop-id.invariant.looked, walk_length (is_near c.args.table.now side.Source c.args.name.now.product) (ids c.args.self.now.held) c.into_iter-id-iterator.result (subst (SameElements (filter (is_near c.args.table.now side.Source c.args.name.now.product) (ids c.args.self.now.held))) (sym c.into_iter-id-iterator.ensures.into_iter_gives) c.near-id-items.ensures)),
+)
 
 pub returns-clause-steps : goal.returns-clause-steps
-returns-clause-steps g c =
-    omega (arith, c.loop-id.invariant.looked, walk_length (is_near c.args.table.now side.Source c.args.name.now.product) (ids c.args.self.now.held) c.into_iter-id-iterator.result (subst (SameElements (filter (is_near c.args.table.now side.Source c.args.name.now.product) (ids c.args.self.now.held))) (sym c.into_iter-id-iterator.ensures.into_iter_gives) c.near-id-items.ensures))
+returns-clause-steps g c = (
+  c.loop-id.invariant.later,
+  omega (arith, c.loop-id.invariant.looked, walk_length (is_near c.args.table.now side.Source c.args.name.now.product) (ids c.args.self.now.held) c.into_iter-id-iterator.result (subst (SameElements (filter (is_near c.args.table.now side.Source c.args.name.now.product) (ids c.args.self.now.held))) (sym c.into_iter-id-iterator.ensures.into_iter_gives) c.near-id-items.ensures)),
+)

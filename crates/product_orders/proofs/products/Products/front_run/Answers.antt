@@ -12,6 +12,6 @@ returns c =
     let values = c.self.inside.values.keys in
     let order = c.self.inside.fronts.items in
     let has = λ (n : ℕ). in_run end.Front c.args.shape c.args.body.now c.args.whole (value_at values n) in
-    let found : c.in_run.result.now ≡ filter has order = rw c.deref.ensures.value at c.in_run.ensures in
-    subst (λ (vs : List Value). SameElements (filter (λ n. in_run end.Front c.args.shape c.args.body.now c.args.whole (value_at vs n)) (numbers (length vs))) c.in_run.result.now) c.self.view_is
+    let found : c.in_run.result ≡ filter has order = c.in_run.ensures in
+    subst (λ (vs : List Value). SameElements (filter (λ n. in_run end.Front c.args.shape c.args.body.now c.args.whole (value_at vs n)) (numbers (length vs))) c.in_run.result) c.self.view_is
     (λ f. filter_same has (numbers (length values)) order c.self.invariant.front_all f ∙ ap (sum_by f) (sym found))

@@ -1,4 +1,4 @@
-use Rattle.std.proofs.Common.{◌≡◌, ◌++◌, ℕ, List, length, sym, subst, arith}
+use Rattle.std.proofs.Common.{◌≡◌, ◌++◌, List, length, subst, arith}
 use Rattle.std.specs.List.{sum_by}
 use Rattle.std.proofs.lemmas.List.Sums.{sum_by-append}
 use Rattle.cpe_values.specs.declared.value.Value.{Value}
@@ -14,9 +14,9 @@ returns c f =
     let text = c.args.text.now in
     let k = c.args.fronts in
     let m = c.args.ends in
-    let order = c.deref.result.now in
-    let head = c.args.first.now ++ c.args.second.now ++ c.args.third.now in
-    let listed : SameElements (numbers (length values)) order = subst (λ (ns : List ℕ). SameElements (numbers (length values)) ns) (sym c.deref.ensures.value) c.self.invariant.front_all in
+    let order = c.self.inside.fronts.items in
+    let head = c.args.first ++ c.args.second ++ c.args.third in
+    let listed : SameElements (numbers (length values)) order = c.self.invariant.front_all in
     let same = all_same values (numbers (length values)) order text k m listed f in
     subst (λ (vs : List Value). sum_by f (head ++ all_runs vs (numbers (length vs)) text k m) ≡ sum_by f (head ++ all_runs values order text k m)) c.self.view_is
     (omega (arith, same, sum_by-append f head (all_runs values (numbers (length values)) text k m), sum_by-append f head (all_runs values order text k m)))

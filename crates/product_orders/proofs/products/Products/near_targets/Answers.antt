@@ -18,4 +18,4 @@ pub returns-in-Na : goal.returns-in-Na
 returns-in-Na c =
     let values = c.args.self.now in
     tests_agree (λ n. near c.args.asked.now (value_at values n)) (λ n. in_run end.Front shape.Na [] false (value_at values n))
-    (λ n. ap (λ (v : Value). near v (value_at values n)) c.in-Na.is ∙ na_is (value_at values n)) (numbers (length values)) c.front_run.result.now c.front_run.ensures
+    (λ n. ap (λ (v : Value). near v (value_at values n)) c.in-Na.is ∙ na_is (value_at values n)) (numbers (length values)) c.front_run.result c.front_run.ensures

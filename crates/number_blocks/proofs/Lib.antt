@@ -1,0 +1,4 @@
+pub mod PartedLists
+pub mod Cuts
+pub mod BlockLemmas
+pub mod Halves

@@ -1,0 +1,21 @@
+use Rattle.std.proofs.Common.{true, false, List, sym, ap, subst, ◌∙◌, ◌<◌, length}
+use Rattle.number_blocks.specs.Blocks.{Numbers, AllAre}
+use Rattle.number_blocks.specs.Places.{Block, before, behind}
+use Rattle.number_blocks.proofs.BlockLemmas.{whole}
+use Rattle.number_blocks.proofs.blocks.Blocks.put.Goals as goal
+
+pub returns : goal.returns
+returns g c =
+    let p = g.T.Test.passes c.args.test.now in
+    let bs = c.self.inside.blocks.items in
+    let i = c.find-place.result.block in
+    let at = c.find-place.result.at in
+    let value = c.deref.ensures.value in
+    record {
+      front = before bs i at;
+      back = behind bs i at;
+      whole = ap (λ (n : Numbers). n.items) (sym c.self.view_is) ∙ whole bs i at (subst (λ (u : List Block). i < length u) value c.find-place.ensures.inside);
+      passing = subst (λ (u : List Block). AllAre p true (before u i at)) value c.find-place.ensures.passing;
+      failing = subst (λ (u : List Block). AllAre p false (behind u i at)) value c.find-place.ensures.failing;
+      put = c.put_at.ensures.put;
+    }

@@ -1,0 +1,88 @@
+// The list.
+ghost use Rattle.std.specs.Prelude.{◌≡◌, true, false, not, ◌&&◌, [], IsOk, OnOk, filter};
+ghost use Rattle.number_blocks.specs.Blocks.{IsParted, IsPut};
+
+use crate::piece::{Piece, all_of, piece_between};
+use crate::put::{BLOCK, put_at, put_first, take_spare};
+use crate::search::{Test, find};
+use std::alloc::{AllocError, Global};
+use std::marker::Model;
+
+/// A list of numbers. Contracts see it, and whether there is memory for one more.
+#[derive(Drop)]
+pub struct Blocks {
+    blocks: Vec<Vec<u32>>,
+    // An empty block, for the next one.
+    spare: Vec<u32>,
+}
+
+impl Model for Blocks {
+    ghost use Rattle.std.specs.Prelude.{◌≡◌, []};
+    ghost use Rattle.number_blocks.specs.Blocks.{Numbers};
+
+    ghost Value = { Numbers };
+
+    ghost use Rattle.number_blocks.specs.Places.{AreBlocks, numbers, has_room};
+
+    ghost view = { λ b. numbers b.blocks.items (has_room b.blocks b.spare) };
+
+    ghost invariant = { λ b. AreBlocks b.blocks.items × (b.spare.items ≡ []) };
+}
+
+impl Blocks {
+    /// No numbers. It takes no memory.
+    pub fn new(alloc: Global) -> Blocks
+        ensures { result.items ≡ [] }
+    {
+        Blocks {
+            blocks: Vec::new(alloc),
+            spare: Vec::new(alloc),
+        }
+    }
+
+    /// Takes the memory for one more number: a block of 4 KB, where none is spare.
+    ///
+    /// # Errors
+    /// Want of memory, where there was none for one more.
+    pub fn reserve(&mut self) -> Result<(), AllocError>
+        ensures items { self.new.items ≡ self.old.items }
+        ensures ready { OnOk result (self.new.ready ≡ true) }
+        ensures succeeds { self.old.ready ≡ true → IsOk result }
+    {
+        self.blocks.reserve(1)?;
+        self.spare.reserve_exact(BLOCK)
+    }
+
+    /// Puts a number behind those that pass the test, and before those that fail. It takes no memory.
+    pub fn put<T: Test>(&mut self, test: &T, number: u32)
+        requires ready { self.old.ready ≡ true }
+        requires parted { IsParted (T.passes test.now) self.old.items }
+        ensures { IsPut (T.passes test.now) number self.old.items self.new.items }
+    {
+        if self.blocks.is_empty() {
+            put_first(&mut self.blocks, take_spare(&mut self.spare), number);
+            return;
+        }
+        let place = find(&self.blocks, test);
+        put_at(&mut self.blocks, &mut self.spare, place, number);
+    }
+
+    /// All numbers.
+    pub fn all(&self) -> Piece<'_>
+        ensures { result ≡ self.now.items }
+    {
+        all_of(&self.blocks)
+    }
+
+    /// The numbers that fail the first test and pass the second, by a binary search for each. It takes no memory.
+    pub fn between<A: Test, B: Test>(&self, first: &A, second: &B) -> Piece<'_>
+        requires first { IsParted (A.passes first.now) self.now.items }
+        requires second { IsParted (B.passes second.now) self.now.items }
+        ensures { result ≡ filter (λ n. not (A.passes first.now n) && B.passes second.now n) self.now.items }
+    {
+        if self.blocks.is_empty() {
+            return Piece::none();
+        }
+        piece_between(&self.blocks, first, second)
+    }
+}

@@ -1,0 +1,15 @@
+//! A list of numbers in blocks, so that one more number moves 1,024 others at most, and the places of the blocks behind.
+//!
+//! Contracts see the list. Where a number goes, and which numbers are asked for, is told by a [`Test`] that holds of a front
+//! of the list: binary searches over the blocks and in one of them find where it ends. A [`Piece`] is a walk over numbers
+//! that stand side by side; it takes no memory.
+#![tactic(auto)]
+
+mod blocks;
+mod piece;
+mod put;
+mod search;
+
+pub use blocks::Blocks;
+pub use piece::Piece;
+pub use search::Test;
