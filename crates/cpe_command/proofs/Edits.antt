@@ -1,7 +1,7 @@
--- The lines of records change the rows by their edits alone.
+-- The lines of records change the rows by their edits alone, and may look as often as their queries.
 use Rattle.std.proofs.Common.{◌≡◌, ℕ, List, [], ◌∷◌, Some, None, Result, Ok, Err, ◌⊎◌, inl, inr, refl, ap}
 use Rattle.cpe_session.specs.Session.{state_of}
-use Rattle.cpe_session.specs.Folding.{ChangesBy}
+use Rattle.cpe_session.specs.Folding.{ChangesBy, CostsBy}
 use Rattle.cpe_rows.specs.Rows.{Rows}
 use Rattle.cpe_rows.specs.Step.{step}
 use Rattle.cpe_rows.specs.declared.edit.Edit as edit
@@ -13,6 +13,7 @@ use Rattle.cpe_members.specs.declared.member.RecordFault.{RecordFault}
 use Rattle.cpe_command.specs.declared.records.RecordCommand.{RecordCommand}
 use Rattle.cpe_command.specs.declared.records.RecordCommand.TheVariants.{Resolve, Evaluate}
 use Rattle.cpe_records.specs.Edited.{stepped, edited, line_edited}
+use Rattle.cpe_drill.specs.Costs.{line_cost}
 use Rattle.cpe_command.specs.Records.{edit_text, by_step, by_record, record_session}
 
 step_state : (rows : Rows) (text : Rows → List ℕ) (result : Result Rows EditFault) → state_of rows (by_step text result) ≡ stepped rows result
@@ -28,6 +29,11 @@ pub edits-lines : (command : RecordCommand) → ChangesBy (record_session comman
 edits-lines command rows number None = refl
 edits-lines command rows number (Some []) = refl
 edits-lines command rows number (Some (x ∷ xs)) = record_state command number rows (record_of (x ∷ xs))
+
+pub costs-lines : (command : RecordCommand) → CostsBy (record_session command) line_cost
+costs-lines command s None = refl
+costs-lines command s (Some []) = refl
+costs-lines command s (Some (x ∷ xs)) = refl
 
 -- two of the commands write nothing of an edit
 pub quiet_edit : (command : RecordCommand) (number : ℕ) (rows : Rows) (e : edit.Edit) → (command ≡ Resolve) ⊎ (command ≡ Evaluate)

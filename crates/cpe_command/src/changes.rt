@@ -2,7 +2,8 @@
 ghost use Rattle.std.specs.Prelude.{◌≡◌, ◌++◌, true, IfOk, OnOk};
 ghost use Rattle.std.specs.Option.{option_map};
 ghost use Rattle.std.specs.List.{flat_map};
-ghost use Rattle.cpe_session.specs.Pages.{IsSaid, StepsWithin};
+ghost use Rattle.cpe_steps.specs.Within.{StepsWithin};
+ghost use Rattle.cpe_session.specs.Pages.{IsSaid};
 ghost use Rattle.cpe_rows.specs.Step.{step};
 ghost use Rattle.cpe_rows.specs.Valid.{is_valid_edit};
 ghost use Rattle.cpe_replies.specs.Replies.{change_line, changed_id, dropped_id, id_at};

@@ -1,10 +1,12 @@
 // What a line of a record says.
 ghost use Rattle.std.specs.Prelude.{◌≡◌, ◌++◌, [], ℕ, List, true, None, IfOk};
 ghost use Rattle.std.specs.Option.{option_map};
-ghost use Rattle.cpe_session.specs.Pages.{IsSaid, StepsWithin};
+ghost use Rattle.cpe_steps.specs.Within.{StepsWithin};
+ghost use Rattle.cpe_session.specs.Pages.{IsSaid};
 ghost use Rattle.cpe_rows.specs.Step.{step};
 ghost use Rattle.cpe_rows.specs.Answers.{answer};
-ghost use Rattle.cpe_rows.specs.Valid.{is_valid_edit};
+ghost use Rattle.cpe_rows.specs.Valid.{is_valid_edit, is_valid_query};
+ghost use Rattle.cpe_engine.specs.Looks.{looks};
 ghost use Rattle.cpe_replies.specs.Replies.{reply_text};
 ghost use Rattle.cpe_replies.specs.Reasons.{reason_text};
 ghost use Rattle.cpe_command.specs.Records.{by_step, edit_text, record_session};
@@ -128,8 +130,9 @@ fn say_answer<L: Ledger>(
     query: Query,
     steps: &mut Steps<L>,
 ) -> Result<Option<RecordReason>, AllocError>
+    requires { is_valid_query query ≡ true }
     ensures said { IfOk result (λ refused. (refused ≡ None) × (page.new ≡ page.old ++ reply_text (answer engine.now query))) }
-    ensures counts { StepsWithin steps.old steps.new 0 }
+    ensures counts { StepsWithin steps.old steps.new (looks engine.now query) }
 {
     match engine.answer(alloc, query, steps) {
         Ok(reply) => {

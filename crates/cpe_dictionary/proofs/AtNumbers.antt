@@ -1,10 +1,9 @@
 -- Entries by their numbers, as a map by names keeps them.
-use Rattle.std.proofs.Common.{◌≡◌, ℕ, zero, suc, ◌+◌, ◌<◌, Bool, true, false, cond, not, List, [], ◌∷◌, ◌++◌, map, filter, length, drop, get_or, refl, sym, ap, ◌∙◌, append_assoc, position, slice_get, slice_set, arith}
+use Rattle.std.proofs.Common.{◌≡◌, ℕ, zero, suc, ◌+◌, Bool, true, false, cond, not, List, [], ◌∷◌, ◌++◌, map, filter, refl, sym, ap, ◌∙◌, append_assoc, position, slice_get, slice_set}
 use Rattle.std.specs.Prelude.{Option, Some, None, Result, Ok, Err, OnErr, is_none, is_some, option_map}
 use Rattle.std.specs.List.{position_from, cons_option}
 use Rattle.std.specs.Option.{option_map_or}
 use Rattle.std.specs.Map.{keys_of, values_of}
-use Rattle.std.proofs.Math.Seq.{drop-cons}
 use Rattle.std.proofs.lemmas.Option.{same_Some, slice_get-map}
 use Rattle.std.proofs.lemmas.Iterator.Adapters.{position_from-zero}
 use Rattle.indexmap.specs.IndexMap.{set_value_at}
@@ -71,12 +70,6 @@ module _ (deprecation : Option Deprecation) (note : Note) where
   written_at (e ∷ es) (suc k) d h = ap (λ (xs : List Entry). entry_from e ∷ xs) (written_at es k d h) ∙ further (entry_from e) k (map entry_from es)
 
 -- ---- numbers one after the other
-
-after_one : (i : ℕ) → suc i ≡ i + 1
-after_one i = omega arith
-
-pub item_first : {A : Type 0} (xs : List A) (i : ℕ) (d : A) → i < length xs → drop i xs ≡ get_or xs i d ∷ drop (i + 1) xs
-item_first xs i d lt = drop-cons xs i d lt ∙ ap (λ k. get_or xs i d ∷ drop k xs) (after_one i)
 
 module _ {B : Type 0} (of : Entry → List B) (join : List Entry → List B) (nothing : join [] ≡ []) (each : (e : Entry) (es : List Entry) → join (e ∷ es) ≡ of e ++ join es) where
   pub next_found : (es : List Entry) (done all : List B) (k : ℕ) (ks : List ℕ) (e : Entry) → slice_get es k ≡ Some e → done ++ join (entries_at es (k ∷ ks)) ≡ all → (done ++ of e) ++ join (entries_at es ks) ≡ all

@@ -1,19 +1,22 @@
 -- Entries found by their names.
-use Rattle.std.proofs.Common.{◌≡◌, List, [], ◌∷◌, ◌++◌, map, filter, find, length, not, suc, Bool, true, false, if◌then◌else◌, cond, ◌||◌, is_some, refl, ap, sym, ◌∙◌}
+use Rattle.std.proofs.Common.{◌≡◌, List, [], ◌∷◌, ◌++◌, map, filter, find, length, not, suc, Bool, true, false, if◌then◌else◌, cond, ◌&&◌, ◌||◌, is_some, refl, ap, sym, ◌∙◌}
 use Rattle.std.specs.Prelude.{Option, Some, None, is_none, option_map}
 use Rattle.std.specs.List.{list_any}
-use Rattle.std.specs.Map.{lookup, values_of}
+use Rattle.std.specs.Map.{keys_of, lookup, values_of}
 use Rattle.cpe_name.specs.declared.name.Values.{Values}
 use Rattle.cpe_name.specs.Equal.{same_name, same_name-Decides}
 use Rattle.cpe_rows.specs.Names.{is_same}
 use Rattle.cpe_rows.specs.Chains.{is_active}
 use Rattle.cpe_rows.specs.Rows.{is_named}
-use Rattle.cpe_rows.specs.Answers.{is_found, rows_found, row_of}
+use Rattle.cpe_rows.specs.Answers.{rows_found, row_of}
 use Rattle.cpe_rows.specs.declared.entry.Deprecation.{Deprecation}
 use Rattle.cpe_rows.specs.declared.entry.Entry.{Entry}
 use Rattle.cpe_rows.specs.declared.reply.Row.{Row}
 use Rattle.cpe_dictionary.specs.declared.kept.Details.{Details}
-use Rattle.cpe_dictionary.specs.Kept.{entry_from}
+use Rattle.cpe_relation.specs.NameRelation.{covers}
+use Rattle.names_by_product.specs.Places.{places_covered, rows_at}
+use Rattle.names_by_product.proofs.Rows.{covered_rows}
+use Rattle.cpe_dictionary.specs.Kept.{entry_from, is_wanted, names_of}
 
 abbrev Pairs : Type 0
 Pairs = List (Values × Details)
@@ -53,22 +56,42 @@ none_from (Some d) h = let wrong : ⊥ = cc in absurd wrong
 pub absent_by_name : (n : Values) (es : Pairs) → list_any (is_named n) (map entry_from es) ≡ false → lookup (same_name n) es ≡ None
 absent_by_name n es h = none_from (lookup (same_name n) es) (there_by_name n es ∙ h)
 
--- the row of one more entry, where it is found
-abbrev pub last_row : Values → Bool → Entry → List Row
-last_row n active_only e = if is_found n active_only e then row_of e ∷ [] else []
+-- ---- names
 
-front : (b : Bool) (e : Entry) (xs ys : List Entry) (zs : List Row) → map row_of xs ≡ map row_of ys ++ zs → map row_of (if b then e ∷ xs else xs) ≡ map row_of (if b then e ∷ ys else ys) ++ zs
-front true e xs ys zs h = ap (λ rs. row_of e ∷ rs) h
-front false e xs ys zs h = h
+pub names_are_keys : (es : Pairs) → keys_of es ≡ names_of (map entry_from es)
+names_are_keys [] = refl
+names_are_keys (e ∷ es) = ap (λ (ns : List Values). e.0 ∷ ns) (names_are_keys es)
 
-last_one : (b : Bool) (e : Entry) → map row_of (if b then e ∷ [] else []) ≡ (if b then row_of e ∷ [] else [])
-last_one true e = refl
-last_one false e = refl
+pub any_named : (n : Values) (es : List Entry) → list_any (same_name n) (names_of es) ≡ list_any (is_named n) es
+unfolding is_same
+any_named n [] = refl
+any_named n (e ∷ es) = ap (λ (b : Bool). same_name n e.name || b) (any_named n es)
 
-pub rows_found-snoc : (n : Values) (active_only : Bool) (es : List Entry) (e : Entry) → rows_found n active_only (es ++ e ∷ []) ≡ rows_found n active_only es ++ last_row n active_only e
-rows_found-snoc n active_only [] e = last_one (is_found n active_only e) e
-rows_found-snoc n active_only (x ∷ es) e =
-    front (is_found n active_only x) x (filter (is_found n active_only) (es ++ e ∷ [])) (filter (is_found n active_only) es) (last_row n active_only e) (rows_found-snoc n active_only es e)
+-- ---- what is found
+
+both_pass : (p q : Entry → Bool) (es : List Entry) → filter q (filter p es) ≡ filter (λ e. p e && q e) es
+both_pass p q [] = refl
+both_pass p q (e ∷ es) = by (p e) (both_pass p q es)
+  where
+    by : (b : Bool) → filter q (filter p es) ≡ filter (λ x. p x && q x) es → filter q (cond b (e ∷ filter p es) (filter p es)) ≡ cond (b && q e) (e ∷ filter (λ x. p x && q x) es) (filter (λ x. p x && q x) es)
+    by true h = ap (λ (xs : List Entry). cond (q e) (e ∷ xs) xs) h
+    by false h = h
+
+pub found_at : (n : Values) (active_only : Bool) (es : List Entry) → map row_of (filter (is_wanted active_only) (rows_at es (places_covered n (names_of es)))) ≡ rows_found n active_only es
+found_at n active_only es =
+    ap (λ (xs : List Entry). map row_of (filter (is_wanted active_only) xs)) (covered_rows (λ (e : Entry). e.name) n es)
+    ∙ ap (map row_of) (both_pass (λ (e : Entry). covers n e.name) (is_wanted active_only) es)
+
+-- the rows of those that are wanted
+abbrev pub wanted_rows : Bool → List Entry → List Row
+wanted_rows active_only es = map row_of (filter (is_wanted active_only) es)
+
+front : (b : Bool) (e : Entry) (xs : List Entry) → map row_of (cond b (e ∷ xs) xs) ≡ map row_of (cond b (e ∷ []) []) ++ map row_of xs
+front true e xs = refl
+front false e xs = refl
+
+pub wanted_rows-cons : (active_only : Bool) (e : Entry) (es : List Entry) → wanted_rows active_only (e ∷ es) ≡ wanted_rows active_only (e ∷ []) ++ wanted_rows active_only es
+wanted_rows-cons active_only e es = front (is_wanted active_only e) e (filter (is_wanted active_only) es)
 
 -- ---- how many are deprecated
 

@@ -6,4 +6,4 @@ pub mod SuccessorLemmas
 pub mod DictionaryLemmas
 pub mod PlanLemmas
 pub mod LeftLemmas
-pub mod LeadLemmas
+pub mod SourceLemmas

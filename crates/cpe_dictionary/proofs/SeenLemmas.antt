@@ -12,7 +12,7 @@ use Rattle.cpe_rows.specs.Faults.{place_of, repeated_from}
 use Rattle.cpe_rows.specs.Rows.{is_named}
 use Rattle.cpe_rows.specs.declared.entry.Entry.{Entry}
 use Rattle.numbered_entries.specs.Numbers.{numbers_of}
-use Rattle.cpe_dictionary.proofs.AtNumbers.{item_first}
+use Rattle.names_by_product.proofs.Rows.{item_first}
 
 -- ---- numbers that were seen
 

@@ -1,3 +1,4 @@
 pub mod Kept
 pub mod Causes
 pub mod Plans
+pub mod Sources

@@ -7,26 +7,32 @@ ghost use Rattle.deprecation_graph.specs.Faults.{change_fault};
 ghost use Rattle.deprecation_graph.specs.Graph.{IsChange};
 ghost use Rattle.numbered_entries.specs.Numbers.{nodes_of_entries};
 ghost use Rattle.cpe_dictionary.specs.Causes.{named_fault};
-ghost use Rattle.cpe_dictionary.specs.Kept.{rewritten, written};
+ghost use Rattle.cpe_name.specs.Lower.{IsLower};
+ghost use Rattle.cpe_steps.specs.Within.{StepsWithin};
+ghost use Rattle.names_by_product.specs.Places.{near_count};
+ghost use Rattle.cpe_dictionary.specs.Kept.{names_of, rewritten, written};
 ghost use Rattle.cpe_dictionary.specs.Plans.{IsAllowed, numbered};
 
 use crate::chain::{active_names_at, rows_at};
 use crate::kept::{
-    Details, count_deprecated, entry_of, find_details, has_name, number_of, put_last, rewrite,
-    state_of,
+    Details, add_by_product, count_deprecated, entry_of, find_details, has_name, number_of,
+    place_of, put_last, rewrite, state_of,
 };
 use crate::plans::Plan;
-use crate::search::rows_found;
+use crate::search::wanted_at;
 use cpe_name::Wfn;
 use cpe_rows::{
     Deprecation, EditFault, Entry, List, Note, Row, State, Which, absent_names_stand_alone,
 };
+use cpe_steps::Steps;
 use cpe_values::Memory;
 use deprecation_graph::{DeprecationGraph, GraphFault};
 use indexmap::IndexMap;
+use names_by_product::{NameList, NamesByProduct};
 use numbered_entries::{answers_by_number, changes_by_number, edits_by_number, limits_are_one};
 use std::alloc::Global;
 use std::marker::Model;
+use std::sync::ledger::Ledger;
 
 // No more entries are kept.
 const MOST_ENTRIES: usize = 2_000_000;
@@ -34,12 +40,14 @@ const MOST_ENTRIES: usize = 2_000_000;
 /// The entries of a dictionary. Contracts see them as the list of the entries in their order.
 ///
 /// They are found by the hashes of their names. Their deprecations are kept a second time by numbers: node k of the graph is
-/// entry k.
+/// entry k; and their names a second time by product.
 #[derive(Drop)]
 pub struct Dictionary {
     alloc: Global,
     pub(crate) entries: IndexMap<Wfn, Details>,
     pub(crate) graph: DeprecationGraph,
+    // The names of the entries: searches look at few of them.
+    by_product: NamesByProduct,
 }
 
 impl Model for Dictionary {
@@ -51,7 +59,21 @@ impl Model for Dictionary {
 
     ghost view = { λ d. map entry_from d.entries.entries };
 
-    ghost invariant = { λ d. IsKept (map entry_from d.entries.entries) d.graph.nodes };
+    ghost invariant = { λ d. IsKept (map entry_from d.entries.entries) d.graph.nodes d.by_product };
+}
+
+impl NameList for Dictionary {
+    ghost names = { names_of };
+
+    fn place_of(&self, name: &Wfn) -> Option<usize> {
+        place_of(&self.entries, name)
+    }
+
+    // That keys are different is told by any call of the map.
+    fn lawful(&self) {
+        let count = self.entries.len();
+        let _ = count;
+    }
 }
 
 impl Dictionary {
@@ -63,6 +85,7 @@ impl Dictionary {
             alloc,
             entries: IndexMap::new(alloc),
             graph: DeprecationGraph::new(alloc),
+            by_product: NamesByProduct::new(alloc),
         }
     }
 
@@ -158,19 +181,24 @@ impl Dictionary {
         }
     }
 
-    /// The entries that a name covers, in order; where asked, the active ones alone. It goes over all entries.
+    /// The entries that a name in lower case covers, in order; where asked, the active ones alone. A step is a look at the name of an
+    /// entry: it looks at most once at each to whose product that of the asked name is near, and at no other.
     ///
     /// # Errors
-    /// Want of memory alone.
-    pub fn rows_found(
+    /// Want of memory alone. The bound on steps holds then, too.
+    pub fn rows_found<L: Ledger>(
         &self,
         alloc: Global,
         asked: &Wfn,
         active_only: bool,
+        steps: &mut Steps<L>,
     ) -> Result<List<Row>, Memory>
-        ensures { IfOk result (λ rs. rs ≡ found asked.now active_only self.now) }
+        requires { IsLower asked.now }
+        ensures rows { IfOk result (λ rs. rs ≡ found asked.now active_only self.now) }
+        ensures steps { StepsWithin steps.old steps.new (near_count asked.now (names_of self.now)) }
     {
-        rows_found(alloc, &self.entries, asked, active_only)
+        let places = self.by_product.covered_places(alloc, self, asked, steps)?;
+        wanted_at(alloc, &self.entries, &places, active_only)
     }
 
     /// The entries of the chain of a name, and its ends. It searches the chain alone.
@@ -219,11 +247,12 @@ impl Dictionary {
         }
     }
 
-    /// Puts an active entry of a new name last. It is moved, not copied.
+    /// Puts an active entry of a new name last, which is in lower case. It is moved; its name is copied once.
     ///
     /// # Errors
     /// Want of memory alone; the entries are then as they were.
     pub fn add(&mut self, entry: Entry) -> Result<(), Memory>
+        requires lower { IsLower entry.name }
         requires absent { list_any (is_named entry.name) self.old ≡ false }
         requires active { is_active entry ≡ true }
         requires few { length self.old + 1 ≤ most Which.Entries }
@@ -235,11 +264,18 @@ impl Dictionary {
         changes_by_number();
         limits_are_one();
         if self.graph.reserve(1, 0).is_err() {
-            return Err(Memory);
+            return Err(let_go(entry, Memory));
         }
-        put_last(&mut self.entries, entry)?;
-        self.graph.add_node();
-        Ok(())
+        match add_by_product(&mut self.entries, &mut self.by_product, &entry.name) {
+            Ok(()) => {
+                if put_last(&mut self.entries, entry).is_err() {
+                    unreachable!();
+                }
+                self.graph.add_node();
+                Ok(())
+            }
+            Err(memory) => Err(let_go(entry, memory)),
+        }
     }
 
     /// Whether the entry of a number may be deprecated, with successors of these numbers, or with none of them be active.
@@ -303,6 +339,12 @@ impl Dictionary {
         self.graph.set_edges(plan.number, plan.next());
         Ok(())
     }
+}
+
+// Lets an entry go that memory was wanting for.
+fn let_go(entry: Entry, memory: Memory) -> Memory {
+    drop(entry);
+    memory
 }
 
 // A name that is no entry has no chain, and is its own end.

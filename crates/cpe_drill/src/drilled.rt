@@ -1,8 +1,10 @@
 // What records came to.
 ghost use Rattle.std.specs.Prelude.{◌≡◌, ◌+◌, Ok, OnOk, true};
-ghost use Rattle.cpe_session.specs.Pages.{StepsWithin};
-ghost use Rattle.cpe_rows.specs.Valid.{is_valid_edit};
+ghost use Rattle.cpe_steps.specs.Within.{StepsWithin};
+ghost use Rattle.cpe_rows.specs.Valid.{is_valid_edit, is_valid_query};
+ghost use Rattle.cpe_engine.specs.Looks.{looks};
 ghost use Rattle.cpe_records.specs.Reading.{record_of};
+ghost use Rattle.cpe_drill.specs.Costs.{record_cost};
 ghost use Rattle.cpe_drill.specs.Drill.{drilled};
 ghost use Rattle.cpe_drill.specs.Outcome.{found_by};
 
@@ -56,7 +58,7 @@ impl Drilled {
         steps: &mut Steps<L>,
     ) -> Result<(), AllocError>
         ensures outcome { OnOk result (self.new ≡ drilled self.old (record_of text.now)) }
-        ensures counts { StepsWithin steps.old steps.new 0 }
+        ensures counts { StepsWithin steps.old steps.new (record_cost self.old.engine (record_of text.now)) }
     {
         match read_record(alloc, text) {
             Ok(Record::Edit(edit)) => self.edit(edit, steps),
@@ -84,8 +86,9 @@ impl Drilled {
         query: Query,
         steps: &mut Steps<L>,
     ) -> Result<(), AllocError>
+        requires { is_valid_query query ≡ true }
         ensures outcome { OnOk result (self.new ≡ drilled self.old (Ok (Record.Query query))) }
-        ensures counts { steps.new ≡ steps.old }
+        ensures counts { StepsWithin steps.old steps.new (looks self.old.engine query) }
     {
         match self.engine.answer(alloc, query, steps) {
             Ok(reply) => self.find_in(reply),

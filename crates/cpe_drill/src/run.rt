@@ -5,6 +5,9 @@ ghost use Rattle.cpe_io.specs.Causes.{Rose};
 ghost use Rattle.cpe_session.specs.Ran.{Ran, Counted};
 ghost use Rattle.cpe_session.specs.Task.{Written};
 ghost use Rattle.cpe_rows.specs.Rows.{no_rows};
+ghost use Rattle.cpe_steps.specs.Within.{StepsWithin};
+ghost use Rattle.cpe_drill.specs.Costs.{record_cost};
+ghost use Rattle.cpe_drill.specs.Outcome.{summed};
 ghost use Rattle.cpe_drill.specs.Drill.{undrilled, drill_session, drill_transcript, LeavesRows};
 
 use crate::drilled::Drilled;
@@ -79,7 +82,7 @@ pub fn drill<K: Sink, L: Ledger>(
     requires few { count < 2 ^ 63 }
     ensures ran { (left : Option (List ℕ)) → Ran left left (K.held sink.old) (K.held sink.new) (Written (drill_transcript count))
         (λ taken status. LeavesRows count engine.new status) result }
-    ensures steps { steps.new ≡ steps.old }
+    ensures steps { StepsWithin steps.old steps.new (summed record_cost count) }
     ensures sink { Counted Status.WriteFault (K.faults sink.old) (K.faults sink.new) result }
     ensures read { ¬ (result ≡ Status.ReadFault) }
     ensures complete { ¬ Rose (K.faults sink.old) (K.faults sink.new) → (result ≡ Status.Done) ⊎ (result ≡ Status.Memory) }
@@ -107,7 +110,7 @@ fn drill_records<K: Sink, L: Ledger>(
     requires few { count < 2 ^ 63 }
     ensures ran { (left : Option (List ℕ)) → Ran left left (K.held sink.old) (K.held sink.new) (Written (drill_transcript count))
         (λ taken status. LeavesRows count drilled.new.engine status) result }
-    ensures steps { steps.new ≡ steps.old }
+    ensures steps { StepsWithin steps.old steps.new (summed record_cost count) }
     ensures sink { Counted Status.WriteFault (K.faults sink.old) (K.faults sink.new) result }
     ensures read { ¬ (result ≡ Status.ReadFault) }
     ensures complete { ¬ Rose (K.faults sink.old) (K.faults sink.new) → (result ≡ Status.Done) ⊎ (result ≡ Status.Memory) }

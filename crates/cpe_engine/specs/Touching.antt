@@ -15,11 +15,11 @@ abbrev pub fact_touched_by : Touch → Mode → Values → Bool
 fact_touched_by (touch.Item trails item names) Plain fact = covers fact item.now
 fact_touched_by (touch.Item trails item names) Follow fact = is_covering trails.now.0 trails.now.1 names fact
 fact_touched_by (touch.Check key) mode fact = false
-fact_touched_by (touch.Deprecation dictionary trails entry names) Plain fact = false
-fact_touched_by (touch.Deprecation dictionary trails entry names) Follow fact =
-    leads_to dictionary.now fact entry.now || is_covering trails.now.0 trails.now.1 names fact
+fact_touched_by (touch.Deprecation trails sources names) Plain fact = false
+fact_touched_by (touch.Deprecation trails sources names) Follow fact =
+    leads_to sources.now.0 fact sources.now.1 || is_covering trails.now.0 trails.now.1 names fact
 
 abbrev pub check_touched_by : Touch → CheckKey → Bool
 check_touched_by (touch.Item trails item names) key = false
 check_touched_by (touch.Check touched) key = same_key key touched.now
-check_touched_by (touch.Deprecation dictionary trails entry names) key = false
+check_touched_by (touch.Deprecation trails sources names) key = false

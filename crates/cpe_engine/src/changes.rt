@@ -18,7 +18,7 @@ use crate::trails::Trails;
 use cpe_changes::{
     checks_touch, deprecations_touch, entries_change_nothing, find_changes, items_touch,
 };
-use cpe_dictionary::{Plan, plans_lead};
+use cpe_dictionary::{Plan, Sources, plans_lead};
 use cpe_inventory::Names;
 use cpe_name::Wfn;
 use cpe_rows::{
@@ -170,54 +170,34 @@ impl Parts {
         let before = self.scene(&trails);
         let trails_after = Trails::after(&self.dictionary, plan);
         let after = self.scene(&trails_after);
+        let sources = self.dictionary.sources(alloc, name, plan.number)?;
         let touch = Touch::Deprecation {
-            dictionary: &self.dictionary,
             trails: &trails,
-            entry: name,
-            ends: self.ends_led(alloc, &trails, &trails_after, name)?,
+            sources: &sources,
+            ends: self.ends_led(alloc, &trails, &trails_after, &sources)?,
         };
         let mut prospect = Prospect::new(self, edit, before, after, touch);
         find_changes(alloc, self.statements.as_slice(), &mut prospect)
     }
 
-    // The ends, by both trails, of the items that lead to the entry of a name.
+    // The ends, by both trails, of the items that lead to an entry.
     fn ends_led(
         &self,
         alloc: Global,
         trails: &Trails,
         later: &Trails,
-        name: &Wfn,
+        sources: &Sources,
     ) -> Result<List<Wfn>, Memory>
         requires trails { trails.now.0 ≡ self.now.dictionary }
         requires later { later.now.0 ≡ self.now.dictionary }
-        ensures { IfOk result (λ ends. ends ≡ ends_led self.now.dictionary trails.now.1 later.now.1 self.now.items name.now) }
+        requires sources { sources.now.0 ≡ self.now.dictionary }
+        ensures { IfOk result (λ ends. ends ≡ ends_led self.now.dictionary trails.now.1 later.now.1 self.now.items sources.now.1) }
     {
         let mut ends = List::new(alloc);
         for item in self.items.as_slice() {
-            self.push_if_led(alloc, trails, later, name, item, &mut ends)?;
+            push_if_led(alloc, trails, later, sources, item, &mut ends)?;
         }
         Ok(ends)
-    }
-
-    // Puts the ends of one item last, if it leads there.
-    fn push_if_led(
-        &self,
-        alloc: Global,
-        trails: &Trails,
-        later: &Trails,
-        name: &Wfn,
-        item: &Wfn,
-        ends: &mut List<Wfn>,
-    ) -> Result<(), Memory>
-        requires trails { trails.now.0 ≡ self.now.dictionary }
-        requires later { later.now.0 ≡ self.now.dictionary }
-        ensures { OnOk result (ends.new ≡ ends.old ++ ends_if_led self.now.dictionary trails.now.1 later.now.1 name.now item.now) }
-    {
-        if self.dictionary.leads_to(alloc, item, name)? {
-            trails.push_ends(alloc, item, ends)?;
-            later.push_ends(alloc, item, ends)?;
-        }
-        Ok(())
     }
 
     // Of a statement that is put: it alone, without a verdict before.
@@ -247,6 +227,26 @@ impl Parts {
             None => Ok(List::new(alloc)),
         }
     }
+}
+
+// Puts the ends of one item last, if it leads there.
+fn push_if_led(
+    alloc: Global,
+    trails: &Trails,
+    later: &Trails,
+    sources: &Sources,
+    item: &Wfn,
+    ends: &mut List<Wfn>,
+) -> Result<(), Memory>
+    requires trails { trails.now.0 ≡ sources.now.0 }
+    requires later { later.now.0 ≡ sources.now.0 }
+    ensures { OnOk result (ends.new ≡ ends.old ++ ends_if_led sources.now.0 trails.now.1 later.now.1 sources.now.1 item.now) }
+{
+    if sources.has(item) {
+        trails.push_ends(alloc, item, ends)?;
+        later.push_ends(alloc, item, ends)?;
+    }
+    Ok(())
 }
 
 fn one_change(

@@ -2,11 +2,16 @@
 ghost use Rattle.std.specs.Prelude.{◌≡◌, IfOk, true};
 ghost use Rattle.cpe_rows.specs.Prelude.{answer, Applied, changes, is_valid_edit, IsLawful, no_rows};
 ghost use Rattle.cpe_rows.specs.Counts.{counts_of};
+ghost use Rattle.cpe_rows.specs.Names.{is_lower};
+ghost use Rattle.cpe_rows.specs.Valid.{is_valid_query};
+ghost use Rattle.cpe_steps.specs.Within.{StepsWithin};
+ghost use Rattle.cpe_engine.specs.Looks.{looks};
 
 use crate::parts::Parts;
 use cpe_name::Wfn;
 use cpe_rows::{
-    Changed, Counts, Edit, EditFault, List, Query, Reply, Statement, Text, rows_stay_lawful,
+    Changed, Counts, Edit, EditFault, List, Query, Reply, Statement, Text, names_are_equal,
+    rows_stay_lawful,
 };
 use cpe_steps::Steps;
 use cpe_values::Memory;
@@ -78,7 +83,7 @@ impl Engine {
     }
 
     /// Makes an edit, and doesn't tell which verdicts it changes, so it evaluates nothing: the rows are then those that it leaves.
-    /// What it brings is moved in, not copied. It takes no step.
+    /// What it brings is moved in; the name of an entry or of an item is copied once besides. It takes no step.
     ///
     /// The edit is in order ([`Edit::valid`]), so the rows stay lawful ([`rows_stay_lawful`]).
     ///
@@ -120,7 +125,11 @@ impl Engine {
     }
 
     /// The answer to a query. That there is no entry or statement of a name or id is an answer too. The name or id is moved
-    /// into it. It takes no step.
+    /// into it. A step is a look at a name through an index: a search takes at most as many as there are entries to whose product
+    /// the asked one is near, a query for items as many as there are items so, and each other query none. A verdict compares the
+    /// items themselves, which is no step.
+    ///
+    /// The query is in order ([`Query::valid`]).
     ///
     /// # Errors
     /// Want of memory alone.
@@ -130,14 +139,14 @@ impl Engine {
         query: Query,
         steps: &mut Steps<L>,
     ) -> Result<Reply, Memory>
+        requires { is_valid_query query ≡ true }
         ensures answer { IfOk result (λ r. r ≡ answer self.now query) }
-        ensures counts { steps.new ≡ steps.old }
+        ensures steps { StepsWithin steps.old steps.new (looks self.now query) }
     {
-        let _ = steps;
         match query {
             Query::Lookup(name) => Ok(self.lookup(name)),
-            Query::Search { name, active_only } => self.search(alloc, name, active_only),
-            Query::Items(name) => self.items_covered(alloc, name),
+            Query::Search { name, active_only } => self.search(alloc, name, active_only, steps),
+            Query::Items(name) => self.items_covered(alloc, name, steps),
             Query::Chain(name) => self.chain(alloc, name),
             Query::Show(name) => self.show(alloc, name),
             Query::Verdict(id) => self.verdict_of(alloc, id),
@@ -160,19 +169,40 @@ impl Engine {
         }
     }
 
-    fn search(&self, alloc: Global, name: Wfn, active_only: bool) -> Result<Reply, Memory>
-        ensures { IfOk result (λ r. r ≡ answer self.now (Query.Search name active_only)) }
+    fn search<L: Ledger>(
+        &self,
+        alloc: Global,
+        name: Wfn,
+        active_only: bool,
+        steps: &mut Steps<L>,
+    ) -> Result<Reply, Memory>
+        requires { is_lower name ≡ true }
+        ensures answer { IfOk result (λ r. r ≡ answer self.now (Query.Search name active_only)) }
+        ensures steps { StepsWithin steps.old steps.new (looks self.now (Query.Search name active_only)) }
     {
-        match self.parts.dictionary.rows_found(alloc, &name, active_only) {
+        names_are_equal();
+        match self
+            .parts
+            .dictionary
+            .rows_found(alloc, &name, active_only, steps)
+        {
             Ok(rows) => Ok(Reply::Search { name, rows }),
             Err(memory) => Err(let_go(name, memory)),
         }
     }
 
-    fn items_covered(&self, alloc: Global, name: Wfn) -> Result<Reply, Memory>
-        ensures { IfOk result (λ r. r ≡ answer self.now (Query.Items name)) }
+    fn items_covered<L: Ledger>(
+        &self,
+        alloc: Global,
+        name: Wfn,
+        steps: &mut Steps<L>,
+    ) -> Result<Reply, Memory>
+        requires { is_lower name ≡ true }
+        ensures answer { IfOk result (λ r. r ≡ answer self.now (Query.Items name)) }
+        ensures steps { StepsWithin steps.old steps.new (looks self.now (Query.Items name)) }
     {
-        match self.parts.items.covered(alloc, &name) {
+        names_are_equal();
+        match self.parts.items.covered(alloc, &name, steps) {
             Ok(rows) => Ok(Reply::Items { name, rows }),
             Err(memory) => Err(let_go(name, memory)),
         }

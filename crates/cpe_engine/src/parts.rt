@@ -10,7 +10,9 @@ use crate::checked::Checked;
 use cpe_dictionary::{Dictionary, Plan};
 use cpe_inventory::{Checks, Items, Statements, check_fault, item_fault, statement_fault};
 use cpe_name::Wfn;
-use cpe_rows::{Date, Deprecation, Edit, EditFault, Note, NoteKind, Text, rows_stay_lawful};
+use cpe_rows::{
+    Date, Deprecation, Edit, EditFault, Note, NoteKind, Text, names_are_equal, rows_stay_lawful,
+};
 use cpe_values::Memory;
 use numbered_entries::edits_by_number;
 use std::alloc::Global;
@@ -104,6 +106,7 @@ impl Parts {
         ensures weight { self.new.weight ≡ self.old.weight }
         ensures err { OnErr result (self.new ≡ self.old) }
     {
+        names_are_equal();
         match edit {
             Edit::Entry(entry) => self.dictionary.add(entry),
             Edit::Item(name) => self.items.add(name),

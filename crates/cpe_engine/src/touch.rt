@@ -1,7 +1,7 @@
 // Which facts and checks an edit touches.
 use crate::trails::Trails;
 use cpe_changes::Touched;
-use cpe_dictionary::Dictionary;
+use cpe_dictionary::Sources;
 use cpe_name::Wfn;
 use cpe_relation::covers;
 use cpe_rows::{CheckKey, List, Mode};
@@ -21,9 +21,8 @@ pub(crate) enum Touch<'e> {
     Check(&'e CheckKey),
     /// Facts that are followed and lead to the entry whose deprecation changes, or of which an end covers one of these names.
     Deprecation {
-        dictionary: &'e Dictionary,
         trails: &'e Trails<'e>,
-        entry: &'e Wfn,
+        sources: &'e Sources<'e>,
         ends: List<Wfn>,
     },
 }
@@ -43,14 +42,13 @@ impl Touched for Touch<'_> {
             }
             (
                 Touch::Deprecation {
-                    dictionary,
                     trails,
-                    entry,
+                    sources,
                     ends,
                 },
                 Mode::Follow,
             ) => {
-                if dictionary.leads_to(alloc, name, entry)? {
+                if sources.has(name) {
                     return Ok(true);
                 }
                 trails.is_covering(alloc, name, ends.as_slice())

@@ -1,7 +1,9 @@
 //! What an inventory keeps beside a dictionary: its items, applicability statements (NIST IR 7698), and the results of checks.
 //!
 //! Each keeps its rows in the order in which they came, and finds them by their hashes: the cost of putting and of finding a
-//! row is the same whatever the number of rows. Taking a row out closes up those behind it, and costs as much as they are many.
+//! row is the same whatever the number of rows, but for the place of an item's product that is new. Taking a row out closes up those
+//! behind it, and costs as much as they are many, for an item also as much as those of its product are. Items stand by product a
+//! second time, so that a search looks at few of them.
 #![tactic(auto)]
 
 mod checks;

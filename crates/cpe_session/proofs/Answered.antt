@@ -7,7 +7,8 @@ use Rattle.cpe_session.specs.declared.status.Status.{Status}
 use Rattle.cpe_session.specs.declared.status.Status.TheVariants as status
 use Rattle.cpe_session.specs.Session.{Session, Stage, next_writes, after_next, start, after, out_from, next_cost, costs, total_cost}
 use Rattle.cpe_session.specs.Task.{Transcript, speech, spoken}
-use Rattle.cpe_session.specs.Pages.{Pours, Finishes, StepsWithin}
+use Rattle.cpe_steps.specs.Within.{StepsWithin}
+use Rattle.cpe_session.specs.Pages.{Pours, Finishes}
 use Rattle.cpe_session.specs.Ran.{ReachedBy, StateAt}
 use Rattle.cpe_session.specs.Statuses.{status_of}
 use Rattle.cpe_session.proofs.SessionLemmas.{after-append, out_from-append, costs-append, number-after}

@@ -1,4 +1,6 @@
 // An inventory that is edited, and verdicts over it.
+ghost use Rattle.std.specs.Prelude.{◌≡◌, ◌<◌};
+
 use crate::calls::{has_fs, of_either};
 use cpe_inventory::{
     Checks, Items, Names, Results, Statements, check_fault, item_fault, plain_verdict,
@@ -6,8 +8,11 @@ use cpe_inventory::{
 };
 use cpe_name::Wfn;
 use cpe_rows::{CheckKey, EditFault, List, Mode, Operator, Statement, Test, Text, Truth};
+use cpe_steps::Steps;
 use cpe_values::Memory;
 use std::alloc::Global;
+use std::marker::Brand;
+use std::sync::ledger::{Blank, Ledger};
 
 fn is_none(fault: Option<EditFault>) -> bool {
     match fault {
@@ -24,7 +29,7 @@ fn has_fault(items: &Items, name: &Wfn) -> bool {
 }
 
 fn add(items: &mut Items, name: Wfn) -> bool {
-    if items.has(&name) || has_fault(items, &name) {
+    if !name.is_lower() || items.has(&name) || has_fault(items, &name) {
         drop(name);
         return false;
     }
@@ -63,9 +68,21 @@ fn number_of(found: Result<List<Wfn>, Memory>) -> Option<usize> {
     }
 }
 
+fn number_over<L: Ledger>(alloc: Global, items: &Items, name: &Wfn, blank: Blank) -> Option<usize>
+    requires name { blank.name ≡ L.name }
+    requires parts { blank.parts ≡ L.parts }
+    requires some { 0 < blank.parts }
+{
+    let mut steps = Steps::<L>::new(blank);
+    if !name.is_lower() {
+        return None;
+    }
+    number_of(items.covered(alloc, name, &mut steps))
+}
+
 fn number_covered(alloc: Global, items: &Items, name: &[u8]) -> Option<usize> {
     let name = of_either(alloc, name)?;
-    let number = number_of(items.covered(alloc, &name));
+    let number = number_over::<Brand>(alloc, items, &name, Blank::new(1));
     drop(name);
     number
 }
@@ -82,6 +99,7 @@ fn items_close_up(rt: HostRuntime) {
     assert!(rt; number_covered(alloc, &items, b"cpe:/a:v:p") == Some(2));
     assert!(rt; drops(alloc, &mut items, b"cpe:/a:v:p:1"));
     assert!(rt; !drops(alloc, &mut items, b"cpe:/a:v:p:1"));
+    assert!(rt; number_covered(alloc, &items, b"cpe:/a:v:p") == Some(1));
     assert!(rt; items.len() == 2);
     assert!(rt; stands_at(alloc, items.as_slice(), 0, b"cpe:2.3:a:v:p:2:*:*:*:*:*:*:*"));
     assert!(rt; stands_at(alloc, items.as_slice(), 1, b"cpe:2.3:a:v:q:*:*:*:*:*:*:*:*"));

@@ -1,13 +1,14 @@
-use Rattle.std.proofs.Common.{◌≡◌, ◌⊎◌, None, refl, ap, ◌∙◌, subst, arith}
+use Rattle.std.proofs.Common.{◌≡◌, ◌⊎◌, None, ap, ◌∙◌, subst, arith}
 use Rattle.cpe_session.specs.declared.status.Status.TheVariants.{Memory}
 use Rattle.cpe_session.specs.Ran.{Ran, ReachedBy}
+use Rattle.cpe_session.specs.Session.{total_cost}
 use Rattle.cpe_session.specs.Table.{made_lines}
 use Rattle.cpe_session.specs.Task.{Transcript, Written, speech, spoken}
-use Rattle.cpe_session.proofs.Runs.{Ran-besides, total_cost-none}
+use Rattle.cpe_session.proofs.Runs.{Ran-besides}
 use Rattle.cpe_drill.specs.declared.drilled.Drilled.{Drilled}
 use Rattle.cpe_drill.specs.Generated.{generated}
 use Rattle.cpe_drill.specs.Drill.{undrilled, drill_session}
-use Rattle.cpe_drill.proofs.DrillLemmas.{drill_is_spoken, drill-leaves}
+use Rattle.cpe_drill.proofs.DrillLemmas.{drill_is_spoken, drill-leaves, drill_cost}
 use Rattle.cpe_drill.proofs.run.drill_records.Goals as goal
 
 pub returns-clause-ran : goal.returns-clause-ran
@@ -22,11 +23,11 @@ returns-clause-ran g c = λ left.
     (drill_is_spoken c.args.count) ran)
     (λ taken reached. drill-leaves c.args.count c.answer_made.new.state c.answer_made.result reached)
 
--- no record takes a step
 pub returns-clause-steps : goal.returns-clause-steps
 returns-clause-steps g c =
     let reached = (c.answer_made.ensures.ran None).besides in
-    omega (arith, reached.later, reached.within, total_cost-none (drill_session c.args.count) c.args.drilled.now (λ before number text. refl) (λ behind. refl) (made_lines generated c.args.count))
+    let cost = ap (λ (first : Drilled). total_cost (drill_session c.args.count) first (made_lines generated c.args.count)) c.requires.fresh in
+    (reached.later, omega (arith, reached.within, cost, drill_cost c.args.count))
 
 pub returns-clause-complete : goal.returns-clause-complete
 returns-clause-complete g c = λ none.

@@ -16,7 +16,7 @@ invariant_of-self-2 c =
     let note = c.args.note in
     let xs = map entry_from c.self.inside.entries.entries in
     let back = sym c.self.view_is in
-    kept_change xs (map entry_from c.rewrite.new.entries.entries) c.self.inside.graph.nodes c.set_edges.new.self.nodes k d note next c.changes_by_number.ensures.changes c.self.invariant
+    kept_change c.self.inside.by_product xs (map entry_from c.rewrite.new.entries.entries) c.self.inside.graph.nodes c.set_edges.new.self.nodes k d note next c.changes_by_number.ensures.changes c.self.invariant
     (subst (λ (es : List Entry). k < length (nodes_of_entries es)) back c.requires.allowed.change.names.node)
     (subst (λ (es : List Entry). next ≡ numbered es d) back c.requires.numbers)
     (subst (λ (es : List Entry). IsDictionary (written (rewritten d note) k es)) back c.requires.lawful)

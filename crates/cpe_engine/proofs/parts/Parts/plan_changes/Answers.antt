@@ -40,8 +40,9 @@ new-prospect-requires-clause-touch c =
     let left = leaves rows c.edits_by_number.ensures.writes e p n c.requires.changed (subst (λ (o : Option Plan). IsPlanned rows.entries e o) c.in-Some.is c.requires.planned) in
     let trails = c.trails-trails.ensures in
     let later = c.after-trails_after.ensures in
+    let from = c.in_ok-sources.ensures in
     let names = c.in_ok-ends_led.ensures
-    ∙ (λ i. ends_led rows.entries (trails i).1 (later i).1 rows.items n)
+    ∙ (λ i. ends_led rows.entries (trails i).1 (later i).1 rows.items (from i).1)
     ∙ ends_are_touched rows next p n (λ m. c.plans_lead.ensures rows.entries next.entries p m c.requires.accepted.lawful.dictionary.names_differ left.allowed left.left) in
     plan_keeps rows next (c.deprecations_touch.ensures.items rows e n c.requires.changed) (c.deprecations_touch.ensures.checks rows e n c.requires.changed) n _
-    (λ f m. c.deprecations_touch.ensures.facts rows e n f m c.requires.changed) (λ f. refl) (λ f. λ i. leads_to rows.entries f n || is_covering (trails i).0 (trails i).1 (names i) f)
+    (λ f m. c.deprecations_touch.ensures.facts rows e n f m c.requires.changed) (λ f. refl) (λ f. λ i. leads_to (from i).0 f (from i).1 || is_covering (trails i).0 (trails i).1 (names i) f)

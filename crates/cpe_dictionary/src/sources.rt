@@ -1,0 +1,98 @@
+// The entries from which deprecations lead to an entry.
+ghost use Rattle.std.specs.Prelude.{◌≡◌, ◌↔◌, IfOk, IsTrue, Some, position};
+ghost use Rattle.std.specs.List.{Contains};
+ghost use Rattle.std.specs.List.Sorted.{IsStrictlyIncreasing};
+ghost use Rattle.cpe_rows.specs.Prelude.{is_named, leads_to};
+ghost use Rattle.cpe_dictionary.specs.Sources.{AreSourcesOf};
+
+use crate::dictionary::Dictionary;
+use cpe_name::Wfn;
+use cpe_rows::absent_names_stand_alone;
+use cpe_values::Memory;
+use deprecation_graph::chains_are_paths;
+use numbered_entries::{chains_by_number, entries_are_numbered};
+use std::alloc::Global;
+use std::marker::Model;
+
+/// The entries from which deprecations lead to an entry: itself, and those whose chain has it. Contracts see them as the entries of the
+/// dictionary and the name of that one.
+#[derive(Drop)]
+pub struct Sources<'d> {
+    dictionary: &'d Dictionary,
+    entry: &'d Wfn,
+    numbers: Vec<u32>,
+}
+
+impl<'d> Model for Sources<'d> {
+    ghost use Rattle.std.specs.Prelude.{List};
+    ghost use Rattle.cpe_name.specs.declared.name.Values.{Values};
+    ghost use Rattle.cpe_rows.specs.declared.entry.Entry.{Entry};
+    ghost use Rattle.cpe_dictionary.specs.Sources.{AreSourcesOf};
+
+    ghost Value = { List Entry × Values };
+
+    ghost view = { λ s. (s.dictionary.now, s.entry.now) };
+
+    ghost invariant = { λ s. AreSourcesOf s.dictionary.now s.entry.now s.numbers.items };
+}
+
+// Whether a number is one of these, which rise.
+fn has_number(numbers: &[u32], number: u32) -> bool
+    requires { IsStrictlyIncreasing numbers.now }
+    ensures { IsTrue result ↔ Contains numbers.now number }
+{
+    match numbers.binary_search(&number) {
+        Ok(_) => true,
+        Err(_) => false,
+    }
+}
+
+impl Dictionary {
+    /// The entries from which deprecations lead to the one of this name and number. It searches the graph backwards, and costs these
+    /// entries and the edges that lead to them.
+    ///
+    /// # Errors
+    /// Want of memory alone.
+    pub fn sources<'d>(
+        &'d self,
+        alloc: Global,
+        entry: &'d Wfn,
+        number: u32,
+    ) -> Result<Sources<'d>, Memory>
+        requires { position (is_named entry.now) self.now ≡ Some number }
+        ensures { IfOk result (λ s. s ≡ (self.now, entry.now)) }
+    {
+        chains_by_number();
+        entries_are_numbered();
+        chains_are_paths();
+        match self.graph.sources(alloc, number) {
+            Ok(numbers) => Ok(Sources {
+                dictionary: self,
+                entry,
+                numbers,
+            }),
+            Err(_) => Err(Memory),
+        }
+    }
+}
+
+impl Sources<'_> {
+    /// Their numbers, rising.
+    pub fn numbers(&self) -> &[u32]
+        ensures { AreSourcesOf self.now.0 self.now.1 result.now }
+    {
+        &self.numbers
+    }
+
+    /// Whether deprecations lead from this name to the entry: from a name that is no entry they lead nowhere. The name is found by its
+    /// hash, and nothing is searched anew.
+    pub fn has(&self, name: &Wfn) -> bool
+        ensures { result ≡ leads_to self.now.0 name.now self.now.1 }
+    {
+        absent_names_stand_alone();
+        match self.dictionary.number_of(name) {
+            Some(number) => has_number(&self.numbers, number),
+            None => false,
+        }
+    }
+}
