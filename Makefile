@@ -51,6 +51,7 @@ install: build
 
 bench: need_python3 build
 	python3 bench/run.py build/cpe
+	python3 bench/index.py build/cpe
 
 clean:
 	rm -rf build crates/*/out

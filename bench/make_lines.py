@@ -26,6 +26,7 @@ pair-equal   the same of bytes that are all equal but the last of the part, whic
              in the product: the worst for a search that tries each place
 entry        records of `resolve` that add an entry each: names of the sample and, behind them, the
              same names in other versions, no two alike; a third of them with a provenance
+new-product  such records, the product of each another one, of letters and digits
 asked        as many such records, and then 1,000 lookups and 1,000 shows of these names and of others
 searched     as many such records, and then 100 searches
 asked-often  as many such records, and then 60,000 lines: one third each is a lookup, a show, and an
@@ -69,6 +70,7 @@ URI_PREFIX = b"cpe:/"
 URI_SPOILERS = (b"!", b"/", b"*", b"\\", b" ", b"\x7f", b"\xc3\xa9")
 # No character and no special has one of these percent forms.
 FORM_FAULTS = (b"%41", b"%5f", b"%30", b"%00", b"%7f", b"%80", b"%2g", b"%g1", b"%%21")
+LETTERS = b"abcdefghijklmnopqrstuvwxyz0123456789"
 ATTRIBUTES = b"part vendor product version update edition language sw_edition target_sw target_hw other".split()
 # None of these stands between the quotes of a value, behind a whole character.
 QUOTE_FAULTS = (b".", b"-", b"!", b'"', b"\\a", b"\\_", b" ", b"\x7f", b"\xc3\xa9")
@@ -390,6 +392,19 @@ def entry_lines(count):
     return [entry(draw, it, number) for number, it in enumerate(entry_names(draw, count))]
 
 
+def in_new_product(draw, name):
+    """The name with letters and digits for its product, as many as that has, and eight at least."""
+    components = components_of(name)
+    components[2] = bytes(draw.one_of(LETTERS) for _ in range(max(8, len(components[2]))))
+    return PREFIX + b":".join(components)
+
+
+def new_product_lines(count):
+    draw = Draw()
+    for number, name in enumerate(entry_names(draw, count)):
+        yield entry(draw, in_new_product(draw, name), number)
+
+
 def asked_name(draw, names):
     """A name that is an entry's, or in one of eight cases another version of it; in either binding."""
     name = draw.one_of(names)
@@ -698,6 +713,7 @@ MODES = {
     "pair-long": long_pair_lines,
     "pair-equal": equal_pair_lines,
     "entry": entry_lines,
+    "new-product": new_product_lines,
     "asked": asked_lines,
     "searched": searched_lines,
     "asked-often": often_asked_lines,

@@ -53,15 +53,15 @@ def is_older(path, *sources):
     return not path.exists() or any(path.stat().st_mtime < it.stat().st_mtime for it in sources)
 
 
-def built_twins():
-    """The twins by name, compiled where their source is newer; none where there is no rustc."""
+def built_twins(names):
+    """These twins by name, compiled where their source is newer; none where there is no rustc."""
     if not shutil.which("rustc"):
         print("rustc is not on PATH: the twins are left out")
         return {}
     BUILD.mkdir(parents=True, exist_ok=True)
     found = {}
     readers = list((HERE / "twins").glob("reading_*.rs"))
-    for name in [*TWINS[UNBIND], *BIND_TWINS, *TWINS[COMPARE], *TWINS[RESOLVE], *COPIES]:
+    for name in names:
         source, program = HERE / "twins" / f"{name}.rs", BUILD / name
         if is_older(program, source, *readers):
             # (the processor that Rattle builds for, too)
@@ -137,26 +137,36 @@ def waiting(pipe):
     return struct.unpack("i", fcntl.ioctl(pipe, termios.FIONREAD, b"\0" * 4))[0]
 
 
+def rest(child):
+    """Waits until the program has taken all that stands in its input, and is done with it."""
+    while waiting(child.stdin) and child.poll() is None:
+        time.sleep(0.001)
+    time.sleep(0.05)
+
+
+def most_held(child):
+    """The kernel's mark of the most memory that this process held at once, in KiB, or None where there is none."""
+    found = re.search(r"VmHWM:\s+(\d+) kB", pathlib.Path(f"/proc/{child.pid}/status").read_text())
+    return int(found.group(1)) if found else None
+
+
 def peak(words, path):
     """The most memory that the program held at once, in KiB, or None where the system doesn't tell.
 
-    The kernel's mark of the process itself is read, when it has taken all input and before it
-    sees the end. (What wait4 tells of a child begins with what this script holds.)
+    It is asked when the program has taken all input and before it sees the end. (What wait4 tells
+    of a child begins with what this script holds.)
     """
     child = subprocess.Popen(words, stdin=subprocess.PIPE, stdout=subprocess.DEVNULL)
     try:
         with open(path, "rb") as source:
             shutil.copyfileobj(source, child.stdin, PIECE)
         child.stdin.flush()
-        while waiting(child.stdin) and child.poll() is None:
-            time.sleep(0.001)
-        time.sleep(0.05)
-        found = re.search(r"VmHWM:\s+(\d+) kB", pathlib.Path(f"/proc/{child.pid}/status").read_text())
+        rest(child)
+        return most_held(child)
     except OSError:
-        found = None
+        return None
     finally:
         child.communicate()
-    return int(found.group(1)) if found else None
 
 
 def in_kib(number):
@@ -363,7 +373,7 @@ def said():
 
 def main():
     given = said()
-    others = built_twins()
+    others = built_twins([*TWINS[UNBIND], *BIND_TWINS, *TWINS[COMPARE], *TWINS[RESOLVE], *COPIES])
     if shutil.which("jq"):
         others[JQ] = JQ.split()
     parts = list(parts_of(given.program.resolve(), others, given.lines))

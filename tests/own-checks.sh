@@ -861,6 +861,93 @@ checks_of_evaluate() {
     fails_on_closed_streams examples/inventory.jsonl evaluate
 }
 
+# Names of products of one to five characters out of four, a capital letter and a quoted asterisk among them, in two versions; of
+# three vendors in turn.
+names_of_short_products() {
+    awk '
+        BEGIN {
+            split("a B 7 \\*", piece, " ")
+            split("acme nova zeta", vendor, " ")
+            for (length_of = 1; length_of <= 5; length_of++) add("", length_of)
+        }
+        function add(body, left,    i) {
+            if (left == 0) {
+                for (i = 1; i <= 2; i++) print "cpe:2.3:a:" vendor[++n % 3 + 1] ":" body ":" i ":*:*:*:*:*:*:*"
+                return
+            }
+            for (i = 1; i <= 4; i++) add(body piece[i], left - 1)
+        }' < /dev/null
+}
+
+# Names that ask for products of every shape: ANY, NA, and bodies between each two edges, capital letters and quoted asterisks among
+# them, one body longer than every product; a third of them ask for one version.
+names_that_ask() {
+    awk '
+        BEGIN {
+            split("a B 7 \\* ab bA a7 \\*\\* 7b aba b\\*a ababab abab B7A7 \\*a\\*b bbbb ababa a.a", body, " ")
+            split("none * ? ??", edge, " ")
+            edge[1] = ""
+            ask("*")
+            ask("-")
+            for (b = 1; b in body; b++) for (i = 1; i <= 4; i++) for (j = 1; j <= 4; j++) ask(edge[i] body[b] edge[j])
+        }
+        function ask(product) { print "cpe:2.3:a:*:" product ":" (++n % 3 ? "*" : "2") ":*:*:*:*:*:*:*" }' < /dev/null
+}
+
+# as_records WORD [MORE]: each name as a record of this kind.
+as_records() { sed -e 's/\\/\\\\/g' -e "s/.*/{\"do\":\"$1\",\"name\":\"&\"${2-}}/"; }
+
+# Searches, those for active entries alone, and questions for items find what comparisons with all names find. Each fifth name is
+# deprecated. Items are those whose product begins with the letter a, so that all items with a text begin with a body that is asked
+# for; and two more, of any product and of none.
+finds_what_comparisons_find() {
+    what='searches and items beside comparisons with all names'
+    needs "$what" awk paste || return
+    names_of_short_products > "$room/names"
+    names_that_ask > "$room/asked"
+    awk -F : '$5 ~ /^a/' "$room/names" > "$room/items"
+    printf 'cpe:2.3:a:acme:*:2:*:*:*:*:*:*:*\ncpe:2.3:a:nova:-:2:*:*:*:*:*:*:*\n' >> "$room/items"
+    {
+        as_records entry < "$room/names"
+        as_records item < "$room/items"
+        awk 'NR % 5 == 0' "$room/names" | as_records deprecate ',"kind":"NAME_REMOVAL","date":"2024-01-01"'
+        as_records search < "$room/asked"
+        as_records search ',"active":true' < "$room/asked"
+        as_records items < "$room/asked"
+    } > "$room/questions"
+    for kept in names items; do
+        awk 'NR == FNR { name[++n] = $0; next } { for (i = 1; i <= n; i++) print $0 " " name[i] }' "$room/$kept" "$room/asked" > "$room/pairs"
+        limited "$program" compare < "$room/pairs" | cut -d ' ' -f 1 | paste -d ' ' - "$room/pairs" > "$room/compared.$kept"
+    done
+    {
+        for word in search active; do
+            answers_by_comparison "$word" names
+        done
+        answers_by_comparison items items
+    } > "$room/wanted"
+    limited "$program" resolve < "$room/questions" > "$room/out" 2> "$room/error"
+    judge "$what" $? 0 "$room/wanted"
+}
+
+# answers_by_comparison WORD KEPT: what the questions answer, by the relations of each with all kept names, one question after the
+# other.
+answers_by_comparison() {
+    awk -v word="$1" '
+        NR == FNR { place[$0] = NR; next }
+        $2 != asked { tell(); asked = $2; count = 0 }
+        $1 == "EQUAL" || $1 == "SUPERSET" {
+            state = place[$3] % 5 == 0 ? "NAME_REMOVAL" : "active"
+            if (word == "items") found[++count] = "item " tolower($3)
+            else if (word == "search" || state == "active") found[++count] = "entry " tolower($3) " " state
+        }
+        END { tell() }
+        function tell(    i) {
+            if (asked == "") return
+            print (word == "items" ? "items " : "search ") tolower(asked) " " count
+            for (i = 1; i <= count; i++) print found[i]
+        }' "$room/names" "$room/compared.$2"
+}
+
 checks_of_resolve() {
     answers 'a dictionary' examples/dictionary.jsonl examples/dictionary.out 1 resolve
     answers 'a dictionary with deprecations' examples/deprecations.jsonl examples/deprecations.out 1 resolve
@@ -868,6 +955,7 @@ checks_of_resolve() {
     answers 'a word too many: resolve' examples/dictionary.jsonl "$room/usage.out" 2 resolve names
     answers_in_pieces examples/dictionary.jsonl examples/dictionary.out resolve
     answers_vectors resolve resolve
+    finds_what_comparisons_find
     answers_long_records
     answers_long_names
     answers_at_once tests/vectors/resolve/questions.in tests/vectors/resolve/questions.out 1 resolve
