@@ -1,0 +1,41 @@
+-- What a line of a record says, and what it makes of the items and advisories.
+use Rattle.std.specs.Prelude.{ℕ, List, [], false, Ok, Err}
+use Rattle.std.specs.declared.result.Result.{Result}
+use Rattle.cpe_session.specs.Session.{Session, Saying}
+use Rattle.cpe_ranges.specs.Rows.{AdviceRows}
+use Rattle.cpe_ranges.specs.Step.{step}
+use Rattle.cpe_ranges.specs.Answers.{answer, looks}
+use Rattle.cpe_advisories.specs.Reading.{advice_of}
+use Rattle.cpe_advisories.specs.declared.edit.AdviceFault.{AdviceFault}
+use Rattle.cpe_advisories.specs.declared.member.AdviceReadFault.{AdviceReadFault}
+use Rattle.cpe_advisories.specs.declared.read.Advice.{Advice}
+use Rattle.cpe_advisories.specs.declared.read.Advice.TheVariants.{Edit, Query}
+use Rattle.cpe_advise.specs.Lines.{reply_text}
+use Rattle.cpe_advise.specs.Reasons.{read_fault_text, edit_fault_text}
+use Rattle.cpe_advise.specs.declared.speaker.Advise.{Advise}
+
+-- an accepted edit writes nothing
+abbrev pub by_step : Result AdviceRows AdviceFault → Saying AdviceRows
+by_step (Ok next) = Ok ([], next)
+by_step (Err fault) = Err (edit_fault_text fault)
+
+-- an edit is applied, and a question is answered
+abbrev pub by_advice : AdviceRows → Result Advice AdviceReadFault → Saying AdviceRows
+by_advice rows (Ok (Edit e)) = by_step (step rows e)
+by_advice rows (Ok (Query query)) = Ok (reply_text (answer rows query), rows)
+by_advice rows (Err fault) = Err (read_fault_text fault)
+
+-- a question as many looks as its answer may take in these rows; an edit none
+abbrev pub advice_cost : AdviceRows → Result Advice AdviceReadFault → ℕ
+advice_cost rows (Ok (Edit e)) = 0
+advice_cost rows (Ok (Query query)) = looks rows query
+advice_cost rows (Err fault) = 0
+
+abbrev pub advice_session : Advise → Session AdviceRows
+advice_session advise = record {
+  says = λ rows number text. by_advice rows (advice_of text);
+  quiet = false;
+  ends = λ rows. [];
+  cost = λ rows number text. advice_cost rows (advice_of text);
+  end_cost = λ rows. 0;
+}

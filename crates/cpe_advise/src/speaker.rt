@@ -1,0 +1,113 @@
+// What a line of a record says.
+ghost use Rattle.std.specs.Prelude.{◌≡◌, ◌++◌, [], ℕ, List, true, None, IfOk};
+ghost use Rattle.std.specs.Option.{option_map};
+ghost use Rattle.cpe_steps.specs.Within.{StepsWithin};
+ghost use Rattle.cpe_session.specs.Pages.{IsSaid};
+ghost use Rattle.cpe_ranges.specs.Step.{step};
+ghost use Rattle.cpe_ranges.specs.Answers.{answer, looks};
+ghost use Rattle.cpe_advisories.specs.Valid.{is_valid_edit, is_valid_query};
+ghost use Rattle.cpe_advise.specs.Lines.{reply_text};
+ghost use Rattle.cpe_advise.specs.Reasons.{reason_text};
+ghost use Rattle.cpe_advise.specs.Records.{by_step, advice_session};
+
+use crate::reason::AdviceReason;
+use crate::reply::push_reply;
+use cpe_io::{Sink, SinkFault};
+use cpe_ranges::{
+    Advice, AdviceEdit, AdviceFault, AdviceQuery, AdviceReadFault, Advisories, read_advice,
+};
+use cpe_session::{Page, Speaker};
+use cpe_steps::Steps;
+use std::alloc::{AllocError, Global};
+use std::sync::ledger::Ledger;
+
+/// Each line is a record: an edit is applied to the items and advisories, and a question is answered from them.
+#[derive(Clone, Copy, Debug, PartialEq, Eq)]
+pub struct Advise;
+
+impl Speaker for Advise {
+    type State = Advisories;
+
+    type Reason = AdviceReason;
+
+    ghost session = { advice_session };
+
+    fn is_quiet(&self) -> bool {
+        false
+    }
+
+    fn say<L: Ledger>(
+        &self,
+        alloc: Global,
+        state: &mut Advisories,
+        page: &mut Page,
+        number: u64,
+        text: &[u8],
+        steps: &mut Steps<L>,
+    ) -> Result<Option<AdviceReason>, AllocError> {
+        let _ = number;
+        match read_advice(alloc, text) {
+            Ok(Advice::Edit(edit)) => make_edit(state, edit, steps),
+            Ok(Advice::Query(query)) => say_answer(alloc, state, page, query, steps),
+            Err(AdviceReadFault::Memory) => Err(AllocError),
+            Err(fault) => Ok(Some(AdviceReason::Unread(fault))),
+        }
+    }
+
+    fn say_end<K: Sink, L: Ledger>(
+        &self,
+        alloc: Global,
+        state: &Advisories,
+        page: &mut Page,
+        sink: &mut K,
+        steps: &mut Steps<L>,
+    ) -> Result<(), SinkFault> {
+        let _ = alloc;
+        let _ = state;
+        let _ = page;
+        let _ = sink;
+        let _ = steps;
+        Ok(())
+    }
+}
+
+// Applies an edit, or tells why it can't be applied. Nothing is written for one that was.
+#[inline(never)]
+fn make_edit<L: Ledger>(
+    advisories: &mut Advisories,
+    edit: AdviceEdit,
+    steps: &mut Steps<L>,
+) -> Result<Option<AdviceReason>, AllocError>
+    requires { is_valid_edit edit ≡ true }
+    ensures said { IfOk result (λ refused.
+        (page : List ℕ) → IsSaid (by_step (step advisories.old edit)) advisories.old advisories.new page page (option_map reason_text refused)) }
+    ensures counts { StepsWithin steps.old steps.new 0 }
+{
+    match advisories.apply(edit, steps) {
+        Ok(()) => Ok(None),
+        Err(AdviceFault::Memory) => Err(AllocError),
+        Err(fault) => Ok(Some(AdviceReason::Refused(fault))),
+    }
+}
+
+// Puts the answer to a question behind what is gathered.
+#[inline(never)]
+fn say_answer<L: Ledger>(
+    alloc: Global,
+    advisories: &Advisories,
+    page: &mut Page,
+    query: AdviceQuery,
+    steps: &mut Steps<L>,
+) -> Result<Option<AdviceReason>, AllocError>
+    requires { is_valid_query query ≡ true }
+    ensures said { IfOk result (λ refused. (refused ≡ None) × (page.new ≡ page.old ++ reply_text (answer advisories.now query))) }
+    ensures counts { StepsWithin steps.old steps.new (looks advisories.now query) }
+{
+    match advisories.answer(alloc, query, steps) {
+        Ok(reply) => {
+            push_reply(alloc, page, &reply)?;
+            Ok(None)
+        }
+        Err(_) => Err(AllocError),
+    }
+}

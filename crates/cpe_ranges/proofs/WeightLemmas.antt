@@ -1,0 +1,111 @@
+-- What edits make of the weight of items and advisories.
+use Rattle.std.proofs.Common.{◌≡◌, ◌≤◌, ◌↔◌, length, ℕ, ◌+◌, ◌-◌, nat_lt, List, [], ◌∷◌, find, Bool, true, false, cond, not, refl, sym, ap, ◌∙◌, arith}
+use Rattle.std.specs.Prelude.{Option, Some, None, IsTrue, option_map}
+use Rattle.std.specs.Option.{option_map_or}
+use Rattle.std.specs.List.{list_any}
+use Rattle.std.proofs.lemmas.Bool.Decides.{nat_tests}
+use Rattle.cpe_name.specs.declared.name.Values.{Values}
+use Rattle.cpe_rows.specs.Names.{is_same, has_wildcards}
+use Rattle.cpe_rows.specs.Step.{first_some}
+use Rattle.cpe_rows.specs.Weight.{name_weight}
+use Rattle.cpe_weight.specs.Capped.{capped}
+use Rattle.cpe_weight.specs.Gain.{weight_of_first}
+use Rattle.cpe_weight.proofs.Totals.{total-added, total-without, first-known}
+use Rattle.cpe_ranges.specs.Rows.{AdviceRows, has_id, is_item, is_advisory}
+use Rattle.cpe_ranges.specs.Kept.{IsWeight}
+use Rattle.cpe_ranges.specs.Weight.{advisory_weight, weight}
+use Rattle.cpe_ranges.specs.Step.{after, faults, full, full_by, is_any, when}
+use Rattle.cpe_advisories.specs.declared.advisory.Advisory.{Advisory}
+use Rattle.cpe_advisories.specs.declared.edit.AdviceEdit.TheVariants as edit
+use Rattle.cpe_advisories.specs.declared.edit.AdviceFault.{AdviceFault}
+use Rattle.cpe_advisories.specs.declared.edit.AdviceFault.TheVariants as fault
+use Rattle.cpe_advisories.specs.declared.edit.AdviceWhich.TheVariants as limit
+
+-- ---- what is put
+
+pub weighs_item : (rows : AdviceRows) (n : Values) → weight (after rows (edit.Item n)) ≡ weight rows + name_weight n
+weighs_item rows n = let one = total-added name_weight rows.items n in omega (arith, one)
+
+pub weighs_put : (rows : AdviceRows) (a : Advisory) → weight (after rows (edit.Put a)) ≡ weight rows + advisory_weight a
+weighs_put rows a = let one = total-added advisory_weight rows.advisories a in omega (arith, one)
+
+-- ---- what is dropped
+
+pub weighs_drop_item : ((a b : Values) → IsTrue (is_same a b) ↔ (a ≡ b)) → (rows : AdviceRows) (n : Values) → list_any (is_same n) rows.items ≡ true
+    → weight (after rows (edit.DropItem n)) + name_weight n ≡ weight rows
+weighs_drop_item equal rows n there =
+    let all = total-without name_weight (is_same n) rows.items in
+    let known = first-known name_weight (is_same n) (name_weight n) (λ m e. ap name_weight (sym ((equal n m).0 e))) rows.items there in
+    omega (arith, all, known)
+
+pub weighs_drop : (rows : AdviceRows) (id : List ℕ) → weight (after rows (edit.Drop id)) + weight_of_first advisory_weight (has_id id) rows.advisories ≡ weight rows
+weighs_drop rows id = let all = total-without advisory_weight (has_id id) rows.advisories in omega (arith, all)
+
+-- ---- limits
+
+pub uncapped : (n : ℕ) → n ≤ 536870912 → capped n ≡ n
+uncapped n h = grind arith
+
+full_within : (items advisories heavy : ℕ) → full_by items advisories heavy ≡ None → heavy ≤ 536870912
+full_within items advisories heavy h = go (nat_lt 1000000 items) (nat_lt 100000 advisories) (nat_lt 536870912 heavy) refl h where
+  go : (a b c : Bool) → nat_lt 536870912 heavy ≡ c
+      → option_map fault.Full (cond a (Some limit.Items) (cond b (Some limit.Advisories) (cond c (Some limit.Weight) None))) ≡ None → heavy ≤ 536870912
+  go true b c e wrong = let no : ⊥ = cc in absurd no
+  go false true c e wrong = let no : ⊥ = cc in absurd no
+  go false false true e wrong = let no : ⊥ = cc in absurd no
+  go false false false e same = grind (arith, nat_tests)
+
+last_none : (a b : Bool) (f g : AdviceFault) (o : Option AdviceFault) → first_some (when a f ∷ when b g ∷ o ∷ []) ≡ None → o ≡ None
+last_none true b f g o h = let no : ⊥ = cc in absurd no
+last_none false true f g o h = let no : ⊥ = cc in absurd no
+last_none false false f g None h = refl
+last_none false false f g (Some x) h = let no : ⊥ = cc in absurd no
+
+pub item_within : (rows : AdviceRows) (n : Values) → first_some (faults rows (edit.Item n)) ≡ None → weight (after rows (edit.Item n)) ≤ 536870912
+item_within rows n h = let next = after rows (edit.Item n) in full_within (length next.items) (length next.advisories) (weight next) (last_none (has_wildcards n) (is_item rows n) fault.Wildcards fault.Exists (full (after rows (edit.Item n))) h)
+
+pub put_within : (rows : AdviceRows) (a : Advisory) → first_some (faults rows (edit.Put a)) ≡ None → weight (after rows (edit.Put a)) ≤ 536870912
+put_within rows a h = let next = after rows (edit.Put a) in full_within (length next.items) (length next.advisories) (weight next) (last_none (not (is_any a.name.version)) (is_advisory rows a.id) fault.Version fault.Exists (full (after rows (edit.Put a))) h)
+
+pub weight_kept : (number : ℕ) (next kept : AdviceRows) → number ≡ capped (weight next) → weight next ≤ 536870912 → next ≡ kept → IsWeight number kept
+weight_kept number next kept is within same =
+    let exact : number ≡ weight next = is ∙ uncapped (weight next) within in
+    record { weighs = exact ∙ ap weight same; within = let small : weight next ≤ 536870912 = within in omega (arith, exact) }
+
+-- what is lost of a weight is no more than it was
+pub part_known : (number lost part : ℕ) (rows next : AdviceRows) → IsWeight number rows → lost ≡ capped (0 + part) → weight next + part ≡ weight rows → lost ≡ part
+part_known number lost part rows next kept is sum =
+    let weighs = kept.weighs in
+    let within = kept.within in
+    let small : 0 + part ≤ 536870912 = omega (arith, sum, weighs, within) in
+    is ∙ uncapped (0 + part) small ∙ (omega arith)
+
+pub less_lost : (number lost part : ℕ) (rows next : AdviceRows) → IsWeight number rows → lost ≡ capped (0 + part) → weight next + part ≡ weight rows → lost ≤ number
+less_lost number lost part rows next kept is sum =
+    let weighs = kept.weighs in
+    let known = part_known number lost part rows next kept is sum in
+    omega (arith, sum, weighs, known)
+
+pub weight_left : (number lost part : ℕ) (rows next : AdviceRows) → IsWeight number rows → lost ≡ capped (0 + part) → weight next + part ≡ weight rows → IsWeight (number - lost) next
+weight_left number lost part rows next kept is sum =
+    let weighs = kept.weighs in
+    let within = kept.within in
+    let known = part_known number lost part rows next kept is sum in
+    record { weighs = omega (arith, sum, weighs, known); within = omega (arith, sum, weighs, within, known) }
+
+-- the weight of a kept advisory
+pub weight_found : (number lost : ℕ) (rows : AdviceRows) (id : List ℕ) (a : Advisory) → IsWeight number rows → lost ≡ capped (0 + advisory_weight a) → Some a ≡ find (has_id id) rows.advisories
+    → lost ≡ weight_of_first advisory_weight (has_id id) rows.advisories
+weight_found number lost rows id a kept is found =
+    let same : advisory_weight a ≡ weight_of_first advisory_weight (has_id id) rows.advisories = ap (λ (o : Option Advisory). option_map_or advisory_weight o 0) found in
+    let sum : weight (after rows (edit.Drop id)) + advisory_weight a ≡ weight rows = ap (λ (w : ℕ). weight (after rows (edit.Drop id)) + w) same ∙ weighs_drop rows id in
+    part_known number lost (advisory_weight a) rows (after rows (edit.Drop id)) kept is sum ∙ same
+
+pub exactly_left : (number lost part : ℕ) (rows next : AdviceRows) → IsWeight number rows → lost ≡ part → weight next + part ≡ weight rows → IsWeight (number - lost) next
+exactly_left number lost part rows next kept known sum =
+    let weighs = kept.weighs in
+    let within = kept.within in
+    record { weighs = omega (arith, sum, weighs, known); within = omega (arith, sum, weighs, within, known) }
+
+pub exactly_less : (number lost part : ℕ) (rows next : AdviceRows) → IsWeight number rows → lost ≡ part → weight next + part ≡ weight rows → lost ≤ number
+exactly_less number lost part rows next kept known sum = let weighs = kept.weighs in omega (arith, sum, weighs, known)

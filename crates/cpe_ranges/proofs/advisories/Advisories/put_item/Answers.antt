@@ -1,0 +1,17 @@
+use Rattle.std.proofs.Common.{◌≡◌, List, sym, ap, ◌∙◌}
+use Rattle.cpe_name.specs.declared.name.Values.{Values}
+use Rattle.cpe_ranges.specs.Kept.{rows_in}
+use Rattle.cpe_ranges.specs.Rows.{AdviceRows}
+use Rattle.cpe_ranges.specs.Step.{after}
+use Rattle.cpe_advisories.specs.declared.edit.AdviceEdit.TheVariants as edit
+use Rattle.cpe_ranges.proofs.WeightLemmas.{item_within, weight_kept}
+use Rattle.cpe_ranges.proofs.advisories.Advisories.put_item.Goals as goal
+
+pub invariant_of-self-2 : goal.invariant_of-self-2
+invariant_of-self-2 c =
+    let n = c.args.name in
+    let rows = rows_in c.self.inside.items c.self.inside.advised in
+    let within = item_within c.args.self.now n c.requires.none in
+    let next : after c.args.self.now (edit.Item n) ≡ rows_in c.add.new.self c.self.inside.advised =
+    ap (λ (r : AdviceRows). after r (edit.Item n)) (sym c.self.view_is) ∙ ap (λ (ns : List Values). rows_in ns c.self.inside.advised) (sym c.in_ok-add.ensures.ok) in
+    weight_kept c.args.weight (after c.args.self.now (edit.Item n)) (rows_in c.add.new.self c.self.inside.advised) c.requires.weight within next

@@ -1,0 +1,43 @@
+-- Which items an advisory affects.
+use Rattle.std.specs.Prelude.{ℕ, Bool, true, false, not, ◌&&◌, ◌||◌, List, Option, is_some}
+use Rattle.std.specs.Option.{option_map_or}
+use Rattle.std.specs.declared.cmp.Ordering.{Ordering}
+use Rattle.std.specs.Ordering.{match_ordering}
+use Rattle.cpe_values.specs.declared.value.Value.{Value}
+use Rattle.cpe_values.specs.declared.value.Value.TheVariants as value
+use Rattle.cpe_values.specs.Parts.{has_special}
+use Rattle.cpe_name.specs.declared.name.Values.{Values}
+use Rattle.cpe_relation.specs.NameRelation.{covers}
+use Rattle.cpe_versions.specs.Order.{version_order}
+use Rattle.cpe_advisories.specs.declared.advisory.Bound.{Bound}
+use Rattle.cpe_advisories.specs.declared.advisory.Advisory.{Advisory}
+
+-- what is less passes, and what is equal where it isn't excluded
+abbrev pub passes : Bool → Ordering → Bool
+passes excluded order = match_ordering order true (not excluded) false
+
+-- not less than the start, or greater where that is excluded
+abbrev pub is_behind : Bound → List ℕ → Bool
+is_behind start version = passes start.excluded (version_order start.version version)
+
+-- not greater than the end, or less where that is excluded
+abbrev pub is_before : Bound → List ℕ → Bool
+is_before end version = passes end.excluded (version_order version end.version)
+
+-- the version meets each bound that there is
+abbrev pub meets : Option Bound → Option Bound → List ℕ → Bool
+meets start end version = option_map_or (λ b. is_behind b version) start true && option_map_or (λ b. is_before b version) end true
+
+-- a plain text whose body meets the bounds
+abbrev pub has_version_in : Option Bound → Option Bound → Value → Bool
+has_version_in start end value.Any = false
+has_version_in start end value.Na = false
+has_version_in start end (value.Text text) = not (has_special text) && meets start end text.body
+
+-- there is no bound, or the version is a plain text that meets them
+abbrev pub is_in_range : Option Bound → Option Bound → Value → Bool
+is_in_range start end version = not (is_some start || is_some end) || has_version_in start end version
+
+-- the name covers the item, whose version is in the range
+abbrev pub affects : Advisory → Values → Bool
+affects a item = covers a.name item && is_in_range a.start a.end item.version

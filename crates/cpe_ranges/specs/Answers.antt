@@ -1,0 +1,25 @@
+-- What the answer to a question is, and how many looks at names it may take.
+use Rattle.std.specs.Prelude.{ℕ, List, map, filter, option_map}
+use Rattle.std.specs.Option.{option_map_or}
+use Rattle.cpe_name.specs.declared.name.Values.{Values}
+use Rattle.names_by_product.specs.Places.{near_count}
+use Rattle.cpe_ranges.specs.Affected.{affects}
+use Rattle.cpe_ranges.specs.Rows.{AdviceRows, advisory_of}
+use Rattle.cpe_advisories.specs.declared.advisory.Advisory.{Advisory}
+use Rattle.cpe_advisories.specs.declared.edit.AdviceQuery.{AdviceQuery}
+use Rattle.cpe_advisories.specs.declared.edit.AdviceQuery.TheVariants as query
+use Rattle.cpe_advisories.specs.declared.edit.AdviceReply.{AdviceReply}
+use Rattle.cpe_advisories.specs.declared.edit.AdviceReply.TheVariants as reply
+
+-- the ids of the advisories that affect an item of this name
+abbrev pub ids_affecting : Values → List Advisory → List (List ℕ)
+ids_affecting n advisories = map (λ (a : Advisory). a.id) (filter (λ a. affects a n) advisories)
+
+abbrev pub answer : AdviceRows → AdviceQuery → AdviceReply
+answer rows (query.Affected id) = reply.Affected id (option_map (λ a. filter (affects a) rows.items) (advisory_of rows id))
+answer rows (query.Advisories n) = reply.Advisories n (ids_affecting n rows.advisories)
+
+-- as many as items have a product to which that of the advisory is near
+abbrev pub looks : AdviceRows → AdviceQuery → ℕ
+looks rows (query.Affected id) = option_map_or (λ a. near_count a.name rows.items) (advisory_of rows id) 0
+looks rows (query.Advisories n) = 0

@@ -1,0 +1,29 @@
+-- Advisories as they are kept: what they have beside their ids, by their ids.
+use Rattle.std.specs.Prelude.{◌≡◌, ◌≤◌, ℕ, List, map}
+use Rattle.std.specs.List.{AllByRecursion}
+use Rattle.cpe_name.specs.declared.name.Values.{Values}
+use Rattle.cpe_name.specs.Lower.{IsLower}
+use Rattle.cpe_ranges.specs.Rows.{AdviceRows}
+use Rattle.cpe_ranges.specs.Weight.{weight}
+use Rattle.cpe_ranges.specs.Step.{most}
+use Rattle.cpe_advisories.specs.declared.advisory.Advisory.{Advisory}
+use Rattle.cpe_ranges.specs.declared.advised.Terms.{Terms}
+use Rattle.cpe_advisories.specs.declared.edit.AdviceWhich.TheVariants as limit
+
+abbrev pub advisory_from : (List ℕ × Terms) → Advisory
+advisory_from e = record { id = e.0; name = e.1.name; start = e.1.start; end = e.1.end }
+
+abbrev pub advisories_in : List (List ℕ × Terms) → List Advisory
+advisories_in es = map advisory_from es
+
+-- each name is in lower case
+abbrev pub AreLower : List (List ℕ × Terms) → Type 0
+AreLower = AllByRecursion (λ e. IsLower e.1.name)
+
+abbrev pub rows_in : List Values → List Advisory → AdviceRows
+rows_in items advisories = record { items = items; advisories = advisories }
+
+-- the number is the weight of the rows, and within its limit
+pub record IsWeight (number : ℕ) (rows : AdviceRows) : Type 0 where
+  pub weighs : number ≡ weight rows
+  pub within : number ≤ most limit.Weight

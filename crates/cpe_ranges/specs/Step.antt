@@ -1,0 +1,84 @@
+-- What an edit makes of the rows: the first of its faults, or else the rows that it leaves.
+use Rattle.std.specs.Prelude.{◌≡◌, ℕ, ◌++◌, ◌∷◌, [], List, length, find, Bool, true, false, not, nat_lt, if◌then◌else◌, Option, Some, None, option_map, Result, Ok, Err, ⊤}
+use Rattle.cpe_values.specs.declared.value.Value.{Value}
+use Rattle.cpe_values.specs.declared.value.Value.TheVariants as value
+use Rattle.cpe_rows.specs.Names.{is_same, has_wildcards}
+use Rattle.cpe_rows.specs.After.{without_first}
+use Rattle.cpe_rows.specs.Step.{first_some}
+use Rattle.cpe_ranges.specs.Rows.{AdviceRows, has_id, is_item, is_advisory}
+use Rattle.cpe_ranges.specs.Weight.{weight}
+use Rattle.cpe_advisories.specs.declared.edit.AdviceEdit.{AdviceEdit}
+use Rattle.cpe_advisories.specs.declared.edit.AdviceEdit.TheVariants as edit
+use Rattle.cpe_advisories.specs.declared.edit.AdviceFault.{AdviceFault}
+use Rattle.cpe_advisories.specs.declared.edit.AdviceFault.TheVariants as fault
+use Rattle.cpe_advisories.specs.declared.edit.AdviceWhich.{AdviceWhich}
+use Rattle.cpe_advisories.specs.declared.edit.AdviceWhich.TheVariants as limit
+
+-- ---- the rows that an edit leaves, where it is accepted
+
+abbrev pub after : AdviceRows → AdviceEdit → AdviceRows
+after rows (edit.Item n) = record rows { items = rows.items ++ n ∷ [] }
+after rows (edit.DropItem n) = record rows { items = without_first (is_same n) rows.items }
+after rows (edit.Put a) = record rows { advisories = rows.advisories ++ a ∷ [] }
+after rows (edit.Drop id) = record rows { advisories = without_first (has_id id) rows.advisories }
+
+-- ---- limits
+
+-- no number is greater
+abbrev pub most : AdviceWhich → ℕ
+most limit.Items = 1000000
+most limit.Advisories = 100000
+most limit.Weight = 536870912
+
+-- what is limited, in the order in which it is tested
+abbrev pub limited : List AdviceWhich
+limited = limit.Items ∷ limit.Advisories ∷ limit.Weight ∷ []
+
+-- one of these numbers, of items, of advisories, and the weight
+abbrev pub number_by : ℕ → ℕ → ℕ → AdviceWhich → ℕ
+number_by items advisories heavy limit.Items = items
+number_by items advisories heavy limit.Advisories = advisories
+number_by items advisories heavy limit.Weight = heavy
+
+-- the first of them that exceeds its limit
+abbrev pub full_by : ℕ → ℕ → ℕ → Option AdviceFault
+full_by items advisories heavy = option_map fault.Full (find (λ w. nat_lt (most w) (number_by items advisories heavy w)) limited)
+
+abbrev pub full : AdviceRows → Option AdviceFault
+full rows = full_by (length rows.items) (length rows.advisories) (weight rows)
+
+-- ---- faults
+
+abbrev pub when : Bool → AdviceFault → Option AdviceFault
+when b f = if b then Some f else None
+
+abbrev pub is_any : Value → Bool
+is_any value.Any = true
+is_any value.Na = false
+is_any (value.Text t) = false
+
+-- the causes of each edit, in the order in which they are tested. What is dropped makes no number greater
+abbrev pub faults : AdviceRows → AdviceEdit → List (Option AdviceFault)
+faults rows (edit.Item n) = when (has_wildcards n) fault.Wildcards ∷ when (is_item rows n) fault.Exists ∷ full (after rows (edit.Item n)) ∷ []
+faults rows (edit.DropItem n) = when (not (is_item rows n)) fault.Unknown ∷ []
+faults rows (edit.Put a) = when (not (is_any a.name.version)) fault.Version ∷ when (is_advisory rows a.id) fault.Exists ∷ full (after rows (edit.Put a)) ∷ []
+faults rows (edit.Drop id) = when (not (is_advisory rows id)) fault.Unknown ∷ []
+
+-- ---- edits
+
+abbrev pub unless : Option AdviceFault → AdviceRows → Result AdviceRows AdviceFault
+unless (Some f) rows = Err f
+unless None rows = Ok rows
+
+abbrev pub step : AdviceRows → AdviceEdit → Result AdviceRows AdviceFault
+step rows e = unless (first_some (faults rows e)) (after rows e)
+
+-- the fault is the step's, unless memory ran out
+abbrev pub Refuses : AdviceFault → Result AdviceRows AdviceFault → Type 0
+Refuses fault.Memory stepped = ⊤
+Refuses f stepped = stepped ≡ Err f
+
+-- the new rows are the step's; after a fault, want of memory too, they are the old ones
+abbrev pub Applied : {A : Type 0} → AdviceRows → AdviceRows → AdviceEdit → Result A AdviceFault → Type 0
+Applied old new e (Ok answer) = step old e ≡ Ok new
+Applied old new e (Err f) = (new ≡ old) × Refuses f (step old e)

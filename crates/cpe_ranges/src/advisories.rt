@@ -1,0 +1,378 @@
+// Items and advisories, edits of them, and answers.
+ghost use Rattle.std.specs.Prelude.{◌≡◌, ◌≤◌, ◌+◌, ℕ, List, IfOk, Err, None, filter, length, not, true};
+ghost use Rattle.std.specs.List.{list_any};
+ghost use Rattle.cpe_name.specs.Lower.{IsLower};
+ghost use Rattle.cpe_relation.specs.NameRelation.{covers};
+ghost use Rattle.cpe_rows.specs.Names.{is_lower, is_same};
+ghost use Rattle.cpe_rows.specs.Step.{first_some};
+ghost use Rattle.cpe_steps.specs.Within.{StepsWithin};
+ghost use Rattle.cpe_weight.specs.Capped.{capped};
+ghost use Rattle.cpe_weight.specs.Gain.{weight_of_first};
+ghost use Rattle.names_by_product.specs.Places.{near_count};
+ghost use Rattle.cpe_ranges.specs.Affected.{affects, is_in_range};
+ghost use Rattle.cpe_ranges.specs.Answers.{answer, looks};
+ghost use Rattle.cpe_ranges.specs.Kept.{advisory_from, IsWeight, rows_in};
+ghost use Rattle.cpe_ranges.specs.Rows.{has_id, no_rows};
+ghost use Rattle.cpe_ranges.specs.Step.{after, Applied, faults, full_by, is_any};
+ghost use Rattle.cpe_advisories.specs.Valid.{is_valid_advisory, is_valid_edit, is_valid_query};
+ghost use Rattle.cpe_ranges.specs.Weight.{advisory_weight, bound_bytes, weight as weight_of};
+
+use crate::advised::{Advised, Terms};
+use crate::range::is_in_range;
+use cpe_advisories::{AdviceEdit, AdviceFault, AdviceQuery, AdviceReply, AdviceWhich, Advisory, Bound};
+use cpe_inventory::Items;
+use cpe_name::{Attribute, Wfn};
+use cpe_rows::{List, Text, has_wildcards, names_are_equal};
+use cpe_steps::Steps;
+use cpe_values::{Memory, Value};
+use cpe_weight::with_name;
+use std::alloc::Global;
+use std::marker::Model;
+use std::sync::ledger::Ledger;
+
+// No more items are kept.
+const MOST_ITEMS: u64 = 1_000_000;
+
+const MOST_ADVISORIES: u64 = 100_000;
+
+// All rows together weigh no more.
+const MOST_WEIGHT: u64 = 536_870_912;
+
+/// Items and advisories. Contracts see them as the two lists, in the order in which they came.
+#[derive(Drop)]
+pub struct Advisories {
+    items: Items,
+    advised: Advised,
+    // The weight of all rows.
+    weight: u64,
+}
+
+impl Model for Advisories {
+    ghost use Rattle.cpe_ranges.specs.Rows.{AdviceRows};
+    ghost use Rattle.cpe_ranges.specs.Kept.{IsWeight, rows_in};
+
+    ghost Value = { AdviceRows };
+
+    ghost view = { λ a. rows_in a.items a.advised };
+
+    ghost invariant = { λ a. IsWeight a.weight (rows_in a.items a.advised) };
+}
+
+// ---- weights
+
+fn with_bound(weight: u64, bound: &Option<Bound>) -> u64
+    ensures { result ≡ capped (weight + bound_bytes bound.now) }
+{
+    match bound {
+        Some(bound) => weight.saturating_add(bound.version.as_str().len() as u64),
+        None => weight,
+    }
+}
+
+// The weight with that of an advisory, or the largest number where it would be more.
+fn with_terms(weight: u64, id: &Text, name: &Wfn, start: &Option<Bound>, end: &Option<Bound>) -> u64
+    ensures { result ≡ capped (weight + advisory_weight (record { id = id.now; name = name.now; start = start.now; end = end.now })) }
+{
+    let named = with_name(weight, name).saturating_add(id.as_str().len() as u64);
+    with_bound(with_bound(named, start), end)
+}
+
+fn with_advisory(weight: u64, advisory: &Advisory) -> u64
+    ensures { result ≡ capped (weight + advisory_weight advisory.now) }
+{
+    with_terms(
+        weight,
+        &advisory.id,
+        &advisory.name,
+        &advisory.start,
+        &advisory.end,
+    )
+}
+
+// ---- faults
+
+// The first of these numbers that exceeds its limit.
+fn full_by(items: u64, advisories: u64, weight: u64) -> Option<AdviceFault>
+    ensures { result ≡ full_by items advisories weight }
+{
+    if items > MOST_ITEMS {
+        return Some(AdviceFault::Full(AdviceWhich::Items));
+    }
+    if advisories > MOST_ADVISORIES {
+        return Some(AdviceFault::Full(AdviceWhich::Advisories));
+    }
+    if weight > MOST_WEIGHT {
+        return Some(AdviceFault::Full(AdviceWhich::Weight));
+    }
+    None
+}
+
+fn is_any(value: &Value) -> bool
+    ensures { result ≡ is_any value.now }
+{
+    matches!(value, Value::Any)
+}
+
+// One more, or the largest number where there is none.
+fn one_more(count: usize) -> u64
+    ensures { result ≡ capped (count + 1) }
+{
+    (count as u64).saturating_add(1)
+}
+
+// ---- what is let go
+
+fn refused_name(name: Wfn, fault: AdviceFault) -> Result<(), AdviceFault>
+    ensures { result ≡ Err fault }
+{
+    drop(name);
+    Err(fault)
+}
+
+fn refused_advisory(advisory: Advisory, fault: AdviceFault) -> Result<(), AdviceFault>
+    ensures { result ≡ Err fault }
+{
+    drop(advisory);
+    Err(fault)
+}
+
+// ---- answers
+
+fn has_version_in(terms: &Terms, name: &Wfn) -> bool
+    ensures { result ≡ is_in_range terms.now.start terms.now.end name.now.version }
+{
+    is_in_range(&terms.start, &terms.end, name.get(Attribute::Version))
+}
+
+// Those whose version is in the range of these terms.
+fn in_range(names: List<Wfn>, terms: &Terms) -> List<Wfn>
+    ensures { result ≡ filter (λ n. is_in_range terms.now.start terms.now.end n.version) names }
+{
+    let mut names = names.into_vec();
+    names.retain(|name| has_version_in(terms, name));
+    List::from_vec(names)
+}
+
+// The items that an advisory of these terms affects.
+fn find_affected<L: Ledger>(
+    alloc: Global,
+    items: &Items,
+    terms: &Terms,
+    steps: &mut Steps<L>,
+) -> Result<List<Wfn>, Memory>
+    requires { IsLower terms.now.name }
+    ensures found { IfOk result (λ found. (id : List ℕ) → found ≡ filter (affects (advisory_from (id, terms.now))) items.now) }
+    ensures steps { StepsWithin steps.old steps.new (near_count terms.now.name items.now) }
+{
+    let covered = items.covered(alloc, &terms.name, steps)?;
+    Ok(in_range(covered, terms))
+}
+
+impl Advisories {
+    /// No items and no advisories. It takes no memory.
+    pub fn new(alloc: Global) -> Advisories
+        ensures { result ≡ no_rows }
+    {
+        Advisories {
+            items: Items::new(alloc),
+            advised: Advised::new(alloc),
+            weight: 0,
+        }
+    }
+
+    fn item_fault(&self, name: &Wfn, weight: u64) -> Option<AdviceFault>
+        requires { weight ≡ capped (weight_of (after self.now (AdviceEdit.Item name.now))) }
+        ensures { result ≡ first_some (faults self.now (AdviceEdit.Item name.now)) }
+    {
+        if has_wildcards(name) {
+            return Some(AdviceFault::Wildcards);
+        }
+        if self.items.has(name) {
+            return Some(AdviceFault::Exists);
+        }
+        full_by(
+            one_more(self.items.len()),
+            self.advised.len() as u64,
+            weight,
+        )
+    }
+
+    fn advisory_fault(&self, advisory: &Advisory, weight: u64) -> Option<AdviceFault>
+        requires { weight ≡ capped (weight_of (after self.now (AdviceEdit.Put advisory.now))) }
+        ensures { result ≡ first_some (faults self.now (AdviceEdit.Put advisory.now)) }
+    {
+        if !is_any(advisory.name.get(Attribute::Version)) {
+            return Some(AdviceFault::Version);
+        }
+        if self.advised.has(&advisory.id) {
+            return Some(AdviceFault::Exists);
+        }
+        full_by(
+            self.items.len() as u64,
+            one_more(self.advised.len()),
+            weight,
+        )
+    }
+
+    fn add_item(&mut self, name: Wfn) -> Result<(), AdviceFault>
+        requires { is_lower name ≡ true }
+        ensures { Applied self.old self.new (AdviceEdit.Item name) result }
+    {
+        names_are_equal();
+        let weight = with_name(self.weight, &name);
+        match self.item_fault(&name, weight) {
+            Some(fault) => refused_name(name, fault),
+            None => self.put_item(name, weight),
+        }
+    }
+
+    // Adds an item that has no fault.
+    fn put_item(&mut self, name: Wfn, weight: u64) -> Result<(), AdviceFault>
+        requires lower { is_lower name ≡ true }
+        requires none { first_some (faults self.old (AdviceEdit.Item name)) ≡ None }
+        requires weight { weight ≡ capped (weight_of (after self.old (AdviceEdit.Item name))) }
+        ensures { Applied self.old self.new (AdviceEdit.Item name) result }
+    {
+        names_are_equal();
+        self.items.add(name)?;
+        self.weight = weight;
+        Ok(())
+    }
+
+    fn drop_item(&mut self, name: Wfn) -> Result<(), AdviceFault>
+        ensures { Applied self.old self.new (AdviceEdit.DropItem name) result }
+    {
+        names_are_equal();
+        let lost = with_name(0, &name);
+        if !self.items.remove(&name) {
+            return refused_name(name, AdviceFault::Unknown);
+        }
+        drop(name);
+        self.weight -= lost;
+        Ok(())
+    }
+
+    fn put_advisory(&mut self, advisory: Advisory) -> Result<(), AdviceFault>
+        requires { is_valid_advisory advisory ≡ true }
+        ensures { Applied self.old self.new (AdviceEdit.Put advisory) result }
+    {
+        names_are_equal();
+        let weight = with_advisory(self.weight, &advisory);
+        match self.advisory_fault(&advisory, weight) {
+            Some(fault) => refused_advisory(advisory, fault),
+            None => self.put_last(advisory, weight),
+        }
+    }
+
+    // Puts an advisory that has no fault.
+    fn put_last(&mut self, advisory: Advisory, weight: u64) -> Result<(), AdviceFault>
+        requires lower { is_lower advisory.name ≡ true }
+        requires none { first_some (faults self.old (AdviceEdit.Put advisory)) ≡ None }
+        requires weight { weight ≡ capped (weight_of (after self.old (AdviceEdit.Put advisory))) }
+        ensures { Applied self.old self.new (AdviceEdit.Put advisory) result }
+    {
+        names_are_equal();
+        self.advised.put(advisory)?;
+        self.weight = weight;
+        Ok(())
+    }
+
+    // The weight of the advisory of this id, if there is one.
+    fn weight_of_id(&self, id: &Text) -> u64
+        ensures { result ≡ weight_of_first advisory_weight (has_id id.now) self.now.advisories }
+    {
+        match self.advised.find(id) {
+            Some(terms) => with_terms(0, id, &terms.name, &terms.start, &terms.end),
+            None => 0,
+        }
+    }
+
+    fn drop_advisory(&mut self, id: Text) -> Result<(), AdviceFault>
+        ensures { Applied self.old self.new (AdviceEdit.Drop id) result }
+    {
+        if !self.advised.has(&id) {
+            return Err(AdviceFault::Unknown);
+        }
+        let lost = self.weight_of_id(&id);
+        self.advised.remove(&id);
+        self.weight -= lost;
+        Ok(())
+    }
+
+    /// Makes an edit, which is in order. What it brings is moved in; an item's name is copied once besides. It takes no step.
+    ///
+    /// # Errors
+    /// The first fault of the edit in the order of [`AdviceFault`], or want of memory. After either the rows are as they were.
+    pub fn apply<L: Ledger>(
+        &mut self,
+        edit: AdviceEdit,
+        steps: &mut Steps<L>,
+    ) -> Result<(), AdviceFault>
+        requires { is_valid_edit edit ≡ true }
+        ensures applied { Applied self.old self.new edit result }
+        ensures counts { steps.new ≡ steps.old }
+    {
+        let _ = steps;
+        match edit {
+            AdviceEdit::Item(name) => self.add_item(name),
+            AdviceEdit::DropItem(name) => self.drop_item(name),
+            AdviceEdit::Put(advisory) => self.put_advisory(advisory),
+            AdviceEdit::Drop(id) => self.drop_advisory(id),
+        }
+    }
+
+    /// The answer to a question, which is in order. The name or id is moved into it. A step is a look at the name of an item
+    /// through the index: which items an advisory affects takes at most as many as there are items to whose product that of the
+    /// advisory's name is near. Which advisories affect a name is asked of the advisories themselves, which is no step.
+    ///
+    /// # Errors
+    /// Want of memory alone.
+    pub fn answer<L: Ledger>(
+        &self,
+        alloc: Global,
+        query: AdviceQuery,
+        steps: &mut Steps<L>,
+    ) -> Result<AdviceReply, Memory>
+        requires { is_valid_query query ≡ true }
+        ensures answer { IfOk result (λ r. r ≡ answer self.now query) }
+        ensures steps { StepsWithin steps.old steps.new (looks self.now query) }
+    {
+        match query {
+            AdviceQuery::Affected(id) => self.affected(alloc, id, steps),
+            AdviceQuery::Advisories(name) => self.affecting(alloc, name),
+        }
+    }
+
+    fn affected<L: Ledger>(
+        &self,
+        alloc: Global,
+        id: Text,
+        steps: &mut Steps<L>,
+    ) -> Result<AdviceReply, Memory>
+        ensures answer { IfOk result (λ r. r ≡ answer self.now (AdviceQuery.Affected id)) }
+        ensures steps { StepsWithin steps.old steps.new (looks self.now (AdviceQuery.Affected id)) }
+    {
+        let rows = match self.advised.find(&id) {
+            Some(terms) => Some(find_affected(alloc, &self.items, terms, steps)?),
+            None => None,
+        };
+        Ok(AdviceReply::Affected { id, rows })
+    }
+
+    fn affecting(&self, alloc: Global, name: Wfn) -> Result<AdviceReply, Memory>
+        requires { is_lower name ≡ true }
+        ensures { IfOk result (λ r. r ≡ answer self.now (AdviceQuery.Advisories name)) }
+    {
+        names_are_equal();
+        match self.advised.affecting(alloc, &name) {
+            Ok(ids) => Ok(AdviceReply::Advisories { name, ids }),
+            Err(memory) => Err(let_go(name, memory)),
+        }
+    }
+}
+
+// Lets the name of a question go that memory was wanting for. Under a `?` each of its eleven values would be let go in place.
+fn let_go(name: Wfn, memory: Memory) -> Memory {
+    drop(name);
+    memory
+}
