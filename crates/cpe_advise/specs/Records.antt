@@ -12,7 +12,6 @@ use Rattle.cpe_advisories.specs.declared.read.Advice.{Advice}
 use Rattle.cpe_advisories.specs.declared.read.Advice.TheVariants.{Edit, Query}
 use Rattle.cpe_advise.specs.Lines.{reply_text}
 use Rattle.cpe_advise.specs.Reasons.{read_fault_text, edit_fault_text}
-use Rattle.cpe_advise.specs.declared.speaker.Advise.{Advise}
 
 -- an accepted edit writes nothing
 abbrev pub by_step : Result AdviceRows AdviceFault → Saying AdviceRows
@@ -31,8 +30,8 @@ advice_cost rows (Ok (Edit e)) = 0
 advice_cost rows (Ok (Query query)) = looks rows query
 advice_cost rows (Err fault) = 0
 
-abbrev pub advice_session : Advise → Session AdviceRows
-advice_session advise = record {
+abbrev pub advice_session : Session AdviceRows
+advice_session = record {
   says = λ rows number text. by_advice rows (advice_of text);
   quiet = false;
   ends = λ rows. [];

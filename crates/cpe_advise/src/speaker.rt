@@ -30,7 +30,7 @@ impl Speaker for Advise {
 
     type Reason = AdviceReason;
 
-    ghost session = { advice_session };
+    ghost session = { λ _. advice_session };
 
     fn is_quiet(&self) -> bool {
         false

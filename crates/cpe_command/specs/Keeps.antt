@@ -6,7 +6,7 @@ use Rattle.cpe_session.specs.Folding.{IsFolded}
 use Rattle.cpe_rows.specs.Rows.{Rows, no_rows}
 use Rattle.cpe_drill.specs.Drill.{LeavesRows}
 use Rattle.cpe_command.specs.declared.command.Command.{Command}
-use Rattle.cpe_command.specs.declared.command.Command.TheVariants.{Name, Compare, Records, Make, Drill}
+use Rattle.cpe_command.specs.declared.command.Command.TheVariants.{Name, Compare, Records, Advise, Make, Drill}
 use Rattle.cpe_records.specs.Edited.{line_edited}
 
 -- those that the lines of the taken bytes leave, one after the other, or the generated ones; a command without records keeps none
@@ -15,5 +15,6 @@ Keeps None rows taken status = rows ≡ no_rows
 Keeps (Some (Name command)) rows taken status = rows ≡ no_rows
 Keeps (Some Compare) rows taken status = rows ≡ no_rows
 Keeps (Some (Records command)) rows taken status = IsFolded line_edited no_rows rows taken status
+Keeps (Some Advise) rows taken status = rows ≡ no_rows
 Keeps (Some (Make count)) rows taken status = rows ≡ no_rows
 Keeps (Some (Drill count)) rows taken status = LeavesRows count rows status

@@ -1,4 +1,5 @@
 pub mod Changes
+pub mod Rising
 pub mod Places
 pub mod Rows
 pub mod Same

@@ -18,7 +18,7 @@ item_first xs i d lt = drop-cons xs i d lt ∙ ap (λ (k : ℕ). get_or xs i d �
 
 module _ {A : Type 0} where
   -- those that pass stand at the places that pass
-  rows_from : (p : ℕ → Bool) (q : A → Bool) (all rest : List A) (a : ℕ) → ((k : ℕ) (x : A) → slice_get all k ≡ Some x → p k ≡ q x) → ((k : ℕ) → slice_get all (a + k) ≡ slice_get rest k)
+  pub rows_from : (p : ℕ → Bool) (q : A → Bool) (all rest : List A) (a : ℕ) → ((k : ℕ) (x : A) → slice_get all k ≡ Some x → p k ≡ q x) → ((k : ℕ) → slice_get all (a + k) ≡ slice_get rest k)
       → rows_at all (filter p (range_with_len a (length rest))) ≡ filter q rest
   rows_from p q all [] a agree is = refl
   rows_from p q all (x ∷ rest) a agree is =
