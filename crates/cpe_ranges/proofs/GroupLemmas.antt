@@ -1,11 +1,8 @@
 -- Advisories by the products of their names.
-use Rattle.std.proofs.Common.{◌≡◌, ℕ, List, [], ◌∷◌, ◌++◌, map, filter, find, Bool, true, false, not, cond, ◌||◌, IsTrue, refl, ap, sym, subst, ◌∙◌}
-use Rattle.std.specs.Prelude.{Option, Some, option_to_list}
-use Rattle.std.specs.List.{AllByRecursion, IsDistinct, flat_map}
-use Rattle.std.specs.Map.{keys_of}
+use Rattle.std.proofs.Common.{◌≡◌, ℕ, List, [], ◌∷◌, ◌++◌, map, filter, find, Bool, true, false, not, cond, ◌&&◌, ◌||◌, IsTrue, refl, ap, sym, subst, ◌∙◌}
+use Rattle.std.specs.Prelude.{Some}
 use Rattle.std.specs.Str.{bytes_eq}
-use Rattle.std.proofs.lemmas.Bool.{and_parts}
-use Rattle.std.proofs.lemmas.Slice.Eq.{bytes_eq-Decides}
+use Rattle.std.proofs.lemmas.Bool.{and_parts, and_from}
 use Rattle.cpe_values.specs.declared.value.Edge.{Edge}
 use Rattle.cpe_values.specs.declared.value.Edge.TheVariants as edge
 use Rattle.cpe_values.specs.declared.value.Value.{Value}
@@ -24,12 +21,11 @@ use Rattle.cpe_relation.proofs.Splits.{same_lower-Decides}
 use Rattle.cpe_rows.specs.After.{without_first}
 use Rattle.cpe_ranges.specs.Affected.{affects, is_in_range}
 use Rattle.cpe_ranges.specs.Answers.{ids_affecting}
-use Rattle.cpe_ranges.specs.Found.{affecting_of}
+use Rattle.cpe_ranges.specs.Found.{is_beside}
 use Rattle.cpe_ranges.specs.Groups.{group_of, ids_in_group, is_in_group, is_plain}
 use Rattle.cpe_ranges.specs.Kept.{advisory_from, advisories_in, AreLower}
 use Rattle.cpe_ranges.specs.Rows.{has_id}
 use Rattle.cpe_advisories.specs.declared.advisory.Advisory.{Advisory}
-use Rattle.cpe_ranges.specs.declared.advised.Terms.{Terms}
 use Rattle.cpe_ranges.proofs.KeptLemmas.{Pairs, ids-cons, one_affecting}
 
 -- ---- groups where an advisory is put or dropped
@@ -67,55 +63,6 @@ module _ (v : Value) where
             (at_first (is_in_group v x) x (filter (is_in_group v) xs) e)
         go false e found later =
             further (is_in_group v x) (is_in_group v a) x (filter (is_in_group v) xs) (filter (is_in_group v) (without_first (has_id id) xs)) e (later found)
-
--- ---- advisories by their ids, which are different
-
-bytes_turn : (a b : List ℕ) → bytes_eq a b ≡ false → bytes_eq b a ≡ false
-bytes_turn a b h = go (bytes_eq b a) refl
-  where
-    go : (q : Bool) → bytes_eq b a ≡ q → q ≡ false
-    go true e = sym (sym h ∙ (bytes_eq-Decides a b).1 (sym ((bytes_eq-Decides b a).0 e)))
-    go false e = refl
-
-abbrev Finds : List Advisory → Advisory → Type 0
-Finds ads a = find (has_id a.id) ads ≡ Some a
-
-finds_later : (e : List ℕ × Terms) (es fs : Pairs) → AllByRecursion (λ y. bytes_eq e.0 y ≡ false) (keys_of fs) → AllByRecursion (Finds (advisories_in es)) (advisories_in fs)
-    → AllByRecursion (Finds (advisories_in (e ∷ es))) (advisories_in fs)
-finds_later e es [] apart all = tt
-finds_later e es (f ∷ fs) apart all =
-    let skipped : find (has_id f.0) (advisories_in (e ∷ es)) ≡ find (has_id f.0) (advisories_in es) =
-    ap (λ q. cond q (Some (advisory_from e)) (find (has_id f.0) (advisories_in es))) (bytes_turn e.0 f.0 apart.0) in
-    (skipped ∙ all.0, finds_later e es fs apart.1 all.1)
-
-pub finds_all : (es : Pairs) → IsDistinct bytes_eq (keys_of es) → AllByRecursion (Finds (advisories_in es)) (advisories_in es)
-unfolding IsDistinct
-finds_all [] d = tt
-finds_all (e ∷ es) d =
-    let here : find (has_id e.0) (advisories_in (e ∷ es)) ≡ Some (advisory_from e) =
-    ap (λ q. cond q (Some (advisory_from e)) (find (has_id e.0) (advisories_in es))) ((bytes_eq-Decides e.0 e.0).1 refl) in
-    (here, finds_later e es es d.0 (finds_all es d.1))
-
-kept_all : (P : Advisory → Type 0) (q : Advisory → Bool) (xs : List Advisory) → AllByRecursion P xs → AllByRecursion P (filter q xs)
-kept_all P q [] all = tt
-kept_all P q (x ∷ xs) all = go (q x) (kept_all P q xs all.1)
-  where
-    go : (b : Bool) → AllByRecursion P (filter q xs) → AllByRecursion P (cond b (x ∷ filter q xs) (filter q xs))
-    go true rest = (all.0, rest)
-    go false rest = rest
-
-resolved : (n : Values) (ads xs : List Advisory) → AllByRecursion (Finds ads) xs → flat_map (affecting_of n ads) (ids xs) ≡ ids_affecting n xs
-resolved n ads [] all = refl
-resolved n ads (x ∷ xs) all =
-    ap (λ (o : Option Advisory). ids_affecting n (option_to_list o) ++ flat_map (affecting_of n ads) (ids xs)) all.0
-    ∙ ap (λ (r : List (List ℕ)). ids_affecting n (x ∷ []) ++ r) (resolved n ads xs all.1)
-    ∙ sym (ids-cons n x xs)
-
--- those that are found by the ids of a group
-pub group_resolved : (n : Values) (v : Value) (es : Pairs) → IsDistinct bytes_eq (keys_of es)
-    → flat_map (affecting_of n (advisories_in es)) (ids_in_group v (advisories_in es)) ≡ ids_affecting n (filter (is_in_group v) (advisories_in es))
-group_resolved n v es d =
-    resolved n (advisories_in es) (filter (is_in_group v) (advisories_in es)) (kept_all (Finds (advisories_in es)) (is_in_group v) (advisories_in es) (finds_all es d))
 
 -- ---- plain products that are near are the same
 
@@ -158,51 +105,55 @@ module _ (s t : Parts) (lower_s : lower_value (value.Text s) ≡ value.Text s) (
       let trail : s.trail ≡ t.trail = nothing s.trail a.1 ∙ sym (nothing t.trail b.1) in
       λ i. value.Text (parts (lead i) (bodies h i) (trail i))
 
-same_group : (p q : Value) → same_value (group_of p) value.Any ≡ false → lower_value p ≡ p → lower_value q ≡ q → is_plain q ≡ true → near p q ≡ true → same_value (group_of p) q ≡ true
-same_group value.Any q other lp lq plain h = let wrong : ⊥ = cc in absurd wrong
-same_group value.Na q other lp lq plain h = let wrong : ⊥ = cc in absurd wrong
-same_group (value.Text s) value.Any other lp lq plain h = let wrong : ⊥ = cc in absurd wrong
-same_group (value.Text s) value.Na other lp lq plain h = let wrong : ⊥ = cc in absurd wrong
-same_group (value.Text s) (value.Text t) other lp lq plain h = go (has_special s) refl other
+-- where a product is near another, both are plain and the same, or the first isn't plain
+same_group : (p q : Value) → same_value (group_of p) value.Any ≡ false → lower_value p ≡ p → lower_value q ≡ q → near p q ≡ true → (is_plain q && same_value (group_of p) q) ≡ true
+same_group value.Any q other lp lq h = let wrong : ⊥ = cc in absurd wrong
+same_group value.Na q other lp lq h = let wrong : ⊥ = cc in absurd wrong
+same_group (value.Text s) value.Any other lp lq h = let wrong : ⊥ = cc in absurd wrong
+same_group (value.Text s) value.Na other lp lq h = let wrong : ⊥ = cc in absurd wrong
+same_group (value.Text s) (value.Text t) other lp lq h = go (has_special s) refl other
   where
-    go : (b : Bool) → has_special s ≡ b → same_value (cond (not b) (value.Text s) value.Any) value.Any ≡ false → same_value (cond (not (has_special s)) (value.Text s) value.Any) (value.Text t) ≡ true
+    go : (b : Bool) → has_special s ≡ b → same_value (cond (not b) (value.Text s) value.Any) value.Any ≡ false → (not (has_special t) && same_value (cond (not (has_special s)) (value.Text s) value.Any) (value.Text t)) ≡ true
     go true e wrong = let no : ⊥ = cc in absurd no
     go false e right =
-        let near_by = (and_parts (not (has_special t)) (near_plain s t.body) h).1 in
-        ap (λ b. same_value (cond (not b) (value.Text s) value.Any) (value.Text t)) e
-        ∙ (same_value-Decides (value.Text s) (value.Text t)).1 (same_text s t lp lq e (double_not (has_special t) plain) near_by)
+        let near_by = and_parts (not (has_special t)) (near_plain s t.body) h in
+        and_from (not (has_special t)) (same_value (cond (not (has_special s)) (value.Text s) value.Any) (value.Text t)) near_by.0
+        (ap (λ b. same_value (cond (not b) (value.Text s) value.Any) (value.Text t)) e
+        ∙ (same_value-Decides (value.Text s) (value.Text t)).1 (same_text s t lp lq e (double_not (has_special t) near_by.0) near_by.1))
 
--- ---- one group has all that affect a name
+-- ---- what affects a name is of its product, or has no plain one
 
-module _ (near_law : (a b : Values) → IsTrue (covers a b) → IsTrue (near a.product b.product)) (n : Values) (lower_n : IsLower n) (plain : is_plain n.product ≡ true) where
-  apart : (a : Advisory) → is_in_group value.Any a ≡ false → IsLower a.name → is_in_group n.product a ≡ false → affects a n ≡ false
-  apart a other lower_a out = go (affects a n) refl
+module _ (near_law : (a b : Values) → IsTrue (covers a b) → IsTrue (near a.product b.product)) (n : Values) (lower_n : IsLower n) where
+  elsewhere : (a : Advisory) → IsLower a.name → is_beside n.product a ≡ false → affects a n ≡ false
+  elsewhere a lower_a out = go (affects a n) refl
     where
+      beside : (b : Bool) → is_in_group value.Any a ≡ b → near a.name.product n.product ≡ true → is_beside n.product a ≡ true
+      beside true e h = ap (λ (q : Bool). q || (is_plain n.product && is_in_group n.product a)) e
+      beside false e h =
+          ap (λ (q : Bool). q || (is_plain n.product && is_in_group n.product a)) e
+          ∙ same_group a.name.product n.product e (ap (λ (w : Values). w.product) lower_a) (ap (λ (w : Values). w.product) lower_n) h
+
       go : (b : Bool) → affects a n ≡ b → b ≡ false
       go false e = refl
       go true e =
           let covered = (and_parts (covers a.name n) (is_in_range a.start a.end n.version) e).0 in
-          let there = same_group a.name.product n.product other (ap (λ (w : Values). w.product) lower_a) (ap (λ (w : Values). w.product) lower_n) plain (near_law a.name n covered) in
-          sym there ∙ out
+          sym (beside (is_in_group value.Any a) refl (near_law a.name n covered)) ∙ out
 
-  one_out : (e : List ℕ × Terms) (rest : List Advisory) → affects (advisory_from e) n ≡ false → ids_affecting n (advisory_from e ∷ rest) ≡ ids_affecting n rest
-  one_out e rest h = ids-cons n (advisory_from e) rest ∙ ap (λ (r : List (List ℕ)). r ++ ids_affecting n rest) (one_affecting n (advisory_from e) false h)
-
-  none_other : (p : Bool) (x : Advisory) (f : List Advisory) → ids (cond p (x ∷ f) f) ≡ [] → (p ≡ false) × (ids f ≡ [])
-  none_other true x f h = let wrong : ⊥ = cc in absurd wrong
-  none_other false x f h = (refl, h)
-
-  pub one_group : (es : Pairs) → AreLower es → ids_in_group value.Any (advisories_in es) ≡ [] → ids_affecting n (filter (is_in_group n.product) (advisories_in es)) ≡ ids_affecting n (advisories_in es)
-  one_group [] all none = refl
-  one_group (e ∷ es) all none =
-      let others = none_other (is_in_group value.Any (advisory_from e)) (advisory_from e) (filter (is_in_group value.Any) (advisories_in es)) none in
-      go (is_in_group n.product (advisory_from e)) refl others.0 (one_group es all.1 others.1)
+  -- so the others may be left out
+  pub beside_suffice : (es : Pairs) → AreLower es → ids_affecting n (advisories_in (filter (λ e. is_beside n.product (advisory_from e)) es)) ≡ ids_affecting n (advisories_in es)
+  beside_suffice [] all = refl
+  beside_suffice (e ∷ es) all = go (is_beside n.product (advisory_from e)) refl (beside_suffice es all.1)
     where
-      go : (p : Bool) → is_in_group n.product (advisory_from e) ≡ p → is_in_group value.Any (advisory_from e) ≡ false
-          → ids_affecting n (filter (is_in_group n.product) (advisories_in es)) ≡ ids_affecting n (advisories_in es)
-          → ids_affecting n (cond p (advisory_from e ∷ filter (is_in_group n.product) (advisories_in es)) (filter (is_in_group n.product) (advisories_in es))) ≡ ids_affecting n (advisory_from e ∷ advisories_in es)
-      go true i other h =
-          ids-cons n (advisory_from e) (filter (is_in_group n.product) (advisories_in es))
+      left : Pairs
+      left = filter (λ x. is_beside n.product (advisory_from x)) es
+
+      go : (b : Bool) → is_beside n.product (advisory_from e) ≡ b → ids_affecting n (advisories_in left) ≡ ids_affecting n (advisories_in es)
+          → ids_affecting n (advisories_in (cond b (e ∷ left) left)) ≡ ids_affecting n (advisory_from e ∷ advisories_in es)
+      go true i h =
+          ids-cons n (advisory_from e) (advisories_in left)
           ∙ ap (λ (r : List (List ℕ)). ids_affecting n (advisory_from e ∷ []) ++ r) h
           ∙ sym (ids-cons n (advisory_from e) (advisories_in es))
-      go false i other h = h ∙ sym (one_out e (advisories_in es) (apart (advisory_from e) other all.0 i))
+      go false i h =
+          h
+          ∙ sym (ids-cons n (advisory_from e) (advisories_in es)
+          ∙ ap (λ (r : List (List ℕ)). r ++ ids_affecting n (advisories_in es)) (one_affecting n (advisory_from e) false (elsewhere (advisory_from e) all.0 i)))

@@ -1,10 +1,14 @@
--- Advisories as they are kept, and those that are found by their ids.
-use Rattle.std.specs.Prelude.{ℕ, List, find, option_to_list}
+-- Advisories as they are kept, and which of them a question for a name goes over.
+use Rattle.std.specs.Prelude.{ℕ, Bool, false, ◌&&◌, ◌||◌, if◌then◌else◌, List, [], filter, length, option_to_list, position, slice_get}
+use Rattle.std.specs.Option.{option_map_or}
+use Rattle.std.specs.List.{cons_option, range_with_len}
+use Rattle.std.specs.Str.{bytes_eq}
+use Rattle.cpe_values.specs.declared.value.Value.{Value}
+use Rattle.cpe_values.specs.declared.value.Value.TheVariants as value
 use Rattle.cpe_name.specs.declared.name.Values.{Values}
 use Rattle.cpe_ranges.specs.Answers.{ids_affecting}
-use Rattle.cpe_ranges.specs.Groups.{Grouped, AreGrouped}
-use Rattle.cpe_ranges.specs.Kept.{advisories_in, AreLower}
-use Rattle.cpe_ranges.specs.Rows.{has_id}
+use Rattle.cpe_ranges.specs.Groups.{Grouped, AreGrouped, group, is_plain, is_in_group}
+use Rattle.cpe_ranges.specs.Kept.{advisory_from, advisories_in, AreLower}
 use Rattle.cpe_advisories.specs.declared.advisory.Advisory.{Advisory}
 use Rattle.cpe_ranges.specs.declared.advised.Terms.{Terms}
 
@@ -13,6 +17,26 @@ pub record AreKept (es : List (List ℕ × Terms)) (gs : Grouped) : Type 0 where
   pub lower : AreLower es
   pub grouped : AreGrouped (advisories_in es) gs
 
--- the id, where the advisory of this id affects an item of this name
-abbrev pub affecting_of : Values → List Advisory → List ℕ → List (List ℕ)
-affecting_of n advisories id = ids_affecting n (option_to_list (find (has_id id) advisories))
+-- the place of an id among all, if it is there
+abbrev pub place_in : List (List ℕ) → List ℕ → List ℕ
+place_in all id = cons_option (position (bytes_eq id) all) []
+
+-- whether what stands at a place is an advisory that passes
+abbrev pub passes_at : (Advisory → Bool) → List (List ℕ × Terms) → ℕ → Bool
+passes_at passes es k = option_map_or (λ e. passes (advisory_from e)) (slice_get es k) false
+
+-- the places of the advisories that pass, rising
+abbrev pub places_where : (Advisory → Bool) → List (List ℕ × Terms) → List ℕ
+places_where passes es = filter (passes_at passes es) (range_with_len 0 (length es))
+
+-- the id of the advisory at a place, where it affects a name
+abbrev pub affecting_there : Values → List (List ℕ × Terms) → ℕ → List (List ℕ)
+affecting_there n es k = ids_affecting n (advisories_in (option_to_list (slice_get es k)))
+
+-- of this plain product, or of one that isn't plain
+abbrev pub is_beside : Value → Advisory → Bool
+is_beside product a = is_in_group value.Any a || (is_plain product && is_in_group product a)
+
+-- the ids of a product's own group, which a plain one has
+abbrev pub own_group : Grouped → Value → List (List ℕ)
+own_group gs product = if is_plain product then group gs product else []

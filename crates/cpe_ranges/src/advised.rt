@@ -1,13 +1,12 @@
 // Advisories in the order in which they came.
-ghost use Rattle.std.specs.Prelude.{◌≡◌, ◌<◌, ℕ, List, [], ◌∷◌, ◌++◌, IfOk, IfNone, IfSome, IsOk, OnOk, OnErr, false, filter, find, if◌then◌else◌, length, option_map};
+ghost use Rattle.std.specs.Prelude.{◌≡◌, ◌<◌, ℕ, List, [], ◌∷◌, ◌++◌, IfOk, IfNone, IfSome, IsOk, OnOk, OnErr, false, find, if◌then◌else◌, length, option_map};
 ghost use Rattle.std.specs.List.{flat_map, list_any};
 ghost use Rattle.std.specs.Str.{bytes_eq};
-ghost use Rattle.indexmap.specs.IndexMap.{spare};
+ghost use Rattle.indexmap.specs.IndexMap.{keys, spare};
 ghost use Rattle.cpe_values.specs.declared.value.Value.{Value};
-ghost use Rattle.cpe_values.specs.declared.value.Value.TheVariants as value;
 ghost use Rattle.cpe_values.specs.Same.{same_value};
-ghost use Rattle.cpe_ranges.specs.Found.{affecting_of};
-ghost use Rattle.cpe_ranges.specs.Groups.{group, group_of, ids_in_group, is_in_group, is_plain};
+ghost use Rattle.cpe_ranges.specs.Found.{affecting_there, is_beside, own_group, place_in, places_where};
+ghost use Rattle.cpe_ranges.specs.Groups.{AreGrouped, group, group_of, is_in_group, is_plain};
 ghost use Rattle.cpe_name.specs.Lower.{IsLower};
 ghost use Rattle.cpe_rows.specs.After.{without_first};
 ghost use Rattle.cpe_ranges.specs.Answers.{ids_affecting};
@@ -189,56 +188,96 @@ fn push_affecting(
     Ok(())
 }
 
-// The ids of those that affect an item of this name. It goes over all of them.
-fn find_affecting(
-    alloc: Global,
-    by_id: &IndexMap<Text, Terms>,
-    name: &Wfn,
-) -> Result<List<Text>, Memory>
-    ensures { IfOk result (λ ids. ids ≡ ids_affecting name.now (advisories_in by_id.now.entries)) }
-{
-    let mut ids = List::new(alloc);
-    for (id, terms) in by_id.iter() {
-        push_affecting(alloc, id, terms, name, &mut ids)?;
-    }
-    Ok(ids)
-}
-
-// The terms of the advisory of this id.
-fn get_terms<'a>(by_id: &'a IndexMap<Text, Terms>, id: &Text) -> Option<&'a Terms>
-    ensures { option_map (λ t. advisory_from (id.now, t.now)) result ≡ find (has_id id.now) (advisories_in by_id.now.entries) }
-{
-    by_id.get(id)
-}
-
-// Puts the id last where the advisory of this id affects an item of this name.
-fn push_if_affecting(
-    alloc: Global,
+// Puts the place of the advisory of this id last.
+fn push_place(
     by_id: &IndexMap<Text, Terms>,
     id: &Text,
+    places: &mut Vec<usize>,
+) -> Result<(), Memory>
+    ensures { OnOk result (places.new.items ≡ places.old.items ++ place_in (keys by_id.now) id.now) }
+{
+    if let Some(place) = by_id.get_index_of(id) {
+        places.push(place)?;
+    }
+    Ok(())
+}
+
+// And those of these ids.
+fn push_places(
+    by_id: &IndexMap<Text, Terms>,
+    ids: &[Text],
+    places: &mut Vec<usize>,
+) -> Result<(), Memory>
+    ensures { OnOk result (places.new.items ≡ places.old.items ++ flat_map (place_in (keys by_id.now)) ids.now) }
+{
+    for id in ids {
+        push_place(by_id, id, places)?;
+    }
+    Ok(())
+}
+
+// And those of the own group of a product.
+fn push_own_places(
+    by_id: &IndexMap<Text, Terms>,
+    groups: &Groups,
+    product: &Value,
+    places: &mut Vec<usize>,
+) -> Result<(), Memory>
+    ensures { OnOk result (places.new.items ≡ places.old.items ++ flat_map (place_in (keys by_id.now)) (own_group groups.now product.now)) }
+{
+    if is_plain(product) {
+        push_places(by_id, groups.of(product), places)
+    } else {
+        Ok(())
+    }
+}
+
+// The places of the advisories of this product, if it is plain, and of those whose product isn't, rising.
+fn find_places(
+    alloc: Global,
+    by_id: &IndexMap<Text, Terms>,
+    groups: &Groups,
+    product: &Value,
+) -> Result<Vec<usize>, Memory>
+    requires { AreGrouped (advisories_in by_id.now.entries) groups.now }
+    ensures { IfOk result (λ places. places.items ≡ places_where (is_beside product.now) by_id.now.entries) }
+{
+    let _count = by_id.len();
+    let mut places = Vec::new(alloc);
+    push_places(by_id, groups.of(&Value::Any), &mut places)?;
+    push_own_places(by_id, groups, product, &mut places)?;
+    places.sort_unstable();
+    Ok(places)
+}
+
+// Puts the id last where the advisory at this place affects an item of this name.
+fn push_affecting_at(
+    alloc: Global,
+    by_id: &IndexMap<Text, Terms>,
+    place: usize,
     name: &Wfn,
     ids: &mut List<Text>,
 ) -> Result<(), Memory>
-    ensures { OnOk result (ids.new ≡ ids.old ++ affecting_of name.now (advisories_in by_id.now.entries) id.now) }
+    ensures { OnOk result (ids.new ≡ ids.old ++ affecting_there name.now by_id.now.entries place) }
 {
-    match get_terms(by_id, id) {
-        Some(terms) => push_affecting(alloc, id, terms, name, ids),
+    match by_id.get_index(place) {
+        Some((id, terms)) => push_affecting(alloc, id, terms, name, ids),
         None => Ok(()),
     }
 }
 
-// Of these ids, those of advisories that affect an item of this name.
-fn find_among(
+// The ids of those at these places that affect an item of this name.
+fn find_affecting(
     alloc: Global,
     by_id: &IndexMap<Text, Terms>,
-    group: &[Text],
+    places: &[usize],
     name: &Wfn,
 ) -> Result<List<Text>, Memory>
-    ensures { IfOk result (λ ids. ids ≡ flat_map (affecting_of name.now (advisories_in by_id.now.entries)) group.now) }
+    ensures { IfOk result (λ ids. ids ≡ flat_map (affecting_there name.now by_id.now.entries) places.now) }
 {
     let mut ids = List::new(alloc);
-    for id in group {
-        push_if_affecting(alloc, by_id, id, name, &mut ids)?;
+    for place in places {
+        push_affecting_at(alloc, by_id, *place, name, &mut ids)?;
     }
     Ok(ids)
 }
@@ -309,8 +348,8 @@ impl Advised {
         }
     }
 
-    /// The ids of those that affect an item of this name in lower case, in their order. Where all have plain products, and so has the
-    /// name, it goes over those of its product alone; else over all.
+    /// The ids of those that affect an item of this name in lower case, in their order. It goes over those of the name's product, and
+    /// over those whose product isn't plain.
     ///
     /// # Errors
     /// Want of memory alone.
@@ -320,32 +359,7 @@ impl Advised {
     {
         cover_laws();
         let product = name.get(Attribute::Product);
-        if self.has_unplain() {
-            return find_affecting(alloc, &self.by_id, name);
-        }
-        if !is_plain(product) {
-            return find_affecting(alloc, &self.by_id, name);
-        }
-        self.affecting_of_product(alloc, product, name)
-    }
-
-    // Whether one of them has a product that isn't plain.
-    fn has_unplain(&self) -> bool
-        ensures { result ≡ false → ids_in_group value.Any self.now ≡ [] }
-    {
-        !self.groups.of(&Value::Any).is_empty()
-    }
-
-    // Of those of a product.
-    fn affecting_of_product(
-        &self,
-        alloc: Global,
-        product: &Value,
-        name: &Wfn,
-    ) -> Result<List<Text>, Memory>
-        ensures { IfOk result (λ ids. ids ≡ ids_affecting name.now (filter (is_in_group product.now) self.now)) }
-    {
-        let _count = self.by_id.len();
-        find_among(alloc, &self.by_id, self.groups.of(product), name)
+        let places = find_places(alloc, &self.by_id, &self.groups, product)?;
+        find_affecting(alloc, &self.by_id, &places, name)
     }
 }

@@ -1,22 +1,20 @@
-use Rattle.std.proofs.Common.{List, filter, sym, ap, ◌∙◌}
+use Rattle.std.proofs.Common.{ap, ◌∙◌}
+use Rattle.std.specs.List.{flat_map}
 use Rattle.std.proofs.lemmas.Result.{IfOk-weaker}
 use Rattle.cpe_values.specs.declared.value.Value.{Value}
-use Rattle.cpe_values.specs.declared.value.Value.TheVariants as value
 use Rattle.cpe_ranges.specs.Answers.{ids_affecting}
-use Rattle.cpe_ranges.specs.Groups.{ids_in_group, is_in_group, is_plain}
-use Rattle.cpe_advisories.specs.declared.advisory.Advisory.{Advisory}
-use Rattle.cpe_ranges.proofs.GroupLemmas.{one_group}
+use Rattle.cpe_ranges.specs.Found.{affecting_there, is_beside, places_where}
+use Rattle.cpe_ranges.proofs.GroupLemmas.{beside_suffice}
+use Rattle.cpe_ranges.proofs.PlaceLemmas.{affecting_where}
 use Rattle.cpe_ranges.proofs.advised.Advised.affecting.Goals as goal
 
 pub returns : goal.returns
 returns c =
     let es = c.self.inside.by_id.entries in
     let n = c.args.name.now in
-    let none = ap (ids_in_group value.Any) c.self.view_is ∙ c.has_unplain.ensures c.if-has_unplain.false in
-    let plain = ap is_plain (sym c.get-product.ensures) ∙ sym c.is_plain.ensures ∙ c.if-not-is_plain.false in
     let all =
-    ap (λ (v : Value). ids_affecting n (filter (is_in_group v) c.args.self.now)) c.get-product.ensures
-    ∙ ap (λ (ads : List Advisory). ids_affecting n (filter (is_in_group n.product) ads)) (sym c.self.view_is)
-    ∙ one_group c.cover_laws.ensures.near n c.requires plain es c.self.invariant.lower none
+    ap (flat_map (affecting_there n es)) (c.deref.ensures.value ∙ c.in_ok-places.ensures ∙ ap (λ (v : Value). places_where (is_beside v) es) c.get-product.ensures)
+    ∙ affecting_where n es (is_beside n.product)
+    ∙ beside_suffice c.cover_laws.ensures.near n c.requires es c.self.invariant.lower
     ∙ ap (ids_affecting n) c.self.view_is in
-    IfOk-weaker c.affecting_of_product.result _ _ (λ ids h. h ∙ all) c.affecting_of_product.ensures
+    IfOk-weaker c.find_affecting.result _ _ (λ ids h. h ∙ all) c.find_affecting.ensures

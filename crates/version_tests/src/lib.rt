@@ -1,0 +1,5 @@
+//! Tests of the order of versions.
+#![tactic(auto)]
+
+#[cfg(test)]
+mod versions;
