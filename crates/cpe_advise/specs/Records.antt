@@ -1,5 +1,5 @@
 -- What a line of a record says, and what it makes of the items and advisories.
-use Rattle.std.specs.Prelude.{ℕ, List, [], false, Ok, Err}
+use Rattle.std.specs.Prelude.{ℕ, [], false, Ok, Err}
 use Rattle.std.specs.declared.result.Result.{Result}
 use Rattle.cpe_session.specs.Session.{Session, Saying}
 use Rattle.cpe_ranges.specs.Rows.{AdviceRows}
