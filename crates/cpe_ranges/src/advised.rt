@@ -14,8 +14,8 @@ ghost use Rattle.cpe_ranges.specs.Kept.{advisory_from, advisories_in, AreLower};
 ghost use Rattle.cpe_ranges.specs.Affected.{affects};
 ghost use Rattle.cpe_ranges.specs.Rows.{has_id};
 
-use crate::range::is_in_range;
 use crate::groups::Groups;
+use crate::range::is_in_range;
 use cpe_advisories::{Advisory, Bound};
 use cpe_name::{Attribute, Wfn};
 use cpe_relation::{cover_laws, covers};
@@ -38,7 +38,7 @@ pub(crate) struct Terms {
 pub(crate) struct Advised {
     alloc: Global,
     by_id: IndexMap<Text, Terms>,
-    // Their ids by the products of their names: a question for one name goes over those of its product alone.
+    // Their ids by the products of their names: a question for a name goes over those of its product, and those without a plain one.
     groups: Groups,
 }
 

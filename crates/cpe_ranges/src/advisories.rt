@@ -19,7 +19,9 @@ ghost use Rattle.cpe_ranges.specs.Weight.{advisory_weight, bound_bytes, weight a
 
 use crate::advised::{Advised, Terms};
 use crate::range::is_in_range;
-use cpe_advisories::{AdviceEdit, AdviceFault, AdviceQuery, AdviceReply, AdviceWhich, Advisory, Bound};
+use cpe_advisories::{
+    AdviceEdit, AdviceFault, AdviceQuery, AdviceReply, AdviceWhich, Advisory, Bound,
+};
 use cpe_inventory::Items;
 use cpe_name::{Attribute, Wfn};
 use cpe_rows::{List, Text, has_wildcards, names_are_equal};
