@@ -18,8 +18,8 @@ import run
 MOST_MICROSECONDS, MOST_RATIO, LEAST_SPEED = 10, 1.5, 0.7
 # The most that are kept.
 MOST_ITEMS, MOST_ADVISORIES = 1_000_000, 100_000
-# How many items are of one product, and how many questions are asked beside advisories of many products.
-VERSIONS, QUESTIONS = 5, 200
+# How many items are of one product, and how many questions are asked beside advisories of a pattern.
+VERSIONS, QUESTIONS = 5, 5_000
 COMMAND, TWIN = "cpe advise", "advise_tuned"
 # What a session has, one behind the other; the words of its lines, and what a line of it is called.
 PARTS = {"item": "an item", "advisory": "an advisory", "affected": "affected", "advisories": "advisories"}
@@ -136,7 +136,9 @@ def measure(programs, sizes, rounds):
     print(f"{'program':<14}{'items':>10}{'advisories':>12}{heads}{'seconds':>10}{'ratio':>7}{'peak KiB':>12}")
     found = {}
     for size in sizes:
-        times = best_times(programs, [pathlib.Path(os.devnull), *size.paths], rounds)
+        # (the largest takes long, and bears noise)
+        often = rounds if size.items <= sizes[1].items else min(3, rounds)
+        times = best_times(programs, [pathlib.Path(os.devnull), *size.paths], often)
         for name, words in programs.items():
             found[name, size] = by_part(size, times[name])
             figures = "".join(f"{it * 1e6:>13.2f}" for it in found[name, size].values())
@@ -147,20 +149,17 @@ def measure(programs, sizes, rounds):
 
 
 def measure_patterns(programs, size, rounds):
-    """What a question takes beside a few advisories whose product is a pattern, and may be near any item."""
-    print(f"\n{COMMAND}, microseconds a question over {size.items:,} items and {size.advisories:,} advisories")
-    print(f"{'program':<14}{'patterns':>10}{'advisories':>13}{'affected, of a pattern':>25}")
-    for count in (1, 10):
+    """What a question takes beside advisories whose product is a pattern, each of which may be of any item."""
+    print(f"\n{COMMAND}, microseconds of `advisories` beside advisories of a pattern, {size.items:,} items, best of {rounds}")
+    print(f"{'program':<14}{'patterns':>10}{'a question':>13}")
+    for count in (1, 10, 100):
         patterns = [b'{"do":"advisory","id":"p%d","name":"cpe:2.3:a:*:*_%d7:*:*:*:*:*:*:*:*","end":"3"}' % (it, it) for it in range(count)]
-        asked = list(itertools.islice(asked_of(size), QUESTIONS))
-        affected = [b'{"do":"affected","id":"p%d"}' % (it % count) for it in range(QUESTIONS)]
-        paths = [run.BUILD / f"advise-patterns-{count}-{it}.txt" for it in ("none", "advisories", "affected")]
-        for path, questions in zip(paths, ((), asked, affected), strict=True):
-            write(path, itertools.chain(items_of(size), advisories_of(size), patterns, questions))
-        check_twin(programs, paths)
-        for name, (none, *behind) in best_times(programs, paths, rounds).items():
-            one, other = [(it - none) / QUESTIONS * 1e6 for it in behind]
-            print(f"{name:<14}{count:>10}{one:>13.1f}{other:>25.1f}", flush=True)
+        paths = [run.BUILD / f"advise-patterns-{count}{it}.txt" for it in ("", "-asked")]
+        for path, asked in zip(paths, (0, QUESTIONS), strict=True):
+            write(path, itertools.chain(items_of(size), advisories_of(size), patterns, itertools.islice(asked_of(size), asked)))
+        check_twin(programs, paths[1:])
+        for name, (none, behind) in best_times(programs, paths, rounds).items():
+            print(f"{name:<14}{count:>10}{(behind - none) / QUESTIONS * 1e6:>13.1f}", flush=True)
 
 
 def targets(found, sizes):
@@ -187,7 +186,7 @@ def said():
     parser = argparse.ArgumentParser(description=__doc__)
     parser.add_argument("program", nargs="?", default=run.TOP / "build" / "cpe", type=pathlib.Path, help="the program cpe (build/cpe)")
     parser.add_argument("--items", type=int, default=100_000, help="items, of which five are of one product and for two of which there is an advisory (100000)")
-    parser.add_argument("--rounds", type=int, default=5, help="runs of each program on each input (5)")
+    parser.add_argument("--rounds", type=int, default=5, help="runs of each program on each input (5), at the largest size three at most")
     given = parser.parse_args()
     if not os.access(given.program, os.X_OK) or not given.program.is_file():
         parser.error(f"{given.program} is no program: run make build first")
