@@ -765,7 +765,7 @@ advised() {
             answer("affected a" n " " all + 0 lines)
         }
         function ask_name(n, k,   all) {
-            all = (k <= 5 && affects(n, k)) + (n % 10 == 7)
+            all = affects(n, k) + (n % 10 == 7)
             record(name("advisories", n, k))
             answer("advisories " fs(n, k) " " all (all > (n % 10 == 7) ? "\nadvisory a" n : "") (n % 10 == 7 ? "\nadvisory p" n : ""))
         }
@@ -780,8 +780,8 @@ advised() {
         function add(n,   k) {
             for (k = 1; k <= 5; k++) record(name("item", n, k))
             record(advisory(n))
-            # a pattern that stands for this product alone
-            if (n % 10 == 7) record("{\"do\":\"advisory\",\"id\":\"p" n "\",\"name\":\"cpe:2.3:a:?v:p" n ":*:*:*:*:*:*:*:*\"}")
+            # one whose product is a pattern, which this product alone matches
+            if (n % 10 == 7) record("{\"do\":\"advisory\",\"id\":\"p" n "\",\"name\":\"cpe:2.3:a:v:?p" n ":*:*:*:*:*:*:*:*\"}")
             if (n % 10 == 9) spoil(n)
             ask(n)
         }
