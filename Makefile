@@ -52,6 +52,7 @@ install: build
 bench: need_python3 build
 	python3 bench/run.py build/cpe
 	python3 bench/index.py build/cpe
+	python3 bench/advise.py build/cpe
 
 clean:
 	rm -rf build crates/*/out

@@ -170,6 +170,117 @@ weight() {
         }' < /dev/null
 }
 
+# Items of advise; a question over the last of them, and an advisory, which has a limit of its own.
+advised_items() {
+    awk -v answers="$1" '
+        function record(text) { number++; if (!answers) print text }
+        function answer(text) { if (answers) print text }
+        function item(verb, n) { record("{\"do\":\"" verb "\",\"name\":\"cpe:/a:v:p" int(n / 100) ":" n % 100 "\"}") }
+        BEGIN {
+            most = 1000000
+            for (n = 0; n < most; n++) item("item", n)
+            item("item", most)
+            answer("refused " number " full items")
+            item("item", 7)
+            answer("refused " number " exists")
+            record("{\"do\":\"advisory\",\"id\":\"a\",\"name\":\"cpe:/a:v:p9999\",\"start\":\"98\"}")
+            record("{\"do\":\"affected\",\"id\":\"a\"}")
+            answer("affected a 2\nitem cpe:2.3:a:v:p9999:98:*:*:*:*:*:*:*\nitem cpe:2.3:a:v:p9999:99:*:*:*:*:*:*:*")
+            # one goes, and there is room again
+            item("drop-item", most - 2)
+            item("item", most)
+            item("item", most - 2)
+            answer("refused " number " full items")
+        }' < /dev/null
+}
+
+advisories() {
+    awk -v answers="$1" '
+        function record(text) { number++; if (!answers) print text }
+        function answer(text) { if (answers) print text }
+        function put(n) { record("{\"do\":\"advisory\",\"id\":\"a" n "\",\"name\":\"cpe:/a:v:p" n % 1000 "\",\"end\":\"" n "\"}") }
+        function drop(n) { record("{\"do\":\"drop-advisory\",\"id\":\"a" n "\"}") }
+        BEGIN {
+            most = 100000
+            for (n = 0; n < most; n++) put(n)
+            put(most)
+            answer("refused " number " full advisories")
+            put(7)
+            answer("refused " number " exists")
+            # an item has a limit of its own
+            record("{\"do\":\"item\",\"name\":\"cpe:/a:v:p7:98007\"}")
+            record("{\"do\":\"advisories\",\"name\":\"cpe:/a:v:p7:98007\"}")
+            answer("advisories cpe:2.3:a:v:p7:98007:*:*:*:*:*:*:* 2\nadvisory a98007\nadvisory a99007")
+            drop(99007)
+            put(most)
+            put(99007)
+            answer("refused " number " full advisories")
+            record("{\"do\":\"affected\",\"id\":\"a99007\"}")
+            answer("affected a99007 absent")
+        }' < /dev/null
+}
+
+# Items of advise with names of 60,000 bytes; what weighs nothing more, and one byte more, of an item and of an advisory. Of all that
+# is taken the weight is added up here.
+advised_weight() {
+    awk -v answers="$1" '
+        function record(text) { number++; if (!answers) print text }
+        function answer(text) { if (answers) print text }
+        function full() { answer("refused " number " full weight") }
+        function letters(count,   text) {
+            for (text = "x"; length(text) < count; text = text text) { }
+            return substr(text, 1, count)
+        }
+        function name(product) { return "cpe:2.3:a:v:" product ":*:*:*:*:*:*:*:*" }
+        function item(product) { record("{\"do\":\"item\",\"name\":\"" name(product) "\"}") }
+        function weighs(product) { return 32 + length(name(product)) }
+        function put(id, first, last) {
+            record("{\"do\":\"advisory\",\"id\":\"" id "\",\"name\":\"" name("p") "\",\"start\":\"" first "\",\"end\":\"" last \
+                "\",\"end-excluded\":true}")
+        }
+        BEGIN {
+            left = 536870912
+            long = letters(60000)
+            for (n = 1000; left > 64000; n++) {
+                item(n long)
+                left -= weighs(n long)
+            }
+            put("a", letters(200), letters(56))
+            left -= weighs("p") + 1 + 256
+            # an item behind which 400 are left, and before it one that weighs one too many
+            product = letters(left - weighs("") - 400)
+            item(product letters(401))
+            full()
+            item(product)
+            rest = 400 - weighs("p") - 1
+            put("b", letters(rest - 256), letters(255) "xx")
+            answer("refused " number " member end")
+            put("b", letters(rest - 255), letters(256))
+            full()
+            put("b", letters(rest - 256), letters(256))
+            # now nothing is left, for any kind of row; other reasons come before
+            record("{\"do\":\"item\",\"name\":\"cpe:/\"}")
+            full()
+            record("{\"do\":\"advisory\",\"id\":\"c\",\"name\":\"cpe:/\"}")
+            full()
+            item(product)
+            answer("refused " number " exists")
+            put("b", letters(256), letters(256))
+            answer("refused " number " exists")
+            # what is dropped weighs nothing any more
+            record("{\"do\":\"drop-advisory\",\"id\":\"b\"}")
+            item("y" letters(400 - weighs("")))
+            full()
+            item("y" letters(400 - weighs("") - 1))
+            record("{\"do\":\"drop-item\",\"name\":\"" name(product) "\"}")
+            record("{\"do\":\"affected\",\"id\":\"b\"}")
+            answer("affected b absent")
+            item(product "y")
+            full()
+            item(product)
+        }' < /dev/null
+}
+
 # tries WHAT WORD MAKER
 tries() {
     rm -f "$room/wanted"
@@ -192,4 +303,7 @@ tries '2,000,000 entries' resolve entries
 tries '1,000,000 items' resolve items
 tries '1,000,000 facts' resolve facts
 tries 'a weight of 536,870,912' resolve weight
+tries '1,000,000 items: advise' advise advised_items
+tries '100,000 advisories' advise advisories
+tries 'a weight of 536,870,912: advise' advise advised_weight
 exit "$failed"

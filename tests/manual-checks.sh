@@ -60,11 +60,16 @@ reasons_of_code() {
     codes spot_text "$reasons" | sed 's/^/name /'
     codes edit_fault_text "$reasons" | grep -v '^full'
     codes which_word "$reasons" | sed 's/^/full /'
+    reasons=crates/cpe_advise/specs/Reasons.antt
+    codes read_fault_text "$reasons"
+    codes edit_fault_text "$reasons" | grep -v '^full'
+    codes which_word "$reasons" | sed 's/^/full /'
 }
 
 # The limits, as a word and a number.
 limits_of_code() {
-    sed -n 's/^most limit\.\([A-Z][a-z]*\) = \([0-9]*\)$/\1 \2/p' crates/cpe_rows/specs/Limits.antt | tr '[:upper:]' '[:lower:]'
+    cat crates/cpe_rows/specs/Limits.antt crates/cpe_ranges/specs/Step.antt |
+        sed -n 's/^most limit\.\([A-Z][a-z]*\) = \([0-9]*\)$/\1 \2/p' | tr '[:upper:]' '[:lower:]'
     sed -n 's/^most_\([a-z]*\) = \([0-9]*\)$/\1 \2/p' crates/cpe_rows/specs/Limits.antt
     sed -n 's/^most_\(depth\) = \([0-9]*\)$/\1 \2/p' crates/cpe_rows/specs/Shape.antt
     sed -n 's/^is_id .*nat_le (length id) \([0-9]*\).*/id \1/p' crates/cpe_rows/specs/Valid.antt
@@ -85,11 +90,11 @@ limits_of_page() {
 
 compares_lists() {
     needs 'the lists of the manual page' awk sort wc || return
-    reasons_of_code | sort > "$room/code"
+    reasons_of_code | sort -u > "$room/code"
     heads REASONS > "$room/page"
     are_one 'the reasons of the manual page are those of the code'
 
-    limits_of_code | sort > "$room/code"
+    limits_of_code | sort -u > "$room/code"
     limits_of_page > "$room/page"
     are_one 'the limits of the manual page are those of the code'
 
@@ -104,6 +109,14 @@ compares_lists() {
     codes key_of crates/cpe_members/specs/Keys.antt > "$room/code"
     heads RECORDS Members > "$room/page"
     are_one 'the members of records on the manual page are those of the code'
+
+    codes verb_word crates/cpe_advisories/specs/Reading.antt > "$room/code"
+    heads 'RECORDS OF ADVISE' Kinds > "$room/page"
+    are_one 'the kinds of records of advise on the manual page are those of the code'
+
+    codes key_of crates/cpe_advisories/specs/Reading.antt > "$room/code"
+    heads 'RECORDS OF ADVISE' Members > "$room/page"
+    are_one 'the members of records of advise on the manual page are those of the code'
 
     for kind in kind_word note_kind_word mode_word operator_word truth_word; do
         codes "$kind" crates/cpe_members/specs/Words.antt

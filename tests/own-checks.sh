@@ -3,7 +3,7 @@
 # The status is 0 where no check failed.
 . "$(dirname "$0")/checks.sh"
 
-usage='usage: cpe bind fs|bind uri|unbind|compare|resolve|evaluate|watch|make N|drill N'
+usage='usage: cpe bind fs|bind uri|unbind|compare|resolve|evaluate|watch|make N|drill N|advise'
 
 # bounds WHAT: whether the address space can be bounded here, as the check of this name needs.
 bounds() {
@@ -77,6 +77,22 @@ answers_vectors() {
         wanted_status=0
         if grep -q '^refused ' "$wanted_output"; then wanted_status=1; fi
         answers "vectors: $*, $(basename "$vectors" .in)" "$vectors" "$wanted_output" "$wanted_status" "$@"
+    done
+}
+
+# The same, one byte a write; but for those whose lines are long.
+answers_vectors_in_pieces() {
+    folder=tests/vectors/$1
+    shift
+    what="vectors in single bytes: $*"
+    needs "$what" dd wc || return
+    for vectors in "$folder"/*.in; do
+        [ "$(wc -c < "$vectors")" -le 65536 ] || continue
+        wanted_output=${vectors%.in}.out
+        wanted_status=0
+        if grep -q '^refused ' "$wanted_output"; then wanted_status=1; fi
+        dd bs=1 < "$vectors" 2> /dev/null | limited "$program" "$@" > "$room/out" 2> "$room/error"
+        judge "$what, $(basename "$vectors" .in)" $? "$wanted_status" "$wanted_output"
     done
 }
 
@@ -715,6 +731,81 @@ watched() {
         }' < /dev/null
 }
 
+# advised lines|answers COUNT: so many products of five versions each as items, and for each product an advisory over some of its
+# versions; refused lines between them, questions, and drops of a version that comes again and stands last. The answers are made
+# here from the numbers of the products and of their versions, which rise.
+advised() {
+    awk -v answers="$([ "$1" = answers ] && echo 1)" -v count="$2" '
+        function fs(n, k) { return "cpe:2.3:a:v:p" n ":" version[k] ":*:*:*:*:*:*:*" }
+        function uri(n, k) { return "cpe:/a:v:p" n ":" version[k] }
+        function record(text) { number++; if (!answers) print text }
+        function answer(text) { if (answers) print text }
+        function refused(text, reason) { record(text); answer("refused " number " " reason) }
+        function name(verb, n, k) { return "{\"do\":\"" verb "\",\"name\":\"" (n % 3 ? fs(n, k) : toupper(uri(n, k))) "\"}" }
+        function id(verb, n) { return "{\"do\":\"" verb "\",\"id\":\"a" n "\"}" }
+        # from 1 to 5, or none where it is 0
+        function first(n) { return n % 6 }
+        function last(n) { return (n + int(n / 6)) % 6 }
+        function bound(word, k, is_excluded) {
+            return (k ? ",\"" word "\":\"" version[k] "\"" : "") (is_excluded ? ",\"" word "-excluded\":true" : "")
+        }
+        function advisory(n, more) {
+            return "{\"do\":\"advisory\",\"id\":\"a" n "\",\"name\":\"cpe:/a:v:p" n more "\"" bound("start", first(n), n % 4 == 1) \
+                bound("end", last(n), n % 5 == 2) "}"
+        }
+        function affects(n, k) {
+            if (first(n) && (k < first(n) || k == first(n) && n % 4 == 1)) return 0
+            return !last(n) || k < last(n) || k == last(n) && n % 5 != 2
+        }
+        # the third version stands last where it came again
+        function ask(n,   k, all, lines) {
+            for (k = 1; k <= 5; k++) if (affects(n, k) && !(k == 3 && is_moved[n])) { all++; lines = lines "\nitem " fs(n, k) }
+            if (is_moved[n] == 2 && affects(n, 3)) { all++; lines = lines "\nitem " fs(n, 3) }
+            record(id("affected", n))
+            answer("affected a" n " " all + 0 lines)
+        }
+        function ask_name(n, k,   all) {
+            all = affects(n, k) + (n % 10 == 7)
+            record(name("advisories", n, k))
+            answer("advisories " fs(n, k) " " all (all > (n % 10 == 7) ? "\nadvisory a" n : "") (n % 10 == 7 ? "\nadvisory p" n : ""))
+        }
+        function spoil(n) {
+            refused(advisory(n), "exists")
+            refused(advisory(n + count, ":1"), "version")
+            refused(name("item", n, 2), "exists")
+            refused("{\"do\":\"item\",\"name\":\"" uri(n, 2) "%02\"}", "wildcards")
+            refused(name("drop-item", n + count, 2), "unknown")
+            refused(id("drop-advisory", n + count), "unknown")
+        }
+        function add(n,   k) {
+            for (k = 1; k <= 5; k++) record(name("item", n, k))
+            record(advisory(n))
+            # one whose product is a pattern, which this product alone matches
+            if (n % 10 == 7) record("{\"do\":\"advisory\",\"id\":\"p" n "\",\"name\":\"cpe:2.3:a:v:?p" n ":*:*:*:*:*:*:*:*\"}")
+            if (n % 10 == 9) spoil(n)
+            ask(n)
+        }
+        function move(n) {
+            record(name("drop-item", n, 3))
+            is_moved[n] = 1
+            ask(n)
+            record(name("item", n, 3))
+            is_moved[n] = 2
+            ask(n)
+        }
+        BEGIN {
+            split("0.9 1.0beta2 1.0 1.0.1 2.0", version, " ")
+            for (n = 0; n < count; n++) add(n)
+            for (n = 0; n < count; n += 4) move(n)
+            for (n = 0; n < count; n += 3) ask_name(n, n % 5 + 1)
+            for (n = 0; n < count; n += 13) {
+                record(id("drop-advisory", n))
+                record(id("affected", n))
+                answer("affected a" n " absent")
+            }
+        }' < /dev/null
+}
+
 # answers_made WHAT KIB WORD MAKER COUNT: the answers to what a maker makes, in so many KiB of address space.
 answers_made() {
     what="$1: $3" kib=$2 word=$3 maker=$4 count=$5
@@ -992,6 +1083,24 @@ checks_of_watch() {
     fails_on_closed_streams examples/watch.jsonl watch
 }
 
+checks_of_advise() {
+    answers 'advisories over versions' examples/advise.jsonl examples/advise.out 1 advise
+    answers 'an empty input: advise' /dev/null /dev/null 0 advise
+    answers 'a word too many: advise' examples/advise.jsonl "$room/usage.out" 2 advise names
+    answers_in_pieces examples/advise.jsonl examples/advise.out advise
+    answers_vectors advise advise
+    answers_vectors_in_pieces advise advise
+    answers_at_once tests/vectors/advise/questions-alone.in tests/vectors/advise/questions-alone.out 0 advise
+    answers_made '3,000 products of five versions, an advisory over each, and questions to both' 65536 advise advised 3000
+    fails_for_want_of_memory advise advised 20000
+    fails_on_a_full_device examples/advise.jsonl advise
+    fails_in_mid_write_as_made advise advised 1000
+    fails_in_mid_read_as_made advise advised 200 '{"do":"affected","id":"a0"}'
+    answers 'a read that fails ends with status 3: advise' . /dev/null 3 advise
+    fails_where_the_reader_goes examples/advise.jsonl examples/advise.out advise
+    fails_on_closed_streams examples/advise.jsonl advise
+}
+
 # ---- make and drill, which read nothing
 
 # generated COUNT: the lines of make, made here from their numbers alone.
@@ -1132,7 +1241,7 @@ checks_of_generated() {
 }
 
 # each CHECK: the check under each command, on its example; under resolve on lines that may be repeated, since they
-# change nothing, and under watch on lines behind which nothing is left.
+# change nothing, and under watch and advise on lines behind which nothing is left.
 each() {
     "$1" examples/mixed.txt examples/mixed.out unbind
     "$1" examples/wfn.txt examples/wfn.out bind fs
@@ -1140,6 +1249,7 @@ each() {
     "$1" examples/pairs.txt examples/pairs.out compare
     "$1" tests/vectors/resolve/questions.in tests/vectors/resolve/questions.out resolve
     "$1" tests/vectors/watch/nothing-is-left.in tests/vectors/watch/nothing-is-left.out watch
+    "$1" tests/vectors/advise/nothing-is-left.in tests/vectors/advise/nothing-is-left.out advise
 }
 
 answers 'the real names' examples/names.txt examples/names.out 0 unbind
@@ -1174,6 +1284,7 @@ fails_on_closed_streams examples/names.txt unbind
 checks_of_resolve
 checks_of_evaluate
 checks_of_watch
+checks_of_advise
 checks_of_generated
 
 end_of_checks 'own checks'
