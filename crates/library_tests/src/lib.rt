@@ -11,8 +11,6 @@ mod bytes;
 #[cfg(test)]
 mod calls;
 #[cfg(test)]
-mod inventory;
-#[cfg(test)]
 mod names;
 #[cfg(test)]
 mod readme;

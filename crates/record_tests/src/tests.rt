@@ -1,8 +1,4 @@
-// Tests by what they are of, and how they read a line.
-mod checks;
-mod deprecations;
+// Tests by what is read from a line, and how a line is read.
 mod entries;
-mod kinds;
 mod reading;
-mod refusals;
 mod statements;

@@ -1,38 +1,44 @@
-// Statements: their ids, what they say where it is left out, and their tests.
-use super::reading::{is_right, read};
-use cpe_records::{Member, Record};
-use cpe_rows::{CheckKey, Edit, List, Mode, Operator, Test};
-use std::alloc::{AllocError, Global};
+// Statements that are read and copied, and their truths: over facts of a type of our own, and over the names and results that an
+// inventory lends.
+use super::reading::read;
+use cpe_inventory::{Checks, Names, Results, plain_verdict};
+use cpe_name::Wfn;
+use cpe_records::Record;
+use cpe_rows::{CheckKey, Edit, Facts, List, Mode, Operator, Statement, Test, Truth, evaluate};
+use std::alloc::Global;
+use std::slice::from_ref;
 
-// ---- ids
-
-// A text of JSON: the letter a, so many times.
-fn letters(alloc: Global, count: usize) -> Result<String, AllocError> {
-    let mut text = String::from_str(alloc, "\"")?;
-    for _ in 0..count {
-        text.push_str("a")?;
-    }
-    text.push_str("\"")?;
-    Ok(text)
-}
-
-fn is_id_of(alloc: Global, word: &str, count: usize) -> bool {
-    match letters(alloc, count) {
-        Ok(text) => is_right(alloc, word, Member::Id, &text),
-        Err(_) => false,
+fn statement_of(alloc: Global, line: &str) -> Option<Statement> {
+    match read(alloc, line.as_bytes()) {
+        Ok(Record::Edit(Edit::PutStatement(statement))) => Some(statement),
+        Ok(record) => {
+            drop(record);
+            None
+        }
+        Err(_) => None,
     }
 }
 
-#[test]
-fn an_id_has_1_to_256_visible_characters(rt: HostRuntime) {
-    for word in ["statement", "drop-statement", "verdict"] {
-        assert!(rt; is_id_of(rt.alloc(), word, 1));
-        assert!(rt; is_id_of(rt.alloc(), word, 256));
-    }
-    assert!(rt; is_right(rt.alloc(), "verdict", Member::Id, "\"!~\""));
+fn copy_of(alloc: Global, statement: &Statement) -> Option<Statement> {
+    statement.copy(alloc).ok()
 }
 
-// ---- the statement
+fn copied(alloc: Global, line: &str) -> Option<Statement> {
+    match statement_of(alloc, line) {
+        Some(statement) => {
+            let copy = copy_of(alloc, &statement);
+            drop(statement);
+            copy
+        }
+        None => None,
+    }
+}
+
+fn has_texts(statement: &Statement, title: &str, mode: Mode) -> bool {
+    statement.id.as_str() == "s" && statement.title.as_str() == title && statement.mode == mode
+}
+
+// ---- what a statement says
 
 fn is_reference(key: &CheckKey) -> bool {
     key.system.as_str() == "s" && key.href.as_str() == "h" && key.id.as_str() == "i"
@@ -42,7 +48,7 @@ fn is_reference(key: &CheckKey) -> bool {
 fn are_of_each_kind(children: &List<Test>) -> bool {
     match children.as_slice() {
         [Test::Fact(_), Test::Check(key), Test::Logic { negate, .. }] => {
-            *negate && is_reference(key)
+            *negate && is_reference(key) && key.same(key)
         }
         _ => false,
     }
@@ -59,33 +65,14 @@ fn is_of_each_kind(test: &Test) -> bool {
     }
 }
 
-fn says(edit: &Edit, title: &str, mode: Mode) -> bool {
-    match edit {
-        Edit::PutStatement(statement) => {
-            statement.id.as_str() == "s"
-                && statement.title.as_str() == title
-                && statement.mode == mode
-                && is_of_each_kind(&statement.test)
-        }
-        _ => false,
-    }
-}
-
-fn is_of(record: &Record, title: &str, mode: Mode) -> bool {
-    match record {
-        Record::Edit(edit) => says(edit, title, mode),
-        Record::Query(_) => false,
-    }
-}
-
-fn is_statement(alloc: Global, line: &str, title: &str, mode: Mode) -> bool {
-    match read(alloc, line.as_bytes()) {
-        Ok(record) => {
-            let is = is_of(&record, title, mode);
-            drop(record);
+fn is_copied(alloc: Global, line: &str) -> bool {
+    match copied(alloc, line) {
+        Some(copy) => {
+            let is = has_texts(&copy, "T", Mode::Follow) && is_of_each_kind(&copy.test);
+            drop(copy);
             is
         }
-        Err(_) => false,
+        None => false,
     }
 }
 
@@ -93,40 +80,72 @@ fn is_statement(alloc: Global, line: &str, title: &str, mode: Mode) -> bool {
 fn a_statement_with_a_child_of_each_kind(rt: HostRuntime) {
     let line =
         r#"{"do":"statement","id":"s","title":"T","mode":"follow","test":{"op":"AND","negate":false,"of":[{"fact":"cpe:/a"},{"check":{"system":"s","href":"h","id":"i"}},{"op":"OR","negate":true,"of":[{"fact":"cpe:/o"}]}]}}"#;
-    assert!(rt; is_statement(rt.alloc(), line, "T", Mode::Follow));
+    assert!(rt; is_copied(rt.alloc(), line));
+}
+
+// ---- its truths
+
+// Facts that hold, and checks that all have one truth.
+#[derive(Drop)]
+struct Known {
+    check: Truth,
+}
+
+impl Facts for Known {
+    ghost use Rattle.cpe_rows.specs.declared.truth.Truth.TheVariants.{True};
+
+    ghost fact_truth = { λ _ _. True };
+
+    ghost check_truth = { λ known _. known.check };
+
+    fn fact(&self, _name: &Wfn) -> Truth {
+        Truth::True
+    }
+
+    fn check(&self, _key: &CheckKey) -> Truth {
+        self.check
+    }
+}
+
+fn truth_of(statement: &Statement, check: Truth) -> Truth {
+    evaluate(&statement.test, &Known { check })
+}
+
+fn verdict(names: &Names, results: &Results, statement: &Statement) -> Truth {
+    plain_verdict(names, results, statement)
+}
+
+fn verdict_of(alloc: Global, names: &[Wfn], statement: &Statement) -> Truth {
+    let checks = Checks::new(alloc);
+    let names = Names {
+        front: names,
+        back: &[],
+    };
+    verdict(&names, &checks.results(), statement)
+}
+
+// Whether the statement says that not both are so, a fact that any name is and a check.
+fn denies_both(alloc: Global, statement: &Statement) -> bool {
+    truth_of(statement, Truth::True) == Truth::False
+        && truth_of(statement, Truth::Error) == Truth::Error
+        && verdict_of(alloc, &[], statement) == Truth::True
+        && verdict_of(alloc, from_ref(&Wfn::any()), statement) == Truth::Unknown
+}
+
+fn is_denial(alloc: Global, line: &str) -> bool {
+    match copied(alloc, line) {
+        Some(copy) => {
+            let is = has_texts(&copy, "", Mode::Plain) && denies_both(alloc, &copy);
+            drop(copy);
+            is
+        }
+        None => false,
+    }
 }
 
 #[test]
 fn a_statement_with_what_may_be_left_out(rt: HostRuntime) {
     let line =
-        r#"{"do":"statement","id":"s","test":{"op":"AND","of":[{"fact":"cpe:/a"},{"check":{"system":"s","href":"h","id":"i"}},{"op":"OR","negate":true,"of":[{"fact":"cpe:/o"}]}]}}"#;
-    assert!(rt; is_statement(rt.alloc(), line, "", Mode::Plain));
-}
-
-// ---- levels
-
-// A test of so many levels, with this child in the last.
-fn nested(alloc: Global, levels: usize, child: &str) -> Result<String, AllocError> {
-    let mut text = String::from_str(alloc, "")?;
-    for _ in 0..levels {
-        text.push_str("{\"op\":\"OR\",\"of\":[")?;
-    }
-    text.push_str(child)?;
-    for _ in 0..levels {
-        text.push_str("]}")?;
-    }
-    Ok(text)
-}
-
-fn is_deep(alloc: Global, levels: usize, child: &str) -> bool {
-    match nested(alloc, levels, child) {
-        Ok(test) => is_right(alloc, "statement", Member::Test, &test),
-        Err(_) => false,
-    }
-}
-
-#[test]
-fn a_test_has_32_levels(rt: HostRuntime) {
-    assert!(rt; is_deep(rt.alloc(), 32, "{\"fact\":\"cpe:/a\"}"));
-    assert!(rt; !is_deep(rt.alloc(), 33, "{\"fact\":\"cpe:/a\"}"));
+        r#"{"do":"statement","id":"s","test":{"op":"AND","negate":true,"of":[{"fact":"cpe:/"},{"check":{"system":"s","href":"h","id":"i"}}]}}"#;
+    assert!(rt; is_denial(rt.alloc(), line));
 }
