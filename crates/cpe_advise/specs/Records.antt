@@ -1,8 +1,9 @@
 -- What a line of a record says, and what it makes of the items and advisories.
-use Rattle.std.specs.Prelude.{ℕ, [], false, Ok, Err}
+use Rattle.std.specs.Prelude.{ℕ, List, [], false, Ok, Err}
 use Rattle.std.specs.declared.result.Result.{Result}
-use Rattle.cpe_session.specs.Session.{Session, Saying}
-use Rattle.cpe_ranges.specs.Rows.{AdviceRows}
+use Rattle.cpe_io.specs.Lines.{lines}
+use Rattle.cpe_session.specs.Session.{Session, Saying, total_cost}
+use Rattle.cpe_ranges.specs.Rows.{AdviceRows, no_rows}
 use Rattle.cpe_ranges.specs.Step.{step}
 use Rattle.cpe_ranges.specs.Answers.{answer, looks}
 use Rattle.cpe_advisories.specs.Reading.{advice_of}
@@ -38,3 +39,7 @@ advice_session = record {
   cost = λ rows number text. advice_cost rows (advice_of text);
   end_cost = λ rows. 0;
 }
+
+-- the most steps that the lines of these bytes may take, each in the rows that the lines before it leave
+abbrev pub most_steps : List ℕ → ℕ
+most_steps taken = total_cost advice_session no_rows (lines taken)

@@ -1,4 +1,4 @@
-// Commands over records: a dictionary, an inventory, statements, and questions.
+// Commands over records: a dictionary, an inventory, statements, and questions; advisories over items.
 use crate::faults::{stands_at_each_fault, stands_without_table};
 use std::test::Fail;
 
@@ -33,5 +33,17 @@ const WATCHED: &[u8] =
 #[test]
 fn watch_stands_at_each_fault(rt: HostRuntime) -> Result<(), Fail> {
     assert!(rt; stands_at_each_fault(rt.alloc(), &["watch"], SESSION, WATCHED)?);
+    Ok(())
+}
+
+const ADVICE: &[u8] =
+    b"{\"do\":\"item\",\"name\":\"cpe:/a:acme:editor:1.1\"}\r\n{\"do\":\"item\",\"name\":\"cpe:/a:acme:editor:2.0beta\"}\r\n{\"do\":\"item\",\"name\":\"cpe:/a:acme:editor:2.0\"}\r\n{\"do\":\"item\",\"name\":\"cpe:/a:zeta:mail:3.2\"}\r\n<list/>\r\n{\"do\":\"advisory\",\"id\":\"adv-1\",\"name\":\"cpe:/a:acme:editor\",\"start\":\"1.1\",\"start-excluded\":true,\"end\":\"2.0\"}\r\n{\"do\":\"advisory\",\"id\":\"adv-2\",\"name\":\"cpe:2.3:a:zeta:mail*:*:*:*:*:*:*:*:*\",\"end\":\"3.3\",\"end-excluded\":true}\r\n{\"do\":\"affected\",\"id\":\"adv-1\"}\r\n{\"do\":\"advisories\",\"name\":\"cpe:/a:zeta:mailbox:1.0\"}\r\n{\"do\":\"drop-item\",\"name\":\"cpe:/a:acme:editor:2.0\"}\r\n{\"do\":\"affected\",\"id\":\"adv-1\"}\r\n{\"do\":\"affected\",\"id\":\"adv-3\"}";
+
+const ADVISED: &[u8] =
+    b"refused 5 json\naffected adv-1 2\nitem cpe:2.3:a:acme:editor:2.0beta:*:*:*:*:*:*:*\nitem cpe:2.3:a:acme:editor:2.0:*:*:*:*:*:*:*\nadvisories cpe:2.3:a:zeta:mailbox:1.0:*:*:*:*:*:*:* 1\nadvisory adv-2\naffected adv-1 1\nitem cpe:2.3:a:acme:editor:2.0beta:*:*:*:*:*:*:*\naffected adv-3 absent\n";
+
+#[test]
+fn advise_stands_at_each_fault(rt: HostRuntime) -> Result<(), Fail> {
+    assert!(rt; stands_at_each_fault(rt.alloc(), &["advise"], ADVICE, ADVISED)?);
     Ok(())
 }
