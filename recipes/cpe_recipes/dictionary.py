@@ -34,14 +34,17 @@ def run(words: list[str]) -> int:
 def candidates_of(paths: list[str], said: Said, strict: bool = False) -> Iterator[Candidate]:
     """What the records of these feeds become: first the entries, and then the deprecations."""
     deprecations = Deprecations()
-    seen = 0
+    empty, is_empty = [], True
     for page in pages(paths, said, KINDS, strict):
         if not page.records:
-            said.remark(f"{page.name}: no {page.kind} in it")
-        seen += len(page.records)
+            empty.append(f"{page.name}: no {page.kind} in it")
+            continue
+        is_empty = False
         yield from _products(page, deprecations) if page.kind == "products" else _match_strings(page)
-    if not seen:
-        raise Fatal("no record of a dictionary in any of these")
+    if is_empty:
+        raise Fatal("; ".join(empty))
+    for text in empty:
+        said.remark(text)
     yield from deprecations.candidates()
 
 

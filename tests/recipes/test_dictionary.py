@@ -61,7 +61,7 @@ class Feeds(RecipeCase):
         self.assertEqual(self.said.told, ["remark 1.json: no products in it"])
         with self.assertRaises(Fatal) as caught:
             self.records({"matchStrings": []})
-        self.assertEqual(str(caught.exception), "no record of a dictionary in any of these")
+        self.assertEqual(str(caught.exception), "1.json: no matchStrings in it")
 
 
 if __name__ == "__main__":
