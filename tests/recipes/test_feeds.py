@@ -7,21 +7,11 @@ import unittest
 from pathlib import Path
 from unittest import mock
 
-sys.path.insert(0, str(Path(__file__).resolve().parents[2] / "recipes"))
+sys.path.insert(0, str(Path(__file__).resolve().parent))
 
+from stand_in import Heard  # noqa: E402 (it knows where the recipes are)
 from cpe_recipes import feeds  # noqa: E402
-from cpe_recipes.said import Fatal, Said  # noqa: E402
-
-
-class Heard(Said):
-    """What was said, kept."""
-
-    def __init__(self):
-        super().__init__()
-        self.told = []
-
-    def _say(self, line):
-        self.told.append(line)
+from cpe_recipes.said import Fatal  # noqa: E402
 
 
 class Pages(unittest.TestCase):

@@ -11,7 +11,7 @@ from cpe_recipes.feeds import FeedFault, record_text  # noqa: E402
 from cpe_recipes.machines import Machine, read_lists, read_machines  # noqa: E402
 from cpe_recipes.program import Candidate  # noqa: E402
 from cpe_recipes.said import Fatal  # noqa: E402
-from test_feeds import Heard  # noqa: E402
+from stand_in import Heard  # noqa: E402
 
 
 def reader(feed, data):

@@ -11,7 +11,7 @@ sys.path.insert(0, str(Path(__file__).resolve().parent))
 
 from cpe_recipes.program import Candidate, Program, refusals  # noqa: E402
 from cpe_recipes.said import Fatal  # noqa: E402
-from test_feeds import Heard  # noqa: E402
+from stand_in import Heard  # noqa: E402
 
 
 class Runs(unittest.TestCase):
