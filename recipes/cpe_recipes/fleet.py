@@ -97,8 +97,8 @@ Decided = dict[str, list[tuple[str, str]]]
 def read_decided(path: str) -> Decided:
     """What was decided for each machine, by its name."""
     decided: Decided = {}
-    for number, line in enumerate(read_text(path).splitlines(), 1):
-        parts = line.split("\t")
+    for number, line in enumerate(_lines_of(read_text(path)), 1):
+        parts = line.rstrip("\r").split("\t")
         if len(parts) != 3 or parts[2] not in ("TRUE", "FALSE"):
             raise Fatal(f"{name_of(path)} line {number}: it is not MACHINE, KEY and TRUE or FALSE with tabs between them")
         decided.setdefault(parts[0], []).append((parts[1], parts[2]))

@@ -56,7 +56,7 @@ def read_suppressed(paths: Sequence[str], said: Said) -> Suppressed:
             text = read_feed(path).decode("utf-8-sig", errors="backslashreplace")
         except FeedFault as fault:
             raise Fatal(f"{feed}: {fault}") from fault
-        for number, line in enumerate(text.splitlines(), 1):
+        for number, line in enumerate(text.split("\n"), 1):
             words = line.split(None, 2)
             if not words or words[0].startswith("#"):
                 continue
