@@ -16,7 +16,7 @@ recipe() {
 
 # converts NAME SAMPLE: a recipe on its sample, in which there are odd records.
 converts() {
-    needs "the recipe $1 on $2" jq awk mktemp || return
+    needs "the recipe $1 on $2" python3 || return
     recipe "the recipe $1 on $2" 1 "$samples/$2.jsonl" "$samples/$2.said" sh "recipes/$1.sh" "$samples/$2.json"
     # (each record is accepted; the deprecations and statements of a dictionary need its entries alone)
     limited "$program" resolve < "$room/out" > "$room/refused" 2> "$room/error"
@@ -41,28 +41,28 @@ says() {
 
 # refuses_feeds NAME SAMPLE EMPTY: bad feeds, alone and beside a good one; EMPTY is a right feed with nothing in it.
 refuses_feeds() {
-    needs "bad feeds: $1" jq awk mktemp wc || return
+    needs "bad feeds: $1" python3 wc || return
     : > "$room/no-bytes.json"
     printf '%s' "$3" > "$room/no-records.json"
     printf '<html>too many requests</html>\n' > "$room/page.json"
     head -c 700 "$samples/$2.json" > "$room/torn.json"
     printf '[]\n' > "$room/array.json"
     printf '{"products":7,"vulnerabilities":7,"bomFormat":"CycloneDX","components":7}' > "$room/list.json"
-    says "a feed without records: $1" 0 'no-records.json: no ' "$1" "$room/no-records.json"
-    says "a feed without bytes: $1" 1 'left out no-bytes.json: no JSON: it is empty' "$1" "$room/no-bytes.json"
-    says "a feed that is no JSON: $1" 1 'left out page.json: no JSON: ' "$1" "$room/page.json"
-    says "a feed that is torn off: $1" 1 'left out torn.json: no JSON: ' "$1" "$room/torn.json"
-    says "a feed of another kind: $1" 1 'left out array.json: n' "$1" "$room/array.json"
-    says "a feed whose list is none: $1" 1 'left out list.json: n' "$1" "$room/list.json"
-    says "a feed that isn't there: $1" 1 'left out none.json: can not be read' "$1" "$room/none.json"
-    { echo 'left out no-bytes.json: no JSON: it is empty'; cat "$samples/$2.said"; } > "$room/wanted.said"
-    recipe "a good feed beside a bad one: $1" 1 "$samples/$2.jsonl" "$room/wanted.said" \
-        sh "recipes/$1.sh" "$room/no-bytes.json" "$samples/$2.json"
-    what="a recipe where there is no program: $1"
-    limited env CPE="$room/none" sh "recipes/$1.sh" "$samples/$2.json" > "$room/out" 2> "$room/said"
+    says "a feed without records: $1" 2 "$1.sh: no" "$1" "$room/no-records.json"
+    for bad in no-bytes page torn array list none; do
+        says "a feed that can't be read, $bad: $1" 2 "$1.sh: $bad.json: " "$1" "$room/$bad.json"
+    done
+    limited sh "recipes/$1.sh" "$room/torn.json" "$samples/$2.json" > "$room/out" 2> "$room/said" < /dev/null
     status=$?
-    : > "$room/error"
-    judge "$what" "$status" 2 /dev/null
+    grep -v '^left out torn.json: ' "$room/said" > "$room/error"
+    judge "a good feed beside a bad one: $1" "$status" 1 "$samples/$2.jsonl" "$samples/$2.said"
+    gzip -c "$samples/$2.json" > "$room/$2.json.gz"
+    sed "s/\\.json\$/&.gz/; s/$2.json: /$2.json.gz: /" "$samples/$2.said" > "$room/wanted.said"
+    recipe "a feed that gzip packed: $1" 1 "$samples/$2.jsonl" "$room/wanted.said" sh "recipes/$1.sh" "$room/$2.json.gz"
+    limited env CPE="$room/none" sh "recipes/$1.sh" "$samples/$2.json" > "$room/out" 2> "$room/error"
+    status=$?
+    echo "$1.sh: there is no $room/none" > "$room/wanted.said"
+    judge "a recipe where there is no program: $1" "$status" 2 /dev/null "$room/wanted.said"
 }
 
 # The samples together, which the table of the whole way has.
@@ -149,15 +149,16 @@ makes_fleet() {
     cat "$samples/dictionary.jsonl" "$samples/advisories.jsonl" > "$room/records"
     while read -r machine items; do
         [ -n "$machine" ] || continue
-        for item in $items; do jq -cn --arg name "$item" '{do: "item", $name}'; done |
-            cat "$room/records" - | limited "$program" evaluate |
-            awk -v machine="$machine" 'is_table { print machine, $2, $3 } /^verdicts / { is_table = 1 }'
+        [ -n "$items" ] || { echo "$machine no items"; continue; }
+        for item in $items; do printf '%s\n' "$item"; done | sed 's/[\"]/\\&/g; s/.*/{"do":"item","name":"&"}/' |
+            cat "$room/records" - | limited "$program" evaluate | sed -n "s/^verdict /$machine /p"
     done < "$samples/machines.txt" > "$room/evaluated"
+    echo "machines $(grep -c . "$samples/machines.txt")" >> "$room/evaluated"
 }
 
 checks_fleet() {
     what='the fleet of the sample is what cpe evaluate says of each machine'
-    needs "$what" jq awk || return
+    needs "$what" cat || return
     makes_fleet
     cp "$room/evaluated" "$room/out"
     : > "$room/error"
@@ -180,7 +181,7 @@ fleet() {
 
 goes_over_a_fleet() {
     cat "$samples/dictionary.jsonl" "$samples/advisories.jsonl" > "$room/records"
-    if needs 'a fleet over GNU parallel' parallel split awk mktemp; then
+    if needs 'a fleet over GNU parallel' parallel python3; then
         fleet 'a fleet over GNU parallel' env WORKERS=2 sh recipes/fleet/parallel.sh "$room/records" "$samples/machines.txt"
     fi
     for python in python3 /usr/bin/python3 ''; do

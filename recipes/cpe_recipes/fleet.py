@@ -1,0 +1,147 @@
+"""An inventory of many machines: what the fleets over GNU parallel and over Dask share.
+
+    parallel.sh RECORDS MACHINES [--ranges FILE [--letters FILE] [--matches FILE..]] [--decided FILE]
+
+- RECORDS: entries, deprecations, statements and results of checks, as the recipes write them.
+- MACHINES: a line a machine: its name, and behind it the names of its items.
+- --ranges: the ranges of versions that `advisories.sh --ranges` wrote. Each is decided for each machine, as `decide.sh` does,
+  and the statements that wait for it get the answer. --decided has what `decide.sh` wrote before.
+
+A fleet writes a line `MACHINE STATEMENT TRUTH` for each, in the order of the machines and of the statements, and `MACHINE no items`
+for a machine without items, of which nothing is known. The last line, `machines COUNT`, stands where every machine was told.
+"""
+from __future__ import annotations
+
+import io
+import json
+from collections.abc import Iterator
+from dataclasses import dataclass
+
+from .feeds import FeedFault, name_of, read_feed
+from .machines import read_machines
+from .program import Program
+from .said import Fatal, Said
+from .session import Asked, Known
+from .words import MANY, ONE, Words
+
+OPTIONS = {"--ranges": ONE, "--matches": MANY, "--letters": ONE, "--decided": ONE}
+USAGE = "RECORDS MACHINES [--ranges FILE [--letters FILE] [--matches FILE..]] [--decided FILE]"
+MACHINES_MISSING = 5
+
+
+def read_text(path: str) -> str:
+    """What stands in a file; a byte that is no UTF-8 is written by its number, and cpe refuses its line. Fatal where it can't
+    be read."""
+    try:
+        return read_feed(path).decode(errors="backslashreplace")
+    except FeedFault as fault:
+        raise Fatal(f"{name_of(path)}: {fault}") from fault
+
+
+@dataclass(frozen=True)
+class Records:
+    """The records of a fleet, and the keys of NVD's checks that have a result among them."""
+
+    known: Known
+    results: set[str]
+
+
+def read_records(program: Program, path: str, said: Said) -> Records:
+    """The records at this path, and what cpe says to them. What it refuses is said. Fatal where there is no statement, and
+    where there are items, since those of machines come and go."""
+    feed, text = name_of(path), read_text(path)
+    lines = text.encode(errors="replace")
+    if lines and not lines.endswith(b"\n"):
+        lines += b"\n"
+    answers = program.run(["evaluate"], _lines_of(text))
+    table = next((place for place, line in enumerate(answers) if line.startswith("verdicts ")), None)
+    if table is None:
+        raise Fatal(f"{feed}: cpe evaluate wrote no table")
+    for line in answers[:table]:
+        if line.startswith("refused "):
+            _, number, reason = line.split(" ", 2)
+            said.left_out(f"{feed} line {number}", reason)
+    statements = [line.split(" ")[1] for line in answers[table + 1 :]]
+    if not statements:
+        raise Fatal(f"{feed}: no statements in it")
+    results: set[str] = set()
+    for number, line in enumerate(_lines_of(text), 1):
+        _note_state(feed, number, line, results)
+    return Records(Known(lines, table, statements), results)
+
+
+def _lines_of(text: str) -> Iterator[str]:
+    """The lines of a text, one at a time, so that a dictionary isn't in memory twice."""
+    return (line.rstrip("\n") for line in io.StringIO(text, newline="\n"))
+
+
+def _note_state(feed: str, number: int, line: str, results: set[str]) -> None:
+    if '"item"' not in line and 'check"' not in line:
+        return
+    try:
+        record = json.loads(line)
+    except (ValueError, RecursionError):
+        return
+    word = record.get("do") if isinstance(record, dict) else None
+    if word == "item":
+        raise Fatal(f"{feed} line {number}: an item stands among the records; items belong to machines")
+    if word in ("check", "drop-check") and (record.get("system"), record.get("href")) == ("NVD", "cpeMatch"):
+        key = record.get("id")
+        if isinstance(key, str):
+            (results.add if word == "check" else results.discard)(key)
+
+
+Decided = dict[str, list[tuple[str, str]]]
+
+
+def read_decided(path: str) -> Decided:
+    """What was decided for each machine, by its name."""
+    decided: Decided = {}
+    for number, line in enumerate(_lines_of(read_text(path)), 1):
+        parts = line.rstrip("\r").split("\t")
+        if len(parts) != 3 or parts[2] not in ("TRUE", "FALSE"):
+            raise Fatal(f"{name_of(path)} line {number}: it is not MACHINE, KEY and TRUE or FALSE with tabs between them")
+        decided.setdefault(parts[0], []).append((parts[1], parts[2]))
+    return decided
+
+
+@dataclass(frozen=True)
+class Fleet:
+    """What a fleet is asked: the records, and the machines."""
+
+    known: Known
+    machines: list[Asked]
+
+    def blocks(self, most: int) -> list[list[Asked]]:
+        """The machines in pieces of so many at most."""
+        return [self.machines[first : first + most] for first in range(0, len(self.machines), most)]
+
+
+def read_fleet(program: Program, words: Words, said: Said) -> Fleet:
+    """What the words of a fleet name. A key that has a result among the records keeps that one."""
+    records_path, machines_path = words.files
+    records = read_records(program, records_path, said)
+    machines = read_machines(machines_path, said)
+    decided = read_decided(words.one("--decided")) if words.has("--decided") else {}
+    names = {machine.name for machine in machines}
+    for name in decided:
+        if name not in names:
+            said.remark(f"{name} has decided ranges, and is no machine of {name_of(machines_path)}")
+    asked = []
+    for machine in machines:
+        own = [(key, result) for key, result in decided.get(machine.name, []) if key not in records.results]
+        asked.append(Asked(machine.name, machine.items, own))
+    return Fleet(records.known, asked)
+
+
+def say_told(said: Said, machine: str, has_items: bool, left_out: list[tuple[str, str]]) -> None:
+    for name, reason in left_out:
+        said.left_out(f"{machine} {name}", reason)
+    if not has_items:
+        said.left_out(machine, "no items")
+
+
+def say_missing(said: Said, machines: list[Asked], why: str) -> None:
+    """Machines whose worker came to no end."""
+    names = machines[0].name if len(machines) == 1 else f"{machines[0].name} to {machines[-1].name}"
+    said.left_out(names, f"{len(machines)} machines, {why}" if len(machines) > 1 else why)

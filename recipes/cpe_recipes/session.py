@@ -1,0 +1,121 @@
+"""A run of `cpe resolve` that has read the records of a fleet, and is asked machine after machine.
+
+It stands alone, without the other modules, since workers elsewhere are sent this file.
+"""
+from __future__ import annotations
+
+import contextlib
+import json
+import queue
+import subprocess
+import threading
+from dataclasses import dataclass, field
+
+
+@dataclass(frozen=True)
+class Known:
+    """What every worker of a fleet knows: the records, how many lines cpe answers to them, and the ids of the statements."""
+
+    lines: bytes
+    answers: int
+    statements: list[str]
+
+
+@dataclass(frozen=True)
+class Asked:
+    """A machine, the names of its items, and what was decided for it of the ranges: keys of checks, with TRUE or FALSE."""
+
+    name: str
+    items: list[str]
+    decided: list[tuple[str, str]] = field(default_factory=list)
+
+
+@dataclass(frozen=True)
+class Told:
+    """What came of a machine: what is left out of it, with the reasons, and the lines of its verdicts, or that it has no items."""
+
+    machine: str
+    left_out: list[tuple[str, str]]
+    lines: list[str]
+    has_items: bool = True
+
+
+class Session:
+    """The run. It ends where its process dies; then OSError or EOFError comes."""
+
+    def __init__(self, program: str, known: Known) -> None:
+        self._ask = [_record("verdict", id=id) for id in known.statements]
+        self._run = subprocess.Popen([program, "resolve"], stdin=subprocess.PIPE, stdout=subprocess.PIPE)
+        # (who writes to a pipe and doesn't read from the other one may wait for ever, so another thread writes)
+        self._waiting: queue.SimpleQueue[bytes] = queue.SimpleQueue()
+        threading.Thread(target=self._write, daemon=True).start()
+        self._last = known.lines.count(b"\n")
+        self._waiting.put(known.lines)
+        for _ in range(known.answers):
+            self._answer()
+
+    def _write(self) -> None:
+        while lines := self._waiting.get():
+            try:
+                self._run.stdin.write(lines)
+                self._run.stdin.flush()
+            except (OSError, ValueError):
+                return
+
+    def _answer(self) -> str:
+        line = self._run.stdout.readline()
+        if not line.endswith(b"\n"):
+            raise EOFError("cpe ended in the middle")
+        return line[:-1].decode(errors="backslashreplace")
+
+    def ask(self, machine: Asked) -> Told:
+        """The verdicts of a machine: its items and results are put, the statements asked, and the former dropped again."""
+        if not machine.items:
+            return _without_items(machine, [])
+        items = [("item", {"name": name}) for name in machine.items]
+        checks = [("check", {"system": "NVD", "href": "cpeMatch", "id": key, "result": result}) for key, result in machine.decided]
+        puts = items + checks
+        drops = [("drop-" + word, {key: text for key, text in members.items() if key != "result"}) for word, members in puts]
+        first = self._last + 1
+        lines = [_record(word, **members) for word, members in puts] + self._ask + [_record(word, **members) for word, members in drops]
+        self._last += len(lines)
+        self._waiting.put("".join(lines).encode(errors="replace"))
+        refused, verdicts = self._answers(first, len(puts), len(self._ask))
+        left_out = [
+            (machine.items[place] if place < len(items) else f"check {machine.decided[place - len(items)][0]}", reason)
+            for place, reason in refused.items() if reason != "exists"
+        ]
+        # (a name that comes twice is one item)
+        if all(place in refused and refused[place] != "exists" for place in range(len(items))):
+            return _without_items(machine, left_out)
+        return Told(machine.name, left_out, [f"{machine.name} {verdict}" for verdict in verdicts])
+
+    def _answers(self, first: int, puts: int, wanted: int) -> tuple[dict[int, str], list[str]]:
+        refused: dict[int, str] = {}
+        verdicts: list[str] = []
+        while len(verdicts) < wanted:
+            word, rest = self._answer().split(" ", 1)
+            if word != "refused":
+                verdicts.append(rest)
+                continue
+            number, reason = rest.split(" ", 1)
+            # (drops of the machine before are refused too: what was no item can not be dropped)
+            if 0 <= int(number) - first < puts:
+                refused[int(number) - first] = reason
+        return refused, verdicts
+
+    def end(self) -> None:
+        self._waiting.put(b"")
+        self._run.kill()
+        self._run.wait()
+        self._run.stdout.close()
+        with contextlib.suppress(OSError):
+            self._run.stdin.close()
+
+
+def _record(word: str, **members: str) -> str:
+    return json.dumps({"do": word, **members}, ensure_ascii=False, separators=(",", ":")) + "\n"
+
+
+def _without_items(machine: Asked, left_out: list[tuple[str, str]]) -> Told:
+    return Told(machine.name, left_out, [f"{machine.name} no items"], has_items=False)

@@ -1,0 +1,50 @@
+"""A worker of a fleet over GNU parallel: PROGRAM RECORDS PLAN PIECE. It takes the machines of a piece one after the other.
+
+The plan and the piece are files that `parallel.py` wrote. The worker writes PIECE.said and PIECE.out, which get their names when
+they are whole: so what a worker wrote that died is not there. PIECE.full tells that there was no room for them.
+"""
+from __future__ import annotations
+
+import json
+from pathlib import Path
+
+from .said import DONE, Fatal, write_file
+from .session import Asked, Known, Session
+
+
+def write_plan(folder: Path, known: Known) -> list[str]:
+    """Files of what all workers know; the words for a worker that has them."""
+    records, plan = folder / "records", folder / "plan"
+    try:
+        records.write_bytes(known.lines)
+    except OSError as fault:
+        raise Fatal(f"the records could not be written: {fault.strerror}") from fault
+    write_file(str(plan), [json.dumps([known.answers, known.statements])])
+    return [str(records), str(plan)]
+
+
+def write_piece(path: Path, machines: list[Asked]) -> None:
+    write_file(str(path), [json.dumps([machine.name, machine.items, machine.decided]) for machine in machines])
+
+
+def run(words: list[str]) -> int:
+    program, *paths = words
+    records, plan, piece = (Path(path) for path in paths)
+    answers, statements = json.loads(plan.read_text())
+    known = Known(records.read_bytes(), answers, statements)
+    machines = [Asked(name, items, [(key, result) for key, result in decided]) for name, items, decided in map(json.loads, piece.open())]
+    try:
+        session = Session(program, known)
+        try:
+            told = [session.ask(machine) for machine in machines]
+        finally:
+            session.end()
+    except (OSError, EOFError) as fault:
+        raise Fatal(f"{piece.name}: {fault}") from fault
+    try:
+        write_file(f"{piece}.said", [json.dumps([one.machine, one.has_items, one.left_out]) for one in told])
+        write_file(f"{piece}.out", [line for one in told for line in one.lines])
+    except Fatal:
+        Path(f"{piece}.full").touch()
+        raise
+    return DONE
