@@ -1,11 +1,11 @@
 """An inventory of many machines: what the fleets over GNU parallel and over Dask share.
 
-    parallel.sh RECORDS MACHINES [--ranges FILE [--letters FILE] [--matches FILE..]] [--decided FILE]
+    parallel.sh RECORDS MACHINES [--ranges FILE [--letters FILE] [--matches FILE..] | --decided FILE]
 
 - RECORDS: entries, deprecations, statements and results of checks, as the recipes write them.
 - MACHINES: a line a machine: its name, and behind it the names of its items.
-- --ranges: the ranges of versions that `advisories.sh --ranges` wrote. Each is decided for each machine, as `decide.sh` does,
-  and the statements that wait for it get the answer. --decided has what `decide.sh` wrote before.
+- --ranges: the ranges of versions that `advisories.sh --ranges` wrote. Each is decided for each machine, as `decide.py` does,
+  and the statements that wait for it get the answer. --decided has what `decide.py` wrote before.
 
 A fleet writes a line `MACHINE STATEMENT TRUTH` for each, in the order of the machines and of the statements, and `MACHINE no items`
 for a machine without items, of which nothing is known. The last line, `machines COUNT`, stands where every machine was told.
@@ -17,15 +17,17 @@ import json
 from collections.abc import Iterator
 from dataclasses import dataclass
 
-from .feeds import FeedFault, name_of, read_feed
-from .machines import read_machines
+from . import decide, matches
+from .feeds import FeedFault, name_of, pages, read_feed
+from .machines import Machine, read_machines
 from .program import Program
 from .said import Fatal, Said
 from .session import Asked, Known
+from .versions import read_letters
 from .words import MANY, ONE, Words
 
 OPTIONS = {"--ranges": ONE, "--matches": MANY, "--letters": ONE, "--decided": ONE}
-USAGE = "RECORDS MACHINES [--ranges FILE [--letters FILE] [--matches FILE..]] [--decided FILE]"
+USAGE = "RECORDS MACHINES [--ranges FILE [--letters FILE] [--matches FILE..] | --decided FILE]"
 MACHINES_MISSING = 5
 
 
@@ -91,11 +93,12 @@ def _note_state(feed: str, number: int, line: str, results: set[str]) -> None:
             (results.add if word == "check" else results.discard)(key)
 
 
+# Of machines by name: the ids of checks, with TRUE or FALSE.
 Decided = dict[str, list[tuple[str, str]]]
 
 
 def read_decided(path: str) -> Decided:
-    """What was decided for each machine, by its name."""
+    """What `decide.py` wrote."""
     decided: Decided = {}
     for number, line in enumerate(_lines_of(read_text(path)), 1):
         parts = line.rstrip("\r").split("\t")
@@ -103,6 +106,26 @@ def read_decided(path: str) -> Decided:
             raise Fatal(f"{name_of(path)} line {number}: it is not MACHINE, KEY and TRUE or FALSE with tabs between them")
         decided.setdefault(parts[0], []).append((parts[1], parts[2]))
     return decided
+
+
+def decide_ranges(program: Program, words: Words, machines: list[Machine], said: Said) -> Decided:
+    """What `decide.py` would write of these machines; which ranges have no answer is said as it says it."""
+    ranges = decide.read_ranges(words.many("--ranges"), said)
+    feed = pages(words.many("--matches"), said, matches.KINDS, strict=True) if words.has("--matches") else []
+    lists = decide.Lists(program, matches.listed(feed, ranges.keys(), said))
+    items = dict.fromkeys(item for machine in machines for item in machine.items)
+    criteria = (one.criteria for one in ranges.values())
+    leads = decide.leads_of(program, decide.read_entries(words.files[:1]), items, criteria)
+    letters = read_letters(words.one("--letters") or decide.LETTERS)
+    decider = decide.Decider(program, ranges.values(), leads, items, letters)
+    found: Decided = {}
+    for machine in machines:
+        # (what is no item is said where it is put)
+        here = decide.decide([leads.found[item] for item in machine.items if item not in leads.refused], decider, lists)
+        found[machine.name] = [(key, "TRUE" if truth else "FALSE") for key, truth in here.truths.items()]
+        for key, one in here.unsure.items():
+            said.left_out(machine.name, f"{one.end} in {ranges[key].criteria} {ranges[key].words()}: {one.reason}")
+    return found
 
 
 @dataclass(frozen=True)
@@ -122,7 +145,11 @@ def read_fleet(program: Program, words: Words, said: Said) -> Fleet:
     records_path, machines_path = words.files
     records = read_records(program, records_path, said)
     machines = read_machines(machines_path, said)
-    decided = read_decided(words.one("--decided")) if words.has("--decided") else {}
+    decided: Decided = {}
+    if words.has("--decided"):
+        decided = read_decided(words.one("--decided"))
+    elif words.has("--ranges"):
+        decided = decide_ranges(program, words, machines, said)
     names = {machine.name for machine in machines}
     for name in decided:
         if name not in names:

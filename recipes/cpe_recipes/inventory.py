@@ -1,6 +1,7 @@
 """From software lists to an inventory: CycloneDX 1.x and SPDX 2.x, as JSON, and plain lists of names, to records `item`.
 
     sh inventory.sh [FILE..] > records
+    sh inventory.sh --machines FILE.. > machines.txt
 
 - CycloneDX: the `cpe` of each component, of those within components, and of the component that the list is about.
 - SPDX: the locators of the external references of type cpe23Type and cpe22Type of each package.
@@ -9,16 +10,23 @@
 
 What has no name, or none that can be an item, is said. Lists of another form are named and refused, and so is what has no item:
 an inventory of which nothing was read would look as if nothing were affected.
+
+With --machines each list is that of a machine, which is called as its file is, without its endings. It writes a line for each: the
+machine's name, and behind it the names of its items. A machine without items has its line too, and is said.
 """
 from __future__ import annotations
 
+import json
 import re
-from collections.abc import Iterator
+from collections.abc import Iterable, Iterator, Sequence
 
+from . import machines
 from .feeds import FeedFault, FormFault, Json, members, name_of, read_feed, record_text, text_at, values_of
 from .program import Candidate, Program
 from .said import Fatal, Output, Said
+from .words import FLAG, read_words
 
+USAGE = "inventory.sh [--machines] [FILE..]"
 WANTED = "give CycloneDX 1.x or SPDX 2.x as JSON, or a plain list of names"
 
 _NAME_TYPE = re.compile(r"(^|/)cpe2[23]Type$")
@@ -27,17 +35,33 @@ _NO_NAME = "no CPE name"
 _ODD = "not of the published form"
 
 
-def run(words: list[str]) -> int:
+def run(words: Sequence[str]) -> int:
+    read = read_words(words, {"--machines": FLAG}, USAGE)
     said, output, program = Said(), Output(), Program()
-    records = program.accepted(read_lists(words, said), said, unsaid="exists")
-    if not records:
-        raise Fatal("no item in any of these")
-    output.lines(records)
+    if read.has("--machines"):
+        output.lines(list(machine_lines(program, machines.read_lists(read.files, candidates_of, said), said)))
+    else:
+        records = program.accepted(read_lists(read.files, said), said, unsaid="exists")
+        if not records:
+            raise Fatal("no item in any of these")
+        output.lines(records)
     output.end()
     return said.status()
 
 
-def read_lists(paths: list[str], said: Said) -> list[Candidate]:
+def machine_lines(program: Program, found: Iterable[machines.Machine], said: Said) -> Iterator[str]:
+    """Lines of machines, with what cpe takes as an item."""
+    for machine in found:
+        if any(one.isspace() for one in machine.name):
+            raise Fatal(f"{machine.name}: the name of a machine has no spaces; name its list otherwise")
+        items = [Candidate(f"{machine.name} {item}", record_text({"do": "item", "name": item})) for item in machine.items]
+        names = [json.loads(record)["name"] for record in program.accepted(items, said, unsaid="exists")]
+        if not names:
+            said.left_out(machine.name, "no items")
+        yield " ".join([machine.name, *names])
+
+
+def read_lists(paths: Sequence[str], said: Said) -> list[Candidate]:
     """The candidates of software lists, of standard input where there is no path. One that can't be read is said, and the
     others still come out; where there is none that can, it is Fatal."""
     found: list[Candidate] = []
