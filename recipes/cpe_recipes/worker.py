@@ -1,14 +1,15 @@
 """A worker of a fleet over GNU parallel: PROGRAM RECORDS PLAN PIECE. It takes the machines of a piece one after the other.
 
-The plan and the piece are files that `parallel.py` wrote. The worker writes PIECE.said and PIECE.out, which get their names when
-they are whole: so what a worker wrote that died is not there. PIECE.full tells that there was no room for them.
+The plan and the piece are files that `parallel.py` wrote. The worker writes PIECE.said, with what is left out, and PIECE.out.
 """
 from __future__ import annotations
 
 import json
+from collections.abc import Sequence
 from pathlib import Path
 
-from .said import DONE, Fatal, write_file
+from . import workers
+from .said import DONE, Fatal, why, write_file
 from .session import Asked, Known, Session
 
 
@@ -18,16 +19,16 @@ def write_plan(folder: Path, known: Known) -> list[str]:
     try:
         records.write_bytes(known.lines)
     except OSError as fault:
-        raise Fatal(f"the records could not be written: {fault.strerror}") from fault
+        raise Fatal(f"the records could not be written: {why(fault)}") from fault
     write_file(str(plan), [json.dumps([known.answers, known.statements])])
     return [str(records), str(plan)]
 
 
-def write_piece(path: Path, machines: list[Asked]) -> None:
+def write_piece(path: Path, machines: Sequence[Asked]) -> None:
     write_file(str(path), [json.dumps([machine.name, machine.items, machine.decided]) for machine in machines])
 
 
-def run(words: list[str]) -> int:
+def run(words: Sequence[str]) -> int:
     program, *paths = words
     records, plan, piece = (Path(path) for path in paths)
     answers, statements = json.loads(plan.read_text())
@@ -41,10 +42,7 @@ def run(words: list[str]) -> int:
             session.end()
     except (OSError, EOFError) as fault:
         raise Fatal(f"{piece.name}: {fault}") from fault
-    try:
+    with workers.tells_no_room(piece):
         write_file(f"{piece}.said", [json.dumps([one.machine, one.has_items, one.left_out]) for one in told])
         write_file(f"{piece}.out", [line for one in told for line in one.lines])
-    except Fatal:
-        Path(f"{piece}.full").touch()
-        raise
     return DONE

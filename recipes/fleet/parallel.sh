@@ -1,5 +1,5 @@
 #!/bin/sh
 # An inventory of many machines over the processors of this one, with GNU parallel: sh parallel.sh RECORDS MACHINES [OPTION..].
-# What it takes and writes stands in ../cpe_recipes/fleet.py.
-here=$(dirname -- "$0")
-exec python3 -B "$here/../run.py" parallel "$@"
+# ../cpe_recipes/fleet.py says what it takes and writes.
+command -v python3 > /dev/null || { echo "$0: there is no python3" >&2; exit 2; }
+exec python3 -B "$(dirname -- "$0")/../run.py" parallel "$@"

@@ -1,0 +1,76 @@
+"""Workers over pieces of work, by GNU parallel. A piece is a file, so that it is there once more where its worker dies.
+
+A worker is a module of the recipes. It is given its words and the path of its piece, and writes files beside the piece, which get
+their names when they are whole: so what a worker wrote that died is not there. Which pieces are done is told by these files.
+"""
+from __future__ import annotations
+
+import contextlib
+import os
+import shutil
+import subprocess
+import sys
+from collections.abc import Iterator, Sequence
+from pathlib import Path
+
+from .said import Fatal, write_all
+
+_RUN = Path(__file__).resolve().parent.parent / "run.py"
+_TRIES = 3
+_CHUNK = 1 << 20
+# What GNU parallel ends with where it isn't the jobs that failed.
+_NO_PARALLEL = 255
+
+
+def needs_parallel() -> None:
+    if shutil.which("parallel") is None:
+        raise Fatal("there is no parallel")
+
+
+def number_at(variable: str, default: int) -> int:
+    """The number that a variable of the environment has, or else this one."""
+    given = os.environ.get(variable) or str(default)
+    if not given.isdecimal() or int(given) == 0:
+        raise Fatal(f"{variable} is {given}, which is no number of them")
+    return int(given)
+
+
+def run_workers(folder: Path, module: str, words: Sequence[str], pieces: Sequence[Path]) -> None:
+    """Runs a worker over each piece, WORKERS at a time (else as many as processors); one that fails is run again, up to three
+    times."""
+    workers = number_at("WORKERS", os.cpu_count() or 1)
+    command = ["parallel", "--will-cite", "--retries", str(_TRIES), "--jobs", str(workers), "--tmpdir", str(folder), "--quote"]
+    command += [sys.executable, "-B", str(_RUN), module, *words, "{}"]
+    with subprocess.Popen(command, stdin=subprocess.PIPE) as run:
+        try:
+            run.communicate("".join(f"{piece}\n" for piece in pieces).encode())
+        except BaseException:
+            # (told so it ends its workers too)
+            run.terminate()
+            raise
+    if any(folder.glob("*.full")):
+        raise Fatal("there was no room for what the workers write")
+    if run.returncode == _NO_PARALLEL or run.returncode < 0:
+        raise Fatal(f"GNU parallel ended with status {run.returncode}")
+
+
+@contextlib.contextmanager
+def tells_no_room(piece: Path) -> Iterator[None]:
+    """Of a worker: where it has no room to write, no other try will have."""
+    try:
+        yield
+    except (Fatal, OSError):
+        with contextlib.suppress(OSError):
+            Path(f"{piece}.full").touch()
+        raise
+
+
+def is_done(piece: Path) -> bool:
+    return Path(f"{piece}.out").exists()
+
+
+def copy_out(piece: Path) -> None:
+    """Writes what a worker wrote of its piece."""
+    with Path(f"{piece}.out").open("rb") as lines:
+        while chunk := lines.read(_CHUNK):
+            write_all(1, chunk, "the output")
