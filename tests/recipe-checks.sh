@@ -39,7 +39,8 @@ says() {
     fi
 }
 
-# refuses_feeds NAME SAMPLE EMPTY: bad feeds, alone and beside a good one; EMPTY is a right feed with nothing in it.
+# refuses_feeds NAME SAMPLE EMPTY STATUS SAID: bad feeds, alone and beside a good one. EMPTY is a right feed with nothing in it,
+# for which the status and the front of what is said are these.
 refuses_feeds() {
     needs "bad feeds: $1" python3 wc || return
     : > "$room/no-bytes.json"
@@ -48,7 +49,7 @@ refuses_feeds() {
     head -c 700 "$samples/$2.json" > "$room/torn.json"
     printf '[]\n' > "$room/array.json"
     printf '{"products":7,"vulnerabilities":7,"bomFormat":"CycloneDX","components":7}' > "$room/list.json"
-    says "a feed without records: $1" 2 "$1.sh: no" "$1" "$room/no-records.json"
+    says "a feed without records: $1" "$4" "$5" "$1" "$room/no-records.json"
     for bad in no-bytes page torn array list none; do
         says "a feed that can't be read, $bad: $1" 2 "$1.sh: $bad.json: " "$1" "$room/$bad.json"
     done
@@ -75,15 +76,39 @@ goes_the_whole_way() {
 }
 
 makes_tables() {
-    needs 'a table for people' awk || return
-    echo "$(grep -c '^refused ' examples/inventory.out) lines refused" > "$room/wanted.said"
+    needs 'a table for people' python3 || return
+    echo "left out the records: $(grep -c '^refused ' examples/inventory.out) lines refused" > "$room/wanted.said"
     recipe 'a table for people' 1 "$samples/table.out" "$room/wanted.said" sh recipes/affected.sh examples/inventory.out
-    echo 'no whole table of verdicts: cpe evaluate has not come to its end' > "$room/wanted.said"
     sed '$d' examples/inventory.out > "$room/torn.out"
+    echo 'affected.sh: torn.out: no whole table of verdicts: there are 2 of 3 verdicts' > "$room/wanted.said"
     recipe 'a table for people, of a run that was torn off' 2 /dev/null "$room/wanted.said" sh recipes/affected.sh "$room/torn.out"
-    recipe 'a table for people, of a run that wrote nothing' 2 /dev/null "$room/wanted.said" sh recipes/affected.sh /dev/null
+    sed '$d' "$samples/machines.out" > "$room/torn.out"
+    echo 'affected.sh: torn.out: no whole table of verdicts: cpe evaluate, or a fleet, has not come to its end' > "$room/wanted.said"
+    recipe 'a table for people, of a fleet that was torn off' 2 /dev/null "$room/wanted.said" sh recipes/affected.sh "$room/torn.out"
     sed -n '/^verdicts /,$p' examples/inventory.out > "$room/unrefused.out"
     recipe 'a table for people, of a run without refused lines' 0 "$samples/table.out" /dev/null sh recipes/affected.sh "$room/unrefused.out"
+    sh recipes/advisories.sh --ranges "$room/ranges" --details "$room/details" "$samples/advisories.json" > "$room/statements" 2> /dev/null
+    recipe 'a table of machines, with all that is known' 1 "$samples/machines.table" "$samples/machines.table.said" sh recipes/affected.sh \
+        --details "$room/details" --suppress "$samples/suppress.txt" --records "$room/statements" --ranges "$room/ranges" "$samples/machines.out"
+    sed 's/web-1 CVE-2024-99003 UNKNOWN/web-1 CVE-2024-99003 TRUE/; s/desk-1 CVE-2024-99007 TRUE/desk-1 CVE-2024-99007 FALSE/' "$samples/machines.out" > "$room/after.out"
+    printf '%s\n' 'changed web-1 CVE-2024-99003 UNKNOWN TRUE' 'gone desk-1 CVE-2024-99007 TRUE FALSE' > "$room/wanted"
+    echo 'left out bare: no items' > "$room/wanted.said"
+    recipe 'what changed between two runs of a fleet' 1 "$room/wanted" "$room/wanted.said" sh recipes/changes.sh "$samples/machines.out" "$room/after.out"
+}
+
+# What is shown beside the verdicts, over the machines of the samples of ranges.
+lists_items() {
+    needs 'what is shown beside the verdicts' python3 || return
+    of="$samples/ranges"
+    sh recipes/inventory.sh --machines "$of"/*.cdx.json "$of"/*.spdx.json "$of"/*-1.txt > "$room/machines.txt"
+    sh recipes/dictionary.sh "$of/dictionary.json" > "$room/records" 2> /dev/null
+    sh recipes/advisories.sh --ranges "$room/ranges" "$of/advisories.json" >> "$room/records" 2> /dev/null
+    recipe 'items that no entry of the dictionary has' 0 "$samples/unlisted.out" /dev/null sh recipes/unlisted.sh "$room/records" "$room/machines.txt"
+    recipe 'items that perhaps are what an advisory names' 0 "$samples/perhaps.out" /dev/null sh recipes/perhaps.sh "$room/records" "$room/machines.txt"
+    grep '^edge-1 ' "$room/machines.txt" > "$room/edge.txt"
+    limited sh recipes/products.sh --machines "$room/edge.txt" --records "$room/records" "$of/advisories.json" > "$room/cut.json" 2> "$room/error"
+    grep -o '"id":"CVE-[0-9-]*"' "$room/cut.json" > "$room/out"
+    judge 'advisories of the products of a machine' $? 0 "$samples/products.out" "$samples/products.said"
 }
 
 # A program in room that is cpe, but once it reads the front of its input and then kills what runs it, a shell or a worker of
@@ -125,7 +150,7 @@ killed() {
 # The words without state: order, numbers of refused lines and statuses are those of one run.
 goes_over_lines() {
     what='the words without state over GNU parallel'
-    needs "$what" parallel split awk mktemp || return
+    needs "$what" parallel python3 || return
     for times in 1 2 3 4 5 6 7 8; do awk 1 examples/mixed.txt; done > "$room/lines"
     limited "$program" unbind < "$room/lines" > "$room/wanted"
     limited env PIECE=30 WORKERS=4 sh recipes/fleet/lines.sh unbind < "$room/lines" > "$room/out" 2> "$room/error"
@@ -142,6 +167,23 @@ goes_over_lines() {
     : > "$room/error"
     limited env CPE="$room/killing" sh recipes/fleet/lines.sh unbind < "$room/lines" > "$room/out" 2> "$room/said"
     judge "$what: a piece that never comes to its end" $? 5 /dev/null
+}
+
+# A fleet over the samples of ranges, which are decided for each machine, against cpe evaluate with these results machine by machine.
+makes_ranges() {
+    of="$samples/ranges"
+    sh recipes/inventory.sh --machines "$of"/*.cdx.json "$of"/*.spdx.json "$of"/*-?.txt > "$room/ranged.txt" 2> /dev/null
+    sh recipes/dictionary.sh "$of/dictionary.json" > "$room/ranged" 2> /dev/null
+    sh recipes/advisories.sh --ranges "$room/ranges" "$of/advisories.json" >> "$room/ranged" 2> /dev/null
+    python3 -B recipes/decide.py --ranges "$room/ranges" --records "$room/ranged" --machines "$room/ranged.txt" --matches "$of/matches.json" > "$room/decided" 2> "$room/ranged.said"
+    while read -r machine items; do
+        {
+            cat "$room/ranged"
+            for item in $items; do printf '%s\n' "$item"; done | sed 's/[\"]/\\&/g; s/.*/{"do":"item","name":"&"}/'
+            sed -n "s/^$machine	\(.*\)	\(.*\)/{\"do\":\"check\",\"system\":\"NVD\",\"href\":\"cpeMatch\",\"id\":\"\1\",\"result\":\"\2\"}/p" "$room/decided"
+        } | limited "$program" evaluate | sed -n "s/^verdict /$machine /p"
+    done < "$room/ranged.txt" > "$room/ranged.out"
+    echo "machines $(grep -c . "$room/ranged.txt")" >> "$room/ranged.out"
 }
 
 # The fleet, against cpe evaluate machine by machine.
@@ -165,24 +207,28 @@ checks_fleet() {
     judge "$what" 0 0 "$samples/machines.out"
 }
 
-# fleet WHAT COMMAND..: the machines of the sample, once quietly, and once where workers are killed.
+# fleet WHAT COMMAND..: the machines of the sample, once quietly, and once where workers are killed; and those of the ranges.
 fleet() {
     fleet=$1
     shift
-    recipe "$fleet" 1 "$samples/machines.out" "$samples/machines.said" "$@"
+    recipe "$fleet" 1 "$samples/machines.out" "$samples/machines.said" "$@" "$room/records" "$samples/machines.txt"
     killing
-    limited env CPE="$room/killing" "$@" > "$room/out" 2> "$room/said" < /dev/null
+    limited env CPE="$room/killing" "$@" "$room/records" "$samples/machines.txt" > "$room/out" 2> "$room/said" < /dev/null
     status=$?
     # (an engine may say on its own that a worker is gone)
     grep '^left out ' "$room/said" > "$room/error"
     judge "$fleet: workers that are killed lose nothing" "$status" 1 "$samples/machines.out" "$samples/machines.said"
     killed "$fleet"
+    recipe "$fleet: ranges are decided" 1 "$room/ranged.out" "$room/ranged.said" \
+        "$@" "$room/ranged" "$room/ranged.txt" --ranges "$room/ranges" --matches "$samples/ranges/matches.json"
 }
 
 goes_over_a_fleet() {
     cat "$samples/dictionary.jsonl" "$samples/advisories.jsonl" > "$room/records"
-    if needs 'a fleet over GNU parallel' parallel python3; then
-        fleet 'a fleet over GNU parallel' env WORKERS=2 sh recipes/fleet/parallel.sh "$room/records" "$samples/machines.txt"
+    needs 'a fleet' python3 || return
+    makes_ranges
+    if needs 'a fleet over GNU parallel' parallel; then
+        fleet 'a fleet over GNU parallel' env WORKERS=2 sh recipes/fleet/parallel.sh
     fi
     for python in python3 /usr/bin/python3 ''; do
         if [ -n "$python" ] && "$python" -c 'import distributed' 2> /dev/null; then break; fi
@@ -190,7 +236,7 @@ goes_over_a_fleet() {
     if [ -z "$python" ]; then
         skip 'a fleet over Dask' 'no python3 has the module distributed'
     else
-        fleet 'a fleet over Dask' "$python" recipes/fleet/dask_fleet.py "$room/records" "$samples/machines.txt" --workers 2 --block 2
+        fleet 'a fleet over Dask' "$python" -B recipes/fleet/dask_fleet.py --workers 2 --block 2
     fi
 }
 
