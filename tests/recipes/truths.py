@@ -46,7 +46,11 @@ def count(result, machines, affected):
 
 def main():
     machines, affected = read_truths(sys.argv[1])
-    counts, wrong = count(json.load(sys.stdin), machines, affected)
+    try:
+        result = json.load(sys.stdin)
+    except ValueError as fault:
+        sys.exit(f"no verdicts: {fault}")
+    counts, wrong = count(result, machines, affected)
     pairs, unknown = sum(counts.values()), counts[True, "UNKNOWN"] + counts[False, "UNKNOWN"]
     for is_affected in (True, False):
         numbers = ", ".join(f"{counts[is_affected, verdict]} {verdict}" for verdict in ("TRUE", "UNKNOWN", "FALSE"))
