@@ -6,7 +6,7 @@ from collections.abc import Callable, Sequence
 from dataclasses import dataclass, field
 
 from .feeds import FeedFault, name_of, read_feed
-from .program import Candidate
+from .program import Candidate, front
 from .said import Fatal, Said
 
 _ENDINGS = (".gz", ".json", ".txt", ".cdx", ".spdx")
@@ -57,10 +57,11 @@ def read_lists(paths: Sequence[str], reader: Reader, said: Said) -> list[Machine
         if not candidates:
             raise Fatal(f"{feed}: nothing is in it")
         for one in candidates:
-            if one.record:
-                machine.items.append(json.loads(one.record)["name"])
+            name = json.loads(one.record)["name"] if one.record else None
+            if isinstance(name, str):
+                machine.items.append(name)
             else:
-                said.left_out(f"{called} {one.id}", one.reason)
+                said.left_out(f"{called} {one.id}", one.reason or f"no text as its name: {front(one.record)}")
         _put(machines, machine, said)
     if not machines:
         raise Fatal("no software list was given")

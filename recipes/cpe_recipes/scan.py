@@ -341,12 +341,15 @@ def machines_with_verdicts(known: Known, bare: Sequence[str], found: Iterable[Fo
     statements = verdicts.Statements([statement.id for statement in known.statements])
     machines = []
     for one in found:
-        machine = verdicts.Machine(one.machine.name, statements, has_items=one.has_items())
-        if one.has_items():
-            for place, truth in enumerate(bare):
-                truth = one.truths.get(place, truth)
-                if truth != "FALSE":
-                    machine.put(known.statements[place].id, truth)
+        if not one.has_items():
+            # (no verdict is known of it, so none is counted)
+            machines.append(verdicts.Machine(one.machine.name, has_items=False))
+            continue
+        machine = verdicts.Machine(one.machine.name, statements)
+        for place, truth in enumerate(bare):
+            truth = one.truths.get(place, truth)
+            if truth != "FALSE":
+                machine.put(known.statements[place].id, truth)
         machines.append(machine)
     return machines
 
@@ -375,7 +378,7 @@ def tell_items(found: Iterable[Found], scan: Scan, said: Said) -> None:
         said.remark(f"not in the dictionary: {len(strange)} items, on {len(where)} machines; unlisted.sh lists them")
 
 
-def json_of(found: Sequence[Found], machines: Sequence[verdicts.Machine], about: affected.About) -> dict[str, Json]:
+def json_of(known: Known, found: Sequence[Found], machines: Sequence[verdicts.Machine], about: affected.About) -> dict[str, Json]:
     """The result as one value. Verdicts that are FALSE aren't listed."""
     rows: list[Json] = []
     for one, machine in zip(found, machines):
@@ -385,7 +388,7 @@ def json_of(found: Sequence[Found], machines: Sequence[verdicts.Machine], about:
             row["notInDictionary"] = [lead.name for lead in one.leads if not lead.is_entry]
             row["underRemovedName"] = [lead.name for lead in one.leads if lead.is_entry and not lead.ends]
         rows.append(row)
-    return {"advisories": len(machines[0].statements.advisories) if machines else 0, "machines": rows}
+    return {"advisories": len(verdicts.Statements([statement.id for statement in known.statements]).advisories), "machines": rows}
 
 
 def _in_order(machine: verdicts.Machine, about: affected.About) -> list[tuple[str, str]]:
@@ -421,7 +424,7 @@ def run(words: Sequence[str]) -> int:
     machines = machines_with_verdicts(known, scan.bare, found)
     about = affected.About(known.details, accepted, Hanging(known, found))
     if read.has("--json"):
-        output.line(json.dumps(json_of(found, machines, about), ensure_ascii=False, indent=1))
+        output.line(json.dumps(json_of(known, found, machines, about), ensure_ascii=False, indent=1))
     else:
         output.lines(list(affected.table_of(verdicts.Verdicts(machines), about)))
     accepted.tell_unused(said)
