@@ -178,11 +178,12 @@ def _filled(value: Json, key: str, reason: str) -> list[Json]:
 
 @dataclass
 class Advisories:
-    """What becomes of advisories: candidates of statements, the ranges that their checks stand for, and what people want to
-    know of each."""
+    """What becomes of advisories: candidates of statements, the ranges that checks stand for, what the checks stand for that
+    stay UNKNOWN, and what people want to know of each advisory."""
 
     candidates: list[Candidate] = field(default_factory=list)
     ranges: dict[str, Range] = field(default_factory=dict)
+    stand_ins: dict[str, str] = field(default_factory=dict)
     details: dict[str, dict[str, Json]] = field(default_factory=dict)
 
 
@@ -272,6 +273,7 @@ class _Converter:
         return tests
 
     def _stand_in(self, id: str, what: str, key: str) -> None:
+        self.found.stand_ins[key] = what
         self._leave_out(id, f"{what}: the check {key} stands for it")
 
     def _configuration(self, id: str, configuration: Configuration) -> Test:

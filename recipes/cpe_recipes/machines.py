@@ -6,7 +6,7 @@ from collections.abc import Callable, Sequence
 from dataclasses import dataclass, field
 
 from .feeds import FeedFault, name_of, read_feed
-from .program import Candidate
+from .program import Candidate, front
 from .said import Fatal, Said
 
 _ENDINGS = (".gz", ".json", ".txt", ".cdx", ".spdx")
@@ -45,7 +45,7 @@ def read_machines(path: str, said: Said) -> list[Machine]:
 
 def read_lists(paths: Sequence[str], reader: Reader, said: Said) -> list[Machine]:
     """A machine for each software list, which is called as its file is. What has no name of its own there is said. Fatal
-    where one can't be read."""
+    where one can't be read, or has nothing in it."""
     machines: dict[str, Machine] = {}
     for path, called in zip(paths, _names_of_lists(paths)):
         feed = name_of(path)
@@ -54,11 +54,14 @@ def read_lists(paths: Sequence[str], reader: Reader, said: Said) -> list[Machine
             candidates = list(reader(feed, read_feed(path)))
         except FeedFault as fault:
             raise Fatal(f"{feed}: {fault}") from fault
+        if not candidates:
+            raise Fatal(f"{feed}: nothing is in it")
         for one in candidates:
-            if one.record:
-                machine.items.append(json.loads(one.record)["name"])
+            name = json.loads(one.record)["name"] if one.record else None
+            if isinstance(name, str):
+                machine.items.append(name)
             else:
-                said.left_out(f"{called} {one.id}", one.reason)
+                said.left_out(f"{called} {one.id}", one.reason or f"no text as its name: {front(one.record)}")
         _put(machines, machine, said)
     if not machines:
         raise Fatal("no software list was given")

@@ -15,14 +15,14 @@ from stand_in import Heard  # noqa: E402
 
 
 def reader(feed, data):
-    """A list of names, a line each; `-` has none, and `{` is no list."""
+    """A list of names, a line each; `-` has none, `7` is a number, and `{` is no list."""
     if data.startswith(b"{"):
         raise FeedFault("no list")
     for number, line in enumerate(data.decode().splitlines(), 1):
         if line == "-":
             yield Candidate(f"line {number}", reason="no CPE name")
         else:
-            yield Candidate(f"line {number}", record_text({"do": "item", "name": line}))
+            yield Candidate(f"line {number}", record_text({"do": "item", "name": [7] if line == "7" else line}))
 
 
 class Machines(unittest.TestCase):
@@ -59,17 +59,17 @@ class Machines(unittest.TestCase):
         self.assertEqual([one.name for one in read_machines(path, self.said)], ["m\\xe4", "m\\xf6"])
 
     def test_a_machine_for_each_list(self):
-        paths = [self.file("web.example.org.json", b"cpe:/a:v:p\n-\n"), self.file("empty.cdx.json.gz", b"")]
-        self.assertEqual(read_lists(paths, reader, self.said), [Machine("web.example.org", ["cpe:/a:v:p"]), Machine("empty")])
-        self.assertEqual(self.said.told, ["left out web.example.org line 2: no CPE name"])
+        paths = [self.file("web.example.org.json", b"cpe:/a:v:p\n-\n"), self.file("nameless.cdx.json.gz", b"7\n")]
+        self.assertEqual(read_lists(paths, reader, self.said), [Machine("web.example.org", ["cpe:/a:v:p"]), Machine("nameless")])
+        self.assertEqual(self.said.told, ["left out web.example.org line 2: no CPE name", 'left out nameless line 1: no text as its name: {"do":"item","name":[7]}'])
 
     def test_lists_of_the_same_name_in_other_folders_are_other_machines(self):
-        paths = [self.file("web/bom.json", b"cpe:/a:v:p\n"), self.file("db/bom.json", b"cpe:/a:v:q\n"), self.file("db/bare.txt", b"")]
+        paths = [self.file("web/bom.json", b"cpe:/a:v:p\n"), self.file("db/bom.json", b"cpe:/a:v:q\n"), self.file("db/bare.txt", b"-\n")]
         self.assertEqual([one.name for one in read_lists(paths, reader, self.said)], [f"{self.folder}/web/bom", f"{self.folder}/db/bom", "bare"])
 
     def test_a_list_that_can_not_be_read_is_fatal(self):
         good = self.file("web.json", b"cpe:/a:v:p\n")
-        for path in (self.file("other.json", b"{}"), str(self.folder / "none.json")):
+        for path in (self.file("other.json", b"{}"), self.file("empty.json", b""), str(self.folder / "none.json")):
             with self.subTest(path), self.assertRaises(Fatal):
                 read_lists([good, path], reader, self.said)
 
