@@ -109,32 +109,33 @@ lists_items() {
     judge 'advisories of the products of a machine' "$status" 0 "$samples/products.out" "$samples/products.said"
 }
 
-# A program in room that is cpe, but once it reads the front of its input and then kills what runs it, a shell or a worker of
-# Dask, and once itself. (The same piece may be the one that is hit twice, and a third time it would be given up.)
+# A program in room that is cpe, but once it reads the front of its input and then kills what runs it, a worker, and once itself.
+# (The same piece may be the one that is hit twice, and a third time it would be given up.) What a fleet asks before its workers
+# begin has no statements, and is left in peace.
 killing() {
     rm -rf "$room/killed."*
     {
         printf '#!/bin/sh\nprogram=%s room=%s\n' "'$program'" "'$room'"
         cat <<'END'
-front() {
-    n=0
-    while [ $n -lt 25 ] && IFS= read -r line; do
-        printf '%s\n' "$line"
-        n=$((n + 1))
-    done
-}
-case $1 in
-resolve | unbind)
+case $1 in resolve | unbind) ;; *) exec "$program" "$@" ;; esac
+n=0 front=''
+while [ $n -lt 25 ] && IFS= read -r line; do
+    front="$front$line
+"
+    n=$((n + 1))
+done
+case $1$front in
+unbind* | *'"do":"statement"'*)
     if mkdir "$room/killed.above" 2> /dev/null; then
-        { front; kill -9 $PPID; } | "$program" "$@"
+        { printf '%s' "$front"; kill -9 $PPID; } | "$program" "$@"
         exit 1
     fi
     if mkdir "$room/killed.itself" 2> /dev/null; then
-        { front; kill -9 $$; } | "$program" "$@"
+        { printf '%s' "$front"; kill -9 $$; } | "$program" "$@"
     fi
     ;;
 esac
-exec "$program" "$@"
+{ printf '%s' "$front"; cat; } | "$program" "$@"
 END
     } > "$room/killing"
     chmod +x "$room/killing"
@@ -196,6 +197,12 @@ evaluates_ranges() {
         } | limited "$program" evaluate | sed -n "s/^verdict /$machine /p"
     done < "$room/ranged.txt" > "$room/ranged.out"
     echo "machines $(grep -c . "$room/ranged.txt")" >> "$room/ranged.out"
+    # (a fleet asks for redislabs:redis under the name that the product has now, and then knows less)
+    sed 's/^desk-1 CVE-2024-98003 FALSE/desk-1 CVE-2024-98003 UNKNOWN/' "$room/ranged.out" > "$room/changed.out"
+    mv "$room/changed.out" "$room/ranged.out"
+    redis='desk-1 cpe:2.3:a:redislabs:redis:6.2.5:*:*:*:*:*:*:*'
+    echo "remark not in the dictionary $redis goes on as redis:redis" >> "$room/ranged.said"
+    sort -o "$room/ranged.said" "$room/ranged.said"
 }
 
 # The fleet, against cpe evaluate machine by machine.
@@ -231,8 +238,11 @@ fleet() {
     grep '^left out ' "$room/said" > "$room/error"
     judge "$fleet: workers that are killed lose nothing" "$status" 1 "$samples/machines.out" "$samples/machines.said"
     killed "$fleet"
-    recipe "$fleet: ranges are decided" 1 "$room/ranged.out" "$room/ranged.said" \
-        "$@" "$room/ranged" "$room/ranged.txt" --ranges "$room/ranges" --matches "$samples/ranges/matches.json"
+    limited "$@" "$room/ranged" "$room/ranged.txt" --ranges "$room/ranges" --matches "$samples/ranges/matches.json" \
+        > "$room/out" 2> "$room/said" < /dev/null
+    status=$?
+    sort "$room/said" > "$room/error"
+    judge "$fleet: ranges are decided" "$status" 1 "$room/ranged.out" "$room/ranged.said"
 }
 
 goes_over_a_fleet() {
