@@ -262,6 +262,17 @@ goes_over_a_fleet() {
     fi
 }
 
+# (what is shown of more machines needs what was made above it)
+answers_readme() {
+    what="the sessions of the recipes' README"
+    needs "$what" python3 || return
+    if needs "$what, of more machines" parallel; then
+        answers_sessions "$what" < recipes/README.md
+    else
+        sed '/^## More machines/,$d' recipes/README.md | answers_sessions "$what"
+    fi
+}
+
 converts dictionary dictionary
 converts dictionary matches
 converts advisories advisories
@@ -273,7 +284,7 @@ refuses_feeds advisories advisories '{"resultsPerPage":0,"startIndex":0,"totalRe
     0 'remark no-records.json: no vulnerabilities'
 refuses_feeds inventory spdx '{"spdxVersion":"SPDX-2.3","packages":[]}' 2 'inventory.sh: no-records.json: no item'
 goes_the_whole_way
-needs "the sessions of the recipes' README" python3 && answers_sessions "the sessions of the recipes' README" < recipes/README.md
+answers_readme
 makes_tables
 lists_items
 goes_over_lines

@@ -140,7 +140,7 @@ class Products(RecipeCase):
 
     def test_products_by_the_dictionary(self):
         records = ["--records", self.file("records", DICTIONARY)]
-        for item in (OLD_REDIS, REDIS, fs("redis", "redis", "9")):
+        for item in (OLD_REDIS, REDIS, fs("redis", "redis", "9"), fs("redislabs", "redis", "9")):
             kept = self.products(f"m {item}\n", *records)[1]
             self.assertTrue({"successor", "predecessor"} <= set(kept), item)
         self.assertNotIn("successor", self.products(f"m {OLD_REDIS}\n")[1])
