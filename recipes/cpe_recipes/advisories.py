@@ -185,17 +185,23 @@ class Advisories:
     ranges: dict[str, Range] = field(default_factory=dict)
     stand_ins: dict[str, str] = field(default_factory=dict)
     details: dict[str, dict[str, Json]] = field(default_factory=dict)
+    empty_pages: list[str] = field(default_factory=list)
+
+    def tell_empty_pages(self, said: Said) -> None:
+        for page in self.empty_pages:
+            said.remark(f"{page}: no vulnerabilities in it")
 
 
 def convert(feed: Iterable[Page], program: Program, said: Said, is_decided: bool) -> Advisories:
     """The advisories of these pages. Where ranges aren't decided behind this, each is remarked."""
-    all_of = []
+    all_of, empty_pages = [], []
     for page in feed:
         if not page.records:
-            said.remark(f"{page.name}: no vulnerabilities in it")
+            empty_pages.append(page.name)
         all_of.extend(page.each("vulnerability", lambda it: text_at(member(it, "cve"), "id")))
     bad_names = _bad_names((cve for _, cve in all_of), program)
     converter = _Converter(bad_names, said, is_decided)
+    converter.found.empty_pages = empty_pages
     for id, vulnerability in all_of:
         converter.take(id, vulnerability)
     return converter.found
@@ -440,6 +446,7 @@ def run(words: Sequence[str]) -> int:
     read = read_words(words, {"--ranges": ONE, "--details": ONE}, USAGE)
     said, output, program = Said(), Output(), Program()
     found = convert(pages(read.files, said, KINDS), program, said, read.has("--ranges"))
+    found.tell_empty_pages(said)
     output.lines(program.accepted(found.candidates, said))
     ranges, details_to = read.one("--ranges"), read.one("--details")
     if ranges is not None:

@@ -4,17 +4,20 @@ from __future__ import annotations
 from collections.abc import Collection, Iterable
 
 from .feeds import FormFault, Page, member, members, text_at
-from .said import Said
+from .said import Fatal, Said
 
 KINDS = ("matchStrings",)
 
 
 def listed(feed: Iterable[Page], wanted: Collection[str], said: Said) -> dict[str, list[str]]:
-    """Of the wanted matches, by their ids, the names that the feed lists for them, as they are written there."""
+    """Of the wanted matches, by their ids, the names that the feed lists for them, as they are written there. Fatal where
+    there are pages, and none has anything."""
     found: dict[str, list[str]] = {}
+    empty_pages, is_empty = [], True
     for page in feed:
         if not page.records:
-            said.remark(f"{page.name}: no matchStrings in it")
+            empty_pages.append(page.name)
+        is_empty = is_empty and not page.records
         for id, record in page.each("match string", lambda it: text_at(member(it, "matchString"), "matchCriteriaId")):
             try:
                 if id in wanted:
@@ -22,6 +25,10 @@ def listed(feed: Iterable[Page], wanted: Collection[str], said: Said) -> dict[st
                     found.setdefault(id, []).extend(listed_here)
             except FormFault:
                 said.left_out(id, "not of the published form")
+    if empty_pages and is_empty:
+        raise Fatal(f"no matchStrings are in {', '.join(empty_pages)}")
+    for name in empty_pages:
+        said.remark(f"{name}: no matchStrings in it")
     return found
 
 

@@ -33,6 +33,7 @@ from .machines import Machine, read_lists, read_machines
 from .program import Candidate, Program
 from .progress import Progress
 from .said import Fatal, Output, Said
+from .table import counted
 from .versions import Letters, read_letters
 from .words import FLAG, MANY, ONE, Words, read_words
 
@@ -310,7 +311,8 @@ def read_known(read: Words, program: Program, said: Said, progress: Progress) ->
     feed = pages(read.many("--advisories"), said, advisories.KINDS, strict=True)
     found = advisories.convert(feed, program, said, is_decided=True)
     if not found.candidates:
-        raise Fatal(f"{', '.join(map(name_of, read.many('--advisories')))}: no advisory is in it")
+        raise Fatal(f"no advisory is in {', '.join(map(name_of, read.many('--advisories')))}")
+    found.tell_empty_pages(said)
     records = program.accepted(found.candidates, said)
     if not records:
         raise Fatal("no advisory could be read")
@@ -375,7 +377,7 @@ def tell_items(found: Iterable[Found], scan: Scan, said: Said) -> None:
                 strange.add(lead.name)
                 where.add(name)
     if strange:
-        said.remark(f"not in the dictionary: {len(strange)} items, on {len(where)} machines; unlisted.sh lists them")
+        said.remark(f"not in the dictionary: {counted(len(strange), 'item')}, on {counted(len(where), 'machine')}; unlisted.sh lists them")
 
 
 def json_of(known: Known, found: Sequence[Found], machines: Sequence[verdicts.Machine], about: affected.About) -> dict[str, Json]:

@@ -152,7 +152,9 @@ class Faults(unittest.TestCase):
 
     def test_an_empty_page_is_remarked(self):
         found, said = converted()
-        self.assertEqual((found.candidates, said.told), ([], ["remark it.json: no vulnerabilities in it"]))
+        self.assertEqual((found.candidates, said.told), ([], []))
+        found.tell_empty_pages(said)
+        self.assertEqual(said.told, ["remark it.json: no vulnerabilities in it"])
 
 
 def truth(test, facts):

@@ -182,6 +182,12 @@ class Files(unittest.TestCase):
         found = matches.listed([Page("it.json", "matchStrings", strings + odd)], {"A", "C", "D"}, said)
         self.assertEqual(found, {"A": [name("p", "A")], "D": []})
         self.assertEqual(said.told, ["left out C: not of the published form"])
+        empty = Page("empty.json", "matchStrings", [])
+        self.assertEqual(matches.listed([empty, Page("it.json", "matchStrings", strings)], {"A"}, said), {"A": [name("p", "A")]})
+        self.assertEqual(said.told[1:], ["remark empty.json: no matchStrings in it"])
+        self.assertEqual(matches.listed([], {"A"}, said), {})
+        with self.assertRaises(Fatal):
+            matches.listed([empty, empty], {"A"}, said)
 
 
 if __name__ == "__main__":

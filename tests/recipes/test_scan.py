@@ -172,7 +172,7 @@ class Verdicts(unittest.TestCase):
             "left out bare: no items",
             "left out bad: name name 5: cpe:/x",
             "left out bad: no items",
-            "remark not in the dictionary: 1 items, on 1 machines; unlisted.sh lists them",
+            "remark not in the dictionary: 1 item, on 1 machine; unlisted.sh lists them",
         ]
         self.assertEqual(said.told, wanted)
         self.assertEqual([it.has_items() for it in found], [True, False, False])
