@@ -1,5 +1,6 @@
 #!/bin/sh
-# Checks of the recipes, each over its sample, over bad feeds, and where a worker dies: sh tests/recipe-checks.sh [PROGRAM].
+# Checks of the short recipes, each over its sample, over bad feeds, and where a worker dies: sh tests/recipe-checks.sh [PROGRAM].
+# (tests/scan-checks.sh has the whole way, and the unit tests.)
 . "$(dirname "$0")/checks.sh"
 
 CPE=$program
@@ -64,14 +65,6 @@ refuses_feeds() {
     status=$?
     echo "$1.sh: there is no $room/none" > "$room/wanted.said"
     judge "a recipe where there is no program: $1" "$status" 2 /dev/null "$room/wanted.said"
-}
-
-# The samples together, which the table of the whole way has.
-goes_the_whole_way() {
-    what='the whole way'
-    needs "$what" python3 || return
-    recipe "$what" 1 "$samples/affected.out" "$samples/affected.said" \
-        sh recipes/whole-way.sh "$samples/dictionary.json" "$samples/advisories.json" "$samples/cyclonedx.json"
 }
 
 makes_tables() {
@@ -283,7 +276,6 @@ refuses_feeds dictionary dictionary '{"resultsPerPage":0,"startIndex":0,"totalRe
 refuses_feeds advisories advisories '{"resultsPerPage":0,"startIndex":0,"totalResults":0,"format":"NVD_CVE","version":"2.0","vulnerabilities":[]}' \
     0 'remark no-records.json: no vulnerabilities'
 refuses_feeds inventory spdx '{"spdxVersion":"SPDX-2.3","packages":[]}' 2 'inventory.sh: no-records.json: no item'
-goes_the_whole_way
 answers_readme
 makes_tables
 lists_items
