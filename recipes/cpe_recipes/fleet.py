@@ -7,6 +7,9 @@
 - --ranges: the ranges of versions that `advisories.sh --ranges` wrote. Each is decided for each machine, as `decide.py` does,
   and the statements that wait for it get the answer. --decided has what `decide.py` wrote before.
 
+An item that no entry of the dictionary has is asked for under the products too to which entries of its own lead; where a verdict
+would be another so, it is UNKNOWN, and the item is remarked.
+
 A fleet writes a line `MACHINE STATEMENT TRUTH` for each, in the order of the machines and of the statements, and `MACHINE no items`
 for a machine without items, of which nothing is known. The last line, `machines COUNT`, stands where every machine was told.
 """
@@ -17,7 +20,7 @@ import json
 from collections.abc import Iterator
 from dataclasses import dataclass
 
-from . import decide, matches
+from . import decide, matches, unlisted
 from .feeds import FeedFault, name_of, pages, read_feed
 from .machines import Machine, read_machines
 from .program import Program
@@ -108,26 +111,6 @@ def read_decided(path: str) -> Decided:
     return decided
 
 
-def decide_ranges(program: Program, words: Words, machines: list[Machine], said: Said) -> Decided:
-    """What `decide.py` would write of these machines; which ranges have no answer is said as it says it."""
-    ranges = decide.read_ranges(words.many("--ranges"), said)
-    feed = pages(words.many("--matches"), said, matches.KINDS, strict=True) if words.has("--matches") else []
-    lists = decide.Lists(program, matches.listed(feed, ranges.keys(), said))
-    items = dict.fromkeys(item for machine in machines for item in machine.items)
-    criteria = (one.criteria for one in ranges.values())
-    leads = decide.leads_of(program, decide.read_entries(words.files[:1]), items, criteria)
-    letters = read_letters(words.one("--letters") or decide.LETTERS)
-    decider = decide.Decider(program, ranges.values(), leads, items, letters)
-    found: Decided = {}
-    for machine in machines:
-        # (what is no item is said where it is put)
-        here = decide.decide([leads.found[item] for item in machine.items if item not in leads.refused], decider, lists)
-        found[machine.name] = [(key, "TRUE" if truth else "FALSE") for key, truth in here.truths.items()]
-        for key, one in here.unsure.items():
-            said.left_out(machine.name, f"{one.end} in {ranges[key].criteria} {ranges[key].words()}: {one.reason}")
-    return found
-
-
 @dataclass(frozen=True)
 class Fleet:
     """What a fleet is asked: the records, and the machines."""
@@ -141,24 +124,76 @@ class Fleet:
 
 
 def read_fleet(program: Program, words: Words, said: Said) -> Fleet:
-    """What the words of a fleet name. A key that has a result among the records keeps that one."""
+    """What the words of a fleet name."""
     records_path, machines_path = words.files
     records = read_records(program, records_path, said)
     machines = read_machines(machines_path, said)
-    decided: Decided = {}
+    planner = _Planner(program, words, machines, said)
     if words.has("--decided"):
         decided = read_decided(words.one("--decided"))
-    elif words.has("--ranges"):
-        decided = decide_ranges(program, words, machines, said)
-    names = {machine.name for machine in machines}
-    for name in decided:
-        if name not in names:
-            said.remark(f"{name} has decided ranges, and is no machine of {name_of(machines_path)}")
-    asked = []
-    for machine in machines:
-        own = [(key, result) for key, result in decided.get(machine.name, []) if key not in records.results]
-        asked.append(Asked(machine.name, machine.items, own))
-    return Fleet(records.known, asked)
+        names = {machine.name for machine in machines}
+        for name in decided:
+            if name not in names:
+                said.remark(f"{name} has decided ranges, and is no machine of {name_of(machines_path)}")
+        asked = [planner.asked(machine, decided.get(machine.name, [])) for machine in machines]
+    else:
+        asked = [planner.asked(machine, None) for machine in machines]
+    return Fleet(records.known, [_without(records.results, one) for one in asked])
+
+
+def _without(results: set[str], asked: Asked) -> Asked:
+    """A key that has a result among the records keeps that one."""
+    own, beside = ([(key, result) for key, result in found if key not in results] for found in (asked.decided, asked.beside))
+    return Asked(asked.name, asked.items, own, asked.supposed, beside)
+
+
+class _Planner:
+    """What each machine is asked: what is decided of the ranges for it, and which names its items may have that no entry has."""
+
+    def __init__(self, program: Program, words: Words, machines: list[Machine], said: Said) -> None:
+        self._said = said
+        self._ranges = decide.read_ranges(words.many("--ranges"), said)
+        feed = pages(words.many("--matches"), said, matches.KINDS, strict=True) if words.has("--matches") else []
+        self._lists = decide.Lists(program, matches.listed(feed, self._ranges.keys(), said))
+        entries = decide.read_entries(words.files[:1])
+        old = unlisted.deprecated_names(entries)
+        items = dict.fromkeys(item for machine in machines for item in machine.items)
+        self._leads = decide.leads_of(program, entries, items, [*old, *(one.criteria for one in self._ranges.values())])
+        self._successors = unlisted.successors(entries, self._leads)
+        supposed = dict.fromkeys(name for item in items for name in self._supposed(item))
+        self._beside = decide.leads_of(program, entries, supposed, ()).found if supposed else {}
+        # (names as cpe writes them, so that one stands for all its spellings)
+        known = {lead.name: lead for lead in (*(self._leads.found[item] for item in items if self._is_item(item)), *self._beside.values())}
+        names = list(known)
+        known |= {one.criteria: self._leads.found[one.criteria] for one in self._ranges.values() if one.criteria in self._leads.found}
+        letters = read_letters(words.one("--letters") or decide.LETTERS)
+        self._decider = decide.Decider(program, self._ranges.values(), decide.Leads(known), names, letters)
+
+    def _is_item(self, item: str) -> bool:
+        return item not in self._leads.refused
+
+    def _supposed(self, item: str) -> list[str]:
+        return unlisted.supposed_names(self._leads.found[item], self._successors) if self._is_item(item) else []
+
+    def asked(self, machine: Machine, decided: list[tuple[str, str]] | None) -> Asked:
+        """What a machine is asked; what was decided before is None where it is decided here."""
+        # (what is no item is said where it is put)
+        leads = {item: self._leads.found[item] for item in dict.fromkeys(machine.items) if self._is_item(item)}
+        supposed = dict.fromkeys(name for item in leads for name in self._supposed(item))
+        for item, lead in leads.items():
+            if self._supposed(item):
+                self._said.remark(f"not in the dictionary {machine.name} {item}{unlisted.goes_on(lead, self._successors)}")
+        if decided is not None:
+            return Asked(machine.name, machine.items, decided, list(supposed), decided)
+        found = decide.decide(leads.values(), self._decider, self._lists)
+        for key, one in found.unsure.items():
+            self._said.left_out(machine.name, f"{one.end} in {self._ranges[key].criteria} {self._ranges[key].words()}: {one.reason}")
+        beside = decide.decide([*leads.values(), *(self._beside[name] for name in supposed)], self._decider, self._lists)
+        return Asked(machine.name, machine.items, _results(found), list(supposed), _results(beside))
+
+
+def _results(decided: decide.Decided) -> list[tuple[str, str]]:
+    return [(key, "TRUE" if truth else "FALSE") for key, truth in decided.truths.items()]
 
 
 def say_told(said: Said, machine: str, has_items: bool, left_out: list[tuple[str, str]]) -> None:

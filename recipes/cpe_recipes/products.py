@@ -4,7 +4,7 @@
 advisories that could be other than FALSE on some machine, as one page of the same form, for `advisories.sh` or `scan.py`. An
 advisory goes on where a vulnerable match of it
 
-- has a vendor and product that an item of a machine has, or leads to by the dictionary of --records; or
+- has a vendor and product that an item of a machine has, or leads to by the dictionary of --records, or may go on as there; or
 - has a vendor or product that isn't plain, or a name that is none;
 
 and where there is something in it that `advisories.sh` has to tell. The others name products that aren't here: they are
@@ -21,7 +21,7 @@ from .feeds import FormFault, Json, Page, member, members, pages, record_text, t
 from .machines import read_machines
 from .program import Program
 from .said import Fatal, Output, Said
-from .unlisted import Product, deprecated_names, say_items
+from .unlisted import Product, deprecated_names, say_items, successors
 from .words import ONE, read_words
 
 USAGE = "products.sh --machines FILE [--records FILE] [FILE..]"
@@ -35,10 +35,9 @@ def run(words: Sequence[str]) -> int:
     said, output, program = Said(), Output(), Program()
     records, machines = read_entries(read.many("--records")), read_machines(read.one("--machines"), said)
     items = dict.fromkeys(item for machine in machines for item in machine.items)
-    old = deprecated_names(records)
-    leads = leads_of(program, records, items, old)
+    leads = leads_of(program, records, items, deprecated_names(records))
     say_items(machines, leads, said)
-    wanted = products_of(leads, items, old)
+    wanted = products_of(leads, items, records)
     if not wanted:
         raise Fatal("no machine has an item")
     count, kept = 0, []
@@ -57,13 +56,16 @@ def with_commas(records: Sequence[str]) -> list[str]:
     return [f"{record}," for record in records[:-1]] + list(records[-1:])
 
 
-def products_of(leads: Leads, items: Iterable[str], old: Iterable[str]) -> set[Product]:
-    """The products of these items and of what they lead to, and those of the old names that lead to the same."""
+def products_of(leads: Leads, items: Iterable[str], records: Sequence[str]) -> set[Product]:
+    """The products of these items, of what they lead to or may go on as, and those of the old names that lead to the same."""
     found: set[Product] = set()
+    goes_on = successors(records, leads)
     for item in items:
         if item not in leads.refused:
-            found.update(map(names.product_of, (leads.found[item].name, *leads.found[item].ends)))
-    before = {leads.found[name] for name in old if name in leads.found}
+            lead = leads.found[item]
+            others = () if lead.is_entry else goes_on.get(names.product_of(lead.name), ())
+            found.update([*map(names.product_of, (lead.name, *lead.ends)), *others])
+    before = (leads.found[name] for name in deprecated_names(records) if name in leads.found)
     return found | {names.product_of(lead.name) for lead in before if any(names.product_of(end) in found for end in lead.ends)}
 
 

@@ -23,11 +23,16 @@ class Known:
 
 @dataclass(frozen=True)
 class Asked:
-    """A machine, the names of its items, and what was decided for it of the ranges: keys of checks, with TRUE or FALSE."""
+    """A machine, the names of its items, and what was decided for it of the ranges: keys of checks, with TRUE or FALSE.
+
+    `supposed` are names that items of it may have which no dictionary has, and `beside` is what is decided with them too.
+    """
 
     name: str
     items: list[str]
     decided: list[tuple[str, str]] = field(default_factory=list)
+    supposed: list[str] = field(default_factory=list)
+    beside: list[tuple[str, str]] = field(default_factory=list)
 
 
 @dataclass(frozen=True)
@@ -69,26 +74,34 @@ class Session:
         return line[:-1].decode(errors="backslashreplace")
 
     def ask(self, machine: Asked) -> Told:
-        """The verdicts of a machine: its items and results are put, the statements asked, and the former dropped again."""
+        """The verdicts of a machine. One that would be another with the supposed items is UNKNOWN."""
         if not machine.items:
-            return _without_items(machine, [])
-        items = [("item", {"name": name}) for name in machine.items]
-        checks = [("check", {"system": "NVD", "href": "cpeMatch", "id": key, "result": result}) for key, result in machine.decided]
-        puts = items + checks
+            return _without_items(machine.name, [])
+        told = self._ask_with(machine.name, machine.items, machine.decided)
+        if not machine.supposed or not told.has_items:
+            return told
+        other = self._ask_with(machine.name, machine.items + machine.supposed, machine.beside)
+        lines = [one if one == beside else f"{one.rpartition(' ')[0]} UNKNOWN" for one, beside in zip(told.lines, other.lines)]
+        return Told(told.machine, told.left_out, lines)
+
+    def _ask_with(self, name: str, items: list[str], decided: list[tuple[str, str]]) -> Told:
+        """The verdicts with these items and results: they are put, the statements asked, and the former dropped again."""
+        puts = [("item", {"name": item}) for item in items]
+        puts += [("check", {"system": "NVD", "href": "cpeMatch", "id": key, "result": result}) for key, result in decided]
         drops = [("drop-" + word, {key: text for key, text in members.items() if key != "result"}) for word, members in puts]
         first = self._last + 1
         lines = [_record(word, **members) for word, members in puts] + self._ask + [_record(word, **members) for word, members in drops]
         self._last += len(lines)
         self._waiting.put("".join(lines).encode(errors="replace"))
         refused, verdicts = self._answers(first, len(puts), len(self._ask))
+        # (a name that comes twice is one item)
         left_out = [
-            (machine.items[place] if place < len(items) else f"check {machine.decided[place - len(items)][0]}", reason)
+            (items[place] if place < len(items) else f"check {decided[place - len(items)][0]}", reason)
             for place, reason in refused.items() if reason != "exists"
         ]
-        # (a name that comes twice is one item)
         if all(place in refused and refused[place] != "exists" for place in range(len(items))):
-            return _without_items(machine, left_out)
-        return Told(machine.name, left_out, [f"{machine.name} {verdict}" for verdict in verdicts])
+            return _without_items(name, left_out)
+        return Told(name, left_out, [f"{name} {verdict}" for verdict in verdicts])
 
     def _answers(self, first: int, puts: int, wanted: int) -> tuple[dict[int, str], list[str]]:
         refused: dict[int, str] = {}
@@ -117,5 +130,5 @@ def _record(word: str, **members: str) -> str:
     return json.dumps({"do": word, **members}, ensure_ascii=False, separators=(",", ":")) + "\n"
 
 
-def _without_items(machine: Asked, left_out: list[tuple[str, str]]) -> Told:
-    return Told(machine.name, left_out, [f"{machine.name} no items"], has_items=False)
+def _without_items(name: str, left_out: list[tuple[str, str]]) -> Told:
+    return Told(name, left_out, [f"{name} no items"], has_items=False)

@@ -12,10 +12,10 @@ follow finds it at all. What is no item is said, and the status is 1.
 from __future__ import annotations
 
 import json
-from collections.abc import Iterable, Iterator, Sequence
+from collections.abc import Iterable, Iterator, Mapping, Sequence
 
 from . import names
-from .decide import Leads, leads_of, read_entries
+from .decide import Lead, Leads, leads_of, read_entries
 from .machines import Machine, read_machines
 from .program import Program
 from .said import Fatal, Output, Said
@@ -75,15 +75,31 @@ def successors(records: Iterable[str], leads: Leads) -> dict[Product, list[Produ
     return {product: list(ends) for product, ends in found.items()}
 
 
-def unlisted(machines: Iterable[Machine], leads: Leads, successors: dict[Product, list[Product]]) -> Iterator[str]:
+def supposed_names(lead: Lead, successors: Mapping[Product, Sequence[Product]]) -> list[str]:
+    """The names under which an item that no entry has may go on."""
+    if lead.is_entry:
+        return []
+    found = []
+    for product in successors.get(names.product_of(lead.name), ()):
+        parts = names.components(lead.name)
+        parts[names.VENDOR], parts[names.PRODUCT] = product
+        found.append(names.joined(parts))
+    return found
+
+
+def goes_on(lead: Lead, successors: Mapping[Product, Sequence[Product]]) -> str:
+    """The vendors and products under which that of a name goes on, in words; empty where there are none."""
+    found = successors.get(names.product_of(lead.name))
+    return f" goes on as {' '.join(map(':'.join, found))}" if found else ""
+
+
+def unlisted(machines: Iterable[Machine], leads: Leads, successors: Mapping[Product, Sequence[Product]]) -> Iterator[str]:
     for machine in machines:
         for item in dict.fromkeys(machine.items):
             if item in leads.refused:
                 continue
             lead = leads.found[item]
             if not lead.is_entry:
-                goes_on = successors.get(names.product_of(lead.name))
-                hint = f" goes on as {' '.join(map(':'.join, goes_on))}" if goes_on else ""
-                yield f"not in the dictionary {machine.name} {item}{hint}"
+                yield f"not in the dictionary {machine.name} {item}{goes_on(lead, successors)}"
             elif not lead.ends:
                 yield f"under a removed name {machine.name} {item}"

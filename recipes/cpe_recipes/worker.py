@@ -6,6 +6,7 @@ from __future__ import annotations
 
 import json
 from collections.abc import Sequence
+from dataclasses import astuple
 from pathlib import Path
 
 from . import workers
@@ -25,7 +26,7 @@ def write_plan(folder: Path, known: Known) -> list[str]:
 
 
 def write_piece(path: Path, machines: Sequence[Asked]) -> None:
-    write_file(str(path), [json.dumps([machine.name, machine.items, machine.decided]) for machine in machines])
+    write_file(str(path), [json.dumps(astuple(machine)) for machine in machines])
 
 
 def run(words: Sequence[str]) -> int:
@@ -33,7 +34,7 @@ def run(words: Sequence[str]) -> int:
     records, plan, piece = (Path(path) for path in paths)
     answers, statements = json.loads(plan.read_text())
     known = Known(records.read_bytes(), answers, statements)
-    machines = [Asked(name, items, [(key, result) for key, result in decided]) for name, items, decided in map(json.loads, piece.open())]
+    machines = [Asked(*json.loads(line)) for line in piece.open()]
     try:
         session = Session(program, known)
         try:

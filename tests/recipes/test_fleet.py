@@ -55,6 +55,12 @@ class Sessions(RecipeCase):
         self.assertEqual(told.left_out, [("check key", "member result")])
         self.assertEqual(told.lines, ["a ranged UNKNOWN", "a named TRUE"])
 
+    def test_a_verdict_that_hangs_on_another_name_is_unknown(self):
+        session = self.session([*STATEMENTS, {"do": "statement", "id": "not", "test": {"op": "OR", "negate": True, "of": [{"fact": OPENSSL}]}}])
+        asked = Asked("a", ["cpe:/a:x:y"], [], [OPENSSL], [('key "1"', "FALSE")])
+        self.assertEqual(session.ask(asked).lines, ["a ranged FALSE", "a named UNKNOWN", "a not UNKNOWN"])
+        self.assertEqual(session.ask(Asked("b", ["cpe:/a:x:y"])).lines, ["b ranged FALSE", "b named FALSE", "b not TRUE"])
+
     def test_a_run_that_dies_is_noticed(self):
         session = self.session()
         session._run.kill()
@@ -126,6 +132,23 @@ class Parallel(RecipeCase):
         self.assertEqual(lines, ["a ranged TRUE", "a named TRUE", "b no items", "c ranged FALSE", "c named FALSE", "machines 3"])
         self.assertEqual((status, said), (1, ["remark d has decided ranges, and is no machine of machines", "left out b: no items"]))
 
+    def test_ranges_are_decided(self):
+        old = fs("ossl", "openssl", "1.1.1t")
+        entries = [{"do": "entry", "name": old}, {"do": "entry", "name": OPENSSL}]
+        entries.append({"do": "deprecate", "name": old, "kind": "NAME_CORRECTION", "successors": [OPENSSL], "date": "2024-01-02"})
+        follow = [{**one, "mode": "follow"} for one in STATEMENTS]
+        self.file("records", [*entries, *follow])
+        name = fs("openssl", "openssl")
+        ranges = self.file("ranges", [{"do": "advisory", "id": 'key "1"', "name": name, "start": "1.1.1", "end": "1.1.1u", "end-excluded": True}])
+        unlisted = fs("ossl", "openssl", "1.1.1s")
+        machines = f"a {old}\nb {fs('openssl', 'openssl', '1.1.1u')}\nc {fs('openssl', 'openssl')}\nd {unlisted}\ne cpe:/a:x\n"
+        status, lines, said = self.fleet(machines, "--ranges", ranges)
+        self.assertEqual(lines, ["a ranged TRUE", "a named TRUE", "b ranged FALSE", "b named FALSE", "c ranged UNKNOWN", "c named FALSE",
+            "d ranged UNKNOWN", "d named FALSE", "e ranged FALSE", "e named FALSE", "machines 5"])
+        self.assertEqual(said, [f"left out c: {name} in {name} from 1.1.1, before 1.1.1u: its version isn't known",
+            f"remark not in the dictionary d {unlisted} goes on as openssl:openssl"])
+        self.assertEqual(status, 1)
+
     def test_a_result_of_the_records_stays(self):
         self.file("records", [*STATEMENTS, RESULT])
         decided = self.file("decided", 'a\tkey "1"\tTRUE\n')
@@ -134,7 +157,7 @@ class Parallel(RecipeCase):
 
     def test_machines_whose_worker_never_ends_are_missing(self):
         bad = self.folder / "bad"
-        bad.write_text(f'#!/bin/sh\n[ "$1" = evaluate ] || {{ grep -q no:good && exit 1; }}\nexec "{CPE}" "$@"\n')
+        bad.write_text(f'#!/bin/sh\n[ -z "${{PARALLEL_SEQ-}}" ] || exit 1\nexec "{CPE}" "$@"\n')
         bad.chmod(0o755)
         status, lines, said = self.fleet("a cpe:/a:no:good\nb cpe:/a:no:good\n", program=str(bad))
         self.assertEqual((status, lines), (5, []))
@@ -154,7 +177,7 @@ class Parallel(RecipeCase):
     def test_a_signal_ends_the_workers_and_leaves_no_files(self):
         self.file("machines", f"a {OPENSSL}\n")
         slow = self.folder / "slow"
-        slow.write_text(f'#!/bin/sh\n[ "$1" = evaluate ] || {{ echo $$ > "{self.folder}/pid"; exec sleep 60; }}\nexec "{CPE}" "$@"\n')
+        slow.write_text(f'#!/bin/sh\n[ -z "${{PARALLEL_SEQ-}}" ] || {{ echo $$ > "{self.folder}/pid"; exec sleep 60; }}\nexec "{CPE}" "$@"\n')
         slow.chmod(0o755)
         environment = {**os.environ, "CPE": str(slow), "TMPDIR": str(self.folder)}
         for number in (signal.SIGTERM, signal.SIGINT):

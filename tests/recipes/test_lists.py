@@ -69,6 +69,17 @@ class Perhaps(RecipeCase):
         fact, item = fs("v", "plugin", "*", "*", "wordpress"), fs("v", "plugin")
         self.assertEqual(self.perhaps([statement("s", fact)], item, fs("v", "plugin", "1.0")), [f"s {item} {fact}"])
 
+    def test_a_range_is_compared_in_the_version_of_the_item(self):
+        fact, item = fs("v", "plugin", "*", "*", "wordpress"), "cpe:/a:v:plugin:"
+        check = {"check": {"system": "NVD", "href": "cpeMatch", "id": "key"}}
+        records = self.file("records", [{"do": "statement", "id": "s", "mode": "follow", "test": {"op": "OR", "of": [{"op": "AND", "of": [{"fact": fact}, check]}]}}])
+        ranges = self.file("ranges", [{"do": "advisory", "id": "key", "name": fact, "end": "1.2", "end-excluded": True}])
+        on_site = fs("v", "plugin", "1.0", "*", "wordpress")
+        machines = self.file("machines", f"m {item}1.1 {item}1.2 {item}1.2k {item}- cpe:/a:v:plugin {on_site} {fs('v', 'plugin', '1.1', '*', 'drupal')}\n")
+        self.assertEqual(self.recipe("perhaps", records, machines), (0, [f"perhaps m s cpe:/a:v:plugin {fact}"], []))
+        wanted = [f"perhaps m s {name} {fact}" for name in (f"{item}1.1", f"{item}1.2k", f"{item}-", "cpe:/a:v:plugin")]
+        self.assertEqual(self.recipe("perhaps", records, machines, "--ranges", ranges), (0, wanted, []))
+
     def test_statements_and_machines_in_their_order_each_pair_once(self):
         fact, other = fs("v", "p", "1"), fs("v", "p", "2")
         records = ["no JSON with \"statement\"", statement("b", fact, fact), statement("a", other), statement("a#2", other, negate=True), statement("z#1", other), {"do": "statement", "id": 7}]
@@ -129,7 +140,7 @@ class Products(RecipeCase):
 
     def test_products_by_the_dictionary(self):
         records = ["--records", self.file("records", DICTIONARY)]
-        for item in (OLD_REDIS, REDIS, fs("redis", "redis", "9")):
+        for item in (OLD_REDIS, REDIS, fs("redis", "redis", "9"), fs("redislabs", "redis", "9")):
             kept = self.products(f"m {item}\n", *records)[1]
             self.assertTrue({"successor", "predecessor"} <= set(kept), item)
         self.assertNotIn("successor", self.products(f"m {OLD_REDIS}\n")[1])
