@@ -74,7 +74,8 @@ class Feeds:
         versions = self.products[front]
         if self.draw.random() >= RANGED:
             return {"vulnerable": is_vulnerable, "criteria": self.name(front, self.draw.choice(versions)), "matchCriteriaId": key}
-        first, last = sorted(self.draw.randrange(len(versions)) for _ in range(2))
+        # (what is known of is mostly mended in the newest)
+        first, last = sorted(int(len(versions) * self.draw.triangular(0, 1, 0.2)) for _ in range(2))
         bounds = {}
         if self.draw.random() < 0.6:
             bounds["versionStartIncluding"] = versions[first]

@@ -284,6 +284,8 @@ class Scan:
         for one, of_machine in zip(found, asked):
             for numbers, names_of_machine in of_machine:
                 self._put(one, {place: truths[number] for place, number in numbers.items()}, names_of_machine)
+            # (what is decided is in the verdicts, and would be much beside them)
+            one.decided.truths.clear()
 
     def _decider(self, leads: Iterable[Lead]) -> Decider:
         """What decides for all that leads so. (Names are as cpe writes them, so that one stands for all its spellings.)"""
@@ -473,7 +475,18 @@ def run(words: Sequence[str]) -> int:
     one_of = [("--dictionary", "--records"), ("--advisories",), ("--machines", "--lists")]
     if read.files or not all(any(map(read.has, options)) for options in one_of) or read.has("--machines") and read.has("--lists"):
         raise Fatal(f"usage: {USAGE}")
-    said, output, program, progress = Said(), Output(), Program(), Progress()
+    program = Program()
+    with Progress() as progress:
+        said = Said(before=progress.clear)
+        lines = _result(read, program, said, progress)
+    output = Output()
+    output.lines(lines)
+    output.end()
+    return said.status()
+
+
+def _result(read: Words, program: Program, said: Said, progress: Progress) -> list[str]:
+    """The lines of the result."""
     accepted = suppressed.read_suppressed(read.many("--suppress"), said)
     letters = read_letters(read.one("--letters") or LETTERS)
     asked = read_asked(read, said)
@@ -482,14 +495,12 @@ def run(words: Sequence[str]) -> int:
     lists = Lists(program, matches.listed(feed, known.ranges.keys(), said))
     scan = Scan(program, known, lists, letters, progress)
     found = scan.machines(asked)
-    progress.end()
     tell_items(found, scan, said)
     machines = machines_with_verdicts(known, scan.bare, found)
     about = affected.About(known.details, accepted, Hanging(known, found))
     if read.has("--json"):
-        output.line(json.dumps(json_of(known, found, machines, about), ensure_ascii=False, indent=1))
+        lines = [json.dumps(json_of(known, found, machines, about), ensure_ascii=False, indent=1)]
     else:
-        output.lines(list(affected.table_of(verdicts.Verdicts(machines), about)))
+        lines = list(affected.table_of(verdicts.Verdicts(machines), about))
     accepted.tell_unused(said)
-    output.end()
-    return said.status()
+    return lines
