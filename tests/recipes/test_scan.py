@@ -15,13 +15,14 @@ sys.path.insert(0, str(Path(__file__).resolve().parent))
 from stand_in import Heard  # noqa: E402 (it knows where the recipes are)
 from cpe_recipes import affected, scan  # noqa: E402
 from cpe_recipes.advisories import Range  # noqa: E402
+from cpe_recipes.cases import Known  # noqa: E402
 from cpe_recipes.decide import Lists  # noqa: E402
 from cpe_recipes.feeds import record_text  # noqa: E402
 from cpe_recipes.machines import Machine  # noqa: E402
 from cpe_recipes.program import Program  # noqa: E402
 from cpe_recipes.progress import Progress  # noqa: E402
 from cpe_recipes.said import Fatal, Said  # noqa: E402
-from cpe_recipes.scan import Known, Scan, json_of, machines_with_verdicts, tell_items  # noqa: E402
+from cpe_recipes.scan import Scan, json_of, machines_with_verdicts, tell_items  # noqa: E402
 from cpe_recipes.suppressed import Accepted, Suppressed  # noqa: E402
 from cpe_recipes.versions import Letters  # noqa: E402
 
