@@ -273,7 +273,8 @@ def tell_items(found: Iterable[Found], scan: Scan, said: Said) -> None:
                 strange.add(lead.name)
                 where.add(name)
     if strange:
-        said.remark(f"not in the dictionary: {counted(len(strange), 'item')}, on {counted(len(where), 'machine')}; unlisted.sh lists them")
+        items, machines = counted(len(strange), "item"), counted(len(where), "machine")
+        said.remark(f"not in the dictionary: {items}, on {machines}; unlisted.sh lists them")
 
 
 def json_of(known: Known, found: Sequence[Found], machines: Sequence[verdicts.Machine], about: affected.About) -> dict[str, Json]:
