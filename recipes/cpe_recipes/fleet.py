@@ -156,10 +156,10 @@ class _Planner:
         feed = pages(words.many("--matches"), said, matches.KINDS, strict=True) if words.has("--matches") else []
         self._lists = decide.Lists(program, matches.listed(feed, self._ranges.keys(), said))
         entries = decide.read_entries(words.files[:1])
-        old = unlisted.deprecated_names(entries)
         items = dict.fromkeys(item for machine in machines for item in machine.items)
-        self._leads = decide.leads_of(program, entries, items, [*old, *(one.criteria for one in self._ranges.values())])
-        self._successors = unlisted.successors(entries, self._leads)
+        self._leads = decide.leads_of(program, entries, items, (one.criteria for one in self._ranges.values()))
+        own = (self._leads.found[item] for item in items if self._is_item(item))
+        self._successors = unlisted.successors_of(program, entries, own)
         supposed = dict.fromkeys(name for item in items for name in self._supposed(item))
         self._beside = decide.leads_of(program, entries, supposed, ()).found if supposed else {}
         # (names as cpe writes them, so that one stands for all its spellings)

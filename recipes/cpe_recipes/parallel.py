@@ -33,7 +33,7 @@ def run(words: Sequence[str]) -> int:
             path = folder / f"piece.{number:06}"
             worker.write_piece(path, machines)
             pieces[path] = machines
-        workers.run_workers(folder, "worker", [program.path, *plan], list(pieces))
+        workers.run_workers(folder, workers.python_worker("worker", program.path, *plan), list(pieces))
         return _gather(pieces, said)
 
 

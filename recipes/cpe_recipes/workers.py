@@ -1,7 +1,7 @@
 """Workers over pieces of work, by GNU parallel. A piece is a file, so that it is there once more where its worker dies.
 
-A worker is a module of the recipes. It is given its words and the path of its piece, and writes files beside the piece, which get
-their names when they are whole: so what a worker wrote that died is not there. Which pieces are done is told by these files.
+A worker is given its words and the path of its piece, and writes files beside the piece, which get their names when they are whole:
+so what a worker wrote that died is not there. Which pieces are done is told by PIECE.out, and by PIECE.full that there was no room.
 """
 from __future__ import annotations
 
@@ -15,7 +15,7 @@ from pathlib import Path
 
 from .said import Fatal, write_all
 
-_RUN = Path(__file__).resolve().parent.parent / "run.py"
+RECIPES = Path(__file__).resolve().parent.parent
 _TRIES = 3
 _CHUNK = 1 << 20
 # What GNU parallel ends with where it isn't the jobs that failed.
@@ -35,13 +35,18 @@ def number_at(variable: str, default: int) -> int:
     return int(given)
 
 
-def run_workers(folder: Path, module: str, words: Sequence[str], pieces: Sequence[Path]) -> None:
+def python_worker(module: str, *words: str) -> list[str]:
+    """The command of a worker that is a module of the recipes."""
+    # (-S: without other packages, so that it begins sooner)
+    return [sys.executable, "-BS", str(RECIPES / "run.py"), module, *words]
+
+
+def run_workers(folder: Path, worker: Sequence[str], pieces: Sequence[Path]) -> None:
     """Runs a worker over each piece, WORKERS at a time (else as many as processors); one that fails is run again, up to three
     times."""
     workers = number_at("WORKERS", os.cpu_count() or 1)
     command = ["parallel", "--will-cite", "--retries", str(_TRIES), "--jobs", str(workers), "--tmpdir", str(folder), "--quote"]
-    command += [sys.executable, "-B", str(_RUN), module, *words, "{}"]
-    with subprocess.Popen(command, stdin=subprocess.PIPE) as run:
+    with subprocess.Popen([*command, *worker, "{}"], stdin=subprocess.PIPE) as run:
         try:
             run.communicate("".join(f"{piece}\n" for piece in pieces).encode())
         except BaseException:
