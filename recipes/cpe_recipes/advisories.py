@@ -301,8 +301,8 @@ class _Converter:
         return _check(MATCH, key) if bad else {"op": "AND", "of": [{"fact": match.criteria}, _check(MATCH, key)]}
 
     def _key(self, match: Match) -> str:
-        """The id of its check, which no other match has."""
-        if match.id and _same(self._matches.setdefault(match.id, match), match):
+        """The id of its check, which no other match has, and which can stand in a line with tabs."""
+        if match.id and match.id.isprintable() and _same(self._matches.setdefault(match.id, match), match):
             return match.id
         return match.text()
 

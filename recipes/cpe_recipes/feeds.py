@@ -18,6 +18,7 @@ Json = Any
 _GZIP = b"\x1f\x8b"
 _SPACE = re.compile(r"\s*")
 _SURROGATE = re.compile("[\ud800-\udfff]")
+_COMPACT = json.JSONEncoder(ensure_ascii=False, separators=(",", ":")).encode
 
 
 class FeedFault(Exception):
@@ -147,6 +148,6 @@ def text_at(value: Json, key: str) -> str | None:
 
 def record_text(record: Json) -> str:
     """A record as the compact JSON of its line."""
-    text = json.dumps(record, ensure_ascii=False, separators=(",", ":"))
+    text = _COMPACT(record)
     # (half a character of two, which JSON can spell, has no bytes)
     return text if text.isascii() else _SURROGATE.sub("\ufffd", text)

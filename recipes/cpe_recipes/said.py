@@ -49,10 +49,10 @@ def write_all(descriptor: int, data: bytes, what: str) -> None:
 
 
 class Said:
-    """What is told on standard error, and how much was left out."""
+    """What is told on standard error, and how much was left out. `before` is called before each line, to clear the place."""
 
-    def __init__(self, descriptor: int = 2) -> None:
-        self._descriptor = descriptor
+    def __init__(self, descriptor: int = 2, before: Callable[[], None] | None = None) -> None:
+        self._descriptor, self._before = descriptor, before
         self.left = 0
         self.remarks = 0
 
@@ -70,6 +70,8 @@ class Said:
         return LEFT_OUT if self.left else DONE
 
     def _say(self, line: str) -> None:
+        if self._before is not None:
+            self._before()
         write_all(self._descriptor, f"{shown(line)}\n".encode(errors="replace"), "what was left out")
 
 
@@ -128,15 +130,22 @@ def _stop(_number: int, _frame: object) -> NoReturn:
     raise SystemExit(STOPPED)
 
 
+def _help(run: Callable[[list[str]], int]) -> int:
+    output = Output()
+    output.line((sys.modules[run.__module__].__doc__ or "").rstrip("\n"))
+    output.end()
+    return DONE
+
+
 def main(run: Callable[[list[str]], int], name: str, words: list[str]) -> NoReturn:
-    """Runs a recipe over its words, and ends with its status."""
+    """Runs a recipe over its words, and ends with its status. It tells what it does where it is asked for --help."""
     for number in (signal.SIGHUP, signal.SIGINT, signal.SIGTERM):
         # (what whoever started it lets pass, such as nohup, passes here too)
         if signal.getsignal(number) is not signal.SIG_IGN:
             signal.signal(number, _stop)
     sys.argv[0] = name
     try:
-        status = run(words)
+        status = _help(run) if words in (["--help"], ["-h"]) else run(words)
     except Fatal as fault:
         with contextlib.suppress(OSError, Fatal):
             write_all(2, f"{name}: {shown(str(fault))}\n".encode(errors="replace"), "the reason")

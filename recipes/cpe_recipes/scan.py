@@ -10,8 +10,9 @@
 - --letters: the products of which letters in versions count upward, in place of letters.txt.
 
 A machine is asked for those statements alone whose verdict may be another than that of a machine without items: those with a
-fact, or an end of it, of the vendor and product of some end of the machine's items, or of no plain vendor or product. All in one
-run of cpe.
+fact, or an end of it, of the vendor and product of some end of the machine's items, or of no plain vendor or product, unless it
+is the fact of a range of which every version there is outside. A statement is asked over those items alone that may fit its facts,
+and once for all machines that have the same ones. All in one run of cpe.
 
 An item that no entry of the dictionary has leads nowhere, though entries of its product may lead to another product. It is asked
 for under that one too; where the verdict would be another so, it is UNKNOWN.
@@ -54,31 +55,48 @@ OPTIONS = {
 }
 
 Product = tuple[str, str]
+# An item or several, and results of checks, over which a statement is asked.
+Items = tuple[str, ...]
+Results = tuple[tuple[str, bool], ...]
 
 
 @dataclass(frozen=True)
 class Statement:
-    """What is looked at of a statement: its id, its facts, and the ids of its checks."""
+    """What is looked at of a statement: its id, its facts but those of ranges, the ranges by the ids of their checks, and the ids
+    of all its checks."""
 
     id: str
     facts: tuple[str, ...]
+    ranges: tuple[str, ...]
     checks: tuple[str, ...]
 
     @staticmethod
-    def of(record: str) -> Statement:
+    def of(record: str, ranges: Mapping[str, Range]) -> Statement:
         value = json.loads(record)
         facts: dict[str, None] = {}
+        ranged: dict[str, None] = {}
         checks: dict[str, None] = {}
         waiting = [value["test"]]
         while waiting:
             one = waiting.pop()
-            if "op" in one:
+            key = _range_of(one)
+            if key in ranges:
+                ranged[key] = checks[key] = None
+            elif "op" in one:
                 waiting.extend(reversed(one["of"]))
             elif "fact" in one:
                 facts[one["fact"]] = None
             else:
                 checks[one["check"]["id"]] = None
-        return Statement(value["id"], tuple(facts), tuple(checks))
+        return Statement(value["id"], tuple(facts), tuple(ranged), tuple(checks))
+
+
+def _range_of(test: Json) -> str | None:
+    """The id of the check where a test is a name and the check of its range."""
+    of = test.get("of", ())
+    if test.get("op") != "AND" or test.get("negate") or len(of) != 2 or "fact" not in of[0] or "check" not in of[1]:
+        return None
+    return of[1]["check"]["id"]
 
 
 @dataclass
@@ -93,42 +111,108 @@ class Known:
     statements: list[Statement] = field(init=False)
 
     def __post_init__(self) -> None:
-        self.statements = [Statement.of(record) for record in self.records]
+        self.statements = [Statement.of(record, self.ranges) for record in self.records]
 
 
 class Index:
-    """The statements by vendor and product of what their facts lead to."""
+    """The statements by vendor and product of what their facts lead to, and by their ranges."""
 
-    def __init__(self, statements: Sequence[Statement], leads: Leads) -> None:
-        self._by_product: dict[Product, dict[int, None]] = {}
-        self._all_products: dict[int, None] = {}
-        for place, statement in enumerate(statements):
-            for fact in statement.facts:
-                for end in leads.found[fact].ends:
-                    product = names.product_of(end)
-                    is_plain = all(map(names.is_plain, product))
-                    (self._by_product.setdefault(product, {}) if is_plain else self._all_products)[place] = None
+    def __init__(self, known: Known, leads: Leads) -> None:
+        self._by_product: dict[Product, list[int]] = {}
+        self._by_range: dict[str, list[int]] = {}
+        self._of_all_products: list[int] = []
+        # (of each statement the products that its facts may fit, and whether these are all)
+        self._products: list[tuple[set[Product], bool]] = []
+        for place, statement in enumerate(known.statements):
+            plain, is_all = _products(statement.facts, leads)
+            for product in plain:
+                self._by_product.setdefault(product, []).append(place)
+            if is_all:
+                self._of_all_products.append(place)
+            for key in statement.ranges:
+                self._by_range.setdefault(key, []).append(place)
+            ranged, is_all_ranged = _products((known.ranges[key].criteria for key in statement.ranges), leads)
+            self._products.append((plain | ranged, is_all or is_all_ranged))
 
-    def concerned(self, leads: Iterable[Lead]) -> list[int]:
-        """The places of the statements that some end of these may make another than without it, in order."""
-        found = set(self._all_products)
+    def concerned(self, leads: Iterable[Lead], decided: Decided) -> list[int]:
+        """The places of the statements that may have another verdict than without these items, in order."""
+        found = set(self._of_all_products)
         for product in {names.product_of(end) for lead in leads for end in lead.ends}:
             found.update(self._by_product.get(product, ()))
+        for key in [*(key for key, is_inside in decided.truths.items() if is_inside), *decided.unsure]:
+            found.update(self._by_range.get(key, ()))
         return sorted(found)
 
+    def items(self, place: int, by_product: Mapping[Product, Collection[str]], all_items: Items) -> Items:
+        """Those items that may fit the facts of a statement."""
+        products, is_all = self._products[place]
+        if is_all:
+            return all_items
+        found = {item for product in products for item in by_product.get(product, ())}
+        return tuple(sorted(found))
 
-@dataclass(frozen=True)
-class Question:
-    """Items that are put together, the results of checks beside them, and the statements that are asked."""
 
-    items: list[str]
-    checks: Mapping[str, bool]
-    statements: Sequence[int]
+def _products(facts: Iterable[str], leads: Leads) -> tuple[set[Product], bool]:
+    """The plain products of what these lead to, and whether there is one that isn't plain."""
+    products = {names.product_of(end) for fact in facts for end in leads.found[fact].ends}
+    plain = {product for product in products if all(map(names.is_plain, product))}
+    return plain, len(plain) < len(products)
+
+
+class Cases:
+    """Statements that are asked over items and results of checks, each such case once."""
+
+    def __init__(self, known: Known, index: Index, is_all_asked: bool = False) -> None:
+        self._known, self._index, self._is_all_asked = known, index, is_all_asked
+        self._numbers: dict[tuple[Items, Results, int], int] = {}
+
+    def put(self, leads: Collection[Lead], decided: Decided) -> dict[int, int]:
+        """The cases of a machine by the places of the statements that are asked of it."""
+        all_items = tuple(sorted({lead.name for lead in leads}))
+        by_product: dict[Product, set[str]] = {}
+        for lead in leads:
+            for end in lead.ends:
+                by_product.setdefault(names.product_of(end), set()).add(lead.name)
+        places = range(len(self._known.statements)) if self._is_all_asked else self._index.concerned(leads, decided)
+        cases = {}
+        for place in places:
+            items = all_items if self._is_all_asked else self._index.items(place, by_product, all_items)
+            keys = self._known.statements[place].checks
+            results = tuple((key, decided.truths[key]) for key in keys if key in decided.truths)
+            cases[place] = self._numbers.setdefault((items, results, place), len(self._numbers))
+        return cases
+
+    def in_order(self) -> list[tuple[Items, Results, int, int]]:
+        """The cases with their numbers, those of the same items one behind the other."""
+        return sorted((*case, number) for case, number in self._numbers.items())
+
+
+def lines_of(known: Known, cases: Iterable[tuple[Items, Results, int, int]]) -> Iterator[str]:
+    """All that is known, a question for each statement, and then the cases: the statement of each, over its items and results."""
+    yield from known.entries
+    yield from known.records
+    asks = [record_text({"do": "verdict", "id": statement.id}) for statement in known.statements]
+    yield from asks
+    here: Items = ()
+    for items, results, place, _ in cases:
+        if items != here:
+            yield from _drops(here)
+            yield from (record_text({"do": "item", "name": item}) for item in items)
+            here = items
+        yield from (check_record(key, is_true) for key, is_true in results)
+        yield asks[place]
+        yield from (drop_record(key) for key, _ in reversed(results))
+
+
+def _drops(items: Items) -> Iterator[str]:
+    # (the last first, so that none closes up)
+    return (record_text({"do": "drop-item", "name": item}) for item in reversed(items))
 
 
 @dataclass
 class Found:
-    """What came of a machine: the verdicts that were asked for by the places of statements, and why some are UNKNOWN."""
+    """What came of a machine: where its items lead, what is decided of its ranges, the verdicts that were asked for by the
+    places of statements, and why some are UNKNOWN."""
 
     machine: Machine
     leads: list[Lead]
@@ -188,22 +272,20 @@ class Scan:
         beside = leads_of(self._program, self._known.entries, other, ()).found if other else {}
         self._progress.step("deciding ranges of versions")
         decider = self._decider([*(lead for one in found for lead in one.leads), *beside.values()])
-        index = Index(self._known.statements, self._leads)
-        questions: list[Question] = []
-        put: list[tuple[Found, Mapping[str, Lead]]] = []
+        cases = Cases(self._known, Index(self._known, self._leads), is_all_asked)
+        asked = []
         for one, names_of_machine in zip(found, supposed):
-            if not one.has_items():
-                continue
             one.decided = decide(one.leads, decider, self._lists)
-            places = range(len(self._known.statements)) if is_all_asked else index.concerned(one.leads)
-            questions.append(_question(one.leads, one.decided, places))
-            put.append((one, {}))
-            more = [beside[name] for name in names_of_machine]
-            if more:
-                together = [*one.leads, *more]
-                questions.append(_question(together, decide(together, decider, self._lists), index.concerned(more)))
-                put.append((one, names_of_machine))
-        self._ask(questions, put)
+            asked.append([(cases.put(one.leads, one.decided) if one.has_items() else {}, {})])
+            if names_of_machine:
+                together = [*one.leads, *(beside[name] for name in names_of_machine)]
+                asked[-1].append((cases.put(together, decide(together, decider, self._lists)), names_of_machine))
+        truths = self._ask(cases)
+        for one, of_machine in zip(found, asked):
+            for numbers, names_of_machine in of_machine:
+                self._put(one, {place: truths[number] for place, number in numbers.items()}, names_of_machine)
+            # (what is decided is in the verdicts, and would be much beside them)
+            one.decided.truths.clear()
 
     def _decider(self, leads: Iterable[Lead]) -> Decider:
         """What decides for all that leads so. (Names are as cpe writes them, so that one stands for all its spellings.)"""
@@ -212,54 +294,35 @@ class Scan:
         known.found.update((one.criteria, self._leads.found[one.criteria]) for one in self._known.ranges.values())
         return Decider(self._program, self._known.ranges.values(), known, items, self._letters)
 
-    def _ask(self, questions: Sequence[Question], put: Sequence[tuple[Found, Mapping[str, Lead]]]) -> None:
-        answers = _verdicts(self._program.lines(["resolve"], self._lines(questions)))
+    def _ask(self, cases: Cases) -> list[str]:
+        """The verdicts of the cases, by their numbers."""
         self._progress.step("asking for verdicts")
+        in_order = cases.in_order()
+        answers = _verdicts(self._program.lines(["resolve"], lines_of(self._known, in_order)))
         self.bare = [next(answers) for _ in self._known.statements]
-        for number, (question, (one, beside)) in enumerate(zip(questions, put)):
-            self._progress.count("asking for verdicts", number, len(questions))
-            truths = {place: next(answers) for place in question.statements}
-            if beside:
-                self._suppose(one, truths, beside)
-            else:
-                one.truths = truths
+        truths = [""] * len(in_order)
+        for done, (_, _, _, number) in enumerate(in_order):
+            truths[number] = next(answers)
+            self._progress.count("asking for verdicts", done, len(in_order))
         for answer in answers:
             raise Fatal(f"cpe answered more than was asked: {answer}")
+        return truths
 
-    def _suppose(self, one: Found, truths: Mapping[int, str], beside: Mapping[str, Lead]) -> None:
-        """A verdict that is another where items are what their products became is neither the one nor the other."""
+    def _put(self, one: Found, truths: dict[int, str], beside: Mapping[str, Lead]) -> None:
+        """Puts verdicts of a machine. One that is another where items are what their products became is UNKNOWN."""
+        if not beside:
+            one.truths = truths
+            return
         why = "; ".join(f"{lead.name} is not in the dictionary, and may be {name}" for name, lead in beside.items())
         for place, truth in truths.items():
             if truth != one.truths.get(place, self.bare[place]):
                 one.truths[place] = "UNKNOWN"
                 one.supposed[place] = why
 
-    def _lines(self, questions: Iterable[Question]) -> Iterator[str]:
-        yield from self._known.entries
-        yield from self._known.records
-        asks = [record_text({"do": "verdict", "id": statement.id}) for statement in self._known.statements]
-        yield from asks
-        for question in questions:
-            for item in question.items:
-                yield record_text({"do": "item", "name": item})
-            for key, is_true in question.checks.items():
-                yield check_record(key, is_true)
-            for place in question.statements:
-                yield asks[place]
-            for key in question.checks:
-                yield drop_record(key)
-            for item in question.items:
-                yield record_text({"do": "drop-item", "name": item})
-
-
 def _renamed(name: str, product: Product) -> str:
     parts = names.components(name)
     parts[names.VENDOR], parts[names.PRODUCT] = product
     return names.joined(parts)
-
-
-def _question(leads: Iterable[Lead], decided: Decided, places: Sequence[int]) -> Question:
-    return Question(list(dict.fromkeys(lead.name for lead in leads)), decided.truths, places)
 
 
 def _verdicts(lines: Iterable[str]) -> Iterator[str]:
@@ -412,7 +475,18 @@ def run(words: Sequence[str]) -> int:
     one_of = [("--dictionary", "--records"), ("--advisories",), ("--machines", "--lists")]
     if read.files or not all(any(map(read.has, options)) for options in one_of) or read.has("--machines") and read.has("--lists"):
         raise Fatal(f"usage: {USAGE}")
-    said, output, program, progress = Said(), Output(), Program(), Progress()
+    program = Program()
+    with Progress() as progress:
+        said = Said(before=progress.clear)
+        lines = _result(read, program, said, progress)
+    output = Output()
+    output.lines(lines)
+    output.end()
+    return said.status()
+
+
+def _result(read: Words, program: Program, said: Said, progress: Progress) -> list[str]:
+    """The lines of the result."""
     accepted = suppressed.read_suppressed(read.many("--suppress"), said)
     letters = read_letters(read.one("--letters") or LETTERS)
     asked = read_asked(read, said)
@@ -421,14 +495,12 @@ def run(words: Sequence[str]) -> int:
     lists = Lists(program, matches.listed(feed, known.ranges.keys(), said))
     scan = Scan(program, known, lists, letters, progress)
     found = scan.machines(asked)
-    progress.end()
     tell_items(found, scan, said)
     machines = machines_with_verdicts(known, scan.bare, found)
     about = affected.About(known.details, accepted, Hanging(known, found))
     if read.has("--json"):
-        output.line(json.dumps(json_of(known, found, machines, about), ensure_ascii=False, indent=1))
+        lines = [json.dumps(json_of(known, found, machines, about), ensure_ascii=False, indent=1)]
     else:
-        output.lines(list(affected.table_of(verdicts.Verdicts(machines), about)))
+        lines = list(affected.table_of(verdicts.Verdicts(machines), about))
     accepted.tell_unused(said)
-    output.end()
-    return said.status()
+    return lines

@@ -7,6 +7,7 @@ answer there is none, and whoever asks is told why. Which version is in a range 
 """
 from __future__ import annotations
 
+import functools
 import re
 from collections.abc import Iterable, Mapping
 from dataclasses import dataclass
@@ -25,6 +26,8 @@ _BEFORE_RELEASE = frozenset({"rc", "cr", "ea"})
 LESS, EQUAL, GREATER = -1, 0, 1
 Orders = frozenset[int]
 _ANY_ORDER: Orders = frozenset({LESS, EQUAL, GREATER})
+# How many answers are kept, since the same versions and bounds come again and again.
+_KEPT = 1 << 16
 
 
 class Standing(Enum):
@@ -50,7 +53,8 @@ class Piece:
         return other is not None and (self.text, self.is_word) == (other.text, other.is_word)
 
 
-def pieces(version: str) -> list[Piece]:
+@functools.lru_cache(maxsize=_KEPT)
+def pieces(version: str) -> tuple[Piece, ...]:
     """The pieces of a version."""
     found, last = [], 0
     for match in _PIECE.finditer(version.lower()):
@@ -58,9 +62,10 @@ def pieces(version: str) -> list[Piece]:
         is_word = not text[0].isdigit()
         found.append(Piece(text if is_word else text.lstrip("0"), is_word, version[last : match.start()]))
         last = match.end()
-    return found
+    return tuple(found)
 
 
+@functools.lru_cache(maxsize=_KEPT)
 def orders(version: str, bound: str) -> tuple[Orders, str]:
     """The orders of two versions that a vendor may mean, and in words what leaves more than one."""
     here, there = pieces(version), pieces(bound)
@@ -86,7 +91,7 @@ def _numbers(one: str, other: str) -> int:
     return LESS if key < other_key else GREATER if key > other_key else EQUAL
 
 
-def _longer(rest: list[Piece]) -> tuple[Orders, str]:
+def _longer(rest: tuple[Piece, ...]) -> tuple[Orders, str]:
     """The orders of a version to the one that stands before its last pieces, the first of which is a number."""
     worth = next((place for place, piece in enumerate(rest) if not piece.is_zero()), None)
     if worth is None:

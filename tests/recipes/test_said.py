@@ -60,6 +60,12 @@ class Ends(unittest.TestCase):
         run = recipe("output = Output()\noutput.line('a row')\nraise Fatal('there is\\nno cpe')")
         self.assertEqual((run.returncode, run.stdout, run.stderr), (2, "", "it.sh: there is\\u000ano cpe\n"))
 
+    def test_help_is_what_the_module_says_of_itself(self):
+        for entry in ("scan.py", "decide.py"):
+            run = subprocess.run([sys.executable, str(RECIPES / entry), "--help"], capture_output=True, text=True)
+            self.assertEqual((run.returncode, run.stderr), (0, ""))
+            self.assertIn(f"    python3 {entry} --", run.stdout)
+
     @unittest.skipUnless(os.path.exists("/dev/full"), "there is no /dev/full")
     def test_a_full_disk_is_fatal(self):
         with open("/dev/full", "w") as full:

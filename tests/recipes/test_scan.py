@@ -20,7 +20,7 @@ from cpe_recipes.feeds import record_text  # noqa: E402
 from cpe_recipes.machines import Machine  # noqa: E402
 from cpe_recipes.program import Program  # noqa: E402
 from cpe_recipes.progress import Progress  # noqa: E402
-from cpe_recipes.said import Fatal  # noqa: E402
+from cpe_recipes.said import Fatal, Said  # noqa: E402
 from cpe_recipes.scan import Known, Scan, json_of, machines_with_verdicts, tell_items  # noqa: E402
 from cpe_recipes.suppressed import Accepted, Suppressed  # noqa: E402
 from cpe_recipes.versions import Letters  # noqa: E402
@@ -232,22 +232,30 @@ class Words(unittest.TestCase):
 
 
 class Shown(unittest.TestCase):
+    def written(self, file):
+        file.seek(0)
+        return file.read()
+
     def test_progress_is_one_line_that_goes(self):
-        with tempfile.TemporaryFile() as file:
-            progress = Progress(file.fileno(), is_shown=True)
+        with tempfile.TemporaryFile() as file, Progress(file.fileno(), is_shown=True) as progress:
             progress.step("reading")
             progress.count("asking", 1, 9)
-            progress.end()
-            file.seek(0)
-            self.assertEqual(file.read(), b"\r\x1b[Kreading ..\r\x1b[K")
+            Said(file.fileno(), before=progress.clear).remark("so")
+            progress.clear()
+            self.assertEqual(self.written(file), b"\r\x1b[Kreading ..\r\x1b[Kremark so\n")
+
+    def test_it_goes_with_a_fault(self):
+        with tempfile.TemporaryFile() as file:
+            with self.assertRaises(Fatal), Progress(file.fileno(), is_shown=True) as progress:
+                progress.step("reading")
+                raise Fatal("no more")
+            self.assertEqual(self.written(file), b"\r\x1b[Kreading ..\r\x1b[K")
 
     def test_nothing_is_shown_elsewhere(self):
-        with tempfile.TemporaryFile() as file:
-            progress = Progress(file.fileno())
+        with tempfile.TemporaryFile() as file, Progress(file.fileno()) as progress:
             progress.step("reading")
-            progress.end()
-            file.seek(0)
-            self.assertEqual(file.read(), b"")
+            progress.clear()
+            self.assertEqual(self.written(file), b"")
 
 
 if __name__ == "__main__":
