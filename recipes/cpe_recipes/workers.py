@@ -12,6 +12,7 @@ import subprocess
 import sys
 from collections.abc import Iterator, Sequence
 from pathlib import Path
+from typing import BinaryIO
 
 from .said import Fatal, write_all
 
@@ -60,11 +61,29 @@ def run_workers(folder: Path, worker: Sequence[str], pieces: Sequence[Path]) -> 
 
 
 @contextlib.contextmanager
-def tells_no_room(piece: Path) -> Iterator[None]:
-    """Of a worker: where it has no room to write, no other try will have."""
+def whole_file(piece: Path, ending: str) -> Iterator[BinaryIO]:
+    """Of a worker: a file beside its piece, which gets its name at the end, where nothing went wrong."""
+    with _tells_no_room(piece):
+        file = open(f"{piece}.{ending}.part", "wb")
+    with file:
+        yield file
+        with _tells_no_room(piece):
+            file.flush()
+    with _tells_no_room(piece):
+        os.replace(file.name, f"{piece}.{ending}")
+
+
+def write_lines(piece: Path, file: BinaryIO, lines: Sequence[str]) -> None:
+    with _tells_no_room(piece):
+        file.write("".join(f"{line}\n" for line in lines).encode(errors="replace"))
+
+
+@contextlib.contextmanager
+def _tells_no_room(piece: Path) -> Iterator[None]:
+    """Where a worker has no room to write, no other try will have."""
     try:
         yield
-    except (Fatal, OSError):
+    except OSError:
         with contextlib.suppress(OSError):
             Path(f"{piece}.full").touch()
         raise
