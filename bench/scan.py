@@ -4,8 +4,10 @@
     python3 bench/scan.py PROGRAM [--advisories N] [--machines N] [--items N] [--rounds N]
 
 It makes a dictionary, advisories and a match feed in the form of NVD's API 2.0, and machines, from the names of
-official-names.txt, the same ones at every run, below build/bench/scan, and runs scan.py over them on two processors. README.md
-beside this file says how to read what it prints. Python 3 (standard library alone) and Linux.
+official-names.txt, the same ones at every run, below build/bench/scan, and runs scan.py over them on two processors: reading,
+deciding each range for each machine, asking for verdicts, and the table, which is thrown away. It prints how many verdicts there
+are of each truth, the seconds of the best run, and the most memory that one of the processes held. Python 3 (standard library
+alone) and Linux.
 """
 import argparse
 import json
@@ -60,7 +62,8 @@ class Feeds:
             is_renamed = self.draw.random() < DEPRECATED
             for version in versions:
                 name = self.name(front, version)
-                product = {"deprecated": is_renamed, "cpeName": name, "cpeNameId": name, "created": "2020-01-01T00:00:00.000", "lastModified": "2024-01-01T00:00:00.000"}
+                product = {"deprecated": is_renamed, "cpeName": name, "cpeNameId": name}
+                product |= {"created": "2020-01-01T00:00:00.000", "lastModified": "2024-01-01T00:00:00.000"}
                 product["titles"] = [{"title": f"{front.split(':')[4]} {version}", "lang": "en"}]
                 if is_renamed:
                     parts = front.split(":")
@@ -82,7 +85,8 @@ class Feeds:
         bounds[self.draw.choice(["versionEndIncluding", "versionEndExcluding"])] = versions[last]
         if self.draw.random() < LISTED:
             listed = [{"cpeName": self.name(front, version)} for version in versions[first:last]]
-            self.matches.append({"matchString": {"matchCriteriaId": key, "criteria": self.name(front, "*"), **bounds, "matches": listed}})
+            string = {"matchCriteriaId": key, "criteria": self.name(front, "*"), **bounds, "matches": listed}
+            self.matches.append({"matchString": string})
         return {"vulnerable": is_vulnerable, "criteria": self.name(front, "*"), **bounds, "matchCriteriaId": key}
 
     def advisory(self, number):
@@ -94,8 +98,9 @@ class Feeds:
             configuration["operator"] = "AND"
         score = self.draw.randint(10, 100) / 10
         metrics = {"cvssMetricV31": [{"type": "Primary", "cvssData": {"baseScore": score, "baseSeverity": "HIGH"}}]}
-        words = [{"lang": "en", "value": f"Something of {front.split(':')[4]} can be used from where it should not, as number {number}."}]
-        return {"cve": {"id": f"CVE-2024-{100_000 + number}", "vulnStatus": "Analyzed", "descriptions": words, "metrics": metrics, "configurations": [configuration]}}
+        words = f"Something of {front.split(':')[4]} can be used from where it should not, as number {number}."
+        cve = {"id": f"CVE-2024-{100_000 + number}", "vulnStatus": "Analyzed", "descriptions": [{"lang": "en", "value": words}]}
+        return {"cve": {**cve, "metrics": metrics, "configurations": [configuration]}}
 
     def machine(self, count):
         fronts = {self.front() for _ in range(count)}
@@ -137,10 +142,8 @@ def on_few_processors():
 def once(words, program):
     """The seconds of a run, and what it writes."""
     begin = time.monotonic()
-    run = subprocess.run(
-        [sys.executable, str(SCAN), *words],
-        env={**os.environ, "CPE": program}, stdout=subprocess.PIPE, stderr=subprocess.PIPE, text=True, preexec_fn=on_few_processors, check=False,
-    )
+    how = {"env": {**os.environ, "CPE": program}, "preexec_fn": on_few_processors, "check": False}
+    run = subprocess.run([sys.executable, str(SCAN), *words], capture_output=True, text=True, **how)
     took = time.monotonic() - begin
     if run.returncode > 1:
         sys.exit(run.stderr)

@@ -400,7 +400,8 @@ def base_id(id: str) -> str:
 
 def details(id: str, cve: Json) -> dict[str, Json]:
     """What people want to know of an advisory; what the feed doesn't tell, or tells in another form, is missing."""
-    known = {"id": id, "title": _title(cve), **_score(cve), "published": _found(lambda: text_at(cve, "published")), "url": _url(id, cve)}
+    published = _found(lambda: text_at(cve, "published"))
+    known = {"id": id, "title": _title(cve), **_score(cve), "published": published, "url": _url(id, cve)}
     return {key: value for key, value in known.items() if value is not None}
 
 

@@ -9,10 +9,7 @@
 - --suppress: accepted advisories, lines `ID MACHINE REASON`, where * is every machine. They are told below the table.
 - --letters: the products of which letters in versions count upward, in place of letters.txt.
 
-A machine is asked for those statements alone whose verdict may be another than that of a machine without items: those with a
-fact, or an end of it, of the vendor and product of some end of the machine's items, or of no plain vendor or product, unless it
-is the fact of a range of which every version there is outside. A statement is asked over those items alone that may fit its facts,
-and once for all machines that have the same ones. All in one run of cpe.
+What machines are asked for, cases.py says; all verdicts come from one run of cpe.
 
 An item that no entry of the dictionary has leads nowhere, though entries of its product may lead to another product. It is asked
 for under that one too; where the verdict would be another so, it is UNKNOWN.
@@ -23,13 +20,13 @@ result: then nothing was written, but why.
 from __future__ import annotations
 
 import json
-from collections.abc import Collection, Iterable, Iterator, Mapping, Sequence
+from collections.abc import Collection, Iterable, Mapping, Sequence
 from dataclasses import dataclass, field
 
 from . import advisories, affected, dictionary, inventory, matches, names, suppressed, unlisted, verdicts
-from .advisories import Range
-from .decide import LETTERS, Decided, Decider, Lead, Leads, Lists, check_record, decide, drop_record, leads_of
-from .feeds import FeedFault, Json, name_of, pages, read_feed, record_text
+from .cases import Cases, Index, Known, Product, lines_of, verdicts_of
+from .decide import LETTERS, Decided, Decider, Lead, Leads, Lists, decide, leads_of
+from .feeds import FeedFault, Json, name_of, pages, read_feed
 from .machines import Machine, read_lists, read_machines
 from .program import Candidate, Program
 from .progress import Progress
@@ -53,161 +50,6 @@ OPTIONS = {
     "--letters": ONE,
     "--json": FLAG,
 }
-
-Product = tuple[str, str]
-# An item or several, and results of checks, over which a statement is asked.
-Items = tuple[str, ...]
-Results = tuple[tuple[str, bool], ...]
-
-
-@dataclass(frozen=True)
-class Statement:
-    """What is looked at of a statement: its id, its facts but those of ranges, the ranges by the ids of their checks, and the ids
-    of all its checks."""
-
-    id: str
-    facts: tuple[str, ...]
-    ranges: tuple[str, ...]
-    checks: tuple[str, ...]
-
-    @staticmethod
-    def of(record: str, ranges: Mapping[str, Range]) -> Statement:
-        value = json.loads(record)
-        facts: dict[str, None] = {}
-        ranged: dict[str, None] = {}
-        checks: dict[str, None] = {}
-        waiting = [value["test"]]
-        while waiting:
-            one = waiting.pop()
-            key = _range_of(one)
-            if key in ranges:
-                ranged[key] = checks[key] = None
-            elif "op" in one:
-                waiting.extend(reversed(one["of"]))
-            elif "fact" in one:
-                facts[one["fact"]] = None
-            else:
-                checks[one["check"]["id"]] = None
-        return Statement(value["id"], tuple(facts), tuple(ranged), tuple(checks))
-
-
-def _range_of(test: Json) -> str | None:
-    """The id of the check where a test is a name and the check of its range."""
-    of = test.get("of", ())
-    if test.get("op") != "AND" or test.get("negate") or len(of) != 2 or "fact" not in of[0] or "check" not in of[1]:
-        return None
-    return of[1]["check"]["id"]
-
-
-@dataclass
-class Known:
-    """What the feeds tell, and what is known of the names in them and of the items."""
-
-    entries: list[str]
-    records: list[str]
-    ranges: Mapping[str, Range]
-    details: dict[str, dict[str, Json]]
-    stand_ins: Mapping[str, str]
-    statements: list[Statement] = field(init=False)
-
-    def __post_init__(self) -> None:
-        self.statements = [Statement.of(record, self.ranges) for record in self.records]
-
-
-class Index:
-    """The statements by vendor and product of what their facts lead to, and by their ranges."""
-
-    def __init__(self, known: Known, leads: Leads) -> None:
-        self._by_product: dict[Product, list[int]] = {}
-        self._by_range: dict[str, list[int]] = {}
-        self._of_all_products: list[int] = []
-        # (of each statement the products that its facts may fit, and whether these are all)
-        self._products: list[tuple[set[Product], bool]] = []
-        for place, statement in enumerate(known.statements):
-            plain, is_all = _products(statement.facts, leads)
-            for product in plain:
-                self._by_product.setdefault(product, []).append(place)
-            if is_all:
-                self._of_all_products.append(place)
-            for key in statement.ranges:
-                self._by_range.setdefault(key, []).append(place)
-            ranged, is_all_ranged = _products((known.ranges[key].criteria for key in statement.ranges), leads)
-            self._products.append((plain | ranged, is_all or is_all_ranged))
-
-    def concerned(self, leads: Iterable[Lead], decided: Decided) -> list[int]:
-        """The places of the statements that may have another verdict than without these items, in order."""
-        found = set(self._of_all_products)
-        for product in {names.product_of(end) for lead in leads for end in lead.ends}:
-            found.update(self._by_product.get(product, ()))
-        for key in [*(key for key, is_inside in decided.truths.items() if is_inside), *decided.unsure]:
-            found.update(self._by_range.get(key, ()))
-        return sorted(found)
-
-    def items(self, place: int, by_product: Mapping[Product, Collection[str]], all_items: Items) -> Items:
-        """Those items that may fit the facts of a statement."""
-        products, is_all = self._products[place]
-        if is_all:
-            return all_items
-        found = {item for product in products for item in by_product.get(product, ())}
-        return tuple(sorted(found))
-
-
-def _products(facts: Iterable[str], leads: Leads) -> tuple[set[Product], bool]:
-    """The plain products of what these lead to, and whether there is one that isn't plain."""
-    products = {names.product_of(end) for fact in facts for end in leads.found[fact].ends}
-    plain = {product for product in products if all(map(names.is_plain, product))}
-    return plain, len(plain) < len(products)
-
-
-class Cases:
-    """Statements that are asked over items and results of checks, each such case once."""
-
-    def __init__(self, known: Known, index: Index, is_all_asked: bool = False) -> None:
-        self._known, self._index, self._is_all_asked = known, index, is_all_asked
-        self._numbers: dict[tuple[Items, Results, int], int] = {}
-
-    def put(self, leads: Collection[Lead], decided: Decided) -> dict[int, int]:
-        """The cases of a machine by the places of the statements that are asked of it."""
-        all_items = tuple(sorted({lead.name for lead in leads}))
-        by_product: dict[Product, set[str]] = {}
-        for lead in leads:
-            for end in lead.ends:
-                by_product.setdefault(names.product_of(end), set()).add(lead.name)
-        places = range(len(self._known.statements)) if self._is_all_asked else self._index.concerned(leads, decided)
-        cases = {}
-        for place in places:
-            items = all_items if self._is_all_asked else self._index.items(place, by_product, all_items)
-            keys = self._known.statements[place].checks
-            results = tuple((key, decided.truths[key]) for key in keys if key in decided.truths)
-            cases[place] = self._numbers.setdefault((items, results, place), len(self._numbers))
-        return cases
-
-    def in_order(self) -> list[tuple[Items, Results, int, int]]:
-        """The cases with their numbers, those of the same items one behind the other."""
-        return sorted((*case, number) for case, number in self._numbers.items())
-
-
-def lines_of(known: Known, cases: Iterable[tuple[Items, Results, int, int]]) -> Iterator[str]:
-    """All that is known, a question for each statement, and then the cases: the statement of each, over its items and results."""
-    yield from known.entries
-    yield from known.records
-    asks = [record_text({"do": "verdict", "id": statement.id}) for statement in known.statements]
-    yield from asks
-    here: Items = ()
-    for items, results, place, _ in cases:
-        if items != here:
-            yield from _drops(here)
-            yield from (record_text({"do": "item", "name": item}) for item in items)
-            here = items
-        yield from (check_record(key, is_true) for key, is_true in results)
-        yield asks[place]
-        yield from (drop_record(key) for key, _ in reversed(results))
-
-
-def _drops(items: Items) -> Iterator[str]:
-    # (the last first, so that none closes up)
-    return (record_text({"do": "drop-item", "name": item}) for item in reversed(items))
-
 
 @dataclass
 class Found:
@@ -298,7 +140,7 @@ class Scan:
         """The verdicts of the cases, by their numbers."""
         self._progress.step("asking for verdicts")
         in_order = cases.in_order()
-        answers = _verdicts(self._program.lines(["resolve"], lines_of(self._known, in_order)))
+        answers = verdicts_of(self._program.lines(["resolve"], lines_of(self._known, in_order)))
         self.bare = [next(answers) for _ in self._known.statements]
         truths = [""] * len(in_order)
         for done, (_, _, _, number) in enumerate(in_order):
@@ -323,15 +165,6 @@ def _renamed(name: str, product: Product) -> str:
     parts = names.components(name)
     parts[names.VENDOR], parts[names.PRODUCT] = product
     return names.joined(parts)
-
-
-def _verdicts(lines: Iterable[str]) -> Iterator[str]:
-    """The truths of the answers."""
-    for line in lines:
-        word, _, rest = line.partition(" ")
-        if word != "verdict":
-            raise Fatal(f"cpe resolve wrote {line}")
-        yield rest.rpartition(" ")[2]
 
 
 class Hanging:
@@ -440,7 +273,8 @@ def tell_items(found: Iterable[Found], scan: Scan, said: Said) -> None:
                 strange.add(lead.name)
                 where.add(name)
     if strange:
-        said.remark(f"not in the dictionary: {counted(len(strange), 'item')}, on {counted(len(where), 'machine')}; unlisted.sh lists them")
+        items, machines = counted(len(strange), "item"), counted(len(where), "machine")
+        said.remark(f"not in the dictionary: {items}, on {machines}; unlisted.sh lists them")
 
 
 def json_of(known: Known, found: Sequence[Found], machines: Sequence[verdicts.Machine], about: affected.About) -> dict[str, Json]:

@@ -9,7 +9,6 @@ from pathlib import Path
 sys.path.insert(0, str(Path(__file__).resolve().parent))
 
 from stand_in import Heard, Names  # noqa: E402 (it knows where the recipes are)
-from cpe_recipes import advisories  # noqa: E402
 from cpe_recipes.advisories import Range, base_id, convert, details, parts  # noqa: E402
 from cpe_recipes.feeds import FormFault, Page, record_text  # noqa: E402
 
@@ -111,7 +110,8 @@ class Ranges(unittest.TestCase):
 
     def test_bounds_that_are_no_range_stay_unknown_and_are_said(self):
         two = {"versionEndExcluding": "2.0", "versionEndIncluding": "2.0"}
-        for bounds, reason in ((two, "two bounds of a kind"), ({"versionEndIncluding": ""}, "a bound that is no version"), ({"versionStartIncluding": "1 0"}, "a bound that is no version")):
+        none = "a bound that is no version"
+        for bounds, reason in ((two, "two bounds of a kind"), ({"versionEndIncluding": ""}, none), ({"versionStartIncluding": "1 0"}, none)):
             with self.subTest(bounds):
                 found, _ = converted(cve({"nodes": [node(match("a", matchCriteriaId="KEY", **bounds))]}))
                 self.assertEqual(found.ranges, {})

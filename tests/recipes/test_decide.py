@@ -124,7 +124,8 @@ class Decisions(unittest.TestCase):
 
     def test_this_recipe_orders_versions_as_cpe_does(self):
         draw = random.Random(18)
-        versions = ["".join(draw.choice(["0", "1", "2", "10", "007", ".", ".", "-", "a", "rc", "_", "~"]) for _ in range(draw.randint(1, 6))) for _ in range(400)]
+        bits = ["0", "1", "2", "10", "007", ".", ".", "-", "a", "rc", "_", "~"]
+        versions = ["".join(draw.choice(bits) for _ in range(draw.randint(1, 6))) for _ in range(400)]
         versions = [version for version in dict.fromkeys(versions) if version != "-"]
         sure = 0
         for bound in ("1.0", "2", "10.1", "0.1-2"):
@@ -156,8 +157,9 @@ class Files(unittest.TestCase):
     def test_ranges(self):
         one = Range("KEY", name("p"), "1.0", None, True)
         said = Heard()
-        path = self.file(record_text(one.record()), "{}", record_text(Range("K 2", name("q"), None, "2.0").record()), record_text(one.record()))
-        self.assertEqual(read_ranges([path], said), {"KEY": one, "K 2": Range("K 2", name("q"), None, "2.0")})
+        other = Range("K 2", name("q"), None, "2.0")
+        path = self.file(record_text(one.record()), "{}", record_text(other.record()), record_text(one.record()))
+        self.assertEqual(read_ranges([path], said), {"KEY": one, "K 2": other})
         self.assertEqual(said.told, ["left out line 2 of it.jsonl: no range"])
         path = self.file(record_text(one.record()), record_text(Range("KEY", name("p"), "1.1").record()))
         self.assertEqual(read_ranges([path], said), {})

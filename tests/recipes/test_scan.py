@@ -1,5 +1,4 @@
 """The whole way, by the program that CPE names; without it these tests are skipped."""
-import contextlib
 import io
 import json
 import os
@@ -15,13 +14,14 @@ sys.path.insert(0, str(Path(__file__).resolve().parent))
 from stand_in import Heard  # noqa: E402 (it knows where the recipes are)
 from cpe_recipes import affected, scan  # noqa: E402
 from cpe_recipes.advisories import Range  # noqa: E402
+from cpe_recipes.cases import Known  # noqa: E402
 from cpe_recipes.decide import Lists  # noqa: E402
 from cpe_recipes.feeds import record_text  # noqa: E402
 from cpe_recipes.machines import Machine  # noqa: E402
 from cpe_recipes.program import Program  # noqa: E402
 from cpe_recipes.progress import Progress  # noqa: E402
 from cpe_recipes.said import Fatal, Said  # noqa: E402
-from cpe_recipes.scan import Known, Scan, json_of, machines_with_verdicts, tell_items  # noqa: E402
+from cpe_recipes.scan import Scan, json_of, machines_with_verdicts, tell_items  # noqa: E402
 from cpe_recipes.suppressed import Accepted, Suppressed  # noqa: E402
 from cpe_recipes.versions import Letters  # noqa: E402
 
@@ -89,7 +89,7 @@ class Drawn:
         if kind < 0.5:
             return {"check": {"system": "NVD", "href": "configuration", "id": "open"}}
         if kind < 0.6:
-            return {"fact": self.draw.choice(["cpe:2.3:a:v:*:1.0:*:*:*:*:*:*:*", "cpe:2.3:a:*:q*:*:*:*:*:*:*:*:*", "cpe:2.3:a:v:-:*:*:*:*:*:*:*:*"])}
+            return {"fact": self.draw.choice([name("v", "*", "1.0"), name("*", "q*"), name("v", "-")])}
         if kind < 0.8:
             return {"fact": self.name()}
         one = Range(f"K{len(self.ranges)}", self.name(["*"]), self.draw.choice([None, "1.0"]), self.draw.choice(["1.1", "2"]))
@@ -102,7 +102,8 @@ class Drawn:
         return Known(entries, records, self.ranges, {}, {})
 
     def machines(self):
-        return [Machine(f"m{k}", [self.name(["1.0", "1.1", "2.0", "1.0b", "-"]) for _ in range(self.draw.randint(1, 4))]) for k in range(6)]
+        versions = ["1.0", "1.1", "2.0", "1.0b", "-"]
+        return [Machine(f"m{k}", [self.name(versions) for _ in range(self.draw.randint(1, 4))]) for k in range(6)]
 
 
 @unittest.skipUnless(os.environ.get("CPE"), "CPE names no program")
@@ -152,7 +153,8 @@ class Verdicts(unittest.TestCase):
         old, new = name("redislabs", "redis", "6.0"), name("redis", "redis", "6.0")
         one = Range("KEY", name("redis", "redis"), None, "6.2")
         known = self.known(statement("CVE-1", ranged(one)), entries=[entry(old), entry(new), deprecate(old, new)], ranges=[one])
-        made, found = scanned(known, [Machine("listed", [old]), Machine("not", [name("redislabs", "redis", "6.1")]), Machine("behind", [name("redislabs", "redis", "7.0")])])
+        machines = [Machine(it, [name("redislabs", "redis", version)]) for it, version in (("listed", "6.0"), ("not", "6.1"), ("behind", "7.0"))]
+        made, found = scanned(known, machines)
         self.assertEqual([truths(known, made, it)["CVE-1"] for it in found], ["TRUE", "UNKNOWN", "FALSE"])
         why = f"{name('redislabs', 'redis', '6.1')} is not in the dictionary, and may be {name('redis', 'redis', '6.1')}"
         self.assertEqual(scan.Hanging(known, found).on("CVE-1", "not"), [why])
@@ -163,7 +165,8 @@ class Verdicts(unittest.TestCase):
     def test_what_a_dictionary_or_a_name_hides_is_told(self):
         gone = name("v", "gone", "1.0")
         known = self.known(statement("CVE-1", {"fact": gone}), entries=[entry(gone), deprecate(gone)])
-        made, found = scanned(known, [Machine("a", [gone, "cpe:/a:v:p:1.%02", name("v", "p", "1.0"), "cpe:/a:v:p:1.0"]), Machine("bare"), Machine("bad", ["cpe:/x"])])
+        items = [gone, "cpe:/a:v:p:1.%02", name("v", "p", "1.0"), "cpe:/a:v:p:1.0"]
+        made, found = scanned(known, [Machine("a", items), Machine("bare"), Machine("bad", ["cpe:/x"])])
         said = Heard()
         tell_items(found, made, said)
         wanted = [
@@ -213,7 +216,7 @@ class Words(unittest.TestCase):
         samples = Path(__file__).resolve().parents[2] / "recipes" / "samples" / "ranges"
         good = ["--dictionary", str(samples / "dictionary.json"), "--advisories", str(samples / "advisories.json")]
         machines = ["--lists", str(samples / "app-1.txt")]
-        for words in ([], good, machines, good[:2] + machines, good[2:] + machines, [*good, *machines, "more"][-1:], [*good, *machines, "--machines", "m"]):
+        for words in ([], good, machines, good[:2] + machines, good[2:] + machines, ["more"], [*good, *machines, "--machines", "m"]):
             with self.subTest(words), self.assertRaises(Fatal):
                 scan.run(words)
 
@@ -223,12 +226,11 @@ class Words(unittest.TestCase):
             records = Path(folder) / "dictionary.jsonl"
             records.write_text(entry(name("v", "p", "1.0")) + "\n{}\n")
             words = ["--records", str(records), "--advisories", str(samples / "advisories.json"), "--lists", str(samples / "app-1.txt"), "--json"]
-            written, said = io.BytesIO(), io.StringIO()
-            with mock.patch("cpe_recipes.said.os.write", side_effect=lambda to, data: written.write(data) if to == 1 else said.write(bytes(data).decode()) or len(data)):
+            streams = {1: io.BytesIO(), 2: io.BytesIO()}
+            with mock.patch("cpe_recipes.said.os.write", side_effect=lambda to, data: streams[to].write(data)):
                 self.assertEqual(scan.run(words), 1)
-        self.assertIn("left out dictionary.jsonl line 2: member do: {}", said.getvalue())
-        with contextlib.closing(written):
-            self.assertEqual(json.loads(written.getvalue())["machines"][0]["name"], "app-1")
+        self.assertIn(b"left out dictionary.jsonl line 2: member do: {}", streams[2].getvalue())
+        self.assertEqual(json.loads(streams[1].getvalue())["machines"][0]["name"], "app-1")
 
 
 class Shown(unittest.TestCase):
