@@ -8,7 +8,7 @@ verdict. A machine without items is told as such.
 - --details: scores and titles by id, which `advisories.sh --details` wrote. What scores highest comes first.
 - --suppress: accepted ids, lines `ID MACHINE REASON`, with * for every machine. They are told below the table.
 - --records: the records that were asked. What an UNKNOWN hangs on is told: the checks of its statement that have no result there, nor in
-  --decided, which `decide.sh` wrote. With --ranges, which `advisories.sh --ranges` wrote, a range is told by its product and bounds.
+  --decided, which `decide.py` wrote. With --ranges, which `advisories.sh --ranges` wrote, a range is told by its product and bounds.
 
 Each option may be given more than once. The status is 1 where lines of the records were refused, machines have no items, or a
 line of --suppress is none, and 2 where the verdicts aren't whole, since the run ended before its end. Nothing is written then.

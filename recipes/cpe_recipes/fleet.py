@@ -1,18 +1,5 @@
-"""An inventory of many machines: what the fleets over GNU parallel and over Dask share.
-
-    parallel.sh RECORDS MACHINES [--ranges FILE [--letters FILE] [--matches FILE..] | --decided FILE]
-
-- RECORDS: entries, deprecations, statements and results of checks, as the recipes write them.
-- MACHINES: a line a machine: its name, and behind it the names of its items.
-- --ranges: the ranges of versions that `advisories.sh --ranges` wrote. Each is decided for each machine, as `decide.py` does,
-  and the statements that wait for it get the answer. --decided has what `decide.py` wrote before.
-
-An item that no entry of the dictionary has is asked for under the products too to which entries of its own lead; where a verdict
-would be another so, it is UNKNOWN, and the item is remarked.
-
-A fleet writes a line `MACHINE STATEMENT TRUTH` for each, in the order of the machines and of the statements, and `MACHINE no items`
-for a machine without items, of which nothing is known. The last line, `machines COUNT`, stands where every machine was told.
-"""
+"""What the fleets over GNU parallel and over Dask share: what they are given, what each machine is asked, and what is said of it.
+`parallel.py` tells what they take and write."""
 from __future__ import annotations
 
 import io
@@ -21,6 +8,7 @@ from collections.abc import Iterator
 from dataclasses import dataclass
 
 from . import decide, matches, unlisted
+from .advisories import Range
 from .feeds import FeedFault, name_of, pages, read_feed
 from .machines import Machine, read_machines
 from .program import Program
@@ -128,68 +116,79 @@ def read_fleet(program: Program, words: Words, said: Said) -> Fleet:
     records_path, machines_path = words.files
     records = read_records(program, records_path, said)
     machines = read_machines(machines_path, said)
-    planner = _Planner(program, words, machines, said)
-    if words.has("--decided"):
-        decided = read_decided(words.one("--decided"))
-        names = {machine.name for machine in machines}
-        for name in decided:
-            if name not in names:
-                said.remark(f"{name} has decided ranges, and is no machine of {name_of(machines_path)}")
-        asked = [planner.asked(machine, decided.get(machine.name, [])) for machine in machines]
-    else:
-        asked = [planner.asked(machine, None) for machine in machines]
-    return Fleet(records.known, [_without(records.results, one) for one in asked])
+    ranges = decide.read_ranges(words.many("--ranges"), said)
+    names = _Names(program, decide.read_entries([records_path]), machines, [one.criteria for one in ranges.values()])
+    asked = []
+    decided = _decided(program, words, ranges, names, machines, said)
+    for machine in machines:
+        own, beside = decided.get(machine.name, ([], []))
+        supposed = names.supposed(machine)
+        for item in supposed:
+            said.remark(f"not in the dictionary {machine.name} {item}{names.goes_on(item)}")
+        new = dict.fromkeys(name for found in supposed.values() for name in found)
+        asked.append(Asked(machine.name, machine.items, _without(records.results, own), list(new), _without(records.results, beside)))
+    return Fleet(records.known, asked)
 
 
-def _without(results: set[str], asked: Asked) -> Asked:
+def _without(results: set[str], decided: list[tuple[str, str]]) -> list[tuple[str, str]]:
     """A key that has a result among the records keeps that one."""
-    own, beside = ([(key, result) for key, result in found if key not in results] for found in (asked.decided, asked.beside))
-    return Asked(asked.name, asked.items, own, asked.supposed, beside)
+    return [(key, result) for key, result in decided if key not in results]
 
 
-class _Planner:
-    """What each machine is asked: what is decided of the ranges for it, and which names its items may have that no entry has."""
+class _Names:
+    """Where the names of items lead, and under which others they may go on that no entry has."""
 
-    def __init__(self, program: Program, words: Words, machines: list[Machine], said: Said) -> None:
-        self._said = said
-        self._ranges = decide.read_ranges(words.many("--ranges"), said)
-        feed = pages(words.many("--matches"), said, matches.KINDS, strict=True) if words.has("--matches") else []
-        self._lists = decide.Lists(program, matches.listed(feed, self._ranges.keys(), said))
-        entries = decide.read_entries(words.files[:1])
-        old = unlisted.deprecated_names(entries)
+    def __init__(self, program: Program, entries: list[str], machines: list[Machine], criteria: list[str]) -> None:
         items = dict.fromkeys(item for machine in machines for item in machine.items)
-        self._leads = decide.leads_of(program, entries, items, [*old, *(one.criteria for one in self._ranges.values())])
-        self._successors = unlisted.successors(entries, self._leads)
-        supposed = dict.fromkeys(name for item in items for name in self._supposed(item))
-        self._beside = decide.leads_of(program, entries, supposed, ()).found if supposed else {}
-        # (names as cpe writes them, so that one stands for all its spellings)
-        known = {lead.name: lead for lead in (*(self._leads.found[item] for item in items if self._is_item(item)), *self._beside.values())}
-        names = list(known)
-        known |= {one.criteria: self._leads.found[one.criteria] for one in self._ranges.values() if one.criteria in self._leads.found}
-        letters = read_letters(words.one("--letters") or decide.LETTERS)
-        self._decider = decide.Decider(program, self._ranges.values(), decide.Leads(known), names, letters)
+        self.leads = decide.leads_of(program, entries, items, criteria)
+        own = [self.leads.found[item] for item in items if item not in self.leads.refused]
+        self._successors = unlisted.successors_of(program, entries, own)
+        new = dict.fromkeys(name for lead in own for name in unlisted.supposed_names(lead, self._successors))
+        self.beside = decide.leads_of(program, entries, new, ()).found if new else {}
+        # (by their names as cpe writes them, so that one stands for all spellings)
+        self.all_leads = {lead.name: lead for lead in (*own, *self.beside.values())}
 
-    def _is_item(self, item: str) -> bool:
-        return item not in self._leads.refused
+    def items(self, machine: Machine) -> dict[str, decide.Lead]:
+        """Where its items lead; what is no item is said where it is put."""
+        return {item: self.leads.found[item] for item in dict.fromkeys(machine.items) if item not in self.leads.refused}
 
-    def _supposed(self, item: str) -> list[str]:
-        return unlisted.supposed_names(self._leads.found[item], self._successors) if self._is_item(item) else []
+    def supposed(self, machine: Machine) -> dict[str, list[str]]:
+        """Of items that no entry has the names under which they may go on."""
+        found = {item: unlisted.supposed_names(lead, self._successors) for item, lead in self.items(machine).items()}
+        return {item: supposed for item, supposed in found.items() if supposed}
 
-    def asked(self, machine: Machine, decided: list[tuple[str, str]] | None) -> Asked:
-        """What a machine is asked; what was decided before is None where it is decided here."""
-        # (what is no item is said where it is put)
-        leads = {item: self._leads.found[item] for item in dict.fromkeys(machine.items) if self._is_item(item)}
-        supposed = dict.fromkeys(name for item in leads for name in self._supposed(item))
-        for item, lead in leads.items():
-            if self._supposed(item):
-                self._said.remark(f"not in the dictionary {machine.name} {item}{unlisted.goes_on(lead, self._successors)}")
-        if decided is not None:
-            return Asked(machine.name, machine.items, decided, list(supposed), decided)
-        found = decide.decide(leads.values(), self._decider, self._lists)
+    def goes_on(self, item: str) -> str:
+        return unlisted.goes_on(self.leads.found[item], self._successors)
+
+
+# What is decided of machines by name: with their own items, and with those beside that they may have.
+_BothDecided = dict[str, tuple[list[tuple[str, str]], list[tuple[str, str]]]]
+
+
+def _decided(program: Program, words: Words, ranges: dict[str, Range], names: _Names, machines: list[Machine], said: Said) -> _BothDecided:
+    if words.has("--decided"):
+        found = read_decided(words.one("--decided"))
+        known = {machine.name for machine in machines}
+        for name in found:
+            if name not in known:
+                said.remark(f"{name} has decided ranges, and is no machine here")
+        return {name: (decided, decided) for name, decided in found.items()}
+    if not ranges:
+        return {}
+    feed = pages(words.many("--matches"), said, matches.KINDS, strict=True) if words.has("--matches") else []
+    lists = decide.Lists(program, matches.listed(feed, ranges.keys(), said))
+    leads = names.all_leads | {one.criteria: names.leads.found[one.criteria] for one in ranges.values() if one.criteria in names.leads.found}
+    letters = read_letters(words.one("--letters") or decide.LETTERS)
+    decider = decide.Decider(program, ranges.values(), decide.Leads(leads), list(names.all_leads), letters)
+    both = {}
+    for machine in machines:
+        own = list(names.items(machine).values())
+        new = [names.beside[name] for found in names.supposed(machine).values() for name in found]
+        found = decide.decide(own, decider, lists)
         for key, one in found.unsure.items():
-            self._said.left_out(machine.name, f"{one.end} in {self._ranges[key].criteria} {self._ranges[key].words()}: {one.reason}")
-        beside = decide.decide([*leads.values(), *(self._beside[name] for name in supposed)], self._decider, self._lists)
-        return Asked(machine.name, machine.items, _results(found), list(supposed), _results(beside))
+            said.left_out(machine.name, f"{one.end} in {ranges[key].criteria} {ranges[key].words()}: {one.reason}")
+        both[machine.name] = _results(found), _results(decide.decide([*own, *new], decider, lists))
+    return both
 
 
 def _results(decided: decide.Decided) -> list[tuple[str, str]]:

@@ -1,4 +1,17 @@
-"""An inventory of many machines over the processors of this one, with GNU parallel. What it takes and writes stands in `fleet`.
+"""An inventory of many machines over the processors of this one, with GNU parallel.
+
+    sh parallel.sh RECORDS MACHINES [--ranges FILE [--letters FILE] [--matches FILE..] | --decided FILE]
+
+- RECORDS: entries, deprecations, statements and results of checks, as the recipes write them.
+- MACHINES: a line a machine: its name, and behind it the names of its items.
+- --ranges: the ranges of versions that `advisories.sh --ranges` wrote. Each is decided for each machine, as `decide.py` does,
+  and the statements that wait for it get the answer. --decided has what `decide.py` wrote before.
+
+An item that no entry of the dictionary has is asked for under the products too to which entries of its own lead; where a verdict
+would be another so, it is UNKNOWN, and the item is remarked.
+
+It writes a line `MACHINE STATEMENT TRUTH` for each, in the order of the machines and of the statements, and `MACHINE no items`
+for a machine without items, of which nothing is known. The last line, `machines COUNT`, stands where every machine was told.
 
 Each worker reads the records once. WORKERS is how many there are (else as many as processors). A worker that dies begins its
 machines anew, up to three times. What is refused is said, and the status is 1; it is 5 where machines are missing.
@@ -33,7 +46,7 @@ def run(words: Sequence[str]) -> int:
             path = folder / f"piece.{number:06}"
             worker.write_piece(path, machines)
             pieces[path] = machines
-        workers.run_workers(folder, "worker", [program.path, *plan], list(pieces))
+        workers.run_workers(folder, workers.python_worker("worker", program.path, *plan), list(pieces))
         return _gather(pieces, said)
 
 

@@ -12,7 +12,7 @@ follow finds it at all. What is no item is said, and the status is 1.
 from __future__ import annotations
 
 import json
-from collections.abc import Iterable, Iterator, Mapping, Sequence
+from collections.abc import Collection, Iterable, Iterator, Mapping, Sequence
 
 from . import names
 from .decide import Lead, Leads, leads_of, read_entries
@@ -32,9 +32,9 @@ def run(words: Sequence[str]) -> int:
     said, output, program = Said(), Output(), Program()
     records, machines = read_entries(files[:1]), read_machines(files[1], said)
     items = dict.fromkeys(item for machine in machines for item in machine.items)
-    leads = leads_of(program, records, items, deprecated_names(records))
+    leads = leads_of(program, records, items, ())
     say_items(machines, leads, said)
-    output.lines(list(unlisted(machines, leads, successors(records, leads))))
+    output.lines(list(unlisted(machines, leads, successors_of(program, records, leads.found.values()))))
     output.end()
     return said.status()
 
@@ -65,14 +65,31 @@ def deprecated_names(records: Iterable[str]) -> list[str]:
 
 def successors(records: Iterable[str], leads: Leads) -> dict[Product, list[Product]]:
     """The products to which entries of a product lead that are deprecated; its own is none of them."""
+    return _successors(deprecated_names(records), leads)
+
+
+def _successors(old: Iterable[str], leads: Leads) -> dict[Product, list[Product]]:
     found: dict[Product, dict[Product, None]] = {}
-    for name in deprecated_names(records):
+    for name in old:
         lead = leads.found.get(name)
         if lead is not None:
             product = names.product_of(lead.name)
             ends = dict.fromkeys(map(names.product_of, lead.ends))
             found.setdefault(product, {}).update({end: None for end in ends if end != product})
     return {product: list(ends) for product, ends in found.items()}
+
+
+def successors_of(program: Program, records: Sequence[str], leads: Iterable[Lead]) -> dict[Product, list[Product]]:
+    """The same, of the products alone of those names that no entry has: a dictionary may have many deprecations."""
+    wanted = {names.product_of(lead.name) for lead in leads if not lead.is_entry}
+    old = [name for name in deprecated_names(records) if _may_be_of(name, wanted)] if wanted else []
+    return _successors(old, leads_of(program, records, (), old)) if old else {}
+
+
+def _may_be_of(name: str, products: Collection[Product]) -> bool:
+    """Whether a name as it was written may be of one of these products."""
+    parts = names.components(name.lower()) if name.startswith(names.PREFIX) else []
+    return len(parts) != 11 or (parts[names.VENDOR], parts[names.PRODUCT]) in products
 
 
 def supposed_names(lead: Lead, successors: Mapping[Product, Sequence[Product]]) -> list[str]:

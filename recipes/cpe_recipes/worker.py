@@ -34,16 +34,17 @@ def run(words: Sequence[str]) -> int:
     records, plan, piece = (Path(path) for path in paths)
     answers, statements = json.loads(plan.read_text())
     known = Known(records.read_bytes(), answers, statements)
-    machines = [Asked(*json.loads(line)) for line in piece.open()]
     try:
         session = Session(program, known)
         try:
-            told = [session.ask(machine) for machine in machines]
+            # (the last to be whole is PIECE.out, by which the piece is done)
+            with workers.whole_file(piece, "out") as lines, workers.whole_file(piece, "said") as left_out:
+                for machine in piece.open():
+                    told = session.ask(Asked(*json.loads(machine)))
+                    workers.write_lines(piece, left_out, [json.dumps([told.machine, told.has_items, told.left_out])])
+                    workers.write_lines(piece, lines, told.lines)
         finally:
             session.end()
     except (OSError, EOFError) as fault:
         raise Fatal(f"{piece.name}: {fault}") from fault
-    with workers.tells_no_room(piece):
-        write_file(f"{piece}.said", [json.dumps([one.machine, one.has_items, one.left_out]) for one in told])
-        write_file(f"{piece}.out", [line for one in told for line in one.lines])
     return DONE

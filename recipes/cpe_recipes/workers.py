@@ -1,7 +1,7 @@
 """Workers over pieces of work, by GNU parallel. A piece is a file, so that it is there once more where its worker dies.
 
-A worker is a module of the recipes. It is given its words and the path of its piece, and writes files beside the piece, which get
-their names when they are whole: so what a worker wrote that died is not there. Which pieces are done is told by these files.
+A worker is given its words and the path of its piece, and writes files beside the piece, which get their names when they are whole:
+so what a worker wrote that died is not there. Which pieces are done is told by PIECE.out, and by PIECE.full that there was no room.
 """
 from __future__ import annotations
 
@@ -12,10 +12,11 @@ import subprocess
 import sys
 from collections.abc import Iterator, Sequence
 from pathlib import Path
+from typing import BinaryIO
 
 from .said import Fatal, write_all
 
-_RUN = Path(__file__).resolve().parent.parent / "run.py"
+RECIPES = Path(__file__).resolve().parent.parent
 _TRIES = 3
 _CHUNK = 1 << 20
 # What GNU parallel ends with where it isn't the jobs that failed.
@@ -35,13 +36,18 @@ def number_at(variable: str, default: int) -> int:
     return int(given)
 
 
-def run_workers(folder: Path, module: str, words: Sequence[str], pieces: Sequence[Path]) -> None:
+def python_worker(module: str, *words: str) -> list[str]:
+    """The command of a worker that is a module of the recipes."""
+    # (-S: without other packages, so that it begins sooner)
+    return [sys.executable, "-BS", str(RECIPES / "run.py"), module, *words]
+
+
+def run_workers(folder: Path, worker: Sequence[str], pieces: Sequence[Path]) -> None:
     """Runs a worker over each piece, WORKERS at a time (else as many as processors); one that fails is run again, up to three
     times."""
     workers = number_at("WORKERS", os.cpu_count() or 1)
     command = ["parallel", "--will-cite", "--retries", str(_TRIES), "--jobs", str(workers), "--tmpdir", str(folder), "--quote"]
-    command += [sys.executable, "-B", str(_RUN), module, *words, "{}"]
-    with subprocess.Popen(command, stdin=subprocess.PIPE) as run:
+    with subprocess.Popen([*command, *worker, "{}"], stdin=subprocess.PIPE) as run:
         try:
             run.communicate("".join(f"{piece}\n" for piece in pieces).encode())
         except BaseException:
@@ -55,11 +61,29 @@ def run_workers(folder: Path, module: str, words: Sequence[str], pieces: Sequenc
 
 
 @contextlib.contextmanager
-def tells_no_room(piece: Path) -> Iterator[None]:
-    """Of a worker: where it has no room to write, no other try will have."""
+def whole_file(piece: Path, ending: str) -> Iterator[BinaryIO]:
+    """Of a worker: a file beside its piece, which gets its name at the end, where nothing went wrong."""
+    with _tells_no_room(piece):
+        file = open(f"{piece}.{ending}.part", "wb")
+    with file:
+        yield file
+        with _tells_no_room(piece):
+            file.flush()
+    with _tells_no_room(piece):
+        os.replace(file.name, f"{piece}.{ending}")
+
+
+def write_lines(piece: Path, file: BinaryIO, lines: Sequence[str]) -> None:
+    with _tells_no_room(piece):
+        file.write("".join(f"{line}\n" for line in lines).encode(errors="replace"))
+
+
+@contextlib.contextmanager
+def _tells_no_room(piece: Path) -> Iterator[None]:
+    """Where a worker has no room to write, no other try will have."""
     try:
         yield
-    except (Fatal, OSError):
+    except OSError:
         with contextlib.suppress(OSError):
             Path(f"{piece}.full").touch()
         raise

@@ -130,7 +130,7 @@ class Parallel(RecipeCase):
         decided = self.file("decided", 'a\tkey "1"\tTRUE\nc\tkey "1"\tFALSE\nd\tkey "1"\tTRUE\n')
         status, lines, said = self.fleet(machines, "--decided", decided)
         self.assertEqual(lines, ["a ranged TRUE", "a named TRUE", "b no items", "c ranged FALSE", "c named FALSE", "machines 3"])
-        self.assertEqual((status, said), (1, ["remark d has decided ranges, and is no machine of machines", "left out b: no items"]))
+        self.assertEqual((status, said), (1, ["remark d has decided ranges, and is no machine here", "left out b: no items"]))
 
     def test_ranges_are_decided(self):
         old = fs("ossl", "openssl", "1.1.1t")
