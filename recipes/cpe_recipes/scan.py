@@ -23,10 +23,10 @@ import json
 from collections.abc import Collection, Iterable, Mapping, Sequence
 from dataclasses import dataclass, field
 
-from . import advisories, affected, dictionary, inventory, matches, names, suppressed, unlisted, verdicts
+from . import advisories, affected, dictionary, inventory, matches, names, products, suppressed, unlisted, verdicts
 from .cases import Cases, Index, Known, Product, lines_of, verdicts_of
 from .decide import LETTERS, Decided, Decider, Lead, Leads, Lists, decide, leads_of
-from .feeds import FeedFault, Json, name_of, pages, read_feed
+from .feeds import FeedFault, Json, Page, name_of, pages, read_feed
 from .machines import Machine, read_lists, read_machines
 from .program import Candidate, Program
 from .progress import Progress
@@ -194,7 +194,7 @@ class Hanging:
         return list(reasons)
 
 
-def read_known(read: Words, program: Program, said: Said, progress: Progress) -> Known:
+def read_known(read: Words, asked: Sequence[Machine], program: Program, said: Said, progress: Progress) -> Known:
     """What the feeds tell. Fatal where one can't be read, or there is no entry or no statement."""
     progress.step("reading the dictionary")
     candidates = _records(read.many("--records"))
@@ -204,7 +204,9 @@ def read_known(read: Words, program: Program, said: Said, progress: Progress) ->
     if not entries:
         raise Fatal("no entry is in the dictionary")
     progress.step("reading advisories")
-    feed = pages(read.many("--advisories"), said, advisories.KINDS, strict=True)
+    feed = list(pages(read.many("--advisories"), said, advisories.KINDS, strict=True))
+    if sum(len(page.records) for page in feed) > products.MOST_STATEMENTS:
+        feed = _of_products(feed, asked, entries, program, said)
     found = advisories.convert(feed, program, said, is_decided=True)
     if not found.candidates:
         raise Fatal(f"no advisory is in {', '.join(map(name_of, read.many('--advisories')))}")
@@ -213,6 +215,21 @@ def read_known(read: Words, program: Program, said: Said, progress: Progress) ->
     if not records:
         raise Fatal("no advisory could be read")
     return Known(entries, records, found.ranges, found.details, found.stand_ins)
+
+
+def _of_products(
+    feed: Sequence[Page], asked: Iterable[Machine], entries: Sequence[str], program: Program, said: Said
+) -> list[Page]:
+    """Of more advisories than cpe takes those that may concern a product of the machines; the others are FALSE on each."""
+    items = dict.fromkeys(item for machine in asked for item in machine.items)
+    leads = leads_of(program, entries, items, unlisted.deprecated_names(entries))
+    wanted = products.products_of(leads, items, entries)
+    kept = [Page(page.name, page.kind, [json.loads(text) for text in products.cut(program, page, wanted)]) for page in feed]
+    before, behind = (sum(len(page.records) for page in some) for some in (feed, kept))
+    if not behind:
+        raise Fatal(f"none of {before} advisories may concern a product of these machines")
+    said.remark(f"{behind} of {before} advisories may concern a product of these machines; the others are FALSE there")
+    return [page for page in kept if page.records]
 
 
 def _records(paths: Sequence[str]) -> list[Candidate]:
@@ -324,7 +341,7 @@ def _result(read: Words, program: Program, said: Said, progress: Progress) -> li
     accepted = suppressed.read_suppressed(read.many("--suppress"), said)
     letters = read_letters(read.one("--letters") or LETTERS)
     asked = read_asked(read, said)
-    known = read_known(read, program, said, progress)
+    known = read_known(read, asked, program, said, progress)
     feed = pages(read.many("--matches"), said, matches.KINDS, strict=True) if read.has("--matches") else []
     lists = Lists(program, matches.listed(feed, known.ranges.keys(), said))
     scan = Scan(program, known, lists, letters, progress)

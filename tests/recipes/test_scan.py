@@ -26,6 +26,7 @@ from cpe_recipes.suppressed import Accepted, Suppressed  # noqa: E402
 from cpe_recipes.versions import Letters  # noqa: E402
 
 NO_LETTERS = Letters({})
+SAMPLES = Path(__file__).resolve().parents[2] / "recipes" / "samples" / "ranges"
 
 
 def name(vendor, product, version="*"):
@@ -212,25 +213,78 @@ class Verdicts(unittest.TestCase):
 
 @unittest.skipUnless(os.environ.get("CPE"), "CPE names no program")
 class Words(unittest.TestCase):
+    DICTIONARY, ADVISORIES, MATCHES = (str(SAMPLES / f"{name}.json") for name in ("dictionary", "advisories", "matches"))
+
+    def run_over(self, *words):
+        """The status of a run over these words, what it writes, and what it says."""
+        streams = {1: io.BytesIO(), 2: io.BytesIO()}
+        with mock.patch("cpe_recipes.said.os.write", side_effect=lambda to, data: streams[to].write(data)):
+            try:
+                status = scan.run(words)
+            except Fatal:
+                self.assertEqual(streams[1].getvalue(), b"")
+                raise
+        return status, streams[1].getvalue().decode(), streams[2].getvalue().decode()
+
+    def scanned(self, *words, dictionary=(DICTIONARY,), advisories=(ADVISORIES,), matches=(MATCHES,), lists=(str(SAMPLES / "app-1.txt"),)):
+        return self.run_over("--dictionary", *dictionary, "--advisories", *advisories, "--matches", *matches, "--lists", *lists, *words)
+
     def test_wrong_words_are_fatal(self):
-        samples = Path(__file__).resolve().parents[2] / "recipes" / "samples" / "ranges"
-        good = ["--dictionary", str(samples / "dictionary.json"), "--advisories", str(samples / "advisories.json")]
-        machines = ["--lists", str(samples / "app-1.txt")]
+        good = ["--dictionary", self.DICTIONARY, "--advisories", self.ADVISORIES]
+        machines = ["--lists", str(SAMPLES / "app-1.txt")]
         for words in ([], good, machines, good[:2] + machines, good[2:] + machines, ["more"], [*good, *machines, "--machines", "m"]):
             with self.subTest(words), self.assertRaises(Fatal):
-                scan.run(words)
+                self.run_over(*words)
+
+    def test_what_is_no_feed_is_fatal_wherever_it_stands(self):
+        bad = {
+            "none.json": None,
+            "empty.json": "",
+            "page.json": "<html>too many requests</html>",
+            "array.json": "[]",
+            "torn.json": (SAMPLES / "dictionary.json").read_text()[:700],
+            "spdx3.json": '{"@context":"https://spdx.org/rdf/3.0.1/spdx-context.jsonld","@graph":[]}',
+            "list.json": '{"products":7,"vulnerabilities":7,"matchStrings":7,"bomFormat":"CycloneDX","components":7}',
+            "nothing.json": '{"products":[],"vulnerabilities":[],"matchStrings":[],"bomFormat":"CycloneDX","components":[]}',
+        }
+        with tempfile.TemporaryDirectory() as folder:
+            for name, text in bad.items():
+                path = f"{folder}/{name}"
+                if text is not None:
+                    Path(path).write_text(text)
+                for where, good in (("dictionary", self.DICTIONARY), ("advisories", self.ADVISORIES), ("matches", self.MATCHES)):
+                    self.refuses(name, **{where: (path,)})
+                    # (an empty page beside others is no fault)
+                    if name != "nothing.json":
+                        self.refuses(name, **{where: (good, path)})
+                self.refuses(name, lists=(path,))
+                self.refuses(name, lists=(str(SAMPLES / "app-1.txt"), path))
+
+    def refuses(self, name, **feeds):
+        with self.subTest(name, **feeds), self.assertRaises(Fatal) as caught:
+            self.scanned(**feeds)
+        self.assertIn(name, str(caught.exception))
+
+    def test_of_more_advisories_than_cpe_takes_those_of_products_that_are_here(self):
+        lists = (str(SAMPLES / "app-1.txt"), str(SAMPLES / "desk-1.txt"))
+        status, whole, said = self.scanned("--json", lists=lists)
+        self.assertNotIn("may concern", said)
+        with mock.patch("cpe_recipes.products.MOST_STATEMENTS", 20):
+            status_of_some, some, said = self.scanned("--json", lists=lists)
+        self.assertIn("of 21 advisories may concern a product of these machines", said)
+        self.assertEqual((status, status_of_some), (0, 0))
+        self.assertLess(json.loads(some)["advisories"], json.loads(whole)["advisories"])
+        self.assertEqual(json.loads(some)["machines"], json.loads(whole)["machines"])
 
     def test_records_stand_for_a_dictionary(self):
-        samples = Path(__file__).resolve().parents[2] / "recipes" / "samples" / "ranges"
         with tempfile.TemporaryDirectory() as folder:
             records = Path(folder) / "dictionary.jsonl"
             records.write_text(entry(name("v", "p", "1.0")) + "\n{}\n")
-            words = ["--records", str(records), "--advisories", str(samples / "advisories.json"), "--lists", str(samples / "app-1.txt"), "--json"]
-            streams = {1: io.BytesIO(), 2: io.BytesIO()}
-            with mock.patch("cpe_recipes.said.os.write", side_effect=lambda to, data: streams[to].write(data)):
-                self.assertEqual(scan.run(words), 1)
-        self.assertIn(b"left out dictionary.jsonl line 2: member do: {}", streams[2].getvalue())
-        self.assertEqual(json.loads(streams[1].getvalue())["machines"][0]["name"], "app-1")
+            words = ("--records", str(records), "--advisories", self.ADVISORIES, "--lists", str(SAMPLES / "app-1.txt"), "--json")
+            status, written, said = self.run_over(*words)
+        self.assertEqual(status, 1)
+        self.assertIn("left out dictionary.jsonl line 2: member do: {}", said)
+        self.assertEqual(json.loads(written)["machines"][0]["name"], "app-1")
 
 
 class Shown(unittest.TestCase):
