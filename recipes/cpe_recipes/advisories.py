@@ -39,12 +39,16 @@ _BOUNDS = {
     "versionEndIncluding": "to",
     "versionEndExcluding": "before",
 }
-# What cpe takes as a bound.
 _BOUND = re.compile(r"[!-~]{1,256}")
 _PART = re.compile(r"#\d+$")
 _SCORES = ("cvssMetricV40", "cvssMetricV31", "cvssMetricV30", "cvssMetricV2")
 
 Test = dict[str, Json]
+
+
+def is_bound(text: str) -> bool:
+    """Whether cpe takes this as a bound of versions."""
+    return _BOUND.fullmatch(text) is not None
 
 
 @dataclass(frozen=True)
@@ -107,7 +111,7 @@ class Match:
         """Why its bounds are no range."""
         if {"from", "behind"} <= self.bounds.keys() or {"to", "before"} <= self.bounds.keys():
             return "two bounds of a kind"
-        if not all(_BOUND.fullmatch(bound) for bound in self.bounds.values()):
+        if not all(map(is_bound, self.bounds.values())):
             return "a bound that is no version"
         return None
 

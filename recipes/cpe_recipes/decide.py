@@ -15,11 +15,11 @@ tabs between them.
 from __future__ import annotations
 
 from collections.abc import Collection, Iterable, Iterator, Mapping, Sequence
-from dataclasses import dataclass, field
+from dataclasses import dataclass, field, replace
 from pathlib import Path
 
 from . import matches, names
-from .advisories import MATCH, SYSTEM, Range
+from .advisories import MATCH, SYSTEM, Range, is_bound
 from .feeds import FeedFault, FormFault, name_of, pages, read_feed, record_text, values_of
 from .machines import Machine, read_machines
 from .program import Program
@@ -116,14 +116,21 @@ class Decider:
         self._stands: dict[str, dict[str, Stand]] = {}
         ends = {end: None for item in items if item in leads.found for end in leads.found[item].ends}
         near = _Near(ends)
-        plain, odd = [], []
+        plain: list[Range] = []
+        odd: list[tuple[Range, Lead, str]] = []
         for one in ranges:
             lead = leads.found.get(one.criteria)
-            if lead is not None and any(near.ends(fact) for fact in lead.ends):
-                reason = _oddness(one, lead)
-                (odd if reason else plain).append((one, lead, reason))
+            if lead is None or not any(near.ends(fact) for fact in lead.ends):
+                continue
+            # (by its name as cpe writes it, of which vendor and product can be told)
+            asked = _asked(replace(one, criteria=lead.name), letters)
+            reason = _oddness(lead, asked)
+            if reason:
+                odd.append((asked, lead, reason))
+            else:
+                plain.append(asked)
         if plain:
-            self._ask_advise(list(ends), [one for one, _, _ in plain])
+            self._ask_advise(list(ends), plain)
         if odd:
             self._ask_compare(near, odd)
 
@@ -140,9 +147,8 @@ class Decider:
         for end in ends:
             one = _End.of(end, self._letters)
             asked.setdefault(one.asked, []).append(one)
-        bounds = [_bounds(one, self._letters) for one in ranges]
-        answers = _answers(self._program.lines(["advise"], _advise(asked, bounds)))
-        for one, (covered, inside) in zip(bounds, _pairs(answers, len(bounds))):
+        answers = _answers(self._program.lines(["advise"], _advise(asked, ranges)))
+        for one, (covered, inside) in zip(ranges, _pairs(answers, len(ranges))):
             for name in covered:
                 for end in asked[name]:
                     self._put(end.name, one.key, self._stand(end, one, name in inside))
@@ -205,21 +211,23 @@ class _End:
         return _End(name, names.joined(parts), product, version, update)
 
 
-def _bounds(one: Range, letters: Letters) -> Range:
+def _asked(one: Range, letters: Letters) -> Range:
     """The range with its bounds as its product's versions are asked for."""
     product = names.product_of(one.criteria)
     if not letters.has(product):
         return one
     start, end = (bound and letters.rewritten(product, bound) for bound in (one.start, one.end))
-    return Range(one.key, one.criteria, start, end, one.start_excluded, one.end_excluded)
+    return replace(one, start=start, end=end)
 
 
-def _oddness(one: Range, lead: Lead) -> str:
-    """Why a range can't be asked for."""
+def _oddness(lead: Lead, asked: Range) -> str:
+    """Why a range of a name that leads so can't be asked for."""
     if lead.ends != (lead.name,):
-        return f"{one.criteria} leads to {', '.join(lead.ends) or 'nothing'} by the dictionary"
+        return f"{lead.name} leads to {', '.join(lead.ends) or 'nothing'} by the dictionary"
     if names.components(lead.name)[names.VERSION] != names.ANY:
-        return f"{one.criteria} has a version beside its bounds"
+        return f"{lead.name} has a version beside its bounds"
+    if not all(is_bound(bound) for bound in (asked.start, asked.end) if bound is not None):
+        return "a bound is no version that cpe takes"
     return ""
 
 
@@ -228,7 +236,7 @@ def _advise(items: Iterable[str], ranges: Iterable[Range]) -> Iterator[str]:
     for item in items:
         yield record_text({"do": "item", "name": item})
     for one in ranges:
-        for asked in (Range("r", one.criteria), Range("r", one.criteria, one.start, one.end, one.start_excluded, one.end_excluded)):
+        for asked in (Range("r", one.criteria), replace(one, key="r")):
             yield record_text(asked.record())
             yield '{"do":"affected","id":"r"}'
             # (dropped again, so that there is never more than one)

@@ -103,6 +103,16 @@ class Decisions(unittest.TestCase):
         self.assertEqual((truths, unsure), ({}, {"KEY": f"{name('p', '1.*')} has a version beside its bounds"}))
         self.assertEqual(self.decided([name("p", "2.5")], Range("KEY", name("p", "1.*"), None, "2.0")), ({}, {}))
 
+    def test_bounds_that_cpe_does_not_take_have_no_answer(self):
+        for product, end in (("p", "1 0"), ("p", ""), ("p", "9" * 257), ("lettered", "1a" * 100)):
+            self.assertEqual(self.one("1.0", None, end, product), "a bound is no version that cpe takes")
+        self.assertIs(self.one("1.0", None, "9" * 256), True)
+
+    def test_criteria_in_any_spelling(self):
+        for criteria in ("cpe:/a:Acme:Lettered", "CPE:/A:acme:lettered", "cpe:2.3:a:ACME:Lettered:*:*:*:*:*:*:*:*"):
+            one = Range("KEY", criteria, "1.1.1", "1.1.1u", end_excluded=True)
+            self.assertEqual(self.decided([name("lettered", "1.1.1k")], one), ({"KEY": True}, {}), criteria)
+
     def test_criteria_of_many_products(self):
         one = Range("KEY", "cpe:2.3:a:acme:*:*:*:*:*:*:*:*:*", None, "2.0")
         self.assertEqual(self.decided([name("p", "1.5"), name("q", "3.0")], one), ({"KEY": True}, {}))
