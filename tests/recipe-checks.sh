@@ -67,36 +67,53 @@ refuses_feeds() {
     judge "a recipe where there is no program: $1" "$status" 2 /dev/null "$room/wanted.said"
 }
 
+# affected WHAT STATUS OUTPUT SAID WORD..: a table for people.
+affected() {
+    what=$1 wanted_status=$2 wanted=$3 said=$4
+    shift 4
+    recipe "a table for people$what" "$wanted_status" "$wanted" "$said" sh recipes/affected.sh "$@"
+}
+
 makes_tables() {
     needs 'a table for people' python3 || return
     echo "left out the records: $(grep -c '^refused ' examples/inventory.out) lines refused" > "$room/wanted.said"
-    recipe 'a table for people' 1 "$samples/table.out" "$room/wanted.said" sh recipes/affected.sh examples/inventory.out
+    affected '' 1 "$samples/table.out" "$room/wanted.said" examples/inventory.out
     sed '$d' examples/inventory.out > "$room/torn.out"
     echo 'affected.sh: torn.out: no whole table of verdicts: there are 2 of 3 verdicts' > "$room/wanted.said"
-    recipe 'a table for people, of a run that was torn off' 2 /dev/null "$room/wanted.said" sh recipes/affected.sh "$room/torn.out"
+    affected ', of a run that was torn off' 2 /dev/null "$room/wanted.said" "$room/torn.out"
     sed '$d' "$samples/machines.out" > "$room/torn.out"
     echo 'affected.sh: torn.out: no whole table of verdicts: cpe evaluate, or a fleet, has not come to its end' > "$room/wanted.said"
-    recipe 'a table for people, of a fleet that was torn off' 2 /dev/null "$room/wanted.said" sh recipes/affected.sh "$room/torn.out"
+    affected ', of a fleet that was torn off' 2 /dev/null "$room/wanted.said" "$room/torn.out"
     sed -n '/^verdicts /,$p' examples/inventory.out > "$room/unrefused.out"
-    recipe 'a table for people, of a run without refused lines' 0 "$samples/table.out" /dev/null sh recipes/affected.sh "$room/unrefused.out"
-    sh recipes/advisories.sh --ranges "$room/ranges" --details "$room/details" "$samples/advisories.json" > "$room/statements" 2> /dev/null
-    recipe 'a table of machines, with all that is known' 1 "$samples/machines.table" "$samples/machines.table.said" sh recipes/affected.sh \
-        --details "$room/details" --suppress "$samples/suppress.txt" --records "$room/statements" --ranges "$room/ranges" "$samples/machines.out"
-    sed 's/web-1 CVE-2024-99003 UNKNOWN/web-1 CVE-2024-99003 TRUE/; s/desk-1 CVE-2024-99007 TRUE/desk-1 CVE-2024-99007 FALSE/' "$samples/machines.out" > "$room/after.out"
+    affected ', of a run without refused lines' 0 "$samples/table.out" /dev/null "$room/unrefused.out"
+    sh recipes/advisories.sh --ranges "$room/ranges" --details "$room/details" "$samples/advisories.json" \
+        > "$room/statements" 2> /dev/null
+    affected ', of machines, with all that is known' 1 "$samples/machines.table" "$samples/machines.table.said" \
+        --details "$room/details" --suppress "$samples/suppress.txt" --records "$room/statements" --ranges "$room/ranges" \
+        "$samples/machines.out"
+}
+
+compares_runs() {
+    what='what changed between two runs of a fleet'
+    needs "$what" python3 || return
+    sed 's/^web-1 CVE-2024-99003 UNKNOWN/web-1 CVE-2024-99003 TRUE/; s/^desk-1 CVE-2024-99007 TRUE/desk-1 CVE-2024-99007 FALSE/' \
+        "$samples/machines.out" > "$room/after.out"
     printf '%s\n' 'changed web-1 CVE-2024-99003 UNKNOWN TRUE' 'gone desk-1 CVE-2024-99007 TRUE FALSE' > "$room/wanted"
     echo 'left out bare: no items' > "$room/wanted.said"
-    recipe 'what changed between two runs of a fleet' 1 "$room/wanted" "$room/wanted.said" sh recipes/changes.sh "$samples/machines.out" "$room/after.out"
+    recipe "$what" 1 "$room/wanted" "$room/wanted.said" sh recipes/changes.sh "$samples/machines.out" "$room/after.out"
 }
 
 # What is shown beside the verdicts, over the samples of ranges.
 lists_items() {
     needs 'what is shown beside the verdicts' python3 grep || return
     makes_ranges
-    recipe 'items that no entry of the dictionary has' 0 "$samples/unlisted.out" /dev/null sh recipes/unlisted.sh "$room/ranged" "$room/ranged.txt"
+    recipe 'items that no entry of the dictionary has' 0 "$samples/unlisted.out" /dev/null \
+        sh recipes/unlisted.sh "$room/ranged" "$room/ranged.txt"
     recipe 'items that perhaps are what an advisory names' 0 "$samples/perhaps.out" /dev/null \
         sh recipes/perhaps.sh "$room/ranged" "$samples/vague.txt" --ranges "$room/ranges"
     grep '^edge-1 ' "$room/ranged.txt" > "$room/edge.txt"
-    limited sh recipes/products.sh --machines "$room/edge.txt" --records "$room/ranged" "$samples/ranges/advisories.json" > "$room/cut.json" 2> "$room/error"
+    limited sh recipes/products.sh --machines "$room/edge.txt" --records "$room/ranged" "$samples/ranges/advisories.json" \
+        > "$room/cut.json" 2> "$room/error"
     status=$?
     grep -o '"id":"CVE-[0-9-]*"' "$room/cut.json" > "$room/out"
     judge 'advisories of the products of a machine' "$status" 0 "$samples/products.out" "$samples/products.said"
@@ -278,6 +295,7 @@ refuses_feeds advisories advisories '{"resultsPerPage":0,"startIndex":0,"totalRe
 refuses_feeds inventory spdx '{"spdxVersion":"SPDX-2.3","packages":[]}' 2 'inventory.sh: no-records.json: no item'
 answers_readme
 makes_tables
+compares_runs
 lists_items
 goes_over_lines
 checks_fleet

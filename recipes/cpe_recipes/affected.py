@@ -7,8 +7,9 @@ verdict. A machine without items is told as such.
 
 - --details: scores and titles by id, which `advisories.sh --details` wrote. What scores highest comes first.
 - --suppress: accepted ids, lines `ID MACHINE REASON`, with * for every machine. They are told below the table.
-- --records: the records that were asked. What an UNKNOWN hangs on is told: the checks of its statement that have no result there, nor in
-  --decided, which `decide.py` wrote. With --ranges, which `advisories.sh --ranges` wrote, a range is told by its product and bounds.
+- --records: the records that were asked. What an UNKNOWN hangs on is told: the checks of its statement that have no result
+  there, nor in --decided, which `decide.py` wrote. With --ranges, which `advisories.sh --ranges` wrote, a range is told by its
+  product and bounds.
 
 Each option may be given more than once. The status is 1 where lines of the records were refused, machines have no items, or a
 line of --suppress is none, and 2 where the verdicts aren't whole, since the run ended before its end. Nothing is written then.
@@ -18,6 +19,7 @@ from __future__ import annotations
 from collections import Counter
 from collections.abc import Iterator
 from dataclasses import dataclass, field
+from typing import Protocol
 
 from .feeds import Json
 from .fleet import Decided, read_decided
@@ -35,13 +37,20 @@ _TITLE_WIDTH = 60
 _MOST_HANGING = 3
 
 
+class Hangs(Protocol):
+    """What tells on what an UNKNOWN of a machine hangs, in words."""
+
+    def on(self, advisory: str, machine: str | None) -> list[str]:
+        ...
+
+
 @dataclass
 class About:
     """What is known of advisories beside their verdicts."""
 
     details: dict[str, Json]
     suppressed: Suppressed
-    hanging: Hanging
+    hanging: Hangs
     accepted: list[tuple[str | None, str, str, str]] = field(default_factory=list)
 
     def score(self, id: str) -> float:

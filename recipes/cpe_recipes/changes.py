@@ -6,9 +6,9 @@ It writes a line for each verdict that isn't FALSE on one side at least, and isn
     gone MACHINE ID BEFORE AFTER        it is FALSE now, or isn't there any more
     changed MACHINE ID BEFORE AFTER     it is another one
 
-BEFORE and AFTER are truths, or `none` where there is no verdict: the machine isn't there, or has no items there, or the advisory isn't
-there. That a machine has no items any more is said, and the status is 1: what is gone then isn't mended. Verdicts of one
-inventory have no MACHINE. The status is 2, and nothing is written, where a side isn't whole.
+BEFORE and AFTER are truths, or `none` where there is no verdict: the machine isn't there, or has no items there, or the
+advisory isn't there. That a machine has no items any more is said, and the status is 1: what is gone then isn't mended.
+Verdicts of one inventory have no MACHINE. The status is 2, and nothing is written, where a side isn't whole.
 """
 from __future__ import annotations
 

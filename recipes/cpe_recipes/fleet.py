@@ -52,8 +52,8 @@ def read_records(program: Program, path: str, said: Said) -> Records:
         raise Fatal(f"{feed}: cpe evaluate wrote no table")
     for line in answers[:table]:
         if line.startswith("refused "):
-            _, number, reason = line.split(" ", 2)
-            said.left_out(f"{feed} line {number}", reason)
+            _, refused, reason = line.split(" ", 2)
+            said.left_out(f"{feed} line {refused}", reason)
     statements = [line.split(" ")[1] for line in answers[table + 1 :]]
     if not statements:
         raise Fatal(f"{feed}: no statements in it")
@@ -121,12 +121,12 @@ def read_fleet(program: Program, words: Words, said: Said) -> Fleet:
     asked = []
     decided = _decided(program, words, ranges, names, machines, said)
     for machine in machines:
-        own, beside = decided.get(machine.name, ([], []))
+        own, beside = (_without(records.results, found) for found in decided.get(machine.name, ([], [])))
         supposed = names.supposed(machine)
         for item in supposed:
             said.remark(f"not in the dictionary {machine.name} {item}{names.goes_on(item)}")
         new = dict.fromkeys(name for found in supposed.values() for name in found)
-        asked.append(Asked(machine.name, machine.items, _without(records.results, own), list(new), _without(records.results, beside)))
+        asked.append(Asked(machine.name, machine.items, own, list(new), beside))
     return Fleet(records.known, asked)
 
 
@@ -165,19 +165,23 @@ class _Names:
 _BothDecided = dict[str, tuple[list[tuple[str, str]], list[tuple[str, str]]]]
 
 
-def _decided(program: Program, words: Words, ranges: dict[str, Range], names: _Names, machines: list[Machine], said: Said) -> _BothDecided:
-    if words.has("--decided"):
-        found = read_decided(words.one("--decided"))
-        known = {machine.name for machine in machines}
-        for name in found:
-            if name not in known:
+def _decided(
+    program: Program, words: Words, ranges: dict[str, Range], names: _Names, machines: list[Machine], said: Said
+) -> _BothDecided:
+    decided_path = words.one("--decided")
+    if decided_path is not None:
+        before = read_decided(decided_path)
+        here = {machine.name for machine in machines}
+        for name in before:
+            if name not in here:
                 said.remark(f"{name} has decided ranges, and is no machine here")
-        return {name: (decided, decided) for name, decided in found.items()}
+        return {name: (decided, decided) for name, decided in before.items()}
     if not ranges:
         return {}
     feed = pages(words.many("--matches"), said, matches.KINDS, strict=True) if words.has("--matches") else []
     lists = decide.Lists(program, matches.listed(feed, ranges.keys(), said))
-    leads = names.all_leads | {one.criteria: names.leads.found[one.criteria] for one in ranges.values() if one.criteria in names.leads.found}
+    criteria = {one.criteria for one in ranges.values()} & names.leads.found.keys()
+    leads = names.all_leads | {name: names.leads.found[name] for name in criteria}
     letters = read_letters(words.one("--letters") or decide.LETTERS)
     decider = decide.Decider(program, ranges.values(), decide.Leads(leads), list(names.all_leads), letters)
     both = {}

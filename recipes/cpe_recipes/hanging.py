@@ -39,7 +39,8 @@ class Hanging:
     def on(self, advisory: str, machine: str | None) -> list[str]:
         """The checks on which the verdict hangs, in words."""
         decided = self._decided.get(machine or "", set())
-        return [self._words(key) for key in self._checks.get(advisory, {}) if key not in self._results and not _is_decided(key, decided)]
+        asked = self._checks.get(advisory, {})
+        return [self._words(key) for key in asked if key not in self._results and not _is_decided(key, decided)]
 
     def _words(self, key: Key) -> str:
         found = self._ranges.get(key[2]) if key[:2] == ("NVD", "cpeMatch") else None
@@ -51,8 +52,12 @@ def _is_decided(key: Key, decided: set[str]) -> bool:
 
 
 def _key(record: Json) -> Key | None:
-    parts = tuple(record.get(part) for part in ("system", "href", "id")) if isinstance(record, dict) else ()
-    return parts if len(parts) == 3 and all(isinstance(part, str) for part in parts) else None
+    if not isinstance(record, dict):
+        return None
+    system, href, id = (record.get(part) for part in ("system", "href", "id"))
+    if isinstance(system, str) and isinstance(href, str) and isinstance(id, str):
+        return system, href, id
+    return None
 
 
 def _checks(test: Json) -> Iterator[Key]:

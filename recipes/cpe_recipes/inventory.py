@@ -11,8 +11,8 @@
 What has no name, or none that can be an item, is said. Lists of another form are named and refused, and so is what has no item:
 an inventory of which nothing was read would look as if nothing were affected.
 
-With --machines each list is that of a machine, which is called as its file is, without its endings. It writes a line for each: the
-machine's name, and behind it the names of its items. A machine without items has its line too, and is said.
+With --machines each list is that of a machine, which is called as its file is, without its endings. It writes a line for each:
+the machine's name, and behind it the names of its items. A machine without items has its line too, and is said.
 """
 from __future__ import annotations
 
@@ -39,7 +39,7 @@ def run(words: Sequence[str]) -> int:
     read = read_words(words, {"--machines": FLAG}, USAGE)
     said, output, program = Said(), Output(), Program()
     if read.has("--machines"):
-        output.lines(list(machine_lines(program, machines.read_lists(read.files, candidates_of, said), said)))
+        output.lines(list(machine_lines(program, machines.read_lists(read.files, _all_candidates, said), said)))
     else:
         records = program.accepted(read_lists(read.files, said), said, unsaid="exists")
         if not records:
@@ -61,12 +61,17 @@ def machine_lines(program: Program, found: Iterable[machines.Machine], said: Sai
         yield " ".join([machine.name, *names])
 
 
+def _all_candidates(feed: str, data: bytes) -> list[Candidate]:
+    return list(candidates_of(feed, data))
+
+
 def read_lists(paths: Sequence[str], said: Said) -> list[Candidate]:
     """The candidates of software lists, of standard input where there is no path. One that can't be read is said, and the
     others still come out; where there is none that can, it is Fatal."""
     found: list[Candidate] = []
     faults = []
-    for path in paths or [None]:
+    everything: list[str | None] = [*paths] or [None]
+    for path in everything:
         feed = name_of(path)
         try:
             candidates = list(candidates_of(feed, read_feed(path)))
@@ -78,9 +83,9 @@ def read_lists(paths: Sequence[str], said: Said) -> list[Candidate]:
             faults.append((feed, "no item in it"))
     if not any(one.record for one in found):
         _say_all(said, found)
-        raise Fatal("; ".join(f"{feed}: {fault}" for feed, fault in faults))
-    for feed, fault in faults:
-        said.left_out(feed, fault)
+        raise Fatal("; ".join(f"{feed}: {reason}" for feed, reason in faults))
+    for feed, reason in faults:
+        said.left_out(feed, reason)
     return found
 
 

@@ -1,7 +1,7 @@
 """A word that keeps no state, over the processors of one machine: sh lines.sh WORD.. < LINES.
 
-WORD.. is unbind, bind fs, bind uri or compare. It writes what `cpe WORD..` writes, with the same numbers of refused lines, and ends
-with its status. GNU parallel runs the workers; WORKERS is how many there are at a time (else as many as processors), PIECE
+WORD.. is unbind, bind fs, bind uri or compare. It writes what `cpe WORD..` writes, with the same numbers of refused lines, and
+ends with its status. GNU parallel runs the workers; WORKERS is how many there are at a time (else as many as processors), PIECE
 how many lines each takes. A piece whose worker dies is done again, up to three times; where it dies each time the others still
 come out, that is said, and the status is 5.
 """

@@ -2,9 +2,9 @@
 
     sh perhaps.sh RECORDS MACHINES [--ranges FILE [--letters FILE]]
 
-RECORDS are those of a dictionary and of advisories, and MACHINES a line a machine: its name, and behind it the names of its items.
-It writes, for each fact of a statement and each item of the same vendor and product whose name covers that of the fact (its
-relation is SUBSET by `cpe compare`),
+RECORDS are those of a dictionary and of advisories, and MACHINES a line a machine: its name, and behind it the names of its
+items. It writes, for each fact of a statement and each item of the same vendor and product whose name covers that of the fact
+(its relation is SUBSET by `cpe compare`),
 
     perhaps MACHINE ID ITEM FACT
 
@@ -38,7 +38,8 @@ USAGE = "perhaps.sh RECORDS MACHINES [--ranges FILE [--letters FILE]]"
 
 @dataclass(frozen=True)
 class Fact:
-    """A fact of an advisory: the name, as it was written, the id of the check of its range, and whether it follows deprecations."""
+    """A fact of an advisory: the name, as it was written, the id of the check of its range, and whether it follows
+    deprecations."""
 
     id: str
     name: str
@@ -116,14 +117,17 @@ def _names(test: Json) -> Iterator[tuple[str, str | None]]:
 
 def _key(children: list[Json]) -> str | None:
     check = children[1].get("check") if isinstance(children[1], dict) else None
-    is_match = isinstance(check, dict) and (check.get("system"), check.get("href")) == (SYSTEM, MATCH)
-    return check["id"] if is_match and isinstance(check.get("id"), str) else None
+    if not isinstance(check, dict) or (check.get("system"), check.get("href")) != (SYSTEM, MATCH):
+        return None
+    return check["id"] if isinstance(check.get("id"), str) else None
 
 
 class Pairs:
     """Facts and items of one vendor and product, both of them plain."""
 
-    def __init__(self, program: Program, facts: Iterable[Fact], leads: Leads, ranges: Mapping[str, Range], letters: Letters) -> None:
+    def __init__(
+        self, program: Program, facts: Iterable[Fact], leads: Leads, ranges: Mapping[str, Range], letters: Letters
+    ) -> None:
         self._program, self._leads, self._ranges, self._letters = program, leads, ranges, letters
         self._facts: dict[tuple[str, str], list[tuple[Fact, list[str]]]] = {}
         for fact in facts:
@@ -164,10 +168,13 @@ class Pairs:
         versions = {pair.compared: Lead(pair.compared, False, (pair.compared,)) for pair in found if pair.is_in_version}
         if not versions:
             return found
-        ranges = [self._ranges[key] for key in {pair.fact.key: None for pair in found if pair.is_in_version}]
-        leads = Leads(versions | {one.criteria: self._leads.found[one.criteria] for one in ranges if one.criteria in self._leads.found})
+        ranges = [self._ranges[key] for key in dict.fromkeys(pair.fact.key for pair in found if pair.is_in_version) if key]
+        criteria = {one.criteria for one in ranges} & self._leads.found.keys()
+        leads = Leads(versions | {name: self._leads.found[name] for name in criteria})
         decider = Decider(self._program, ranges, leads, list(versions), self._letters)
-        return {pair for pair in found if not pair.is_in_version or decider.stands(pair.compared).get(pair.fact.key, False) is not False}
+        # (what doesn't stand to its range, that one doesn't cover)
+        outside = {pair for pair in found if pair.is_in_version and not decider.stands(pair.compared).get(pair.fact.key or "")}
+        return found - outside
 
 
 def _compared(lead: Lead, fact: Fact) -> tuple[str, ...]:

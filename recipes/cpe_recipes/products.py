@@ -30,17 +30,19 @@ MOST_STATEMENTS = 100_000
 
 def run(words: Sequence[str]) -> int:
     read = read_words(words, {"--machines": ONE, "--records": ONE}, USAGE)
-    if not read.has("--machines"):
+    machines_path = read.one("--machines")
+    if machines_path is None:
         raise Fatal(f"usage: {USAGE}")
     said, output, program = Said(), Output(), Program()
-    records, machines = read_entries(read.many("--records")), read_machines(read.one("--machines"), said)
+    records, machines = read_entries(read.many("--records")), read_machines(machines_path, said)
     items = dict.fromkeys(item for machine in machines for item in machine.items)
     leads = leads_of(program, records, items, deprecated_names(records))
     say_items(machines, leads, said)
     wanted = products_of(leads, items, records)
     if not wanted:
         raise Fatal("no machine has an item")
-    count, kept = 0, []
+    count = 0
+    kept: list[str] = []
     for page in pages(read.files, said, KINDS):
         count += len(page.records)
         kept.extend(cut(program, page, wanted))
@@ -75,15 +77,18 @@ def cut(program: Program, page: Page, wanted: set[Product]) -> Iterator[str]:
     asked = list(dict.fromkeys(name for found in named if found is not None for name in found))
     lookups = (record_text({"do": "lookup", "name": name}) for name in asked)
     answers = program.run(["resolve"], lookups) if asked else []
-    # (the front of an answer is the name as cpe writes it; one that is refused is no name)
-    goes_on = {name for name, line in zip(asked, answers) if not line.startswith("lookup ") or _concerns(line.split(" ")[1], wanted)}
+    # (one that is refused is no name)
+    goes_on = {name for name, line in zip(asked, answers) if _concerns(line, wanted)}
     for record, found in zip(page.records, named):
         if found is None or not goes_on.isdisjoint(found):
             yield record_text(record)
 
 
-def _concerns(name: str, wanted: set[Product]) -> bool:
-    product = names.product_of(name)
+def _concerns(answer: str, wanted: set[Product]) -> bool:
+    """Whether the name of this answer is of one of these products, or can't be told to be of another."""
+    if not answer.startswith("lookup "):
+        return True
+    product = names.product_of(answer.split(" ")[1])
     return product in wanted or not all(map(names.is_plain, product))
 
 
@@ -101,4 +106,5 @@ def _vulnerable(record: Json) -> list[str] | None:
         ]
     except FormFault:
         return None
-    return None if not found or None in found else found
+    named = [name for name in found if name is not None]
+    return named if named and len(named) == len(found) else None

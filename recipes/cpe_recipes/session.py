@@ -23,7 +23,7 @@ class Known:
 
 @dataclass(frozen=True)
 class Asked:
-    """A machine, the names of its items, and what was decided for it of the ranges: keys of checks, with TRUE or FALSE.
+    """A machine, the names of its items, and what was decided of the ranges for it: keys of checks, with TRUE or FALSE.
 
     `supposed` are names that items of it may have which no dictionary has, and `beside` is what is decided with them too.
     """
@@ -37,7 +37,8 @@ class Asked:
 
 @dataclass(frozen=True)
 class Told:
-    """What came of a machine: what is left out of it, with the reasons, and the lines of its verdicts, or that it has no items."""
+    """What came of a machine: what is left out of it, with the reasons, and the lines of its verdicts, or that it has no
+    items."""
 
     machine: str
     left_out: list[tuple[str, str]]
@@ -51,6 +52,8 @@ class Session:
     def __init__(self, program: str, known: Known) -> None:
         self._ask = [_record("verdict", id=id) for id in known.statements]
         self._run = subprocess.Popen([program, "resolve"], stdin=subprocess.PIPE, stdout=subprocess.PIPE)
+        assert self._run.stdin is not None and self._run.stdout is not None
+        self._input, self._output = self._run.stdin, self._run.stdout
         # (who writes to a pipe and doesn't read from the other one may wait for ever, so another thread writes)
         self._waiting: queue.SimpleQueue[bytes] = queue.SimpleQueue()
         threading.Thread(target=self._write, daemon=True).start()
@@ -62,13 +65,13 @@ class Session:
     def _write(self) -> None:
         while lines := self._waiting.get():
             try:
-                self._run.stdin.write(lines)
-                self._run.stdin.flush()
+                self._input.write(lines)
+                self._input.flush()
             except (OSError, ValueError):
                 return
 
     def _answer(self) -> str:
-        line = self._run.stdout.readline()
+        line = self._output.readline()
         if not line.endswith(b"\n"):
             raise EOFError("cpe ended in the middle")
         return line[:-1].decode(errors="backslashreplace")
@@ -90,14 +93,16 @@ class Session:
         puts += [("check", {"system": "NVD", "href": "cpeMatch", "id": key, "result": result}) for key, result in decided]
         drops = [("drop-" + word, {key: text for key, text in members.items() if key != "result"}) for word, members in puts]
         first = self._last + 1
-        lines = [_record(word, **members) for word, members in puts] + self._ask + [_record(word, **members) for word, members in drops]
+        lines = [_record(word, **members) for word, members in puts] + self._ask
+        lines += [_record(word, **members) for word, members in drops]
         self._last += len(lines)
         self._waiting.put("".join(lines).encode(errors="replace"))
         refused, verdicts = self._answers(first, len(puts), len(self._ask))
         # (a name that comes twice is one item)
         left_out = [
             (items[place] if place < len(items) else f"check {decided[place - len(items)][0]}", reason)
-            for place, reason in refused.items() if reason != "exists"
+            for place, reason in refused.items()
+            if reason != "exists"
         ]
         if all(place in refused and refused[place] != "exists" for place in range(len(items))):
             return _without_items(name, left_out)
@@ -121,9 +126,9 @@ class Session:
         self._waiting.put(b"")
         self._run.kill()
         self._run.wait()
-        self._run.stdout.close()
+        self._output.close()
         with contextlib.suppress(OSError):
-            self._run.stdin.close()
+            self._input.close()
 
 
 def _record(word: str, **members: str) -> str:

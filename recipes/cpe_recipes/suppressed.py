@@ -1,4 +1,4 @@
-"""Advisories that people have accepted, each with a reason: lines `ID MACHINE REASON` of a file, where * stands for every machine.
+"""Advisories that people have accepted, each with a reason: lines `ID MACHINE REASON` of a file, where * is every machine.
 
 What is accepted isn't shown among what is affected, and is told with its reason.
 """

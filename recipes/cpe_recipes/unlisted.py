@@ -5,8 +5,8 @@ RECORDS are those of a dictionary, and MACHINES a line a machine: its name, and 
     not in the dictionary MACHINE NAME [goes on as VENDOR:PRODUCT..]
     under a removed name MACHINE NAME
 
-An item that no entry has leads nowhere, so no advisory that calls its product otherwise finds it. Where entries of its product are
-deprecated, and lead to other products, these are told. An item under a removed name has no ends, and no advisory in mode
+An item that no entry has leads nowhere, so no advisory that calls its product otherwise finds it. Where entries of its product
+are deprecated, and lead to other products, these are told. An item under a removed name has no ends, and no advisory in mode
 follow finds it at all. What is no item is said, and the status is 1.
 """
 from __future__ import annotations

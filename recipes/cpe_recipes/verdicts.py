@@ -110,7 +110,7 @@ class _Fleet:
     """Reads the lines of a fleet, or of several fleets whose outputs stand one behind the other."""
 
     def __init__(self) -> None:
-        self._machines: dict[str, Machine] = {}
+        self._machines: dict[str | None, Machine] = {}
         self._statements: Statements | None = None
         self._name: str | None = None
         self._rows: list[tuple[str, str]] = []

@@ -1,7 +1,8 @@
 """Workers over pieces of work, by GNU parallel. A piece is a file, so that it is there once more where its worker dies.
 
-A worker is given its words and the path of its piece, and writes files beside the piece, which get their names when they are whole:
-so what a worker wrote that died is not there. Which pieces are done is told by PIECE.out, and by PIECE.full that there was no room.
+A worker is given its words and the path of its piece, and writes files beside the piece, which get their names when they are
+whole: so what a worker wrote that died is not there. Which pieces are done is told by PIECE.out, and by PIECE.full that there
+was no room.
 """
 from __future__ import annotations
 

@@ -1,6 +1,6 @@
 #!/bin/sh
-# A worker of lines.sh: sh piece.sh CPE WORD.. PIECE. It runs cpe over the lines of a piece, and leaves what is written in PIECE.out,
-# which gets its name when it is whole. PIECE.refused tells that a line is refused, PIECE.full that there was no room.
+# A worker of lines.sh: sh piece.sh CPE WORD.. PIECE. It runs cpe over the lines of a piece, and leaves what is written in
+# PIECE.out, which gets its name when it is whole. PIECE.refused tells that a line is refused, PIECE.full that there was no room.
 # (A shell, since it begins ten times as fast as Python does.)
 set -u
 cpe=$1 words=$2

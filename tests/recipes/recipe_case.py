@@ -42,5 +42,7 @@ class RecipeCase(unittest.TestCase):
 
     def recipe(self, name, *words, **how):
         """The status of a short recipe, its lines, and the lines that it says."""
-        run = subprocess.run(["sh", str(RECIPES / f"{name}.sh"), *words], capture_output=True, text=True, stdin=subprocess.DEVNULL, **how)
+        run = subprocess.run(
+            ["sh", str(RECIPES / f"{name}.sh"), *words], capture_output=True, text=True, stdin=subprocess.DEVNULL, **how
+        )
         return run.returncode, run.stdout.splitlines(), run.stderr.splitlines()

@@ -29,8 +29,15 @@ class Verdicts(RecipeCase):
 
     def test_the_lines_of_fleets(self):
         machines = self.read(FLEET + "o z ERROR\nmachines 1\n").machines
-        self.assertEqual([(one.name, one.has_items, one.shown) for one in machines],
-            [("m", True, {"a": "TRUE", "b": "UNKNOWN"}), ("bare", False, {}), ("n", True, {"b": "UNKNOWN"}), ("o", True, {"z": "ERROR"})])
+        self.assertEqual(
+            [(one.name, one.has_items, one.shown) for one in machines],
+            [
+                ("m", True, {"a": "TRUE", "b": "UNKNOWN"}),
+                ("bare", False, {}),
+                ("n", True, {"b": "UNKNOWN"}),
+                ("o", True, {"z": "ERROR"}),
+            ],
+        )
 
     def test_a_machine_may_be_called_as_a_word(self):
         machines = self.read("verdict a TRUE\nverdicts a FALSE\nno a TRUE\nmachines 3\n").machines
@@ -50,8 +57,16 @@ class Verdicts(RecipeCase):
                     self.read(text[:length])
 
     def test_what_is_no_output(self):
-        for text in ("", "a b c\n", TABLE + "more\n", FLEET.replace("n a FALSE\n", ""), FLEET.replace("FALSE", "false"),
-                "m a TRUE\nn a TRUE\nm a TRUE\nmachines 3\n", "machines 1\n", "x\nmachines 0\n"):
+        for text in (
+            "",
+            "a b c\n",
+            TABLE + "more\n",
+            FLEET.replace("n a FALSE\n", ""),
+            FLEET.replace("FALSE", "false"),
+            "m a TRUE\nn a TRUE\nm a TRUE\nmachines 3\n",
+            "machines 1\n",
+            "x\nmachines 0\n",
+        ):
             with self.assertRaises(Fatal, msg=text):
                 self.read(text)
 
@@ -62,21 +77,46 @@ class Affected(RecipeCase):
 
     def test_a_table_of_one_inventory(self):
         status, lines, said = self.affected(TABLE)
-        self.assertEqual(lines, ["VERDICT  STATEMENT", "TRUE     a", "UNKNOWN  c", "", "3 statements: 1 TRUE, 0 ERROR, 1 UNKNOWN, 1 FALSE"])
+        self.assertEqual(
+            lines, ["VERDICT  STATEMENT", "TRUE     a", "UNKNOWN  c", "", "3 statements: 1 TRUE, 0 ERROR, 1 UNKNOWN, 1 FALSE"]
+        )
         self.assertEqual((status, said), (1, ["left out the records: 1 line refused"]))
-        self.assertEqual(self.affected("verdicts 0\n")[:2], (0, ["VERDICT  STATEMENT", "", "0 statements: 0 TRUE, 0 ERROR, 0 UNKNOWN, 0 FALSE"]))
+        self.assertEqual(
+            self.affected("verdicts 0\n")[:2],
+            (0, ["VERDICT  STATEMENT", "", "0 statements: 0 TRUE, 0 ERROR, 0 UNKNOWN, 0 FALSE"]),
+        )
 
     def test_a_table_of_machines(self):
         status, lines, said = self.affected(FLEET)
-        self.assertEqual(lines, ["MACHINE  VERDICT  STATEMENT", "m        TRUE     a", "m        UNKNOWN  b", "bare              no items",
-            "n        UNKNOWN  b", "", "3 machines, 1 without items: 1 TRUE, 0 ERROR, 2 UNKNOWN, 1 FALSE"])
+        self.assertEqual(
+            lines,
+            [
+                "MACHINE  VERDICT  STATEMENT",
+                "m        TRUE     a",
+                "m        UNKNOWN  b",
+                "bare              no items",
+                "n        UNKNOWN  b",
+                "",
+                "3 machines, 1 without items: 1 TRUE, 0 ERROR, 2 UNKNOWN, 1 FALSE",
+            ],
+        )
         self.assertEqual((status, said), (1, ["left out bare: no items"]))
 
     def test_scores_and_titles(self):
-        details = self.file("details", [{"id": "a", "score": 5.0, "title": "A\ttitle\x1b[0m"}, {"id": "b", "score": 9.8, "title": "B" * 100}, {"id": "c"}])
+        details = self.file(
+            "details",
+            [{"id": "a", "score": 5.0, "title": "A\ttitle\x1b[0m"}, {"id": "b", "score": 9.8, "title": "B" * 100}, {"id": "c"}],
+        )
         _, lines, _ = self.affected("verdicts 3\nverdict a TRUE\nverdict c TRUE\nverdict b TRUE\n", "--details", details)
-        self.assertEqual(lines[:4], ["VERDICT  STATEMENT  SCORE  TITLE", f"TRUE     b          9.8    {'B' * 57}...",
-            "TRUE     a          5.0    A\\u0009title\\u001b[0m", "TRUE     c"])
+        self.assertEqual(
+            lines[:4],
+            [
+                "VERDICT  STATEMENT  SCORE  TITLE",
+                f"TRUE     b          9.8    {'B' * 57}...",
+                "TRUE     a          5.0    A\\u0009title\\u001b[0m",
+                "TRUE     c",
+            ],
+        )
         for bad in ("x\n", "7\n", '{"title":"no id"}\n'):
             self.assertEqual(self.affected(TABLE, "--details", self.file("bad", bad))[:2], (2, []))
         self.assertEqual(self.affected(TABLE, "--details", "none")[:2], (2, []))
@@ -84,22 +124,57 @@ class Affected(RecipeCase):
     def test_accepted_ids_are_told_below(self):
         accepted = self.file("suppress.txt", "# ours\n\r\na m backported by us\r\nb * no way in\nb\nb m\nx * never\n")
         status, lines, said = self.affected(FLEET, "--suppress", accepted)
-        self.assertEqual(lines, ["MACHINE  VERDICT  STATEMENT", "bare              no items", "", "accepted m a TRUE: backported by us",
-            "accepted m b UNKNOWN: no way in", "accepted n b UNKNOWN: no way in", "3 machines, 1 without items: 0 TRUE, 0 ERROR, 0 UNKNOWN, 1 FALSE, 3 accepted"])
-        self.assertEqual(said[:3], ["left out suppress.txt line 5: it is not an id, a machine or *, and a reason",
-            "left out suppress.txt line 6: it is not an id, a machine or *, and a reason", "remark suppress.txt line 7: nothing is accepted by it: x *"])
+        self.assertEqual(
+            lines,
+            [
+                "MACHINE  VERDICT  STATEMENT",
+                "bare              no items",
+                "",
+                "accepted m a TRUE: backported by us",
+                "accepted m b UNKNOWN: no way in",
+                "accepted n b UNKNOWN: no way in",
+                "3 machines, 1 without items: 0 TRUE, 0 ERROR, 0 UNKNOWN, 1 FALSE, 3 accepted",
+            ],
+        )
+        self.assertEqual(
+            said[:3],
+            [
+                "left out suppress.txt line 5: it is not an id, a machine or *, and a reason",
+                "left out suppress.txt line 6: it is not an id, a machine or *, and a reason",
+                "remark suppress.txt line 7: nothing is accepted by it: x *",
+            ],
+        )
         self.assertEqual(status, 1)
 
     def test_what_an_unknown_hangs_on(self):
-        range_of = {"do": "advisory", "id": "key", "name": "cpe:2.3:a:v:p:*:*:*:*:*:*:*:*", "start": "1", "end": "2", "end-excluded": True}
-        tests = [statement("a", OTHER), statement("b", {"op": "AND", "of": [CHECK, OTHER]}), statement("b#2", OTHER, {"check": 7})]
+        range_of = {
+            "do": "advisory",
+            "id": "key",
+            "name": "cpe:2.3:a:v:p:*:*:*:*:*:*:*:*",
+            "start": "1",
+            "end": "2",
+            "end-excluded": True,
+        }
+        tests = [
+            statement("a", OTHER),
+            statement("b", {"op": "AND", "of": [CHECK, OTHER]}),
+            statement("b#2", OTHER, {"check": 7}),
+        ]
         words = ["--ranges", self.file("ranges", [range_of]), "--records"]
         records = self.file("records", "no JSON with check\n" + "".join(f"{json.dumps(one)}\n" for one in tests))
         _, lines, _ = self.affected(FLEET, *words, records)
         self.assertEqual(lines[0], "MACHINE  VERDICT  STATEMENT  HANGS ON")
         self.assertEqual(lines[2], "m        UNKNOWN  b          cpe:2.3:a:v:p:*:*:*:*:*:*:*:* from 1, before 2; s h i")
         results = [{"do": "check", **OTHER["check"], "result": "ERROR"}, {"do": "drop-check", "system": "x"}]
-        _, lines, _ = self.affected(FLEET, *words, records, "--records", self.file("results", results), "--decided", self.file("decided", "m\tkey\tFALSE\n"))
+        _, lines, _ = self.affected(
+            FLEET,
+            *words,
+            records,
+            "--records",
+            self.file("results", results),
+            "--decided",
+            self.file("decided", "m\tkey\tFALSE\n"),
+        )
         self.assertEqual(lines[2], "m        UNKNOWN  b")
         self.assertEqual(lines[4], "n        UNKNOWN  b          cpe:2.3:a:v:p:*:*:*:*:*:*:*:* from 1, before 2")
         results[0]["result"] = "UNKNOWN"
@@ -115,7 +190,9 @@ class Affected(RecipeCase):
         with open("/dev/full", "w") as full:
             words = ["sh", str(RECIPES / "affected.sh"), self.file("verdicts", FLEET)]
             run = subprocess.run(words, stdout=full, stderr=subprocess.PIPE, text=True)
-        self.assertEqual((run.returncode, run.stderr), (2, "affected.sh: the output could not be written: No space left on device\n"))
+        self.assertEqual(
+            (run.returncode, run.stderr), (2, "affected.sh: the output could not be written: No space left on device\n")
+        )
 
 
 class Changes(RecipeCase):
@@ -124,13 +201,18 @@ class Changes(RecipeCase):
 
     def test_changes_of_an_inventory(self):
         after = "verdicts 3\nverdict a FALSE\nverdict c TRUE\nverdict d UNKNOWN\n"
-        self.assertEqual(self.changes(TABLE, after), (0, ["gone a TRUE FALSE", "changed c UNKNOWN TRUE", "new d none UNKNOWN"], []))
+        self.assertEqual(
+            self.changes(TABLE, after), (0, ["gone a TRUE FALSE", "changed c UNKNOWN TRUE", "new d none UNKNOWN"], [])
+        )
         self.assertEqual(self.changes(TABLE, TABLE), (0, [], []))
 
     def test_changes_of_machines(self):
         after = "m no items\nbare a TRUE\nbare b FALSE\no a FALSE\no b TRUE\nmachines 3\n"
         status, lines, said = self.changes(FLEET, after)
-        self.assertEqual(lines, ["gone m a TRUE none", "gone m b UNKNOWN none", "new bare a none TRUE", "gone n b UNKNOWN none", "new o b none TRUE"])
+        self.assertEqual(
+            lines,
+            ["gone m a TRUE none", "gone m b UNKNOWN none", "new bare a none TRUE", "gone n b UNKNOWN none", "new o b none TRUE"],
+        )
         self.assertEqual((status, said), (1, ["left out m: no items", "remark n is no machine any more"]))
 
     def test_sides_that_can_not_be_compared(self):

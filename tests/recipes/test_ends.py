@@ -1,5 +1,5 @@
-"""How each recipe ends: where there is no room for what it writes, where a name begins with a hyphen or a page is packed, and where
-there is no file."""
+"""How each recipe ends: where there is no room for what it writes, where a name begins with a hyphen or a page is packed, and
+where there is no file."""
 import gzip
 import shutil
 import subprocess
@@ -74,7 +74,11 @@ class Ends(RecipeCase):
             plain = self.run_in("", name, words)
             packed = self.run_in("", name, [word if word.startswith("--") else f"-{word}.gz" for word in words])
             # (a machine is called as its list is)
-            wanted = plain.stdout.replace("cyclonedx", "-cyclonedx") if words[0] == "--machines" and name == "inventory" else plain.stdout
+            wanted = (
+                plain.stdout.replace("cyclonedx", "-cyclonedx")
+                if words[0] == "--machines" and name == "inventory"
+                else plain.stdout
+            )
             self.assertEqual((packed.returncode, packed.stdout), (plain.returncode, wanted), packed.stderr)
             self.assertGreater(len(plain.stdout), 0)
 
@@ -86,7 +90,9 @@ class Ends(RecipeCase):
                 if not words[place].startswith("--"):
                     ended = self.run_in("", name, [*words[:place], "none", *words[place + 1 :]])
                     self.assertEqual((ended.returncode, ended.stdout), (2, ""), ended.stderr)
-                    self.assertRegex(ended.stderr.splitlines()[-1], r"^\w+\.sh: none: can not be read: No such file or directory$")
+                    self.assertRegex(
+                        ended.stderr.splitlines()[-1], r"^\w+\.sh: none: can not be read: No such file or directory$"
+                    )
 
         self.each(check)
 

@@ -5,20 +5,23 @@ import subprocess
 import time
 import unittest
 
-from recipe_case import CPE, RECIPES, SAMPLES, RecipeCase, fs, needs_cpe
+from recipe_case import CPE, RECIPES, RecipeCase, fs, needs_cpe
 
 from cpe_recipes import fleet
 from cpe_recipes.program import Program
 from cpe_recipes.said import Fatal
-from cpe_recipes.session import Asked, Known, Session
+from cpe_recipes.session import Asked, Session
 
 OPENSSL = fs("openssl", "openssl", "1.1.1t")
-RANGE = {"op": "AND", "of": [{"fact": fs("openssl", "openssl")}, {"check": {"system": "NVD", "href": "cpeMatch", "id": "key \"1\""}}]}
+RANGE = {
+    "op": "AND",
+    "of": [{"fact": fs("openssl", "openssl")}, {"check": {"system": "NVD", "href": "cpeMatch", "id": 'key "1"'}}],
+}
 STATEMENTS = [
     {"do": "statement", "id": "ranged", "test": {"op": "OR", "of": [RANGE]}},
     {"do": "statement", "id": "named", "test": {"op": "OR", "of": [{"fact": OPENSSL}]}},
 ]
-RESULT = {"do": "check", "system": "NVD", "href": "cpeMatch", "id": "key \"1\"", "result": "FALSE"}
+RESULT = {"do": "check", "system": "NVD", "href": "cpeMatch", "id": 'key "1"', "result": "FALSE"}
 
 
 @needs_cpe
@@ -35,7 +38,9 @@ class Sessions(RecipeCase):
         key = 'key "1"'
         self.assertEqual(session.ask(Asked("a", [OPENSSL], [(key, "TRUE")])).lines, ["a ranged TRUE", "a named TRUE"])
         self.assertEqual(session.ask(Asked("b", [OPENSSL])).lines, ["b ranged UNKNOWN", "b named TRUE"])
-        self.assertEqual(session.ask(Asked("c", ["cpe:/a:openssl:openssl:3"], [(key, "FALSE")])).lines, ["c ranged FALSE", "c named FALSE"])
+        self.assertEqual(
+            session.ask(Asked("c", ["cpe:/a:openssl:openssl:3"], [(key, "FALSE")])).lines, ["c ranged FALSE", "c named FALSE"]
+        )
 
     def test_what_is_no_item_is_left_out_of_its_machine(self):
         session = self.session()
@@ -56,7 +61,9 @@ class Sessions(RecipeCase):
         self.assertEqual(told.lines, ["a ranged UNKNOWN", "a named TRUE"])
 
     def test_a_verdict_that_hangs_on_another_name_is_unknown(self):
-        session = self.session([*STATEMENTS, {"do": "statement", "id": "not", "test": {"op": "OR", "negate": True, "of": [{"fact": OPENSSL}]}}])
+        session = self.session(
+            [*STATEMENTS, {"do": "statement", "id": "not", "test": {"op": "OR", "negate": True, "of": [{"fact": OPENSSL}]}}]
+        )
         asked = Asked("a", ["cpe:/a:x:y"], [], [OPENSSL], [('key "1"', "FALSE")])
         self.assertEqual(session.ask(asked).lines, ["a ranged FALSE", "a named UNKNOWN", "a not UNKNOWN"])
         self.assertEqual(session.ask(Asked("b", ["cpe:/a:x:y"])).lines, ["b ranged FALSE", "b named FALSE", "b not TRUE"])
@@ -86,8 +93,10 @@ class Records(RecipeCase):
 
     def test_what_is_no_set_of_records(self):
         self.assertEqual(self.fatal([]), "records: no statements in it")
-        self.assertEqual(self.fatal([*STATEMENTS, {"do": "item", "name": OPENSSL}]),
-            "records line 3: an item stands among the records; items belong to machines")
+        self.assertEqual(
+            self.fatal([*STATEMENTS, {"do": "item", "name": OPENSSL}]),
+            "records line 3: an item stands among the records; items belong to machines",
+        )
 
     def test_results_among_the_records(self):
         drop = {key: text for key, text in RESULT.items() if key != "result"} | {"do": "drop-check"}
@@ -95,7 +104,10 @@ class Records(RecipeCase):
         self.assertEqual(self.read([*STATEMENTS, RESULT, drop]).results, set())
 
     def test_lines_as_the_workers_read_them(self):
-        lines = b'{"do":"entry","name":"cpe:/a:v:p","title":"\\\xff"}\r\n\n' + b'{"do":"statement","id":"s","test":{"op":"OR","of":[{"fact":"cpe:/a"}]}}'
+        lines = (
+            b'{"do":"entry","name":"cpe:/a:v:p","title":"\\\xff"}\r\n\n'
+            + b'{"do":"statement","id":"s","test":{"op":"OR","of":[{"fact":"cpe:/a"}]}}'
+        )
         known = self.read(lines).known
         self.assertEqual(known.lines.count(b"\n"), 3)
         session = Session(CPE, known)
@@ -139,21 +151,45 @@ class Parallel(RecipeCase):
         follow = [{**one, "mode": "follow"} for one in STATEMENTS]
         self.file("records", [*entries, *follow])
         name = fs("openssl", "openssl")
-        ranges = self.file("ranges", [{"do": "advisory", "id": 'key "1"', "name": name, "start": "1.1.1", "end": "1.1.1u", "end-excluded": True}])
+        ranges = self.file(
+            "ranges", [{"do": "advisory", "id": 'key "1"', "name": name, "start": "1.1.1", "end": "1.1.1u", "end-excluded": True}]
+        )
         unlisted = fs("ossl", "openssl", "1.1.1s")
         machines = f"a {old}\nb {fs('openssl', 'openssl', '1.1.1u')}\nc {fs('openssl', 'openssl')}\nd {unlisted}\ne cpe:/a:x\n"
         status, lines, said = self.fleet(machines, "--ranges", ranges)
-        self.assertEqual(lines, ["a ranged TRUE", "a named TRUE", "b ranged FALSE", "b named FALSE", "c ranged UNKNOWN", "c named FALSE",
-            "d ranged UNKNOWN", "d named FALSE", "e ranged FALSE", "e named FALSE", "machines 5"])
-        self.assertEqual(said, [f"left out c: {name} in {name} from 1.1.1, before 1.1.1u: its version isn't known",
-            f"remark not in the dictionary d {unlisted} goes on as openssl:openssl"])
+        self.assertEqual(
+            lines,
+            [
+                "a ranged TRUE",
+                "a named TRUE",
+                "b ranged FALSE",
+                "b named FALSE",
+                "c ranged UNKNOWN",
+                "c named FALSE",
+                "d ranged UNKNOWN",
+                "d named FALSE",
+                "e ranged FALSE",
+                "e named FALSE",
+                "machines 5",
+            ],
+        )
+        self.assertEqual(
+            said,
+            [
+                f"left out c: {name} in {name} from 1.1.1, before 1.1.1u: its version isn't known",
+                f"remark not in the dictionary d {unlisted} goes on as openssl:openssl",
+            ],
+        )
         self.assertEqual(status, 1)
 
     def test_a_result_of_the_records_stays(self):
         self.file("records", [*STATEMENTS, RESULT])
         decided = self.file("decided", 'a\tkey "1"\tTRUE\n')
         machines = f"a {OPENSSL}\nb {OPENSSL}\n"
-        self.assertEqual(self.fleet(machines, "--decided", decided), (0, ["a ranged FALSE", "a named TRUE", "b ranged FALSE", "b named TRUE", "machines 2"], []))
+        self.assertEqual(
+            self.fleet(machines, "--decided", decided),
+            (0, ["a ranged FALSE", "a named TRUE", "b ranged FALSE", "b named TRUE", "machines 2"], []),
+        )
 
     def test_machines_whose_worker_never_ends_are_missing(self):
         bad = self.folder / "bad"
@@ -177,7 +213,9 @@ class Parallel(RecipeCase):
     def test_a_signal_ends_the_workers_and_leaves_no_files(self):
         self.file("machines", f"a {OPENSSL}\n")
         slow = self.folder / "slow"
-        slow.write_text(f'#!/bin/sh\n[ -z "${{PARALLEL_SEQ-}}" ] || {{ echo $$ > "{self.folder}/pid"; exec sleep 60; }}\nexec "{CPE}" "$@"\n')
+        slow.write_text(
+            f'#!/bin/sh\n[ -z "${{PARALLEL_SEQ-}}" ] || {{ echo $$ > "{self.folder}/pid"; exec sleep 60; }}\nexec "{CPE}" "$@"\n'
+        )
         slow.chmod(0o755)
         environment = {**os.environ, "CPE": str(slow), "TMPDIR": str(self.folder)}
         for number in (signal.SIGTERM, signal.SIGINT):

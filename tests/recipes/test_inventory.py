@@ -20,10 +20,19 @@ class Lists(RecipeCase):
         return str(caught.exception)
 
     def test_components_in_components_in_their_order(self):
-        text = """{"bomFormat":"CycloneDX","specVersion":"1.6","metadata":{"component":{"components":[{"bom-ref":"x","cpe":"cpe:/a:x"}]}},
+        text = """{"bomFormat":"CycloneDX","specVersion":"1.6",
+            "metadata":{"component":{"components":[{"bom-ref":"x","cpe":"cpe:/a:x"}]}},
             "components":[{"group":"g","name":"a","components":[{"name":"b","version":"1","cpe":"cpe:/a:b"}]},{"cpe":""}, 7]}"""
-        self.assertEqual(self.items(text), [("x", ITEM % "cpe:/a:x"), ("g a", "no CPE name"), ("b 1", ITEM % "cpe:/a:b"),
-            ("component 4 of list", "no CPE name"), ("component 5 of list", "not of the published form")])
+        self.assertEqual(
+            self.items(text),
+            [
+                ("x", ITEM % "cpe:/a:x"),
+                ("g a", "no CPE name"),
+                ("b 1", ITEM % "cpe:/a:b"),
+                ("component 4 of list", "no CPE name"),
+                ("component 5 of list", "not of the published form"),
+            ],
+        )
 
     def test_components_that_are_nested_deep(self):
         depth = 400
@@ -33,14 +42,23 @@ class Lists(RecipeCase):
     def test_both_types_of_names_of_a_package(self):
         text = """{"spdxVersion":"SPDX-2.2","packages":[{"SPDXID":"p","externalRefs":[
             {"referenceType":"cpe22Type","referenceLocator":"cpe:/a:x"},{"referenceType":"purl","referenceLocator":"pkg:x"},
-            {"referenceType":"http://spdx.org/rdf/references/cpe23Type","referenceLocator":7}]},{"SPDXID":"q"},{"SPDXID":"r","externalRefs":7}]}"""
-        self.assertEqual(self.items(text), [("p", ITEM % "cpe:/a:x"), ("p", '{"do":"item","name":7}'), ("q", "no CPE name"),
-            ("r", "not of the published form")])
+            {"referenceType":"http://spdx.org/rdf/references/cpe23Type","referenceLocator":7}]},
+            {"SPDXID":"q"},{"SPDXID":"r","externalRefs":7}]}"""
+        self.assertEqual(
+            self.items(text),
+            [("p", ITEM % "cpe:/a:x"), ("p", '{"do":"item","name":7}'), ("q", "no CPE name"), ("r", "not of the published form")],
+        )
 
     def test_a_plain_list(self):
         text = "\ufeff# of web-1\r\n\r\n  cpe:/a:x # a comment\r\ncpe:2.3:a:v:c\\#:1:*:*:*:*:*:*:*\r\nopenssl\n"
-        self.assertEqual(self.items(text), [("line 3 of list", ITEM % "cpe:/a:x"),
-            ("line 4 of list", ITEM % "cpe:2.3:a:v:c\\\\#:1:*:*:*:*:*:*:*"), ("line 5 of list", ITEM % "openssl")])
+        self.assertEqual(
+            self.items(text),
+            [
+                ("line 3 of list", ITEM % "cpe:/a:x"),
+                ("line 4 of list", ITEM % "cpe:2.3:a:v:c\\\\#:1:*:*:*:*:*:*:*"),
+                ("line 5 of list", ITEM % "openssl"),
+            ],
+        )
 
     def test_lists_of_another_form_are_named(self):
         forms = {
@@ -77,7 +95,10 @@ class Lists(RecipeCase):
     def test_where_all_items_are_refused_nothing_is_written(self):
         status, lines, said = self.recipe("inventory", self.file("list", "cpe:/a:x%02\n"))
         self.assertEqual((status, lines), (2, []))
-        self.assertEqual(said, ['left out line 1 of list: wildcards: {"do":"item","name":"cpe:/a:x%02"}', "inventory.sh: no item in any of these"])
+        self.assertEqual(
+            said,
+            ['left out line 1 of list: wildcards: {"do":"item","name":"cpe:/a:x%02"}', "inventory.sh: no item in any of these"],
+        )
 
     @needs_cpe
     def test_a_file_whose_name_begins_with_a_hyphen(self):
