@@ -14,6 +14,8 @@ What machines are asked for, cases.py says; all verdicts come from one run of cp
 An item that no entry of the dictionary has leads nowhere, though entries of its product may lead to another product. It is asked
 for under that one too; where the verdict would be another so, it is UNKNOWN.
 
+An item that knows less than an advisory asks for is FALSE, and remarked as `perhaps`; perhaps.py says when.
+
 The status is 0 where every verdict came and nothing was left out, 1 where something was, which is said, and 2 where there is no
 result: then nothing was written, but why.
 """
@@ -21,17 +23,17 @@ from __future__ import annotations
 
 import json
 from collections.abc import Collection, Iterable, Mapping, Sequence
-from dataclasses import dataclass, field
 
 from . import advisories, affected, dictionary, inventory, matches, names, products, suppressed, unlisted, verdicts
 from .cases import Cases, Index, Known, Product, lines_of, verdicts_of
-from .decide import LETTERS, Decided, Decider, Lead, Leads, Lists, decide, leads_of
-from .feeds import FeedFault, Json, Page, name_of, pages, read_feed
+from .decide import LETTERS, Decider, Lead, Leads, Lists, decide, leads_of
+from .feeds import FeedFault, Page, name_of, pages, read_feed
 from .machines import Machine, read_lists, read_machines
+from .outcome import Found, Hanging, json_of, machines_with_verdicts, perhaps, tell_items, tell_perhaps
+from .perhaps import Pairs, facts_of
 from .program import Candidate, Program
 from .progress import Progress
 from .said import Fatal, Output, Said
-from .table import counted
 from .versions import Letters, read_letters
 from .words import FLAG, MANY, ONE, Words, read_words
 
@@ -51,21 +53,6 @@ OPTIONS = {
     "--json": FLAG,
 }
 
-@dataclass
-class Found:
-    """What came of a machine: where its items lead, what is decided of its ranges, the verdicts that were asked for by the
-    places of statements, and why some are UNKNOWN."""
-
-    machine: Machine
-    leads: list[Lead]
-    decided: Decided = field(default_factory=Decided)
-    truths: dict[int, str] = field(default_factory=dict)
-    supposed: dict[int, str] = field(default_factory=dict)
-
-    def has_items(self) -> bool:
-        return bool(self.leads)
-
-
 class Scan:
     """Verdicts of machines over what is known."""
 
@@ -83,9 +70,12 @@ class Scan:
         self._decide(found, supposed, is_all_asked)
         return found
 
-    def refused(self, item: str) -> str | None:
-        """Why a name is no item."""
-        return self._leads.refused.get(item)
+    def tell_items(self, found: Sequence[Found], said: Said) -> None:
+        tell_items(found, self._leads.refused, self.successors, said)
+
+    def pairs(self) -> Pairs:
+        """The facts and items of one vendor and product, of which some perhaps are what is meant."""
+        return Pairs(self._program, facts_of(self._known.records), self._leads, self._known.ranges, self._letters)
 
     def _lead(self, items: Collection[str]) -> None:
         self._progress.step("following names in the dictionary")
@@ -114,7 +104,8 @@ class Scan:
         beside = leads_of(self._program, self._known.entries, other, ()).found if other else {}
         self._progress.step("deciding ranges of versions")
         decider = self._decider([*(lead for one in found for lead in one.leads), *beside.values()])
-        cases = Cases(self._known, Index(self._known, self._leads), is_all_asked)
+        index = Index(self._known, self._leads)
+        cases = Cases(self._known, index, is_all_asked)
         asked = []
         for one, names_of_machine in zip(found, supposed):
             one.decided = decide(one.leads, decider, self._lists)
@@ -125,7 +116,7 @@ class Scan:
         truths = self._ask(cases)
         for one, of_machine in zip(found, asked):
             for numbers, names_of_machine in of_machine:
-                self._put(one, {place: truths[number] for place, number in numbers.items()}, names_of_machine)
+                self._put(one, {place: truths[number] for place, number in numbers.items()}, names_of_machine, index)
             # (what is decided is in the verdicts, and would be much beside them)
             one.decided.truths.clear()
 
@@ -150,48 +141,25 @@ class Scan:
             raise Fatal(f"cpe answered more than was asked: {answer}")
         return truths
 
-    def _put(self, one: Found, truths: dict[int, str], beside: Mapping[str, Lead]) -> None:
+    def _put(self, one: Found, truths: dict[int, str], beside: Mapping[str, Lead], index: Index) -> None:
         """Puts verdicts of a machine. One that is another where items are what their products became is UNKNOWN."""
         if not beside:
             one.truths = truths
             return
-        why = "; ".join(f"{lead.name} is not in the dictionary, and may be {name}" for name, lead in beside.items())
+        by_product: dict[Product, list[str]] = {}
+        for name in beside:
+            by_product.setdefault(names.product_of(name), []).append(name)
         for place, truth in truths.items():
             if truth != one.truths.get(place, self.bare[place]):
                 one.truths[place] = "UNKNOWN"
-                one.supposed[place] = why
+                meant = index.items(place, by_product, tuple(beside)) or beside
+                one.supposed[place] = "; ".join(f"{beside[name].name} is not in the dictionary, and may be {name}" for name in meant)
+
 
 def _renamed(name: str, product: Product) -> str:
     parts = names.components(name)
     parts[names.VENDOR], parts[names.PRODUCT] = product
     return names.joined(parts)
-
-
-class Hanging:
-    """What the UNKNOWNs of the machines hang on."""
-
-    def __init__(self, known: Known, found: Iterable[Found]) -> None:
-        self._known = known
-        self._found = {one.machine.name: one for one in found}
-        self._parts: dict[str, list[int]] = {}
-        for place, statement in enumerate(known.statements):
-            for id in {statement.id, advisories.base_id(statement.id)}:
-                self._parts.setdefault(id, []).append(place)
-
-    def on(self, advisory: str, machine: str | None) -> list[str]:
-        """The reasons, in words, without repeats."""
-        one = self._found[machine or ""]
-        reasons: dict[str, None] = {}
-        for place in self._parts.get(advisory, ()):
-            if place in one.supposed:
-                reasons[one.supposed[place]] = None
-            for key in self._known.statements[place].checks:
-                if key in one.decided.unsure:
-                    unsure = one.decided.unsure[key]
-                    reasons[f"{unsure.end}: {unsure.reason}"] = None
-                elif key in self._known.stand_ins:
-                    reasons[self._known.stand_ins[key]] = None
-        return list(reasons)
 
 
 def read_known(read: Words, asked: Sequence[Machine], program: Program, said: Said, progress: Progress) -> Known:
@@ -251,76 +219,6 @@ def read_asked(read: Words, said: Said) -> list[Machine]:
     return read_lists(read.many("--lists"), lambda feed, data: list(inventory.candidates_of(feed, data)), said)
 
 
-def machines_with_verdicts(known: Known, bare: Sequence[str], found: Iterable[Found]) -> list[verdicts.Machine]:
-    """The machines with what isn't FALSE there, the parts of an advisory joined by OR."""
-    statements = verdicts.Statements([statement.id for statement in known.statements])
-    machines = []
-    for one in found:
-        if not one.has_items():
-            # (no verdict is known of it, so none is counted)
-            machines.append(verdicts.Machine(one.machine.name, has_items=False))
-            continue
-        machine = verdicts.Machine(one.machine.name, statements)
-        for place, truth in enumerate(bare):
-            truth = one.truths.get(place, truth)
-            if truth != "FALSE":
-                machine.put(known.statements[place].id, truth)
-        machines.append(machine)
-    return machines
-
-
-def tell_items(found: Iterable[Found], scan: Scan, said: Said) -> None:
-    """Says of the items what the verdicts don't show: what is none, and what the dictionary doesn't lead on."""
-    strange, where = set(), set()
-    for one in found:
-        name = one.machine.name
-        for item in dict.fromkeys(one.machine.items):
-            reason = scan.refused(item)
-            if reason:
-                said.left_out(name, f"{reason}: {item}")
-        if not one.has_items():
-            said.left_out(name, "no items")
-        for lead in one.leads:
-            goes_on = scan.successors.get(names.product_of(lead.name))
-            if lead.is_entry and not lead.ends:
-                said.remark(f"under a removed name {name} {lead.name}")
-            elif not lead.is_entry and goes_on:
-                said.remark(f"not in the dictionary {name} {lead.name} goes on as {' '.join(map(':'.join, goes_on))}")
-            elif not lead.is_entry:
-                strange.add(lead.name)
-                where.add(name)
-    if strange:
-        items, machines = counted(len(strange), "item"), counted(len(where), "machine")
-        said.remark(f"not in the dictionary: {items}, on {machines}; unlisted.sh lists them")
-
-
-def json_of(known: Known, found: Sequence[Found], machines: Sequence[verdicts.Machine], about: affected.About) -> dict[str, Json]:
-    """The result as one value. Verdicts that are FALSE aren't listed."""
-    rows: list[Json] = []
-    for one, machine in zip(found, machines):
-        row: dict[str, Json] = {"name": machine.name, "items": len(one.leads)}
-        if machine.has_items:
-            row["verdicts"] = [_verdict_json(id, truth, machine, about) for id, truth in _in_order(machine, about)]
-            row["notInDictionary"] = [lead.name for lead in one.leads if not lead.is_entry]
-            row["underRemovedName"] = [lead.name for lead in one.leads if lead.is_entry and not lead.ends]
-        rows.append(row)
-    return {"advisories": len(verdicts.Statements([statement.id for statement in known.statements]).advisories), "machines": rows}
-
-
-def _in_order(machine: verdicts.Machine, about: affected.About) -> list[tuple[str, str]]:
-    """What isn't FALSE, in the order of the table."""
-    return sorted(machine.shown.items(), key=lambda row: (verdicts.TRUTHS.index(row[1]), -about.score(row[0])))
-
-
-def _verdict_json(id: str, truth: str, machine: verdicts.Machine, about: affected.About) -> dict[str, Json]:
-    known = {key: value for key, value in about.details.get(id, {}).items() if key != "id"}
-    row = {"id": id, "verdict": truth, **known}
-    if truth == "UNKNOWN":
-        row["hangsOn"] = about.hanging.on(id, machine.name)
-    reason = about.suppressed.reason(id, machine.name)
-    return row if reason is None else {**row, "accepted": reason}
-
-
 def run(words: Sequence[str]) -> int:
     read = read_words(words, OPTIONS, USAGE)
     one_of = [("--dictionary", "--records"), ("--advisories",), ("--machines", "--lists")]
@@ -346,11 +244,13 @@ def _result(read: Words, program: Program, said: Said, progress: Progress) -> li
     lists = Lists(program, matches.listed(feed, known.ranges.keys(), said))
     scan = Scan(program, known, lists, letters, progress)
     found = scan.machines(asked)
-    tell_items(found, scan, said)
+    scan.tell_items(found, said)
     machines = machines_with_verdicts(known, scan.bare, found)
     about = affected.About(known.details, accepted, Hanging(known, found))
+    rows = perhaps(scan.pairs(), found, machines)
+    tell_perhaps(rows, said)
     if read.has("--json"):
-        lines = [json.dumps(json_of(known, found, machines, about), ensure_ascii=False, indent=1)]
+        lines = [json.dumps(json_of(known, found, machines, about, rows), ensure_ascii=False, indent=1)]
     else:
         lines = list(affected.table_of(verdicts.Verdicts(machines), about))
     accepted.tell_unused(said)

@@ -21,7 +21,8 @@ from cpe_recipes.machines import Machine  # noqa: E402
 from cpe_recipes.program import Program  # noqa: E402
 from cpe_recipes.progress import Progress  # noqa: E402
 from cpe_recipes.said import Fatal, Said  # noqa: E402
-from cpe_recipes.scan import Scan, json_of, machines_with_verdicts, tell_items  # noqa: E402
+from cpe_recipes.outcome import Hanging, json_of, machines_with_verdicts, perhaps, tell_perhaps  # noqa: E402
+from cpe_recipes.scan import Scan  # noqa: E402
 from cpe_recipes.suppressed import Accepted, Suppressed  # noqa: E402
 from cpe_recipes.versions import Letters  # noqa: E402
 
@@ -132,7 +133,7 @@ class Verdicts(unittest.TestCase):
         machines = [Machine("old", [name("v", "p", "1.5")]), Machine("new", [name("v", "p", "2.0")]), Machine("odd", [name("v", "p", "1.0b")])]
         made, found = scanned(known, machines)
         self.assertEqual([truths(known, made, it)["CVE-1"] for it in found], ["TRUE", "FALSE", "UNKNOWN"])
-        self.assertEqual(scan.Hanging(known, found).on("CVE-1", "odd"), [f"{name('v', 'p', '1.0b')}: a letter decides between 1.0b and 1.0"])
+        self.assertEqual(Hanging(known, found).on("CVE-1", "odd"), [f"{name('v', 'p', '1.0b')}: a letter decides between 1.0b and 1.0"])
         made, found = scanned(known, machines, {"KEY": [name("v", "p", "1.0b")]})
         self.assertEqual([truths(known, made, it)["CVE-1"] for it in found], ["TRUE", "FALSE", "TRUE"])
 
@@ -158,9 +159,9 @@ class Verdicts(unittest.TestCase):
         made, found = scanned(known, machines)
         self.assertEqual([truths(known, made, it)["CVE-1"] for it in found], ["TRUE", "UNKNOWN", "FALSE"])
         why = f"{name('redislabs', 'redis', '6.1')} is not in the dictionary, and may be {name('redis', 'redis', '6.1')}"
-        self.assertEqual(scan.Hanging(known, found).on("CVE-1", "not"), [why])
+        self.assertEqual(Hanging(known, found).on("CVE-1", "not"), [why])
         said = Heard()
-        tell_items(found, made, said)
+        made.tell_items(found, said)
         self.assertEqual(said.told, [f"remark not in the dictionary {it.machine.name} {it.leads[0].name} goes on as redis:redis" for it in found[1:]])
 
     def test_what_a_dictionary_or_a_name_hides_is_told(self):
@@ -169,7 +170,7 @@ class Verdicts(unittest.TestCase):
         items = [gone, "cpe:/a:v:p:1.%02", name("v", "p", "1.0"), "cpe:/a:v:p:1.0"]
         made, found = scanned(known, [Machine("a", items), Machine("bare"), Machine("bad", ["cpe:/x"])])
         said = Heard()
-        tell_items(found, made, said)
+        made.tell_items(found, said)
         wanted = [
             "left out a: wildcards: cpe:/a:v:p:1.%02",
             f"remark under a removed name a {gone}",
@@ -185,10 +186,11 @@ class Verdicts(unittest.TestCase):
         known = self.known(statement("CVE-1", {"fact": name("v", "p")}, negate=True))
         made, found = scanned(known, [Machine("bare"), Machine("a", [name("v", "q", "1.0")])])
         machines = machines_with_verdicts(known, made.bare, found)
-        about = affected.About({}, Suppressed([]), scan.Hanging(known, found))
-        rows = json_of(known, found, machines, about)["machines"]
+        about = affected.About({}, Suppressed([]), Hanging(known, found))
+        rows = json_of(known, found, machines, about, [])["machines"]
         self.assertEqual(rows[0], {"name": "bare", "items": 0})
         self.assertEqual(rows[1]["verdicts"], [{"id": "CVE-1", "verdict": "TRUE"}])
+        self.assertEqual((rows[1]["perhaps"], rows[1]["notInDictionary"]), ([], [name("v", "q", "1.0")]))
         table = "\n".join(affected.table_of(affected.Verdicts(machines), about))
         self.assertIn("bare              no items", table)
         self.assertIn("2 machines, 1 without items: 1 TRUE, 0 ERROR, 0 UNKNOWN, 0 FALSE", table)
@@ -197,18 +199,32 @@ class Verdicts(unittest.TestCase):
         known = self.known(statement("CVE-1", {"fact": name("v", "p")}), details={"CVE-1": {"id": "CVE-1", "score": 7.5, "title": "A title"}})
         made, found = scanned(known, [Machine("a", [name("v", "p", "1.0")])])
         machines = machines_with_verdicts(known, made.bare, found)
-        about = affected.About(known.details, Suppressed([Accepted("it line 1", "CVE-1", "*", "not reachable")]), scan.Hanging(known, found))
-        row = json_of(known, found, machines, about)["machines"][0]["verdicts"][0]
+        about = affected.About(known.details, Suppressed([Accepted("it line 1", "CVE-1", "*", "not reachable")]), Hanging(known, found))
+        row = json_of(known, found, machines, about, [])["machines"][0]["verdicts"][0]
         self.assertEqual(row, {"id": "CVE-1", "verdict": "TRUE", "score": 7.5, "title": "A title", "accepted": "not reachable"})
         table = list(affected.table_of(affected.Verdicts(machines), about))
         self.assertIn("accepted a CVE-1 TRUE: not reachable", table)
+
+    def test_an_item_that_knows_less_is_told_where_the_verdict_is_false(self):
+        known = self.known(statement("CVE-1", {"fact": name("v", "p", "1.0")}), statement("CVE-2", {"fact": name("v", "p")}, {"fact": name("v", "p", "2.0")}))
+        made, found = scanned(known, [Machine("a machine", [name("v", "p")]), Machine("b", [name("v", "q", "1.0")])])
+        machines = machines_with_verdicts(known, made.bare, found)
+        rows = perhaps(made.pairs(), found, machines)
+        self.assertEqual(rows, [("a machine", "CVE-1", name("v", "p"), name("v", "p", "1.0"))])
+        about = affected.About({}, Suppressed([]), Hanging(known, found))
+        row = json_of(known, found, machines, about, rows)["machines"][0]
+        self.assertEqual(row["perhaps"], [{"id": "CVE-1", "item": name("v", "p"), "fact": name("v", "p", "1.0")}])
+        said = Heard()
+        tell_perhaps(rows * 30, said)
+        self.assertEqual(said.told[:20], [f"remark perhaps a machine CVE-1 {name('v', 'p')} {name('v', 'p', '1.0')}"] * 20)
+        self.assertEqual(said.told[20:], ["remark perhaps: 10 more, which --json and perhaps.sh list"])
 
     def test_a_check_that_stays_open_is_what_an_unknown_hangs_on(self):
         check = {"check": {"system": "NVD", "href": "cpeMatch", "id": "BAD"}}
         known = self.known(statement("CVE-1", check, {"fact": name("v", "p")}), stand_ins={"BAD": "name name 9: cpe:2.3:bad"})
         made, found = scanned(known, [Machine("a", [name("v", "q", "1.0")])])
         self.assertEqual(truths(known, made, found[0]), {"CVE-1": "UNKNOWN"})
-        self.assertEqual(scan.Hanging(known, found).on("CVE-1", "a"), ["name name 9: cpe:2.3:bad"])
+        self.assertEqual(Hanging(known, found).on("CVE-1", "a"), ["name name 9: cpe:2.3:bad"])
 
 
 @unittest.skipUnless(os.environ.get("CPE"), "CPE names no program")
