@@ -1,12 +1,10 @@
 #!/bin/sh
 # The whole way, from what NVD and the makers of software lists publish to the advisories that concern this inventory:
-# sh whole-way.sh DICTIONARY.json ADVISORIES.json INVENTORY.json. The status is 1 where something was left out, which is said.
-here=$(dirname "$0") status=0
-records=$(mktemp) || exit 2
-trap 'rm -f "$records"' EXIT
-left_out() { [ $? = 1 ] && status=1 || exit 2; }
-sh "$here/dictionary.sh" "$1" >> "$records" || left_out
-sh "$here/advisories.sh" "$2" >> "$records" || left_out
-sh "$here/inventory.sh" "$3" >> "$records" || left_out
-"${CPE:-cpe}" evaluate < "$records" | sh "$here/affected.sh" || left_out
-exit "$status"
+# sh whole-way.sh DICTIONARY ADVISORIES INVENTORY [MATCHES]. It is scan.py over one machine, whose ranges of versions are decided.
+# The status is 1 where something was left out, which is said, and 2 where there is no result.
+case $# in
+3 | 4) ;;
+*) echo 'usage: whole-way.sh DICTIONARY ADVISORIES INVENTORY [MATCHES]' >&2; exit 2 ;;
+esac
+command -v python3 > /dev/null || { echo "$0: there is no python3" >&2; exit 2; }
+exec python3 -B "$(dirname -- "$0")/scan.py" --dictionary "$1" --advisories "$2" --lists "$3" ${4:+--matches "$4"}

@@ -1,5 +1,6 @@
 #!/bin/sh
-# Checks of the recipes, each over its sample, over bad feeds, and where a worker dies: sh tests/recipe-checks.sh [PROGRAM].
+# Checks of the short recipes, each over its sample, over bad feeds, and where a worker dies: sh tests/recipe-checks.sh [PROGRAM].
+# (tests/scan-checks.sh has the whole way, and the unit tests.)
 . "$(dirname "$0")/checks.sh"
 
 CPE=$program
@@ -16,7 +17,7 @@ recipe() {
 
 # converts NAME SAMPLE: a recipe on its sample, in which there are odd records.
 converts() {
-    needs "the recipe $1 on $2" jq awk mktemp || return
+    needs "the recipe $1 on $2" python3 || return
     recipe "the recipe $1 on $2" 1 "$samples/$2.jsonl" "$samples/$2.said" sh "recipes/$1.sh" "$samples/$2.json"
     # (each record is accepted; the deprecations and statements of a dictionary need its entries alone)
     limited "$program" resolve < "$room/out" > "$room/refused" 2> "$room/error"
@@ -39,79 +40,112 @@ says() {
     fi
 }
 
-# refuses_feeds NAME SAMPLE EMPTY: bad feeds, alone and beside a good one; EMPTY is a right feed with nothing in it.
+# refuses_feeds NAME SAMPLE EMPTY STATUS SAID: bad feeds, alone and beside a good one. EMPTY is a right feed with nothing in it,
+# for which the status and the front of what is said are these.
 refuses_feeds() {
-    needs "bad feeds: $1" jq awk mktemp wc || return
+    needs "bad feeds: $1" python3 wc || return
     : > "$room/no-bytes.json"
     printf '%s' "$3" > "$room/no-records.json"
     printf '<html>too many requests</html>\n' > "$room/page.json"
     head -c 700 "$samples/$2.json" > "$room/torn.json"
     printf '[]\n' > "$room/array.json"
     printf '{"products":7,"vulnerabilities":7,"bomFormat":"CycloneDX","components":7}' > "$room/list.json"
-    says "a feed without records: $1" 0 'no-records.json: no ' "$1" "$room/no-records.json"
-    says "a feed without bytes: $1" 1 'left out no-bytes.json: no JSON: it is empty' "$1" "$room/no-bytes.json"
-    says "a feed that is no JSON: $1" 1 'left out page.json: no JSON: ' "$1" "$room/page.json"
-    says "a feed that is torn off: $1" 1 'left out torn.json: no JSON: ' "$1" "$room/torn.json"
-    says "a feed of another kind: $1" 1 'left out array.json: n' "$1" "$room/array.json"
-    says "a feed whose list is none: $1" 1 'left out list.json: n' "$1" "$room/list.json"
-    says "a feed that isn't there: $1" 1 'left out none.json: can not be read' "$1" "$room/none.json"
-    { echo 'left out no-bytes.json: no JSON: it is empty'; cat "$samples/$2.said"; } > "$room/wanted.said"
-    recipe "a good feed beside a bad one: $1" 1 "$samples/$2.jsonl" "$room/wanted.said" \
-        sh "recipes/$1.sh" "$room/no-bytes.json" "$samples/$2.json"
-    what="a recipe where there is no program: $1"
-    limited env CPE="$room/none" sh "recipes/$1.sh" "$samples/$2.json" > "$room/out" 2> "$room/said"
+    says "a feed without records: $1" "$4" "$5" "$1" "$room/no-records.json"
+    for bad in no-bytes page torn array list none; do
+        says "a feed that can't be read, $bad: $1" 2 "$1.sh: $bad.json: " "$1" "$room/$bad.json"
+    done
+    limited sh "recipes/$1.sh" "$room/torn.json" "$samples/$2.json" > "$room/out" 2> "$room/said" < /dev/null
     status=$?
-    : > "$room/error"
-    judge "$what" "$status" 2 /dev/null
+    grep -v '^left out torn.json: ' "$room/said" > "$room/error"
+    judge "a good feed beside a bad one: $1" "$status" 1 "$samples/$2.jsonl" "$samples/$2.said"
+    gzip -c "$samples/$2.json" > "$room/$2.json.gz"
+    sed "s/\\.json\$/&.gz/; s/$2.json: /$2.json.gz: /" "$samples/$2.said" > "$room/wanted.said"
+    recipe "a feed that gzip packed: $1" 1 "$samples/$2.jsonl" "$room/wanted.said" sh "recipes/$1.sh" "$room/$2.json.gz"
+    limited env CPE="$room/none" sh "recipes/$1.sh" "$samples/$2.json" > "$room/out" 2> "$room/error"
+    status=$?
+    echo "$1.sh: there is no $room/none" > "$room/wanted.said"
+    judge "a recipe where there is no program: $1" "$status" 2 /dev/null "$room/wanted.said"
 }
 
-# The samples together, which the table of the whole way has.
-goes_the_whole_way() {
-    what='the whole way'
-    needs "$what" jq awk mktemp || return
-    cat "$samples/dictionary.said" "$samples/advisories.said" "$samples/cyclonedx.said" > "$room/wanted.said"
-    recipe "$what" 1 "$samples/affected.out" "$room/wanted.said" \
-        sh recipes/whole-way.sh "$samples/dictionary.json" "$samples/advisories.json" "$samples/cyclonedx.json"
+# affected WHAT STATUS OUTPUT SAID WORD..: a table for people.
+affected() {
+    what=$1 wanted_status=$2 wanted=$3 said=$4
+    shift 4
+    recipe "a table for people$what" "$wanted_status" "$wanted" "$said" sh recipes/affected.sh "$@"
 }
 
 makes_tables() {
-    needs 'a table for people' awk || return
-    echo "$(grep -c '^refused ' examples/inventory.out) lines refused" > "$room/wanted.said"
-    recipe 'a table for people' 1 "$samples/table.out" "$room/wanted.said" sh recipes/affected.sh examples/inventory.out
-    echo 'no whole table of verdicts: cpe evaluate has not come to its end' > "$room/wanted.said"
+    needs 'a table for people' python3 || return
+    echo "left out the records: $(grep -c '^refused ' examples/inventory.out) lines refused" > "$room/wanted.said"
+    affected '' 1 "$samples/table.out" "$room/wanted.said" examples/inventory.out
     sed '$d' examples/inventory.out > "$room/torn.out"
-    recipe 'a table for people, of a run that was torn off' 2 /dev/null "$room/wanted.said" sh recipes/affected.sh "$room/torn.out"
-    recipe 'a table for people, of a run that wrote nothing' 2 /dev/null "$room/wanted.said" sh recipes/affected.sh /dev/null
+    echo 'affected.sh: torn.out: no whole table of verdicts: there are 2 of 3 verdicts' > "$room/wanted.said"
+    affected ', of a run that was torn off' 2 /dev/null "$room/wanted.said" "$room/torn.out"
+    sed '$d' "$samples/machines.out" > "$room/torn.out"
+    echo 'affected.sh: torn.out: no whole table of verdicts: cpe evaluate, or a fleet, has not come to its end' > "$room/wanted.said"
+    affected ', of a fleet that was torn off' 2 /dev/null "$room/wanted.said" "$room/torn.out"
     sed -n '/^verdicts /,$p' examples/inventory.out > "$room/unrefused.out"
-    recipe 'a table for people, of a run without refused lines' 0 "$samples/table.out" /dev/null sh recipes/affected.sh "$room/unrefused.out"
+    affected ', of a run without refused lines' 0 "$samples/table.out" /dev/null "$room/unrefused.out"
+    sh recipes/advisories.sh --ranges "$room/ranges" --details "$room/details" "$samples/advisories.json" \
+        > "$room/statements" 2> /dev/null
+    affected ', of machines, with all that is known' 1 "$samples/machines.table" "$samples/machines.table.said" \
+        --details "$room/details" --suppress "$samples/suppress.txt" --records "$room/statements" --ranges "$room/ranges" \
+        "$samples/machines.out"
 }
 
-# A program in room that is cpe, but once it reads the front of its input and then kills what runs it, a shell or a worker of
-# Dask, and once itself. (The same piece may be the one that is hit twice, and a third time it would be given up.)
+compares_runs() {
+    what='what changed between two runs of a fleet'
+    needs "$what" python3 || return
+    sed 's/^web-1 CVE-2024-99003 UNKNOWN/web-1 CVE-2024-99003 TRUE/; s/^desk-1 CVE-2024-99007 TRUE/desk-1 CVE-2024-99007 FALSE/' \
+        "$samples/machines.out" > "$room/after.out"
+    printf '%s\n' 'changed web-1 CVE-2024-99003 UNKNOWN TRUE' 'gone desk-1 CVE-2024-99007 TRUE FALSE' > "$room/wanted"
+    echo 'left out bare: no items' > "$room/wanted.said"
+    recipe "$what" 1 "$room/wanted" "$room/wanted.said" sh recipes/changes.sh "$samples/machines.out" "$room/after.out"
+}
+
+# What is shown beside the verdicts, over the samples of ranges.
+lists_items() {
+    needs 'what is shown beside the verdicts' python3 grep || return
+    makes_ranges
+    recipe 'items that no entry of the dictionary has' 0 "$samples/unlisted.out" /dev/null \
+        sh recipes/unlisted.sh "$room/ranged" "$room/ranged.txt"
+    recipe 'items that perhaps are what an advisory names' 0 "$samples/perhaps.out" /dev/null \
+        sh recipes/perhaps.sh "$room/ranged" "$samples/vague.txt" --ranges "$room/ranges"
+    grep '^edge-1 ' "$room/ranged.txt" > "$room/edge.txt"
+    limited sh recipes/products.sh --machines "$room/edge.txt" --records "$room/ranged" "$samples/ranges/advisories.json" \
+        > "$room/cut.json" 2> "$room/error"
+    status=$?
+    grep -o '"id":"CVE-[0-9-]*"' "$room/cut.json" > "$room/out"
+    judge 'advisories of the products of a machine' "$status" 0 "$samples/products.out" "$samples/products.said"
+}
+
+# A program in room that is cpe, but once it reads the front of its input and then kills what runs it, a worker, and once itself.
+# (The same piece may be the one that is hit twice, and a third time it would be given up.) What a fleet asks before its workers
+# begin has no statements, and is left in peace.
 killing() {
     rm -rf "$room/killed."*
     {
         printf '#!/bin/sh\nprogram=%s room=%s\n' "'$program'" "'$room'"
         cat <<'END'
-front() {
-    n=0
-    while [ $n -lt 25 ] && IFS= read -r line; do
-        printf '%s\n' "$line"
-        n=$((n + 1))
-    done
-}
-case $1 in
-resolve | unbind)
+case $1 in resolve | unbind) ;; *) exec "$program" "$@" ;; esac
+n=0 front=''
+while [ $n -lt 25 ] && IFS= read -r line; do
+    front="$front$line
+"
+    n=$((n + 1))
+done
+case $1$front in
+unbind* | *'"do":"statement"'*)
     if mkdir "$room/killed.above" 2> /dev/null; then
-        { front; kill -9 $PPID; } | "$program" "$@"
+        { printf '%s' "$front"; kill -9 $PPID; } | "$program" "$@"
         exit 1
     fi
     if mkdir "$room/killed.itself" 2> /dev/null; then
-        { front; kill -9 $$; } | "$program" "$@"
+        { printf '%s' "$front"; kill -9 $$; } | "$program" "$@"
     fi
     ;;
 esac
-exec "$program" "$@"
+{ printf '%s' "$front"; cat; } | "$program" "$@"
 END
     } > "$room/killing"
     chmod +x "$room/killing"
@@ -125,7 +159,7 @@ killed() {
 # The words without state: order, numbers of refused lines and statuses are those of one run.
 goes_over_lines() {
     what='the words without state over GNU parallel'
-    needs "$what" parallel split awk mktemp || return
+    needs "$what" parallel python3 || return
     for times in 1 2 3 4 5 6 7 8; do awk 1 examples/mixed.txt; done > "$room/lines"
     limited "$program" unbind < "$room/lines" > "$room/wanted"
     limited env PIECE=30 WORKERS=4 sh recipes/fleet/lines.sh unbind < "$room/lines" > "$room/out" 2> "$room/error"
@@ -144,44 +178,89 @@ goes_over_lines() {
     judge "$what: a piece that never comes to its end" $? 5 /dev/null
 }
 
+# The records, machines and ranges of the samples of ranges, as the recipes make them.
+makes_ranges() {
+    of=$samples/ranges
+    sh recipes/inventory.sh --machines "$of"/*.cdx.json "$of"/*.spdx.json "$of"/*-?.txt > "$room/ranged.txt" 2> /dev/null
+    sh recipes/dictionary.sh "$of/dictionary.json" > "$room/ranged" 2> /dev/null
+    sh recipes/advisories.sh --ranges "$room/ranges" "$of/advisories.json" >> "$room/ranged" 2> /dev/null
+}
+
+# items NAME..: records of these items. (A name stands in them as a text of JSON.)
+items() {
+    for item in "$@"; do printf '%s\n' "$item"; done | sed 's/[\"]/\\&/g; s/.*/{"do":"item","name":"&"}/'
+}
+
+# What is decided of them, and what cpe evaluate says of each machine with that.
+evaluates_ranges() {
+    makes_ranges
+    python3 -B recipes/decide.py --ranges "$room/ranges" --records "$room/ranged" --machines "$room/ranged.txt" \
+        --matches "$samples/ranges/matches.json" > "$room/decided" 2> "$room/ranged.said"
+    tab=$(printf '\t')
+    while read -r machine items; do
+        {
+            cat "$room/ranged"
+            # shellcheck disable=SC2086 # names, and no spaces in them
+            items $items
+            sed -n "s/^$machine$tab\(.*\)$tab\(.*\)/{\"do\":\"check\",\"system\":\"NVD\",\"href\":\"cpeMatch\",\"id\":\"\1\",\"result\":\"\2\"}/p" \
+                "$room/decided"
+        } | limited "$program" evaluate | sed -n "s/^verdict /$machine /p"
+    done < "$room/ranged.txt" > "$room/ranged.out"
+    echo "machines $(grep -c . "$room/ranged.txt")" >> "$room/ranged.out"
+    # (a fleet asks for redislabs:redis under the name that the product has now, and then knows less)
+    sed 's/^desk-1 CVE-2024-98003 FALSE/desk-1 CVE-2024-98003 UNKNOWN/' "$room/ranged.out" > "$room/changed.out"
+    mv "$room/changed.out" "$room/ranged.out"
+    redis='desk-1 cpe:2.3:a:redislabs:redis:6.2.5:*:*:*:*:*:*:*'
+    echo "remark not in the dictionary $redis goes on as redis:redis" >> "$room/ranged.said"
+    sort -o "$room/ranged.said" "$room/ranged.said"
+}
+
 # The fleet, against cpe evaluate machine by machine.
 makes_fleet() {
     cat "$samples/dictionary.jsonl" "$samples/advisories.jsonl" > "$room/records"
     while read -r machine items; do
         [ -n "$machine" ] || continue
-        for item in $items; do jq -cn --arg name "$item" '{do: "item", $name}'; done |
-            cat "$room/records" - | limited "$program" evaluate |
-            awk -v machine="$machine" 'is_table { print machine, $2, $3 } /^verdicts / { is_table = 1 }'
+        [ -n "$items" ] || { echo "$machine no items"; continue; }
+        # shellcheck disable=SC2086 # names, and no spaces in them
+        items $items | cat "$room/records" - | limited "$program" evaluate | sed -n "s/^verdict /$machine /p"
     done < "$samples/machines.txt" > "$room/evaluated"
+    echo "machines $(grep -c . "$samples/machines.txt")" >> "$room/evaluated"
 }
 
 checks_fleet() {
     what='the fleet of the sample is what cpe evaluate says of each machine'
-    needs "$what" jq awk || return
+    needs "$what" cat || return
     makes_fleet
     cp "$room/evaluated" "$room/out"
     : > "$room/error"
     judge "$what" 0 0 "$samples/machines.out"
 }
 
-# fleet WHAT COMMAND..: the machines of the sample, once quietly, and once where workers are killed.
+# fleet WHAT COMMAND..: the machines of the sample, once quietly, and once where workers are killed; and those of the ranges.
 fleet() {
     fleet=$1
     shift
-    recipe "$fleet" 1 "$samples/machines.out" "$samples/machines.said" "$@"
+    recipe "$fleet" 1 "$samples/machines.out" "$samples/machines.said" "$@" "$room/records" "$samples/machines.txt"
     killing
-    limited env CPE="$room/killing" "$@" > "$room/out" 2> "$room/said" < /dev/null
+    limited env CPE="$room/killing" "$@" "$room/records" "$samples/machines.txt" > "$room/out" 2> "$room/said" < /dev/null
     status=$?
     # (an engine may say on its own that a worker is gone)
     grep '^left out ' "$room/said" > "$room/error"
     judge "$fleet: workers that are killed lose nothing" "$status" 1 "$samples/machines.out" "$samples/machines.said"
     killed "$fleet"
+    limited "$@" "$room/ranged" "$room/ranged.txt" --ranges "$room/ranges" --matches "$samples/ranges/matches.json" \
+        > "$room/out" 2> "$room/said" < /dev/null
+    status=$?
+    sort "$room/said" > "$room/error"
+    judge "$fleet: ranges are decided" "$status" 1 "$room/ranged.out" "$room/ranged.said"
 }
 
 goes_over_a_fleet() {
     cat "$samples/dictionary.jsonl" "$samples/advisories.jsonl" > "$room/records"
-    if needs 'a fleet over GNU parallel' parallel split awk mktemp; then
-        fleet 'a fleet over GNU parallel' env WORKERS=2 sh recipes/fleet/parallel.sh "$room/records" "$samples/machines.txt"
+    needs 'a fleet' python3 || return
+    evaluates_ranges
+    if needs 'a fleet over GNU parallel' parallel; then
+        fleet 'a fleet over GNU parallel' env WORKERS=2 sh recipes/fleet/parallel.sh
     fi
     for python in python3 /usr/bin/python3 ''; do
         if [ -n "$python" ] && "$python" -c 'import distributed' 2> /dev/null; then break; fi
@@ -189,7 +268,18 @@ goes_over_a_fleet() {
     if [ -z "$python" ]; then
         skip 'a fleet over Dask' 'no python3 has the module distributed'
     else
-        fleet 'a fleet over Dask' "$python" recipes/fleet/dask_fleet.py "$room/records" "$samples/machines.txt" --workers 2 --block 2
+        fleet 'a fleet over Dask' "$python" -B recipes/fleet/dask_fleet.py --workers 2 --block 2
+    fi
+}
+
+# (what is shown of more machines needs what was made above it)
+answers_readme() {
+    what="the sessions of the recipes' README"
+    needs "$what" python3 || return
+    if needs "$what, of more machines" parallel; then
+        answers_sessions "$what" < recipes/README.md
+    else
+        sed '/^## More than one machine/,$d' recipes/README.md | answers_sessions "$what"
     fi
 }
 
@@ -198,12 +288,15 @@ converts dictionary matches
 converts advisories advisories
 converts inventory cyclonedx
 converts inventory spdx
-refuses_feeds dictionary dictionary '{"resultsPerPage":0,"startIndex":0,"totalResults":0,"format":"NVD_CPE","version":"2.0","products":[]}'
-refuses_feeds advisories advisories '{"resultsPerPage":0,"startIndex":0,"totalResults":0,"format":"NVD_CVE","version":"2.0","vulnerabilities":[]}'
-refuses_feeds inventory spdx '{"spdxVersion":"SPDX-2.3","packages":[]}'
-goes_the_whole_way
-needs "the sessions of the recipes' README" jq awk && answers_sessions "the sessions of the recipes' README" < recipes/README.md
+refuses_feeds dictionary dictionary '{"resultsPerPage":0,"startIndex":0,"totalResults":0,"format":"NVD_CPE","version":"2.0","products":[]}' \
+    2 'dictionary.sh: no-records.json: no products'
+refuses_feeds advisories advisories '{"resultsPerPage":0,"startIndex":0,"totalResults":0,"format":"NVD_CVE","version":"2.0","vulnerabilities":[]}' \
+    0 'remark no-records.json: no vulnerabilities'
+refuses_feeds inventory spdx '{"spdxVersion":"SPDX-2.3","packages":[]}' 2 'inventory.sh: no-records.json: no item'
+answers_readme
 makes_tables
+compares_runs
+lists_items
 goes_over_lines
 checks_fleet
 goes_over_a_fleet

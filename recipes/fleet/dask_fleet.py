@@ -1,216 +1,143 @@
 #!/usr/bin/python3
 """An inventory of many machines over the workers of a Dask cluster.
 
-    python3 dask_fleet.py RECORDS MACHINES [--workers N]            workers on this machine
-    python3 dask_fleet.py RECORDS MACHINES --scheduler tcp://..     those of a cluster elsewhere
+    python3 dask_fleet.py RECORDS MACHINES [OPTION..] [--workers N] [--block N]     workers on this machine
+    python3 dask_fleet.py RECORDS MACHINES [OPTION..] --scheduler tcp://..          those of a cluster elsewhere
 
-The input, the output and the status are those of parallel.sh. The records go to the workers by themselves, and `cpe` must be
-on their path (or be given with --cpe). Each worker reads the records once, and then takes machine after machine: it puts the
-items, asks for the verdict of each statement, and drops the items again. Machines whose worker dies go to another one.
+The input, the other options, the output and the status are those of parallel.sh. The records go to the workers by themselves,
+and `cpe` must be on their path (or be given with --cpe). Each worker reads the records once, and then takes machine after
+machine. Machines whose worker dies go to another one.
 """
-import argparse
+from __future__ import annotations
+
+import contextlib
 import hashlib
 import logging
 import os
-import queue
-import subprocess
 import sys
-import tempfile
 import threading
 import warnings
+import zipfile
+from collections.abc import Iterator
+from pathlib import Path
 
-from distributed import Client, LocalCluster, get_worker, wait
+_RECIPES = Path(__file__).resolve().parent.parent
+sys.path.insert(0, str(_RECIPES))
+sys.dont_write_bytecode = True  # (run.py says why)
 
+from cpe_recipes import fleet, said, session  # noqa: E402
+from cpe_recipes.program import Program  # noqa: E402
+from cpe_recipes.words import ONE, Words, read_words  # noqa: E402
 
-class Records:
-    """What every worker knows: the lines, how many answers they have, and the statements."""
+try:
+    from distributed import Client, LocalCluster, get_worker, wait
+    from distributed.diagnostics.plugin import UploadFile
+except ImportError:
+    print("dask_fleet.py: this python3 has no module distributed", file=sys.stderr)
+    sys.exit(said.NO_RESULT)
 
-    def __init__(self, cpe, lines, answers, statements):
-        self.cpe, self.lines, self.answers, self.statements = cpe, lines, answers, statements
-        self.key = hashlib.sha256(lines).hexdigest()
-
-
-class Session:
-    """A run of cpe that has read the records."""
-
-    def __init__(self, records):
-        self.key = records.key
-        self.statements = len(records.statements)
-        self.ask = b"".join(b'{"do":"verdict","id":%s}\n' % text(one) for one in records.statements)
-        self.run = subprocess.Popen([records.cpe, "resolve"], stdin=subprocess.PIPE, stdout=subprocess.PIPE)
-        # (who writes to a pipe and doesn't read from the other one may wait for ever, so another thread writes)
-        self.to_write = queue.SimpleQueue()
-        threading.Thread(target=self.write, daemon=True).start()
-        self.last = records.lines.count(b"\n")
-        self.to_write.put(records.lines)
-        for _ in range(records.answers):
-            self.answer()
-
-    def write(self):
-        while lines := self.to_write.get():
-            try:
-                self.run.stdin.write(lines)
-                self.run.stdin.flush()
-            except OSError:
-                return
-
-    def answer(self):
-        line = self.run.stdout.readline()
-        if not line.endswith(b"\n"):
-            raise EOFError("cpe ended in the middle")
-        return line[:-1]
-
-    def machine(self, name, items):
-        """Of a machine what is refused, and its verdicts, each as bytes of whole lines."""
-        first = self.last + 1
-        self.last += 2 * len(items) + self.statements
-        self.to_write.put(
-            b"".join(b'{"do":"item","name":%s}\n' % text(item) for item in items)
-            + self.ask
-            + b"".join(b'{"do":"drop-item","name":%s}\n' % text(item) for item in items)
-        )
-        refused, verdicts = [], []
-        while len(verdicts) < self.statements:
-            answer = self.answer()
-            word, rest = answer.split(b" ", 1)
-            if word == b"refused":
-                number, reason = rest.split(b" ", 1)
-                place = int(number) - first
-                # (drops of the machine before are refused too: what was no item can not be dropped)
-                if 0 <= place < len(items) and reason != b"exists":
-                    refused.append(b"left out %s refused %s %s\n" % (name, items[place], reason))
-            else:
-                verdicts.append(b"%s %s\n" % (name, rest))
-        return b"".join(refused), b"".join(verdicts)
-
-    def end(self):
-        self.to_write.put(b"")
-        self.run.kill()
-        self.run.wait()
+OPTIONS = {**fleet.OPTIONS, "--scheduler": ONE, "--workers": ONE, "--block": ONE, "--cpe": ONE}
+USAGE = f"dask_fleet.py {fleet.USAGE} [--workers N] [--block N] [--scheduler ADDRESS] [--cpe PROGRAM]"
+_TRIES = 3
 
 
-def text(plain):
-    return b'"' + plain.replace(b"\\", b"\\\\").replace(b'"', b'\\"') + b'"'
+def known_of(lines: bytes, answers: int, statements: list[str]) -> tuple[str, session.Known]:
+    """What is known, with a key that tells it from what was known to another client of the cluster."""
+    return hashlib.sha256(lines).hexdigest(), session.Known(lines, answers, statements)
 
 
-def records_of(cpe, lines, answers, statements):
-    return Records(cpe, lines, answers, statements)
-
-
-def evaluate(machines, records):
-    """What `machine` gives, of each of these. A worker has a session for each of its threads."""
-    worker, thread = get_worker(), threading.get_ident()
-    sessions = worker.__dict__.setdefault("sessions_of_cpe", {})
-    session = sessions.get(thread)
-    if session is not None and session.key != records.key:
-        sessions.pop(thread).end()
-        session = None
-    if session is None:
-        session = sessions[thread] = Session(records)
+def evaluate(block: list[session.Asked], program: str, known: tuple[str, session.Known]) -> list[session.Told]:
+    """What is told of each of these machines. A worker has a session for each of its threads."""
+    sessions = get_worker().__dict__.setdefault("sessions_of_cpe", {})
+    thread, key = threading.get_ident(), known[0]
+    kept_key, kept = sessions.pop(thread, ("", None))
+    if kept is not None and kept_key != key:
+        kept.end()
+        kept = None
+    run = session.Session(program, known[1]) if kept is None else kept
     try:
-        return [session.machine(name, items) for name, *items in machines]
+        told = [run.ask(machine) for machine in block]
     except (OSError, EOFError):
         # the machines are tried again, by a session from the start
-        sessions.pop(thread).end()
+        run.end()
         raise
+    sessions[thread] = key, run
+    return told
 
 
-def known(cpe, path):
-    """The records at this path, their answers, and the statements that are kept. What is refused is said."""
-    with open(path, "rb") as file:
-        lines = file.read()
-    if lines and not lines.endswith(b"\n"):
-        lines += b"\n"
-    run = subprocess.run([cpe, "evaluate"], input=lines, stdout=subprocess.PIPE, check=False)
-    if run.returncode > 1:
-        raise OSError(f"{cpe} ended with status {run.returncode} on {path}")
-    said = run.stdout.split(b"\n")[:-1]
-    table = next(k for k, line in enumerate(said) if line.startswith(b"verdicts "))
-    refused = [line.decode() for line in said[:table] if line.startswith(b"refused ")]
-    for line in refused:
-        print(f"left out {path}: line {line[len('refused '):]}", file=sys.stderr)
-    statements = [line.split(b" ")[1] for line in said[table + 1 :]]
-    if not statements:
-        raise OSError(f"no statements in {path}")
-    return lines, table, statements, bool(refused)
-
-
-def machines_of(path):
-    with open(path, "rb") as file:
-        for line in file:
-            words = [word for word in line.rstrip(b"\n").replace(b"\t", b" ").split(b" ") if word]
-            if words:
-                yield words
-
-
-def blocks_of(machines, most):
-    block = []
-    for machine in machines:
-        block.append(machine)
-        if len(block) == most:
-            yield block
-            block = []
-    if block:
-        yield block
-
-
-def run(client, options, lines, answers, statements, is_left_out):
+def ask_all(client: Client, program: str, asked: fleet.Fleet, most: int, heard: said.Said) -> int:
     # The result of a task is made again where all workers die that have it; what is scattered would be gone. So the records
     # are in the graph, of which Dask warns where they are large.
     warnings.filterwarnings("ignore", message="Large object")
-    records = client.submit(records_of, options.cpe, lines, answers, statements)
+    known = client.submit(known_of, asked.known.lines, asked.known.answers, asked.known.statements)
     # (else most of the work goes to the worker that has them first)
-    wait(records)
-    client.replicate([records])
-    blocks = options.blocks
-    futures = client.map(evaluate, blocks, records=records, retries=3, pure=False)
-    status = 1 if is_left_out else 0
+    wait(known)
+    client.replicate([known])
+    blocks = asked.blocks(most)
+    futures = client.map(evaluate, blocks, program=program, known=known, retries=_TRIES, pure=False)
+    is_missing = False
     for block, future in zip(blocks, futures):
         try:
-            results = future.result()
-        except Exception as fault:
-            names = f"{block[0][0].decode(errors='replace')} to {block[-1][0].decode(errors='replace')}"
-            print(f"left out {names}, {len(block)} machines: {fault!r}", file=sys.stderr)
-            status = 5
+            told = future.result()
+        except Exception as fault:  # noqa: BLE001 (whatever a worker raised, or that it died)
+            fleet.say_missing(heard, block, f"since their worker came to no end: {fault!r}")
+            is_missing = True
             continue
-        for refused, verdicts in results:
-            sys.stderr.buffer.write(refused)
-            sys.stdout.buffer.write(verdicts)
-            status = max(status, 1 if refused else 0)
+        for one in told:
+            fleet.say_told(heard, one.machine, one.has_items, one.left_out)
+        said.write_all(1, "".join(f"{line}\n" for one in told for line in one.lines).encode(errors="replace"), "the output")
         future.release()
-    sys.stderr.flush()
-    sys.stdout.flush()
-    return status
+    if is_missing:
+        return fleet.MACHINES_MISSING
+    said.write_all(1, f"machines {len(asked.machines)}\n".encode(), "the output")
+    return heard.status()
 
 
-def main():
-    words = argparse.ArgumentParser(description="An inventory of many machines over the workers of a Dask cluster.")
-    words.add_argument("records")
-    words.add_argument("machines")
-    words.add_argument("--scheduler", help="the address of a cluster; else workers are started here")
-    words.add_argument("--workers", type=int, default=os.cpu_count(), help="how many are started here")
-    words.add_argument("--block", type=int, default=100, help="how many machines a worker takes at a time")
-    words.add_argument("--cpe", default=os.environ.get("CPE", "cpe"), help="the program, here and on the workers")
-    options = words.parse_args()
+def number(words: Words, option: str, default: int) -> int:
+    given = words.one(option)
+    if given is None:
+        return default
+    if not given.isdecimal() or int(given) == 0:
+        raise said.Fatal(f"{option} is {given}, which is no number of them")
+    return int(given)
+
+
+@contextlib.contextmanager
+def cluster_of(words: Words, folder: Path) -> Iterator[Client]:
+    """A cluster elsewhere, or one here while it is needed."""
+    if words.has("--scheduler"):
+        with Client(words.one("--scheduler")) as client:
+            yield client
+        return
+    workers = number(words, "--workers", os.cpu_count() or 1)
+    how = {"threads_per_worker": 1, "host": "127.0.0.1", "dashboard_address": None, "silence_logs": logging.CRITICAL}
+    with LocalCluster(n_workers=workers, local_directory=str(folder), **how) as cluster, Client(cluster) as client:
+        yield client
+
+
+def put_session(client: Client, folder: Path) -> None:
+    """Workers elsewhere have no recipes, so each is sent the modules that it needs, and so is one that comes later."""
+    path = folder / "cpe_recipes.zip"
+    with zipfile.ZipFile(path, "w") as packed:
+        for name in ("__init__.py", "session.py"):
+            packed.write(_RECIPES / "cpe_recipes" / name, f"cpe_recipes/{name}")
+    client.register_worker_plugin(UploadFile(str(path)))
+
+
+def run(words: list[str]) -> int:
+    given = read_words(words, OPTIONS, USAGE)
+    if len(given.files) != 2:
+        raise said.Fatal(f"usage: {USAGE}")
+    most = number(given, "--block", 100)
+    heard, program = said.Said(), Program(given.one("--cpe"))
+    asked = fleet.read_fleet(program, given, heard)
     try:
-        what_is_known = known(options.cpe, options.records)
-        options.blocks = list(blocks_of(machines_of(options.machines), options.block))
+        with said.room() as folder, cluster_of(given, folder) as client:
+            put_session(client, folder)
+            return ask_all(client, program.path, asked, most, heard)
     except OSError as fault:
-        print(f"dask_fleet.py: {fault}", file=sys.stderr)
-        return 2
-    if options.scheduler:
-        with Client(options.scheduler) as client:
-            return run(client, options, *what_is_known)
-    with tempfile.TemporaryDirectory() as room, LocalCluster(
-        n_workers=options.workers,
-        threads_per_worker=1,
-        host="127.0.0.1",
-        dashboard_address=None,
-        local_directory=room,
-        silence_logs=logging.CRITICAL,
-    ) as cluster, Client(cluster) as client:
-        return run(client, options, *what_is_known)
+        raise said.Fatal(f"the cluster can not be worked with: {fault}") from fault
 
 
 if __name__ == "__main__":
-    sys.exit(main())
+    said.main(run, "dask_fleet.py", sys.argv[1:])

@@ -1,23 +1,21 @@
 #!/bin/sh
-# One piece of lines.sh: sh piece.sh CPE LINES WORD.. NUMBER FILE. The numbers of refused lines are those of the whole input.
-# Where a line is refused FILE.refused is there. What was written until then is dropped where the run doesn't come to its end.
+# A worker of lines.sh: sh piece.sh CPE WORD.. PIECE. It runs cpe over the lines of a piece, and leaves what is written in
+# PIECE.out, which gets its name when it is whole. PIECE.refused tells that a line is refused, PIECE.full that there was no room.
+# (A shell, since it begins ten times as fast as Python does.)
 set -u
-cpe=$1 lines=$2
+cpe=$1 words=$2
 shift 2
-words=$1
-case $words in bind) words="$1 $2"; shift ;; esac
-number=$2 file=$3
+case $words in bind) words="$words $1"; shift ;; esac
+piece=$1
+: > "$piece.part" || { : > "$piece.full"; exit 4; }
 # shellcheck disable=SC2086 # two words
-"$cpe" $words < "$file" > "$file.out"
+"$cpe" $words < "$piece" > "$piece.part"
 status=$?
 case $status in
-0) cat "$file.out" ;;
-1)
-    : > "$file.refused"
-    awk -v before=$(((number - 1) * lines)) '
-        $1 == "refused" { $0 = "refused " ($2 + before) substr($0, length("refused " $2) + 1) }
-        { print }' "$file.out"
-    ;;
+0) ;;
+1) : > "$piece.refused" || exit 4 ;;
+# (a write failed, or the signal came that ends who writes past the limit of a file)
+4 | 153) : > "$piece.full"; exit 4 ;;
 *) exit "$status" ;;
-esac &&
-    rm -f "$file.out"
+esac
+mv "$piece.part" "$piece.out"

@@ -1,0 +1,462 @@
+"""From NVD's API 2.0 to advisories: the JSON of /rest/json/cves/2.0 (vulnerabilities) to records `statement`.
+
+A statement has the id of its CVE, follows deprecations, and is TRUE where one of the configurations holds with a vulnerable
+product there.
+
+- A configuration has nodes, and a node has matches; `operator` and `negate` of both are those of the test, and each match is a
+  fact. Where the logic of a configuration could hold without any product that is marked as vulnerable, the vulnerable ones
+  are asked for beside it.
+- A range of versions is no name: it becomes the product in any version AND a check, whose key is NVD, cpeMatch and the id of
+  the match. So the statement is FALSE where the product isn't there and no other fact holds, and UNKNOWN where it is, until a
+  record `check` tells whether a version in the range is there. The ranges go into a file of their own, for decide.py.
+- What can't be read in an advisory (a bad name, a bound that is none, a configuration of another form beside good ones) becomes
+  a check that stays UNKNOWN, so it hides nothing that stands beside it, and is said.
+- An advisory of more names than a line has room for becomes several statements, CVE-..#2 and so on, of which one is TRUE where
+  the whole would be: an OR of ids needs nothing but the table to be put together again, where an OR over checks would have to
+  be asked twice.
+"""
+from __future__ import annotations
+
+import re
+from collections.abc import Callable, Iterable, Iterator, Mapping, Sequence
+from dataclasses import dataclass, field
+
+from .feeds import FormFault, Json, Page, member, members, pages, record_text, text_at
+from .program import Candidate, Program, refusals
+from .said import Output, Said, write_file
+from .words import ONE, read_words
+
+USAGE = "advisories.sh [--ranges FILE] [--details FILE] [FILE..]"
+KINDS = ("vulnerabilities",)
+SYSTEM, MATCH, CONFIGURATION = "NVD", "cpeMatch", "configuration"
+MOST_BYTES = 65_536
+# An AND of many long ORs would be taken apart into more statements than anyone has room for.
+MOST_PARTS = 1_000
+
+_BOUNDS = {
+    "versionStartIncluding": "from",
+    "versionStartExcluding": "behind",
+    "versionEndIncluding": "to",
+    "versionEndExcluding": "before",
+}
+_BOUND = re.compile(r"[!-~]{1,256}")
+_PART = re.compile(r"#\d+$")
+_SCORES = ("cvssMetricV40", "cvssMetricV31", "cvssMetricV30", "cvssMetricV2")
+
+Test = dict[str, Json]
+
+
+def is_bound(text: str) -> bool:
+    """Whether cpe takes this as a bound of versions."""
+    return _BOUND.fullmatch(text) is not None
+
+
+@dataclass(frozen=True)
+class Range:
+    """A range of versions of what a name covers, and the id of the check that stands for it."""
+
+    key: str
+    criteria: str
+    start: str | None = None
+    end: str | None = None
+    start_excluded: bool = False
+    end_excluded: bool = False
+
+    def record(self) -> dict[str, Json]:
+        """The range as a record of the word `advise`."""
+        record: dict[str, Json] = {"do": "advisory", "id": self.key, "name": self.criteria}
+        for word, bound, excluded in (("start", self.start, self.start_excluded), ("end", self.end, self.end_excluded)):
+            if bound is not None:
+                record[word] = bound
+                if excluded:
+                    record[f"{word}-excluded"] = True
+        return record
+
+    @staticmethod
+    def of(record: Json) -> Range:
+        """The range of such a record."""
+        key, name = text_at(record, "id"), text_at(record, "name")
+        if member(record, "do") != "advisory" or key is None or name is None:
+            raise FormFault
+        excluded = [member(record, f"{word}-excluded") is True for word in ("start", "end")]
+        return Range(key, name, text_at(record, "start"), text_at(record, "end"), *excluded)
+
+    def words(self) -> str:
+        """The bounds in words."""
+        bounds = ((self.start, ("from", "behind")[self.start_excluded]), (self.end, ("to", "before")[self.end_excluded]))
+        return ", ".join(f"{word} {bound}" for bound, word in bounds if bound is not None)
+
+
+@dataclass(frozen=True)
+class Match:
+    """A match of a node: a name, perhaps with bounds of its version."""
+
+    id: str | None
+    criteria: str | None
+    is_vulnerable: bool
+    bounds: dict[str, str]
+
+    @staticmethod
+    def of(match: Json) -> Match:
+        bounds = {word: text_at(match, name) for name, word in _BOUNDS.items()}
+        given = {word: bound for word, bound in bounds.items() if bound is not None}
+        return Match(text_at(match, "matchCriteriaId"), text_at(match, "criteria"), _flag(match, "vulnerable"), given)
+
+    def text(self) -> str:
+        """The match in words, which is the id of its check where it has no id."""
+        bounds = ", ".join(f"{word} {bound}" for word, bound in self.bounds.items())
+        return " ".join(part for part in (self.criteria or "a match without a name", bounds) if part)
+
+    def fault(self) -> str | None:
+        """Why its bounds are no range."""
+        if {"from", "behind"} <= self.bounds.keys() or {"to", "before"} <= self.bounds.keys():
+            return "two bounds of a kind"
+        if not all(map(is_bound, self.bounds.values())):
+            return "a bound that is no version"
+        return None
+
+    def range(self, key: str) -> Range:
+        start, end = self.bounds.get("from", self.bounds.get("behind")), self.bounds.get("to", self.bounds.get("before"))
+        return Range(key, self.criteria or "", start, end, "behind" in self.bounds, "before" in self.bounds)
+
+
+@dataclass(frozen=True)
+class Node:
+    operator: str
+    is_negated: bool
+    matches: list[Match]
+
+    def needs_vulnerable(self) -> bool:
+        return _needs(self, (match.is_vulnerable for match in self.matches))
+
+
+@dataclass(frozen=True)
+class Configuration:
+    operator: str
+    is_negated: bool
+    nodes: list[Node]
+
+    @staticmethod
+    def of(configuration: Json) -> Configuration:
+        """The configuration; FormFault where it isn't of the published form."""
+        nodes = []
+        for node in _filled(configuration, "nodes", "a configuration without nodes"):
+            matches = [Match.of(match) for match in _filled(node, "cpeMatch", "a node without matches")]
+            nodes.append(Node(_operator(node), _flag(node, "negate"), matches))
+        return Configuration(_operator(configuration), _flag(configuration, "negate"), nodes)
+
+    def matches(self) -> Iterator[Match]:
+        return (match for node in self.nodes for match in node.matches)
+
+    def needs_vulnerable(self) -> bool:
+        """Whether the logic holds only with a vulnerable product."""
+        return _needs(self, (node.needs_vulnerable() for node in self.nodes))
+
+
+def _needs(logic: Node | Configuration, children: Iterable[bool]) -> bool:
+    return not logic.is_negated and (any(children) if logic.operator == "AND" else all(children))
+
+
+def _operator(value: Json) -> str:
+    operator = text_at(value, "operator") or "OR"
+    if operator not in ("AND", "OR"):
+        raise FormFault(f"the operator {operator}")
+    return operator
+
+
+def _flag(value: Json, key: str) -> bool:
+    found = member(value, key)
+    if found is not None and not isinstance(found, bool):
+        raise FormFault
+    return found is True
+
+
+def _filled(value: Json, key: str, reason: str) -> list[Json]:
+    found = member(value, key)
+    if not isinstance(found, list):
+        raise FormFault
+    if not found:
+        raise FormFault(reason)
+    return found
+
+
+@dataclass
+class Advisories:
+    """What becomes of advisories: candidates of statements, the ranges that checks stand for, what the checks stand for that
+    stay UNKNOWN, and what people want to know of each advisory."""
+
+    candidates: list[Candidate] = field(default_factory=list)
+    ranges: dict[str, Range] = field(default_factory=dict)
+    stand_ins: dict[str, str] = field(default_factory=dict)
+    details: dict[str, dict[str, Json]] = field(default_factory=dict)
+    empty_pages: list[str] = field(default_factory=list)
+
+    def tell_empty_pages(self, said: Said) -> None:
+        for page in self.empty_pages:
+            said.remark(f"{page}: no vulnerabilities in it")
+
+
+def convert(feed: Iterable[Page], program: Program, said: Said, is_decided: bool) -> Advisories:
+    """The advisories of these pages. Where ranges aren't decided behind this, each is remarked."""
+    all_of, empty_pages = [], []
+    for page in feed:
+        if not page.records:
+            empty_pages.append(page.name)
+        all_of.extend(page.each("vulnerability", lambda it: text_at(member(it, "cve"), "id")))
+    bad_names = _bad_names((cve for _, cve in all_of), program)
+    converter = _Converter(bad_names, said, is_decided)
+    converter.found.empty_pages = empty_pages
+    for id, vulnerability in all_of:
+        converter.take(id, vulnerability)
+    return converter.found
+
+
+def _bad_names(vulnerabilities: Iterable[Json], program: Program) -> dict[str, str]:
+    """Of the criteria those that are no names, with the reasons of cpe."""
+    names: dict[str, None] = {}
+    for vulnerability in vulnerabilities:
+        for match in _all_matches(vulnerability):
+            if isinstance(match, dict) and isinstance(match.get("criteria"), str):
+                names[match["criteria"]] = None
+    all_names = list(names)
+    asked = (record_text({"do": "lookup", "name": name}) for name in all_names)
+    return {all_names[number - 1]: reason for number, reason in refusals(program.lines(["resolve"], asked)).items()}
+
+
+def _all_matches(vulnerability: Json) -> Iterator[Json]:
+    """The matches of whatever is of the published form there."""
+    try:
+        for configuration in members(member(vulnerability, "cve"), "configurations"):
+            for node in members(configuration, "nodes"):
+                yield from members(node, "cpeMatch")
+    except FormFault:
+        return
+
+
+class _Converter:
+    """Makes statements of vulnerabilities, one after the other."""
+
+    def __init__(self, bad_names: Mapping[str, str], said: Said, is_decided: bool) -> None:
+        self._bad_names, self._said, self._is_decided = bad_names, said, is_decided
+        self._matches: dict[str, Match] = {}
+        self.found = Advisories()
+
+    def take(self, id: str, vulnerability: Json) -> None:
+        try:
+            cve = member(vulnerability, "cve")
+            if text_at(cve, "vulnStatus") == "Rejected":
+                self._said.remark(f"{id}: rejected")
+                return
+            tests = self._tests(id, members(cve, "configurations"), text_at(cve, "vulnStatus"))
+        except FormFault as fault:
+            self._leave_out(id, str(fault) or "not of the published form")
+            return
+        if tests:
+            self.found.candidates.extend(self._statements(id, tests))
+            # (of an id that comes again the first is kept, by cpe too)
+            self.found.details.setdefault(id, details(id, cve))
+
+    def _leave_out(self, id: str, reason: str) -> None:
+        # (among the candidates, so that it is said in its place between what cpe refuses)
+        self.found.candidates.append(Candidate(id, reason=reason))
+
+    def _tests(self, id: str, configurations: list[Json], status: str | None) -> list[Test]:
+        """A test for each configuration with a vulnerable product."""
+        if not configurations:
+            self._leave_out(id, f"no configurations, {status or 'of no status'}")
+        tests, faults = [], []
+        for number, raw in enumerate(configurations, 1):
+            try:
+                configuration = Configuration.of(raw)
+            except FormFault as fault:
+                faults.append((number, str(fault) or "not of the published form"))
+                tests.append(_check(CONFIGURATION, f"{id} {number}"))
+                continue
+            if any(match.is_vulnerable for match in configuration.matches()):
+                tests.append(self._configuration(id, configuration))
+            else:
+                self._leave_out(id, "a configuration without a vulnerable product")
+        if len(faults) == len(tests) and faults:
+            raise FormFault(faults[0][1])
+        for number, reason in faults:
+            self._stand_in(id, f"configuration {number}, {reason}", f"{id} {number}")
+        return tests
+
+    def _stand_in(self, id: str, what: str, key: str) -> None:
+        self.found.stand_ins[key] = what
+        self._leave_out(id, f"{what}: the check {key} stands for it")
+
+    def _configuration(self, id: str, configuration: Configuration) -> Test:
+        nodes = [_logic(node, [self._match(id, match) for match in node.matches]) for node in configuration.nodes]
+        test = _logic(configuration, nodes)
+        if configuration.needs_vulnerable():
+            return test
+        vulnerable = [self._match(id, match, True) for match in configuration.matches() if match.is_vulnerable]
+        return {"op": "AND", "of": [test, {"op": "OR", "of": vulnerable}]}
+
+    def _match(self, id: str, match: Match, is_told: bool = False) -> Test:
+        """The test of a match: its name, with a check where it has bounds; a check alone where the name is none."""
+        bad = "no name" if match.criteria is None else self._bad_names.get(match.criteria)
+        if not bad and not match.bounds:
+            return {"fact": match.criteria}
+        key = self._key(match)
+        if not is_told:
+            self._tell(id, match, key, bad)
+        return _check(MATCH, key) if bad else {"op": "AND", "of": [{"fact": match.criteria}, _check(MATCH, key)]}
+
+    def _key(self, match: Match) -> str:
+        """The id of its check, which no other match has, and which can stand in a line with tabs."""
+        if match.id and match.id.isprintable() and _same(self._matches.setdefault(match.id, match), match):
+            return match.id
+        return match.text()
+
+    def _tell(self, id: str, match: Match, key: str, bad: str | None) -> None:
+        fault = match.fault()
+        if bad:
+            self._stand_in(id, f"{bad}: {match.text()}", key)
+        elif fault:
+            self._stand_in(id, f"{fault}: {match.text()}", key)
+        else:
+            self.found.ranges[key] = match.range(key)
+            if not self._is_decided:
+                bounds = match.range(key).words()
+                self._said.remark(f"{id}: versions of {match.criteria} {bounds}: the check {key} stands for them")
+
+    def _statements(self, id: str, tests: list[Test]) -> Iterator[Candidate]:
+        """A statement, or several where it has more names than a line has room for."""
+        made: list[str] = []
+        for test in parts({"op": "OR", "of": tests}, _room(id)):
+            if len(record_text(test).encode()) > _room(id):
+                key = f"{id} #{len(made) + 1}"
+                self._stand_in(id, "logic that is longer than a line, and can't be taken apart", key)
+                test = {"op": "OR", "of": [_check(CONFIGURATION, key)]}
+            name = f"{id}#{len(made) + 1}" if made else id
+            made.append(record_text(_statement(name, test)))
+        return (Candidate(id, record) for record in made)
+
+
+def _same(one: Match, other: Match) -> bool:
+    return one.criteria == other.criteria and one.bounds == other.bounds
+
+
+def _statement(id: str, test: Test) -> dict[str, Json]:
+    return {"do": "statement", "id": id, "mode": "follow", "test": test}
+
+
+def _room(id: str) -> int:
+    """How many bytes the test of a statement may have, with room for the number of a part."""
+    return MOST_BYTES - len(record_text(_statement(f"{id}#1000000", {})).encode())
+
+
+def _check(href: str, key: str) -> Test:
+    return {"check": {"system": SYSTEM, "href": href, "id": key}}
+
+
+def _logic(logic: Node | Configuration, children: list[Test]) -> Test:
+    negation = {"negate": True} if logic.is_negated else {}
+    return {"op": logic.operator, **negation, "of": children}
+
+
+def parts(test: Test, most: int) -> list[Test]:
+    """Tests of at most so many bytes, of which one is TRUE exactly where this one is. What can't be taken apart is longer, and
+    so is the test itself where it would be more than MOST_PARTS."""
+    done, left = [], [test]
+    while left:
+        if len(done) + len(left) > MOST_PARTS:
+            return [test]
+        part = left.pop()
+        halves = _halves(part) if len(record_text(part).encode()) > most else []
+        if halves:
+            left.extend(reversed(halves))
+        else:
+            done.append(part)
+    return done
+
+
+def _halves(test: Test) -> list[Test]:
+    """Two tests whose OR is this one, about as long each; none where there are no such.
+
+    An OR is cut between its children, a negated AND as the OR of what it negates, and an AND has its longest child that can be
+    cut, in halves, beside all others.
+    """
+    if "op" not in test:
+        return []
+    is_negated, children = test.get("negate", False), test["of"]
+    if (test["op"] == "OR") != is_negated:
+        if len(children) > 1:
+            middle = len(children) // 2
+            return [{**test, "of": children[:middle]}, {**test, "of": children[middle:]}]
+        inner = [] if is_negated else _halves(children[0])
+        return [{**test, "of": [half]} for half in inner]
+    if is_negated:
+        return []
+    for place in sorted(range(len(children)), key=lambda k: -len(record_text(children[k]))):
+        inner = _halves(children[place])
+        if inner:
+            return [{**test, "of": [*children[:place], half, *children[place + 1 :]]} for half in inner]
+    return []
+
+
+def base_id(id: str) -> str:
+    """The id of the advisory to which a statement belongs."""
+    return _PART.sub("", id)
+
+
+def details(id: str, cve: Json) -> dict[str, Json]:
+    """What people want to know of an advisory; what the feed doesn't tell, or tells in another form, is missing."""
+    published = _found(lambda: text_at(cve, "published"))
+    known = {"id": id, "title": _title(cve), **_score(cve), "published": published, "url": _url(id, cve)}
+    return {key: value for key, value in known.items() if value is not None}
+
+
+def _found(ask: Callable[[], Json]) -> Json:
+    try:
+        return ask()
+    except FormFault:
+        return None
+
+
+def _title(cve: Json) -> str | None:
+    """The description in English, or else the first, in one line."""
+    texts = _found(lambda: [(text_at(one, "lang"), text_at(one, "value")) for one in members(cve, "descriptions")]) or []
+    for lang, value in [pair for pair in texts if pair[0] == "en"] + texts:
+        if value and value.strip():
+            return " ".join(value.split())
+    return None
+
+
+def _score(cve: Json) -> dict[str, Json]:
+    """The score of NVD, or else that of another source, by the newest version of CVSS in which there is one."""
+    found = []
+    for place, version in enumerate(_SCORES):
+        for metric in _found(lambda: members(member(cve, "metrics") or {}, version)) or []:
+            data = _found(lambda: member(metric, "cvssData"))
+            if isinstance(data, dict) and isinstance(data.get("baseScore"), (int, float)):
+                severity = data.get("baseSeverity") or metric.get("baseSeverity")
+                found.append((metric.get("type") != "Primary", place, data["baseScore"], severity))
+    if not found:
+        return {}
+    _, _, score, severity = min(found, key=lambda one: one[:2])
+    return {"score": score, "severity": severity if isinstance(severity, str) else None}
+
+
+def _url(id: str, cve: Json) -> str | None:
+    if re.fullmatch(r"CVE-\d{4}-\d{4,}", id):
+        return f"https://nvd.nist.gov/vuln/detail/{id}"
+    urls = _found(lambda: [text_at(one, "url") for one in members(cve, "references")]) or []
+    return next((url for url in urls if url), None)
+
+
+def run(words: Sequence[str]) -> int:
+    read = read_words(words, {"--ranges": ONE, "--details": ONE}, USAGE)
+    said, output, program = Said(), Output(), Program()
+    found = convert(pages(read.files, said, KINDS), program, said, read.has("--ranges"))
+    found.tell_empty_pages(said)
+    output.lines(program.accepted(found.candidates, said))
+    ranges, details_to = read.one("--ranges"), read.one("--details")
+    if ranges is not None:
+        write_file(ranges, [record_text(one.record()) for one in found.ranges.values()])
+    if details_to is not None:
+        write_file(details_to, [record_text(one) for one in found.details.values()])
+    output.end()
+    return said.status()

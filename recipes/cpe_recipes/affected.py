@@ -1,0 +1,143 @@
+"""A table for people from verdicts: what `cpe evaluate` writes, or a fleet.
+
+    sh affected.sh [--details FILE] [--suppress FILE] [--records FILE] [--ranges FILE] [--decided FILE] [FILE]
+
+It has the advisories that are TRUE, then those that are ERROR and UNKNOWN, machine by machine, and how many there are of each
+verdict. A machine without items is told as such.
+
+- --details: scores and titles by id, which `advisories.sh --details` wrote. What scores highest comes first.
+- --suppress: accepted ids, lines `ID MACHINE REASON`, with * for every machine. They are told below the table.
+- --records: the records that were asked. What an UNKNOWN hangs on is told: the checks of its statement that have no result
+  there, nor in --decided, which `decide.py` wrote. With --ranges, which `advisories.sh --ranges` wrote, a range is told by its
+  product and bounds.
+
+Each option may be given more than once. The status is 1 where lines of the records were refused, machines have no items, or a
+line of --suppress is none, and 2 where the verdicts aren't whole, since the run ended before its end. Nothing is written then.
+"""
+from __future__ import annotations
+
+from collections import Counter
+from collections.abc import Iterator
+from dataclasses import dataclass, field
+from typing import Protocol
+
+from .feeds import Json
+from .fleet import Decided, read_decided
+from .hanging import Hanging, json_lines, read_ranges, records_with_checks
+from .said import Fatal, Output, Said
+from .suppressed import Suppressed, read_suppressed
+from .table import counted, cut, table
+from .verdicts import TRUTHS, Machine, Verdicts, read_verdicts
+from .words import ONE, Words, read_words
+
+USAGE = "affected.sh [--details FILE] [--suppress FILE] [--records FILE] [--ranges FILE] [--decided FILE] [FILE]"
+OPTIONS = dict.fromkeys(("--details", "--suppress", "--records", "--ranges", "--decided"), ONE)
+HEADER = ("MACHINE", "VERDICT", "STATEMENT", "SCORE", "TITLE", "HANGS ON")
+_TITLE_WIDTH = 60
+_MOST_HANGING = 3
+
+
+class Hangs(Protocol):
+    """What tells on what an UNKNOWN of a machine hangs, in words."""
+
+    def on(self, advisory: str, machine: str | None) -> list[str]:
+        ...
+
+
+@dataclass
+class About:
+    """What is known of advisories beside their verdicts."""
+
+    details: dict[str, Json]
+    suppressed: Suppressed
+    hanging: Hangs
+    accepted: list[tuple[str | None, str, str, str]] = field(default_factory=list)
+
+    def score(self, id: str) -> float:
+        score = self.details.get(id, {}).get("score")
+        return float(score) if isinstance(score, (int, float)) else -1.0
+
+
+def run(words: list[str]) -> int:
+    given = read_words(words, OPTIONS, USAGE)
+    if len(given.files) > 1:
+        raise Fatal(f"usage: {USAGE}")
+    said, output = Said(), Output()
+    verdicts = read_verdicts(given.files[0] if given.files else None)
+    about = _about(given, said)
+    output.lines(table_of(verdicts, about))
+    output.end()
+    about.suppressed.tell_unused(said)
+    if verdicts.refused:
+        said.left_out("the records", f"{counted(verdicts.refused, 'line')} refused")
+    for machine in verdicts.machines:
+        if not machine.has_items:
+            said.left_out(machine.name or "", "no items")
+    return said.status()
+
+
+def _about(given: Words, said: Said) -> About:
+    details = {}
+    for record in json_lines(given.many("--details")):
+        if not isinstance(record, dict) or not isinstance(record.get("id"), str):
+            raise Fatal("--details: a line has no id")
+        details[record["id"]] = record
+    decided: Decided = {}
+    for path in given.many("--decided"):
+        for machine, results in read_decided(path).items():
+            decided.setdefault(machine, []).extend(results)
+    hanging = Hanging(records_with_checks(given.many("--records")), read_ranges(given.many("--ranges")), decided)
+    return About(details, read_suppressed(given.many("--suppress"), said), hanging)
+
+
+def table_of(verdicts: Verdicts, about: About) -> Iterator[str]:
+    """The lines of the table, and what stands below it."""
+    rows = [row for machine in verdicts.machines for row in _rows(machine, about)]
+    header = HEADER if verdicts.has_machines else HEADER[1:]
+    if not verdicts.has_machines:
+        rows = [row[1:] for row in rows]
+    yield from table(header, rows, optional=("SCORE", "TITLE", "HANGS ON"))
+    yield ""
+    yield from (_accepted_line(*one) for one in about.accepted)
+    yield _count(verdicts, about)
+
+
+def _rows(machine: Machine, about: About) -> Iterator[list[str]]:
+    name = machine.name or ""
+    if not machine.has_items:
+        yield [name, "", "no items", "", "", ""]
+    shown = sorted(machine.shown.items(), key=lambda row: (TRUTHS.index(row[1]), -about.score(row[0])))
+    for id, truth in shown:
+        reason = about.suppressed.reason(id, machine.name)
+        if reason is not None:
+            about.accepted.append((machine.name, id, truth, reason))
+            continue
+        detail = about.details.get(id, {})
+        score, title = detail.get("score"), detail.get("title")
+        hangs = about.hanging.on(id, machine.name) if truth == "UNKNOWN" else []
+        yield [name, truth, id, "" if score is None else str(score), cut(str(title or ""), _TITLE_WIDTH), _some(hangs)]
+
+
+def _some(texts: list[str]) -> str:
+    more = f"; and {len(texts) - _MOST_HANGING} more" if len(texts) > _MOST_HANGING else ""
+    return "; ".join(texts[:_MOST_HANGING]) + more
+
+
+def _accepted_line(machine: str | None, id: str, truth: str, reason: str) -> str:
+    where = "" if machine is None else f"{machine} "
+    return f"accepted {where}{id} {truth}: {reason}"
+
+
+def _count(verdicts: Verdicts, about: About) -> str:
+    counts: Counter[str] = Counter()
+    for machine in verdicts.machines:
+        counts.update(machine.shown.values())
+        counts["FALSE"] += machine.statements.count - len(machine.shown)
+    counts.subtract(truth for _, _, truth, _ in about.accepted)
+    numbers = ", ".join(f"{counts[truth]} {truth}" for truth in TRUTHS if truth != "FALSE") + f", {counts['FALSE']} FALSE"
+    accepted = f", {len(about.accepted)} accepted" if about.accepted else ""
+    if not verdicts.has_machines:
+        return f"{counted(verdicts.machines[0].statements.count, 'statement')}: {numbers}{accepted}"
+    bare = sum(not machine.has_items for machine in verdicts.machines)
+    of_these = f", {bare} without items" if bare else ""
+    return f"{counted(len(verdicts.machines), 'machine')}{of_these}: {numbers}{accepted}"

@@ -1,0 +1,388 @@
+"""Which ranges of versions have a version on which machine: what the checks wait for that advisories.py puts in their place.
+
+For each range and machine, where the name of the range covers an item of the machine or an end that the item leads to:
+
+1. TRUE where the match feed's own list for that match has the item or an end of it;
+2. else TRUE where the version of some end is in the range, by the order of `cpe advise`, and FALSE where that of none is;
+3. where the order can't be trusted (versions.py says when), there is no answer, and it is said: the check stays UNKNOWN.
+
+    python3 decide.py --ranges FILE.. --records FILE.. --machines FILE [--matches FILE..] [--letters FILE]
+
+The ranges are those of `advisories.sh --ranges`, the records have the entries and deprecations by which names lead on, the
+machines are a line each: a name and names of items. It writes lines of a machine, the id of a check, and TRUE or FALSE, with
+tabs between them.
+"""
+from __future__ import annotations
+
+from collections.abc import Collection, Iterable, Iterator, Mapping, Sequence
+from dataclasses import dataclass, field, replace
+from pathlib import Path
+
+from . import matches, names
+from .advisories import MATCH, SYSTEM, Range, is_bound
+from .feeds import FeedFault, FormFault, name_of, pages, read_feed, record_text, values_of
+from .machines import Machine, read_machines
+from .program import Program
+from .said import Fatal, Output, Said
+from .versions import Letters, Standing, read_letters, standing
+from .words import MANY, ONE, read_words
+
+USAGE = "decide.py --ranges FILE.. --records FILE.. --machines FILE [--matches FILE..] [--letters FILE]"
+LETTERS = str(Path(__file__).resolve().parents[1] / "letters.txt")
+
+# The edits by which names lead on. (Where such a word stands in a text, its quotes have a backslash.)
+_LEADING = ('"entry"', '"deprecate"', '"amend"', '"restore"')
+# How an end stands to a range: whether it is in it, or the reason why that isn't sure.
+Stand = bool | str
+
+
+@dataclass(frozen=True)
+class Lead:
+    """What the dictionary makes of a name: how cpe writes it, whether it is an entry there, and the ends it leads to."""
+
+    name: str
+    is_entry: bool
+    ends: tuple[str, ...]
+
+
+@dataclass
+class Leads:
+    """Names, as they were written, with where they lead; and those that are refused, with the reasons."""
+
+    found: dict[str, Lead] = field(default_factory=dict)
+    refused: dict[str, str] = field(default_factory=dict)
+
+
+def leads_of(program: Program, records: Sequence[str], items: Iterable[str], facts: Iterable[str]) -> Leads:
+    """Where these names lead by these records. A name with specials is no item, and is refused as one. (What is refused of the
+    records is told where they are evaluated.)"""
+    asked = [*((name, True) for name in dict.fromkeys(items)), *((name, False) for name in dict.fromkeys(facts))]
+    reasons, chains = {}, []
+    for line in program.lines(["resolve"], _questions(records, asked)):
+        word, rest = line.split(" ", 1)
+        if word == "refused":
+            number, reason = rest.split(" ", 1)
+            reasons[int(number)] = reason
+        elif word == "chain":
+            name, steps, _ = rest.rsplit(" ", 2)
+            chains.append((name, steps != "0", []))
+        elif word == "end":
+            chains[-1][2].append(rest)
+    leads, answers = Leads(), iter(chains)
+    for place, (name, is_item) in enumerate(asked):
+        first = len(records) + 1 + 3 * place
+        lead = None if first in reasons else next(answers)
+        # (the edits that try an item stand behind the question)
+        reason = reasons.get(first) or (reasons.get(first + 1) if is_item else None)
+        if reason:
+            leads.refused[name] = reason
+        else:
+            leads.found[name] = Lead(lead[0], lead[1], tuple(lead[2]))
+    return leads
+
+
+def _questions(records: Sequence[str], asked: Iterable[tuple[str, bool]]) -> Iterator[str]:
+    """The records, and three lines for each name."""
+    yield from records
+    for name, is_item in asked:
+        yield record_text({"do": "chain", "name": name})
+        # (an item is dropped again, so that there is never more than one)
+        yield record_text({"do": "item", "name": name}) if is_item else ""
+        yield record_text({"do": "drop-item", "name": name}) if is_item else ""
+
+
+@dataclass(frozen=True)
+class Unsure:
+    """Why a range has no answer on a machine: an end that it covers, and what can't be trusted there."""
+
+    key: str
+    end: str
+    reason: str
+
+
+@dataclass
+class Decided:
+    """What is decided of a machine: the truths of checks by their ids, and those that have none."""
+
+    truths: dict[str, bool] = field(default_factory=dict)
+    unsure: dict[str, Unsure] = field(default_factory=dict)
+
+
+class Decider:
+    """How each end of the machines stands to each range that may concern it."""
+
+    def __init__(self, program: Program, ranges: Collection[Range], leads: Leads, items: Iterable[str], letters: Letters) -> None:
+        self._program, self._letters = program, letters
+        self._stands: dict[str, dict[str, Stand]] = {}
+        ends = {end: None for item in items if item in leads.found for end in leads.found[item].ends}
+        near = _Near(ends)
+        plain: list[Range] = []
+        odd: list[tuple[Range, Lead, str]] = []
+        for one in ranges:
+            lead = leads.found.get(one.criteria)
+            if lead is None or not any(near.ends(fact) for fact in lead.ends):
+                continue
+            # (by its name as cpe writes it, of which vendor and product can be told)
+            asked = _asked(replace(one, criteria=lead.name), letters)
+            reason = _oddness(lead, asked)
+            if reason:
+                odd.append((asked, lead, reason))
+            else:
+                plain.append(asked)
+        if plain:
+            self._ask_advise(list(ends), plain)
+        if odd:
+            self._ask_compare(near, odd)
+
+    def stands(self, end: str) -> Mapping[str, Stand]:
+        """How this end stands to the ranges that cover it, by the ids of their checks."""
+        return self._stands.get(end, {})
+
+    def _put(self, end: str, key: str, stand: Stand) -> None:
+        self._stands.setdefault(end, {})[key] = stand
+
+    def _ask_advise(self, ends: Sequence[str], ranges: Sequence[Range]) -> None:
+        """Puts how the ends stand to ranges of plain criteria."""
+        asked: dict[str, list[_End]] = {}
+        for end in ends:
+            one = _End.of(end, self._letters)
+            asked.setdefault(one.asked, []).append(one)
+        answers = _answers(self._program.lines(["advise"], _advise(asked, ranges)))
+        for one, (covered, inside) in zip(ranges, _pairs(answers, len(ranges))):
+            for name in covered:
+                for end in asked[name]:
+                    self._put(end.name, one.key, self._stand(end, one, name in inside))
+
+    def _stand(self, end: _End, one: Range, is_inside: bool) -> Stand:
+        if end.version is None:
+            return "its version isn't known"
+        if self._letters.has(end.product) and names.product_of(one.criteria) != end.product:
+            return "letters count upward in its versions, and the range is of more than its product"
+        found, reason = standing(end.version, end.update, one)
+        if found is Standing.UNSURE:
+            return reason
+        # (both orders are one; where they weren't, neither could be trusted)
+        return is_inside if is_inside == (found is Standing.INSIDE) else "cpe orders its version otherwise than this recipe"
+
+    def _ask_compare(self, near: _Near, odd: Sequence[tuple[Range, Lead, str]]) -> None:
+        """Puts the reasons of ranges that can't be asked for, where their facts cover an end."""
+        pairs = [(fact, end, one.key, reason) for one, lead, reason in odd for fact in lead.ends for end in near.ends(fact)]
+        lines = self._program.lines(["compare"], (f"{fact} {end}" for fact, end, _, _ in pairs))
+        for (_, end, key, reason), line in zip(pairs, lines):
+            if line.split(" ", 1)[0] in ("SUPERSET", "EQUAL"):
+                self._put(end, key, reason)
+
+
+class _Near:
+    """Ends by vendor and product."""
+
+    def __init__(self, ends: Iterable[str]) -> None:
+        self._all = list(ends)
+        self._by_product: dict[tuple[str, str], list[str]] = {}
+        for end in self._all:
+            self._by_product.setdefault(names.product_of(end), []).append(end)
+
+    def ends(self, fact: str) -> list[str]:
+        """Those that this name may cover; all where its vendor or product isn't plain."""
+        product = names.product_of(fact)
+        return self._by_product.get(product, []) if all(map(names.is_plain, product)) else self._all
+
+
+@dataclass(frozen=True)
+class _End:
+    """An end: its name, how it is asked for, its vendor and product, and its version and update where they are plain."""
+
+    name: str
+    asked: str
+    product: tuple[str, str]
+    version: str | None
+    update: str | None
+
+    @staticmethod
+    def of(name: str, letters: Letters) -> _End:
+        parts = names.components(name)
+        product = parts[names.VENDOR], parts[names.PRODUCT]
+        version, update = names.body(parts[names.VERSION]), names.body(parts[names.UPDATE])
+        if version is None or not letters.has(product):
+            return _End(name, name, product, version, update)
+        version, update = letters.with_update(product, version, update)
+        version = letters.rewritten(product, version)
+        parts[names.VERSION] = names.spelled(version)
+        return _End(name, names.joined(parts), product, version, update)
+
+
+def _asked(one: Range, letters: Letters) -> Range:
+    """The range with its bounds as its product's versions are asked for."""
+    product = names.product_of(one.criteria)
+    if not letters.has(product):
+        return one
+    start, end = (bound and letters.rewritten(product, bound) for bound in (one.start, one.end))
+    return replace(one, start=start, end=end)
+
+
+def _oddness(lead: Lead, asked: Range) -> str:
+    """Why a range of a name that leads so can't be asked for."""
+    if lead.ends != (lead.name,):
+        return f"{lead.name} leads to {', '.join(lead.ends) or 'nothing'} by the dictionary"
+    if names.components(lead.name)[names.VERSION] != names.ANY:
+        return f"{lead.name} has a version beside its bounds"
+    if not all(is_bound(bound) for bound in (asked.start, asked.end) if bound is not None):
+        return "a bound is no version that cpe takes"
+    return ""
+
+
+def _advise(items: Iterable[str], ranges: Iterable[Range]) -> Iterator[str]:
+    """The items, and for each range which of them its name covers, and which are in it."""
+    for item in items:
+        yield record_text({"do": "item", "name": item})
+    for one in ranges:
+        for asked in (Range("r", one.criteria), replace(one, key="r")):
+            yield record_text(asked.record())
+            yield '{"do":"affected","id":"r"}'
+            # (dropped again, so that there is never more than one)
+            yield '{"do":"drop-advisory","id":"r"}'
+
+
+def _answers(lines: Iterable[str]) -> Iterator[list[str]]:
+    """The items of each answer."""
+    items: list[str] | None = None
+    for line in lines:
+        word, rest = line.split(" ", 1)
+        if word == "affected":
+            if items is not None:
+                yield items
+            items = []
+        elif word == "item" and items is not None:
+            items.append(rest)
+        else:
+            raise Fatal(f"cpe advise wrote {line}")
+    if items is not None:
+        yield items
+
+
+def _pairs(answers: Iterator[list[str]], count: int) -> Iterator[tuple[list[str], set[str]]]:
+    found = 0
+    for covered in answers:
+        inside = next(answers, None)
+        if inside is not None:
+            found += 1
+            yield covered, set(inside)
+    if found != count:
+        raise Fatal(f"cpe advise answered {found} of {count} ranges")
+
+
+class Lists:
+    """The names that the match feed lists, by the ids of the matches, as cpe writes them."""
+
+    def __init__(self, program: Program, found: Mapping[str, Sequence[str]]) -> None:
+        written = list(dict.fromkeys(name for listed in found.values() for name in listed))
+        lines = program.lines(["resolve"], (record_text({"do": "lookup", "name": name}) for name in written)) if written else []
+        # (the front of an answer is the name; one that is refused is no name, and no item either)
+        told = dict(zip(written, (line.split(" ")[1] if line.startswith("lookup ") else None for line in lines)))
+        self._keys: dict[str, list[str]] = {}
+        for key, listed in found.items():
+            for name in dict.fromkeys(told[name] for name in listed):
+                if name is not None:
+                    self._keys.setdefault(name, []).append(key)
+
+    def keys(self, name: str) -> Sequence[str]:
+        """The ids of the matches whose lists have this name."""
+        return self._keys.get(name, ())
+
+
+def decide(leads: Iterable[Lead], decider: Decider, lists: Lists) -> Decided:
+    """What is decided of a machine with items that lead so."""
+    decided = Decided()
+    for lead in leads:
+        for name in (lead.name, *lead.ends):
+            for key in lists.keys(name):
+                decided.truths[key] = True
+        for end in lead.ends:
+            for key, stand in decider.stands(end).items():
+                if isinstance(stand, str):
+                    decided.unsure.setdefault(key, Unsure(key, end, stand))
+                else:
+                    decided.truths[key] = decided.truths.get(key, False) or stand
+    for key in [key for key in decided.unsure if decided.truths.get(key)]:
+        del decided.unsure[key]
+    for key in decided.unsure:
+        decided.truths.pop(key, None)
+    return decided
+
+
+def check_record(key: str, is_true: bool) -> str:
+    """The record that tells the check of a range."""
+    return record_text({"do": "check", "system": SYSTEM, "href": MATCH, "id": key, "result": "TRUE" if is_true else "FALSE"})
+
+
+def drop_record(key: str) -> str:
+    return record_text({"do": "drop-check", "system": SYSTEM, "href": MATCH, "id": key})
+
+
+def read_ranges(paths: Sequence[str], said: Said) -> dict[str, Range]:
+    """The ranges of these files, by the ids of their checks."""
+    found: dict[str, Range] = {}
+    for path in paths:
+        try:
+            for number, record in enumerate(values_of(read_feed(path)), 1):
+                try:
+                    one = Range.of(record)
+                except FormFault:
+                    said.left_out(f"line {number} of {name_of(path)}", "no range")
+                    continue
+                if found.setdefault(one.key, one) != one:
+                    said.left_out(one.key, f"line {number} of {name_of(path)} has another range under this id; neither is decided")
+                    found[one.key] = Range(one.key, "")
+        except FeedFault as fault:
+            raise Fatal(f"{name_of(path)}: {fault}") from fault
+    return {key: one for key, one in found.items() if one.criteria}
+
+
+def read_entries(paths: Sequence[str]) -> list[str]:
+    """The lines of these files but those that lead no name anywhere: statements, checks, items, questions."""
+    lines: list[str] = []
+    for path in paths:
+        try:
+            data = read_feed(path)
+        except FeedFault as fault:
+            raise Fatal(f"{name_of(path)}: {fault}") from fault
+        lines.extend(data.decode(errors="replace").splitlines())
+    return [line for line in lines if any(word in line for word in _LEADING)]
+
+
+def run(words: Sequence[str]) -> int:
+    options = {"--ranges": MANY, "--records": MANY, "--machines": ONE, "--matches": MANY, "--letters": ONE}
+    read = read_words(words, options, USAGE)
+    if read.files or not all(read.has(option) for option in ("--ranges", "--records", "--machines")):
+        raise Fatal(f"usage: {USAGE}")
+    said, output, program = Said(), Output(), Program()
+    ranges, records = read_ranges(read.many("--ranges"), said), read_entries(read.many("--records"))
+    machines = read_machines(read.one("--machines"), said)
+    feed = pages(read.many("--matches"), said, matches.KINDS, strict=True) if read.has("--matches") else []
+    lists = Lists(program, matches.listed(feed, ranges.keys(), said))
+    items = {item: None for machine in machines for item in machine.items}
+    leads = leads_of(program, records, items, (one.criteria for one in ranges.values()))
+    decider = Decider(program, ranges.values(), leads, items, read_letters(read.one("--letters") or LETTERS))
+    for one in ranges.values():
+        if one.criteria in leads.refused:
+            said.left_out(one.key, f"{leads.refused[one.criteria]}: {one.criteria}")
+    for machine in machines:
+        _write(machine, leads, decide(_leads_of_machine(machine, leads, said), decider, lists), ranges, output, said)
+    output.end()
+    return said.status()
+
+
+def _leads_of_machine(machine: Machine, leads: Leads, said: Said) -> list[Lead]:
+    """Where the items of a machine lead; what is no item is said."""
+    for item in machine.items:
+        if item in leads.refused:
+            said.left_out(machine.name, f"{leads.refused[item]}: {item}")
+    return [leads.found[item] for item in machine.items if item in leads.found]
+
+
+def _write(machine: Machine, leads: Leads, decided: Decided, ranges: Mapping[str, Range], output: Output, said: Said) -> None:
+    for key, one in decided.unsure.items():
+        said.left_out(machine.name, f"{one.end} in {ranges[key].criteria} {ranges[key].words()}: {one.reason}")
+    for key in ranges:
+        if key in decided.truths:
+            output.line(f"{machine.name}\t{key}\t{'TRUE' if decided.truths[key] else 'FALSE'}")

@@ -1,0 +1,216 @@
+"""What the fleets over GNU parallel and over Dask share: what they are given, what each machine is asked, and what is said of it.
+`parallel.py` tells what they take and write."""
+from __future__ import annotations
+
+import json
+from collections.abc import Iterator
+from dataclasses import dataclass
+
+from . import decide, matches, unlisted
+from .advisories import Range
+from .feeds import FeedFault, name_of, pages, read_feed
+from .machines import Machine, read_machines
+from .program import Program
+from .said import Fatal, Said
+from .session import Asked, Known
+from .versions import read_letters
+from .words import MANY, ONE, Words
+
+OPTIONS = {"--ranges": ONE, "--matches": MANY, "--letters": ONE, "--decided": ONE}
+USAGE = "RECORDS MACHINES [--ranges FILE [--letters FILE] [--matches FILE..] | --decided FILE]"
+MACHINES_MISSING = 5
+
+
+def read_text(path: str) -> str:
+    """What stands in a file; a byte that is no UTF-8 is written by its number, and cpe refuses its line. Fatal where it can't
+    be read."""
+    try:
+        return read_feed(path).decode(errors="backslashreplace")
+    except FeedFault as fault:
+        raise Fatal(f"{name_of(path)}: {fault}") from fault
+
+
+@dataclass(frozen=True)
+class Records:
+    """The records of a fleet, and the keys of NVD's checks that have a result among them."""
+
+    known: Known
+    results: set[str]
+
+
+def read_records(program: Program, path: str, said: Said) -> Records:
+    """The records at this path, and what cpe says to them. What it refuses is said. Fatal where there is no statement, and
+    where there are items, since those of machines come and go."""
+    feed, text = name_of(path), read_text(path)
+    lines = text.encode(errors="replace")
+    if lines and not lines.endswith(b"\n"):
+        lines += b"\n"
+    answers = program.run(["evaluate"], _lines_of(text))
+    table = next((place for place, line in enumerate(answers) if line.startswith("verdicts ")), None)
+    if table is None:
+        raise Fatal(f"{feed}: cpe evaluate wrote no table")
+    for line in answers[:table]:
+        if line.startswith("refused "):
+            _, refused, reason = line.split(" ", 2)
+            said.left_out(f"{feed} line {refused}", reason)
+    statements = [line.split(" ")[1] for line in answers[table + 1 :]]
+    if not statements:
+        raise Fatal(f"{feed}: no statements in it")
+    results: set[str] = set()
+    for number, line in enumerate(_lines_of(text), 1):
+        _note_state(feed, number, line, results)
+    return Records(Known(lines, table, statements), results)
+
+
+def _lines_of(text: str) -> Iterator[str]:
+    """The lines of a text, one at a time, so that a dictionary isn't in memory twice."""
+    start = 0
+    while start < len(text):
+        end = text.find("\n", start)
+        end = len(text) if end < 0 else end
+        yield text[start:end]
+        start = end + 1
+
+
+def _note_state(feed: str, number: int, line: str, results: set[str]) -> None:
+    if '"item"' not in line and 'check"' not in line:
+        return
+    try:
+        record = json.loads(line)
+    except (ValueError, RecursionError):
+        return
+    word = record.get("do") if isinstance(record, dict) else None
+    if word == "item":
+        raise Fatal(f"{feed} line {number}: an item stands among the records; items belong to machines")
+    if word in ("check", "drop-check") and (record.get("system"), record.get("href")) == ("NVD", "cpeMatch"):
+        key = record.get("id")
+        if isinstance(key, str):
+            (results.add if word == "check" else results.discard)(key)
+
+
+# Of machines by name: the ids of checks, with TRUE or FALSE.
+Decided = dict[str, list[tuple[str, str]]]
+
+
+def read_decided(path: str) -> Decided:
+    """What `decide.py` wrote."""
+    decided: Decided = {}
+    for number, line in enumerate(_lines_of(read_text(path)), 1):
+        parts = line.rstrip("\r").split("\t")
+        if len(parts) != 3 or parts[2] not in ("TRUE", "FALSE"):
+            raise Fatal(f"{name_of(path)} line {number}: it is not MACHINE, KEY and TRUE or FALSE with tabs between them")
+        decided.setdefault(parts[0], []).append((parts[1], parts[2]))
+    return decided
+
+
+@dataclass(frozen=True)
+class Fleet:
+    """What a fleet is asked: the records, and the machines."""
+
+    known: Known
+    machines: list[Asked]
+
+    def blocks(self, most: int) -> list[list[Asked]]:
+        """The machines in pieces of so many at most."""
+        return [self.machines[first : first + most] for first in range(0, len(self.machines), most)]
+
+
+def read_fleet(program: Program, words: Words, said: Said) -> Fleet:
+    """What the words of a fleet name."""
+    records_path, machines_path = words.files
+    records = read_records(program, records_path, said)
+    machines = read_machines(machines_path, said)
+    ranges = decide.read_ranges(words.many("--ranges"), said)
+    names = _Names(program, decide.read_entries([records_path]), machines, [one.criteria for one in ranges.values()])
+    asked = []
+    decided = _decided(program, words, ranges, names, machines, said)
+    for machine in machines:
+        own, beside = (_without(records.results, found) for found in decided.get(machine.name, ([], [])))
+        supposed = names.supposed(machine)
+        for item in supposed:
+            said.remark(f"not in the dictionary {machine.name} {item}{names.goes_on(item)}")
+        new = dict.fromkeys(name for found in supposed.values() for name in found)
+        asked.append(Asked(machine.name, machine.items, own, list(new), beside))
+    return Fleet(records.known, asked)
+
+
+def _without(results: set[str], decided: list[tuple[str, str]]) -> list[tuple[str, str]]:
+    """A key that has a result among the records keeps that one."""
+    return [(key, result) for key, result in decided if key not in results]
+
+
+class _Names:
+    """Where the names of items lead, and under which others they may go on that no entry has."""
+
+    def __init__(self, program: Program, entries: list[str], machines: list[Machine], criteria: list[str]) -> None:
+        items = dict.fromkeys(item for machine in machines for item in machine.items)
+        self.leads = decide.leads_of(program, entries, items, criteria)
+        own = [self.leads.found[item] for item in items if item not in self.leads.refused]
+        self._successors = unlisted.successors_of(program, entries, own)
+        new = dict.fromkeys(name for lead in own for name in unlisted.supposed_names(lead, self._successors))
+        self.beside = decide.leads_of(program, entries, new, ()).found if new else {}
+        # (by their names as cpe writes them, so that one stands for all spellings)
+        self.all_leads = {lead.name: lead for lead in (*own, *self.beside.values())}
+
+    def items(self, machine: Machine) -> dict[str, decide.Lead]:
+        """Where its items lead; what is no item is said where it is put."""
+        return {item: self.leads.found[item] for item in dict.fromkeys(machine.items) if item not in self.leads.refused}
+
+    def supposed(self, machine: Machine) -> dict[str, list[str]]:
+        """Of items that no entry has the names under which they may go on."""
+        found = {item: unlisted.supposed_names(lead, self._successors) for item, lead in self.items(machine).items()}
+        return {item: supposed for item, supposed in found.items() if supposed}
+
+    def goes_on(self, item: str) -> str:
+        return unlisted.goes_on(self.leads.found[item], self._successors)
+
+
+# What is decided of machines by name: with their own items, and with those beside that they may have.
+_BothDecided = dict[str, tuple[list[tuple[str, str]], list[tuple[str, str]]]]
+
+
+def _decided(
+    program: Program, words: Words, ranges: dict[str, Range], names: _Names, machines: list[Machine], said: Said
+) -> _BothDecided:
+    decided_path = words.one("--decided")
+    if decided_path is not None:
+        before = read_decided(decided_path)
+        here = {machine.name for machine in machines}
+        for name in before:
+            if name not in here:
+                said.remark(f"{name} has decided ranges, and is no machine here")
+        return {name: (decided, decided) for name, decided in before.items()}
+    if not ranges:
+        return {}
+    feed = pages(words.many("--matches"), said, matches.KINDS, strict=True) if words.has("--matches") else []
+    lists = decide.Lists(program, matches.listed(feed, ranges.keys(), said))
+    criteria = {one.criteria for one in ranges.values()} & names.leads.found.keys()
+    leads = names.all_leads | {name: names.leads.found[name] for name in criteria}
+    letters = read_letters(words.one("--letters") or decide.LETTERS)
+    decider = decide.Decider(program, ranges.values(), decide.Leads(leads), list(names.all_leads), letters)
+    both = {}
+    for machine in machines:
+        own = list(names.items(machine).values())
+        new = [names.beside[name] for found in names.supposed(machine).values() for name in found]
+        found = decide.decide(own, decider, lists)
+        for key, one in found.unsure.items():
+            said.left_out(machine.name, f"{one.end} in {ranges[key].criteria} {ranges[key].words()}: {one.reason}")
+        both[machine.name] = _results(found), _results(decide.decide([*own, *new], decider, lists))
+    return both
+
+
+def _results(decided: decide.Decided) -> list[tuple[str, str]]:
+    return [(key, "TRUE" if truth else "FALSE") for key, truth in decided.truths.items()]
+
+
+def say_told(said: Said, machine: str, has_items: bool, left_out: list[tuple[str, str]]) -> None:
+    for name, reason in left_out:
+        said.left_out(f"{machine} {name}", reason)
+    if not has_items:
+        said.left_out(machine, "no items")
+
+
+def say_missing(said: Said, machines: list[Asked], why: str) -> None:
+    """Machines whose worker came to no end."""
+    names = machines[0].name if len(machines) == 1 else f"{machines[0].name} to {machines[-1].name}"
+    said.left_out(names, f"{len(machines)} machines, {why}" if len(machines) > 1 else why)

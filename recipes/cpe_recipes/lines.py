@@ -1,0 +1,63 @@
+"""A word that keeps no state, over the processors of one machine: sh lines.sh WORD.. < LINES.
+
+WORD.. is unbind, bind fs, bind uri or compare. It writes what `cpe WORD..` writes, with the same numbers of refused lines, and
+ends with its status. GNU parallel runs the workers; WORKERS is how many there are at a time (else as many as processors), PIECE
+how many lines each takes. A piece whose worker dies is done again, up to three times; where it dies each time the others still
+come out, that is said, and the status is 5.
+"""
+from __future__ import annotations
+
+import itertools
+import re
+import sys
+from collections.abc import Iterator, Sequence
+from pathlib import Path
+
+from . import workers
+from .program import Program
+from .said import DONE, LEFT_OUT, Fatal, Said, room, why, write_all
+
+WORDS = ("unbind", "bind fs", "bind uri", "compare")
+PIECES_MISSING = 5
+
+_REFUSED = re.compile(rb"^refused (\d+)", re.MULTILINE)
+
+
+def run(words: Sequence[str]) -> int:
+    if " ".join(words) not in WORDS:
+        raise Fatal(f"usage: lines.sh {'|'.join(WORDS)}")
+    workers.needs_parallel()
+    program, said = Program(), Said()
+    most = workers.number_at("PIECE", 100_000)
+    with room() as folder:
+        pieces = list(_cut(folder, most))
+        workers.run_workers(folder, ["sh", str(workers.RECIPES / "fleet" / "piece.sh"), program.path, *words], pieces)
+        is_refused = False
+        for number, piece in enumerate(pieces):
+            if not workers.is_done(piece):
+                said.left_out(f"lines {number * most + 1} to {(number + 1) * most}", "their worker came to no end")
+            elif Path(f"{piece}.refused").exists():
+                is_refused = True
+                write_all(1, _renumbered(Path(f"{piece}.out").read_bytes(), number * most), "the output")
+            else:
+                workers.copy_out(piece)
+    return PIECES_MISSING if said.left else LEFT_OUT if is_refused else DONE
+
+
+def _renumbered(lines: bytes, before: int) -> bytes:
+    """What cpe wrote of a piece, with the numbers that its refused lines have in the whole input."""
+    return _REFUSED.sub(lambda found: b"refused %d" % (int(found[1]) + before), lines)
+
+
+def _cut(folder: Path, most: int) -> Iterator[Path]:
+    """Files of so many lines of standard input, called by their number."""
+    for number in itertools.count():
+        path = folder / f"piece.{number:06}"
+        try:
+            with path.open("wb") as piece:
+                piece.writelines(itertools.islice(sys.stdin.buffer, most))
+            if path.stat().st_size == 0:
+                return
+        except OSError as fault:
+            raise Fatal(f"a piece could not be written: {why(fault)}") from fault
+        yield path

@@ -1,0 +1,48 @@
+"""What recipes look at in names: formatted strings as cpe writes them, in lower case. What is a name, and which covers which,
+cpe alone says."""
+from __future__ import annotations
+
+import re
+
+PREFIX = "cpe:2.3:"
+ANY, NA = "*", "-"
+VENDOR, PRODUCT, VERSION, UPDATE = 1, 2, 3, 4
+
+_COMPONENT = re.compile(r"(?:[^:\\]|\\.)+")
+_QUOTED = re.compile(r"\\(.)")
+_SPECIAL = re.compile(r"(?:[^*?\\]|\\.)*[*?]")
+_BARE = re.compile(r"[A-Za-z0-9_.\-]")
+
+
+def components(name: str) -> list[str]:
+    """The eleven components of a formatted string, as they are spelled there."""
+    text = name[len(PREFIX) :]
+    return _COMPONENT.findall(text) if "\\" in text else text.split(":")
+
+
+def joined(parts: list[str]) -> str:
+    """The formatted string of these components."""
+    return PREFIX + ":".join(parts)
+
+
+def is_plain(component: str) -> bool:
+    """Whether a component is a text without specials: neither ANY nor NA, nor with a `*` or `?` that isn't quoted."""
+    return component != NA and not _SPECIAL.match(component)
+
+
+def body(component: str) -> str | None:
+    """The text of a plain component without its quoting; None where it isn't plain."""
+    if not is_plain(component):
+        return None
+    return _QUOTED.sub(r"\1", component) if "\\" in component else component
+
+
+def spelled(text: str) -> str:
+    """A plain text as a component."""
+    return "".join(one if _BARE.match(one) else f"\\{one}" for one in text)
+
+
+def product_of(name: str) -> tuple[str, str]:
+    """The vendor and the product of a name, as components."""
+    parts = components(name)
+    return parts[VENDOR], parts[PRODUCT]

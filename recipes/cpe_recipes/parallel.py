@@ -1,0 +1,66 @@
+"""An inventory of many machines over the processors of this one, with GNU parallel.
+
+    sh parallel.sh RECORDS MACHINES [--ranges FILE [--letters FILE] [--matches FILE..] | --decided FILE]
+
+- RECORDS: entries, deprecations, statements and results of checks, as the recipes write them.
+- MACHINES: a line a machine: its name, and behind it the names of its items.
+- --ranges: the ranges of versions that `advisories.sh --ranges` wrote. Each is decided for each machine, as `decide.py` does,
+  and the statements that wait for it get the answer. --decided has what `decide.py` wrote before.
+
+An item that no entry of the dictionary has is asked for under the products too to which entries of its own lead; where a verdict
+would be another so, it is UNKNOWN, and the item is remarked.
+
+It writes a line `MACHINE STATEMENT TRUTH` for each, in the order of the machines and of the statements, and `MACHINE no items`
+for a machine without items, of which nothing is known. The last line, `machines COUNT`, stands where every machine was told.
+
+Each worker reads the records once. WORKERS is how many there are (else as many as processors). A worker that dies begins its
+machines anew, up to three times. What is refused is said, and the status is 1; it is 5 where machines are missing.
+"""
+from __future__ import annotations
+
+import json
+import os
+from collections.abc import Sequence
+from pathlib import Path
+
+from . import fleet, worker, workers
+from .program import Program
+from .said import Fatal, Said, room, write_all
+from .session import Asked
+from .words import read_words
+
+
+def run(words: Sequence[str]) -> int:
+    usage = f"parallel.sh {fleet.USAGE}"
+    given = read_words(words, fleet.OPTIONS, usage)
+    if len(given.files) != 2:
+        raise Fatal(f"usage: {usage}")
+    workers.needs_parallel()
+    said, program = Said(), Program()
+    asked = fleet.read_fleet(program, given, said)
+    with room() as folder:
+        plan = worker.write_plan(folder, asked.known)
+        pieces = {}
+        most = len(asked.machines) // workers.number_at("WORKERS", os.cpu_count() or 1) + 1
+        for number, machines in enumerate(asked.blocks(most)):
+            path = folder / f"piece.{number:06}"
+            worker.write_piece(path, machines)
+            pieces[path] = machines
+        workers.run_workers(folder, workers.python_worker("worker", program.path, *plan), list(pieces))
+        return _gather(pieces, said)
+
+
+def _gather(pieces: dict[Path, list[Asked]], said: Said) -> int:
+    """Writes what the workers found, in the order of the machines; the last line only where no machine is missing."""
+    missing = [piece for piece in pieces if not workers.is_done(piece)]
+    for piece, machines in pieces.items():
+        if piece in missing:
+            fleet.say_missing(said, machines, "since their worker came to no end")
+            continue
+        for line in Path(f"{piece}.said").read_text().splitlines():
+            fleet.say_told(said, *json.loads(line))
+        workers.copy_out(piece)
+    if missing:
+        return fleet.MACHINES_MISSING
+    write_all(1, f"machines {sum(map(len, pieces.values()))}\n".encode(), "the output")
+    return said.status()

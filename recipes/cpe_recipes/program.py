@@ -1,0 +1,126 @@
+"""How the recipes run cpe, which is what the variable CPE names, or cpe on PATH."""
+from __future__ import annotations
+
+import contextlib
+import os
+import shutil
+import subprocess
+import threading
+from collections.abc import Iterable, Iterator, Sequence
+from dataclasses import dataclass
+
+from .said import Fatal, Said, why
+
+# Lines are handed over in pieces of about so many bytes.
+_PIECE = 1 << 16
+_MOST_SHOWN = 100
+
+
+@dataclass(frozen=True)
+class Candidate:
+    """What became of a record of a feed, which has an id there: a record for cpe, or else the reason why there is none."""
+
+    id: str
+    record: str = ""
+    reason: str = ""
+
+
+class Program:
+    """The program; Fatal where it isn't there."""
+
+    def __init__(self, path: str | None = None) -> None:
+        self.path = path or os.environ.get("CPE") or "cpe"
+        if shutil.which(self.path) is None:
+            raise Fatal(f"there is no {self.path}")
+
+    def lines(self, words: Sequence[str], records: Iterable[str]) -> Iterator[str]:
+        """What the program writes under these words over these lines, as it comes. Fatal where it doesn't come to its end."""
+        try:
+            run = subprocess.Popen([self.path, *words], stdin=subprocess.PIPE, stdout=subprocess.PIPE)
+        except OSError as fault:
+            raise Fatal(f"{self.path} can not be run: {why(fault)}") from fault
+        with run:
+            # (who writes to a pipe and doesn't read from the other one may wait for ever, so another thread writes)
+            writer = _Writer(run, records)
+            writer.start()
+            try:
+                for line in run.stdout:
+                    yield line.rstrip(b"\n").decode(errors="backslashreplace")
+            except BaseException:
+                # (a run that nobody reads to its end)
+                run.kill()
+                raise
+            writer.join()
+        if writer.fault is not None:
+            raise writer.fault
+        if run.returncode not in (0, 1):
+            raise Fatal(f"{self.path} {' '.join(words)} ended with status {run.returncode}")
+
+    def run(self, words: Sequence[str], records: Iterable[str]) -> list[str]:
+        """What the program writes under these words over these lines."""
+        return list(self.lines(words, records))
+
+    def accepted(self, candidates: Iterable[Candidate], said: Said, unsaid: str = "") -> list[str]:
+        """The records that cpe accepts, each behind those before it. The others are said, but for those that it refuses for
+        the reason `unsaid`."""
+        kept = list(candidates)
+        # (what cpe refuses changes nothing, so the records that are left do the same without it; an empty line has a number)
+        reasons = refusals(self.lines(["resolve"], (one.record for one in kept)))
+        records = []
+        for number, one in enumerate(kept, 1):
+            if not one.record:
+                said.left_out(one.id, one.reason)
+            elif number not in reasons:
+                records.append(one.record)
+            elif reasons[number] != unsaid:
+                said.left_out(one.id, f"{reasons[number]}: {front(one.record)}")
+        return records
+
+
+class _Writer(threading.Thread):
+    """Hands lines over to a run, and closes its input."""
+
+    def __init__(self, run: subprocess.Popen[bytes], records: Iterable[str]) -> None:
+        super().__init__(daemon=True)
+        self._run, self._records = run, records
+        self.fault: BaseException | None = None
+
+    def run(self) -> None:
+        # (a program that is gone takes no more; its status tells)
+        with contextlib.suppress(BrokenPipeError), self._run.stdin:
+            try:
+                for piece in _pieces(self._records):
+                    self._run.stdin.write(piece)
+            except BrokenPipeError:
+                raise
+            except BaseException as fault:  # noqa: BLE001 (of the records; told where the answers are read)
+                self.fault = fault
+                self._run.kill()
+
+
+def _pieces(records: Iterable[str]) -> Iterator[bytes]:
+    gathered: list[str] = []
+    size = 0
+    for record in records:
+        gathered.append(record)
+        size += len(record) + 1
+        if size >= _PIECE:
+            yield "".join(f"{line}\n" for line in gathered).encode(errors="replace")
+            gathered.clear()
+            size = 0
+    yield "".join(f"{line}\n" for line in gathered).encode(errors="replace")
+
+
+def refusals(lines: Iterable[str]) -> dict[int, str]:
+    """The reasons of the lines that were refused, by their numbers."""
+    found = {}
+    for line in lines:
+        if line.startswith("refused "):
+            _, number, reason = line.split(" ", 2)
+            found[int(number)] = reason
+    return found
+
+
+def front(record: str) -> str:
+    """A record, or its beginning where it is long."""
+    return record if len(record) <= _MOST_SHOWN else f"{record[:_MOST_SHOWN]}..."

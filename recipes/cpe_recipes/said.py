@@ -1,0 +1,157 @@
+"""What a recipe tells people, what it writes, and how it ends.
+
+Two kinds of lines go to standard error: `left out ID: REASON`, where something was not read, and `remark TEXT`, where nothing
+is lost. The status is 1 where something was left out, and 2 where there is no result, which one plain sentence tells.
+"""
+from __future__ import annotations
+
+import contextlib
+import os
+import signal
+import sys
+import tempfile
+from collections.abc import Callable, Iterator
+from pathlib import Path
+from typing import NoReturn
+
+DONE, LEFT_OUT, NO_RESULT, STOPPED = 0, 1, 2, 130
+
+
+class Fatal(Exception):
+    """Why there is no result, as one plain sentence. Nothing of a table was written then."""
+
+
+def shown(text: str) -> str:
+    """The text in one line that a terminal shows as it is: what can't be printed is written by its number."""
+    if text.isprintable():
+        return text
+    return "".join(one if one.isprintable() else _by_number(one) for one in text)
+
+
+def _by_number(one: str) -> str:
+    number = ord(one)
+    return f"\\u{number:04x}" if number < 0x10000 else f"\\U{number:08x}"
+
+
+def why(fault: OSError) -> str:
+    """What the system says of a fault."""
+    return fault.strerror or str(fault)
+
+
+def write_all(descriptor: int, data: bytes, what: str) -> None:
+    """Writes all of it, or is Fatal: a full disk and a closed pipe are no end of a result."""
+    view = memoryview(data)
+    try:
+        while view:
+            view = view[os.write(descriptor, view) :]
+    except OSError as fault:
+        raise Fatal(f"{what} could not be written: {why(fault)}") from fault
+
+
+class Said:
+    """What is told on standard error, and how much was left out. `before` is called before each line, to clear the place."""
+
+    def __init__(self, descriptor: int = 2, before: Callable[[], None] | None = None) -> None:
+        self._descriptor, self._before = descriptor, before
+        self.left = 0
+        self.remarks = 0
+
+    def left_out(self, id: str, reason: str) -> None:
+        """Something was not read, or is no record."""
+        self.left += 1
+        self._say(f"left out {id}: {reason}")
+
+    def remark(self, text: str) -> None:
+        """Worth knowing, and nothing is lost."""
+        self.remarks += 1
+        self._say(f"remark {text}")
+
+    def status(self) -> int:
+        return LEFT_OUT if self.left else DONE
+
+    def _say(self, line: str) -> None:
+        if self._before is not None:
+            self._before()
+        write_all(self._descriptor, f"{shown(line)}\n".encode(errors="replace"), "what was left out")
+
+
+class Output:
+    """What goes to standard output. It is gathered, so that nothing stands written where the result comes to no end."""
+
+    def __init__(self, descriptor: int = 1) -> None:
+        self._descriptor = descriptor
+        self._lines: list[str] = []
+
+    def line(self, text: str) -> None:
+        self._lines.append(text)
+
+    def lines(self, texts: Iterator[str] | list[str]) -> None:
+        self._lines.extend(texts)
+
+    def end(self) -> None:
+        """Writes all that was gathered; the result is whole behind this."""
+        data = "".join(f"{line}\n" for line in self._lines).encode(errors="replace")
+        self._lines.clear()
+        write_all(self._descriptor, data, "the output")
+
+
+def write_file(path: str, lines: Iterator[str] | list[str]) -> None:
+    """A file of these lines, whole or not there at all: it gets its name when all of it is written."""
+    target = Path(path)
+    data = "".join(f"{line}\n" for line in lines).encode(errors="replace")
+    try:
+        if target.exists() and not target.is_file():
+            # (a device or a pipe can't be put in place of itself)
+            target.write_bytes(data)
+            return
+        beside = target.with_name(f".{target.name}.{os.getpid()}")
+        try:
+            beside.write_bytes(data)
+            os.replace(beside, target)
+        finally:
+            beside.unlink(missing_ok=True)
+    except OSError as fault:
+        raise Fatal(f"{path} could not be written: {why(fault)}") from fault
+
+
+@contextlib.contextmanager
+def room() -> Iterator[Path]:
+    """A folder for temporary files, which is gone at the end, where a signal ends the recipe too."""
+    try:
+        made = tempfile.TemporaryDirectory(prefix="cpe-recipe-")
+    except OSError as fault:
+        raise Fatal(f"there is no room for temporary files: {why(fault)}") from fault
+    with made as folder:
+        yield Path(folder)
+
+
+def _stop(_number: int, _frame: object) -> NoReturn:
+    # (as an exception, so that all that is open is closed, and temporary files go)
+    raise SystemExit(STOPPED)
+
+
+def _help(run: Callable[[list[str]], int]) -> int:
+    output = Output()
+    output.line((sys.modules[run.__module__].__doc__ or "").rstrip("\n"))
+    output.end()
+    return DONE
+
+
+def main(run: Callable[[list[str]], int], name: str, words: list[str]) -> NoReturn:
+    """Runs a recipe over its words, and ends with its status. It tells what it does where it is asked for --help."""
+    for number in (signal.SIGHUP, signal.SIGINT, signal.SIGTERM):
+        # (what whoever started it lets pass, such as nohup, passes here too)
+        if signal.getsignal(number) is not signal.SIG_IGN:
+            signal.signal(number, _stop)
+    sys.argv[0] = name
+    try:
+        status = _help(run) if words in (["--help"], ["-h"]) else run(words)
+    except Fatal as fault:
+        with contextlib.suppress(OSError, Fatal):
+            write_all(2, f"{name}: {shown(str(fault))}\n".encode(errors="replace"), "the reason")
+        status = NO_RESULT
+    except MemoryError:
+        with contextlib.suppress(OSError):
+            os.write(2, f"{name}: memory ran out\n".encode())
+        status = NO_RESULT
+    sys.exit(status)

@@ -1,0 +1,187 @@
+"""Verdicts that were written: the table that `cpe evaluate` ends with, the lines of a fleet, or what `scan.py --json` writes.
+
+Each tells how much of it there is (`verdicts COUNT` above the table, `machines COUNT` behind the lines, the end of the JSON), so
+what was cut short is known, and refused. Statements that are parts of one advisory, `CVE-..`, `CVE-..#2` and so on, are joined by the OR of their
+truths.
+"""
+from __future__ import annotations
+
+from collections.abc import Sequence
+from dataclasses import dataclass, field
+
+from .advisories import base_id
+from .feeds import FeedFault, FormFault, Json, member, members, name_of, read_feed, text_at, values_of
+from .said import Fatal
+
+# In the order of OR: the first that occurs among its children.
+TRUTHS = ("TRUE", "ERROR", "UNKNOWN", "FALSE")
+_RANK = {truth: rank for rank, truth in enumerate(TRUTHS)}
+
+
+class Statements:
+    """The ids of statements, and of which advisory each is a part. Where only their number is known, any may be there."""
+
+    def __init__(self, ids: Sequence[str], count: int | None = None) -> None:
+        self.ids = list(ids)
+        all_ids = set(ids)
+        # (an id is that of a part where the first part is there)
+        self.whole = {id: base_id(id) if base_id(id) in all_ids else id for id in self.ids}
+        self.advisories = dict.fromkeys(self.whole.values())
+        self._is_open = count is not None
+        self.count = len(self.advisories) if count is None else count
+
+    def has(self, advisory: str) -> bool:
+        return self._is_open or advisory in self.advisories
+
+
+@dataclass
+class Machine:
+    """The verdicts of a machine, which has no name in a table of one inventory. Only those that aren't FALSE are kept."""
+
+    name: str | None
+    statements: Statements = field(default_factory=lambda: Statements([]))
+    shown: dict[str, str] = field(default_factory=dict)
+    has_items: bool = True
+
+    def put(self, id: str, truth: str) -> None:
+        whole = self.statements.whole.get(id, id)
+        if _RANK[truth] < _RANK[self.shown.get(whole, "FALSE")]:
+            self.shown[whole] = truth
+
+    def truth(self, advisory: str) -> str | None:
+        """The verdict of an advisory, None where there is none."""
+        return self.shown.get(advisory) or ("FALSE" if self.statements.has(advisory) else None)
+
+
+@dataclass
+class Verdicts:
+    """The machines in their order, and how many lines of the records were refused."""
+
+    machines: list[Machine]
+    refused: int = 0
+    has_machines: bool = True
+
+
+def read_verdicts(path: str | None) -> Verdicts:
+    """The verdicts at this path, of standard input where there is none. Fatal where they aren't whole."""
+    feed = name_of(path)
+    try:
+        data = read_feed(path)
+        if data.startswith(b"{"):
+            return _scan(list(values_of(data)))
+        lines = data.decode(errors="backslashreplace").split("\n")
+    except FeedFault as fault:
+        raise Fatal(f"{feed}: {fault}") from fault
+    except FormFault as fault:
+        raise Fatal(f"{feed}: it isn't what scan.py writes") from fault
+    try:
+        if lines.pop():
+            raise ValueError("its last line has no end")
+        if lines and _count(lines[-1], "machines") is not None:
+            return Verdicts(_Fleet().read(lines))
+        return _table(lines)
+    except ValueError as fault:
+        raise Fatal(f"{feed}: no whole table of verdicts: {fault}") from fault
+
+
+def _count(line: str, word: str) -> int | None:
+    words = line.split(" ")
+    return int(words[1]) if len(words) == 2 and words[0] == word and words[1].isdecimal() else None
+
+
+def _verdict(text: str) -> tuple[str, str]:
+    id, _, truth = text.partition(" ")
+    if truth not in _RANK:
+        raise ValueError(f"{text[:100]} is no verdict")
+    return id, truth
+
+
+def _machine(name: str | None, statements: Statements, rows: list[tuple[str, str]]) -> Machine:
+    machine = Machine(name, statements)
+    for id, truth in rows:
+        machine.put(id, truth)
+    return machine
+
+
+def _scan(values: Sequence[Json]) -> Verdicts:
+    """The result of one scan. FormFault where it is none."""
+    count = member(values[0], "advisories")
+    if len(values) != 1 or not isinstance(count, int):
+        raise FormFault
+    statements = Statements([], count)
+    machines: dict[str, Machine] = {}
+    for row in members(values[0], "machines"):
+        name = text_at(row, "name")
+        if not name or name in machines:
+            raise FormFault
+        machines[name] = Machine(name, statements if "verdicts" in row else Statements([]), has_items="verdicts" in row)
+        for one in members(row, "verdicts"):
+            id, truth = text_at(one, "id"), text_at(one, "verdict")
+            if id is None or truth not in _RANK:
+                raise FormFault
+            machines[name].put(id, truth)
+    return Verdicts(list(machines.values()))
+
+
+def _table(lines: list[str]) -> Verdicts:
+    """The table at the end of what `cpe evaluate` writes; above it stand answers to questions, and what was refused."""
+    place = next((place for place, line in enumerate(lines) if _count(line, "verdicts") is not None), None)
+    if place is None:
+        raise ValueError("cpe evaluate, or a fleet, has not come to its end")
+    rows = [_verdict(line.removeprefix("verdict ")) for line in lines[place + 1 :]]
+    wanted = _count(lines[place], "verdicts")
+    if len(rows) != wanted:
+        raise ValueError(f"there are {len(rows)} of {wanted} verdicts")
+    refused = sum(line.startswith("refused ") for line in lines[:place])
+    return Verdicts([_machine(None, Statements([id for id, _ in rows]), rows)], refused, has_machines=False)
+
+
+class _Fleet:
+    """Reads the lines of a fleet, or of several fleets whose outputs stand one behind the other."""
+
+    def __init__(self) -> None:
+        self._machines: dict[str | None, Machine] = {}
+        self._statements: Statements | None = None
+        self._name: str | None = None
+        self._rows: list[tuple[str, str]] = []
+
+    def read(self, lines: list[str]) -> list[Machine]:
+        before = 0
+        for line in lines:
+            wanted = _count(line, "machines")
+            if wanted is None:
+                self._take(line)
+                continue
+            self._close()
+            if len(self._machines) - before != wanted:
+                raise ValueError(f"there are {len(self._machines) - before} of {wanted} machines")
+            before, self._statements = len(self._machines), None
+        return list(self._machines.values())
+
+    def _take(self, line: str) -> None:
+        name, _, rest = line.partition(" ")
+        if rest == "no items":
+            self._close()
+            self._put(Machine(name, has_items=False))
+            return
+        if name != self._name:
+            self._close()
+            self._name = name
+        self._rows.append(_verdict(rest))
+
+    def _close(self) -> None:
+        """All verdicts of a machine are there; each machine has the same statements."""
+        if self._name is None:
+            return
+        ids = [id for id, _ in self._rows]
+        if self._statements is None:
+            self._statements = Statements(ids)
+        if ids != self._statements.ids:
+            raise ValueError(f"{self._name} has {len(ids)} verdicts, which aren't those of the machines before it")
+        self._put(_machine(self._name, self._statements, self._rows))
+        self._name, self._rows = None, []
+
+    def _put(self, machine: Machine) -> None:
+        if machine.name in self._machines:
+            raise ValueError(f"{machine.name} comes twice")
+        self._machines[machine.name] = machine

@@ -1,0 +1,61 @@
+"""The words behind a recipe's name: options, and names of files, which may begin with a hyphen too."""
+from __future__ import annotations
+
+import os
+from collections.abc import Mapping, Sequence
+from dataclasses import dataclass, field
+
+from .said import Fatal
+
+# How many words an option takes.
+FLAG, ONE, MANY = 0, 1, 2
+
+
+@dataclass
+class Words:
+    """What was asked for: the options that were given, with their words, and the files behind none."""
+
+    options: dict[str, list[str]] = field(default_factory=dict)
+    files: list[str] = field(default_factory=list)
+
+    def has(self, option: str) -> bool:
+        return option in self.options
+
+    def one(self, option: str) -> str | None:
+        return self.options[option][-1] if option in self.options else None
+
+    def many(self, option: str) -> list[str]:
+        return self.options.get(option, [])
+
+
+def read_words(words: Sequence[str], options: Mapping[str, int], usage: str) -> Words:
+    """Reads the words. Fatal, with the usage, where an option isn't known or lacks a word. All behind `--` are files; any
+    other word that begins with a hyphen and is no option is a file where there is such a file."""
+    read = Words()
+    left = list(words)
+    while left:
+        word = left.pop(0)
+        if word == "--":
+            read.files.extend(left)
+            break
+        if word not in options:
+            read.files.append(_file(word, usage))
+            continue
+        taken = read.options.setdefault(word, [])
+        if options[word] == ONE:
+            if not left:
+                raise Fatal(f"{word} lacks its word; usage: {usage}")
+            taken.append(left.pop(0))
+        elif options[word] == MANY:
+            before = len(taken)
+            while left and left[0] not in options and left[0] != "--":
+                taken.append(_file(left.pop(0), usage))
+            if len(taken) == before:
+                raise Fatal(f"{word} lacks its files; usage: {usage}")
+    return read
+
+
+def _file(word: str, usage: str) -> str:
+    if word.startswith("-") and not os.path.exists(word):
+        raise Fatal(f"{word} is no option and no file; usage: {usage}")
+    return word

@@ -1,0 +1,12 @@
+#!/usr/bin/env python3
+"""Which ranges of versions have a version on which machine: cpe_recipes/decide.py says how.
+
+    python3 decide.py --ranges FILE.. --records FILE.. --machines FILE [--matches FILE..] [--letters FILE]
+"""
+import sys
+
+sys.dont_write_bytecode = True  # (run.py says why)
+from cpe_recipes import decide, said
+
+if __name__ == "__main__":
+    said.main(decide.run, "decide.py", sys.argv[1:])

@@ -1,0 +1,12 @@
+#!/usr/bin/env python3
+"""The whole way, from feeds and what machines have to the advisories that concern each: cpe_recipes/scan.py says how.
+
+    python3 scan.py --dictionary FILE.. --advisories FILE.. [--matches FILE..] --machines FILE | --lists FILE.. [--json]
+"""
+import sys
+
+sys.dont_write_bytecode = True  # (run.py says why)
+from cpe_recipes import said, scan
+
+if __name__ == "__main__":
+    said.main(scan.run, "scan.py", sys.argv[1:])

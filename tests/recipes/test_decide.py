@@ -1,0 +1,206 @@
+"""Which ranges have a version on which machine, by the program that CPE names; without it these tests are skipped."""
+import os
+import random
+import sys
+import tempfile
+import unittest
+from pathlib import Path
+
+sys.path.insert(0, str(Path(__file__).resolve().parent))
+
+from stand_in import Heard  # noqa: E402 (it knows where the recipes are)
+from cpe_recipes import matches  # noqa: E402
+from cpe_recipes.advisories import Range  # noqa: E402
+from cpe_recipes.decide import Decider, Lists, check_record, decide, drop_record, leads_of, read_entries, read_ranges  # noqa: E402
+from cpe_recipes.feeds import Page, record_text  # noqa: E402
+from cpe_recipes.program import Program  # noqa: E402
+from cpe_recipes.said import Fatal  # noqa: E402
+from cpe_recipes.versions import Standing, letters_of, standing  # noqa: E402
+
+
+def name(product, version="*", update="*", vendor="acme", rest="*:*:*:*:*:*"):
+    return f"cpe:2.3:a:{vendor}:{product}:{version}:{update}:{rest}"
+
+
+def entry(it):
+    return record_text({"do": "entry", "name": it})
+
+
+def deprecate(old, *new):
+    kind = "NAME_CORRECTION" if new else "NAME_REMOVAL"
+    return record_text({"do": "deprecate", "name": old, "kind": kind, "successors": list(new), "date": "2024-01-01"})
+
+
+LETTERS = letters_of(["acme:lettered", "acme:patched p"], "it")
+
+
+@unittest.skipUnless(os.environ.get("CPE"), "CPE names no program")
+class Decisions(unittest.TestCase):
+    def decided(self, items, *ranges, records=(), listed=None):
+        """The truths and reasons of a machine with these items."""
+        program = Program()
+        leads = leads_of(program, list(records), items, [one.criteria for one in ranges])
+        decider = Decider(program, ranges, leads, items, LETTERS)
+        found = decide([leads.found[item] for item in items if item in leads.found], decider, Lists(program, listed or {}))
+        return found.truths, {key: one.reason for key, one in found.unsure.items()}
+
+    def one(self, version, start=None, end=None, product="p", update="*", **excluded):
+        """The truth of one range on a machine with one item, or the reason why there is none."""
+        one = Range("KEY", name(product), start, end, **excluded)
+        truths, unsure = self.decided([name(product, version, update)], one)
+        self.assertEqual(len(truths) + len(unsure), 1)
+        return {**truths, **unsure}["KEY"]
+
+    def test_bounds(self):
+        for version, wanted in (("0.9", False), ("1.0", True), ("1.9.9", True), ("2.0", False), ("10.0", False)):
+            self.assertIs(self.one(version, "1.0", "2.0", end_excluded=True), wanted, version)
+        self.assertIs(self.one("2.0", None, "2.0"), True)
+        self.assertIs(self.one("1.0", "1.0", None, start_excluded=True), False)
+
+    def test_what_can_not_be_trusted_has_no_answer(self):
+        self.assertEqual(self.one("1.0k", "1.0", "1.1"), "a letter decides between 1.0k and 1.0")
+        self.assertEqual(self.one("1.0.0", None, "1.0"), "only zeros decide between 1.0.0 and 1.0")
+        self.assertEqual(self.one("1.0", "1.0", None, update="rc1"), "1.0 is the bound, and has the update rc1")
+        for version in ("*", "-"):
+            self.assertEqual(self.one(version, None, "1.0"), "its version isn't known")
+
+    def test_letters_that_count_upward(self):
+        for version, wanted in (("1.1.1", True), ("1.1.1k", True), ("1.1.1u", False), ("1.1.1v", False), ("1.1.0z", False), ("3.0", False)):
+            self.assertIs(self.one(version, "1.1.1", "1.1.1u", "lettered", end_excluded=True), wanted, version)
+        self.assertEqual(self.one("1.1.1-rc1", "1.1.1", None, "lettered"), "a letter decides between 1.1.1-rc1 and 1.1.1")
+        for update, wanted in (("-", True), ("p1", True), ("p2", False), ("p10", False)):
+            self.assertIs(self.one("9.3", None, "9.3p2", "patched", update, end_excluded=True), wanted, update)
+        self.assertEqual(self.one("9.3", None, "9.3", "patched", "b1"), "9.3 is the bound, and has the update b1")
+
+    def test_one_item_in_the_range_is_enough_and_one_that_is_unsure_beats_those_outside(self):
+        one = Range("KEY", name("p"), "1.0", "2.0")
+        self.assertEqual(self.decided([name("p", "3.0"), name("p", "1.5"), name("p", "1.0b")], one), ({"KEY": True}, {}))
+        self.assertEqual(self.decided([name("p", "3.0"), name("p", "1.0b")], one), ({}, {"KEY": "a letter decides between 1.0b and 1.0"}))
+        self.assertEqual(self.decided([name("p", "3.0"), name("q", "1.5")], one), ({"KEY": False}, {}))
+
+    def test_what_the_name_does_not_cover_needs_no_answer(self):
+        one = Range("KEY", name("p", rest="*:*:*:windows:*:*"), "1.0", "2.0")
+        self.assertEqual(self.decided([name("p", "1.5"), name("p", "1.5", rest="*:*:*:linux:*:*")], one), ({}, {}))
+        self.assertEqual(self.decided([name("p", "1.5", rest="*:*:*:windows:*:*")], one), ({"KEY": True}, {}))
+
+    def test_names_lead_on(self):
+        old, new = name("redis", "6.0.8", vendor="redislabs"), name("redis", "6.0.8", vendor="redis")
+        records = [entry(old), entry(new), deprecate(old, new)]
+        one = Range("KEY", name("redis", vendor="redis"), None, "6.0.9", end_excluded=True)
+        self.assertEqual(self.decided([old], one, records=records), ({"KEY": True}, {}))
+        self.assertEqual(self.decided([old], one), ({}, {}))
+        self.assertEqual(self.decided([old], one, records=[entry(old), deprecate(old)]), ({}, {}))
+
+    def test_criteria_that_lead_elsewhere_have_no_answer(self):
+        old, new, item = name("old"), name("new"), name("new", "1.0")
+        records = [entry(old), entry(new), deprecate(old, new)]
+        truths, unsure = self.decided([item, name("old", "1.0")], Range("KEY", old, None, "2.0"), records=records)
+        self.assertEqual((truths, unsure), ({}, {"KEY": f"{old} leads to {new} by the dictionary"}))
+        self.assertEqual(self.decided([name("old", "1.0")], Range("KEY", old, None, "2.0"), records=records), ({}, {}))
+
+    def test_criteria_with_a_version_have_no_answer(self):
+        truths, unsure = self.decided([name("p", "1.5")], Range("KEY", name("p", "1.*"), None, "2.0"))
+        self.assertEqual((truths, unsure), ({}, {"KEY": f"{name('p', '1.*')} has a version beside its bounds"}))
+        self.assertEqual(self.decided([name("p", "2.5")], Range("KEY", name("p", "1.*"), None, "2.0")), ({}, {}))
+
+    def test_bounds_that_cpe_does_not_take_have_no_answer(self):
+        for product, end in (("p", "1 0"), ("p", ""), ("p", "9" * 257), ("lettered", "1a" * 100)):
+            self.assertEqual(self.one("1.0", None, end, product), "a bound is no version that cpe takes")
+        self.assertIs(self.one("1.0", None, "9" * 256), True)
+
+    def test_criteria_in_any_spelling(self):
+        for criteria in ("cpe:/a:Acme:Lettered", "CPE:/A:acme:lettered", "cpe:2.3:a:ACME:Lettered:*:*:*:*:*:*:*:*"):
+            one = Range("KEY", criteria, "1.1.1", "1.1.1u", end_excluded=True)
+            self.assertEqual(self.decided([name("lettered", "1.1.1k")], one), ({"KEY": True}, {}), criteria)
+
+    def test_criteria_of_many_products(self):
+        one = Range("KEY", "cpe:2.3:a:acme:*:*:*:*:*:*:*:*:*", None, "2.0")
+        self.assertEqual(self.decided([name("p", "1.5"), name("q", "3.0")], one), ({"KEY": True}, {}))
+        self.assertEqual(self.decided([name("lettered", "1.0")], one)[0], {})
+
+    def test_the_match_feed_lists_what_is_in_it(self):
+        one = Range("KEY", name("p"), "1.0", "2.0")
+        listed = {"KEY": [name("p", "1.0B").upper().replace("CPE", "cpe").replace(":A:", ":a:"), "cpe:2.3:bad"]}
+        self.assertEqual(self.decided([name("p", "1.0b")], one, listed=listed), ({"KEY": True}, {}))
+        self.assertEqual(self.decided([name("p", "1.0c")], one, listed=listed)[0], {})
+        old, new = name("old", "5.0"), name("p", "1.0b")
+        self.assertEqual(self.decided([old], one, listed=listed, records=[entry(old), entry(new), deprecate(old, new)]), ({"KEY": True}, {}))
+
+    def test_what_is_no_item_is_refused_with_the_reason(self):
+        leads = leads_of(Program(), [], ["cpe:/a:acme:p:1.%02", "cpe:/a:acme:%zz", "CPE:/A:Acme:P:1.0"], ["cpe:2.3:a:acme:*:*:*:*:*:*:*:*:*", "x"])
+        self.assertEqual(leads.refused, {"cpe:/a:acme:p:1.%02": "wildcards", "cpe:/a:acme:%zz": "name name 13", "x": "name name 0"})
+        self.assertEqual(leads.found["CPE:/A:Acme:P:1.0"].ends, (name("p", "1.0"),))
+        self.assertFalse(leads.found["CPE:/A:Acme:P:1.0"].is_entry)
+
+    def test_this_recipe_orders_versions_as_cpe_does(self):
+        draw = random.Random(18)
+        bits = ["0", "1", "2", "10", "007", ".", ".", "-", "a", "rc", "_", "~"]
+        versions = ["".join(draw.choice(bits) for _ in range(draw.randint(1, 6))) for _ in range(400)]
+        versions = [version for version in dict.fromkeys(versions) if version != "-"]
+        sure = 0
+        for bound in ("1.0", "2", "10.1", "0.1-2"):
+            for word in ("start", "end"):
+                one = Range("KEY", name("p"), **{word: bound})
+                items = {version: name("p", version.replace("~", r"\~")) for version in versions}
+                program = Program()
+                leads = leads_of(program, [], items.values(), [one.criteria])
+                decider = Decider(program, [one], leads, items.values(), LETTERS)
+                for version, item in items.items():
+                    found, reason = standing(version, None, one)
+                    wanted = reason if found is Standing.UNSURE else found is Standing.INSIDE
+                    self.assertEqual(decider.stands(item)["KEY"], wanted, (version, word, bound))
+                    sure += found is not Standing.UNSURE
+        self.assertGreater(sure, 500)
+
+
+class Files(unittest.TestCase):
+    def setUp(self):
+        folder = tempfile.TemporaryDirectory()
+        self.addCleanup(folder.cleanup)
+        self.folder = Path(folder.name)
+
+    def file(self, *lines):
+        path = self.folder / "it.jsonl"
+        path.write_text("\n".join(lines))
+        return str(path)
+
+    def test_ranges(self):
+        one = Range("KEY", name("p"), "1.0", None, True)
+        said = Heard()
+        other = Range("K 2", name("q"), None, "2.0")
+        path = self.file(record_text(one.record()), "{}", record_text(other.record()), record_text(one.record()))
+        self.assertEqual(read_ranges([path], said), {"KEY": one, "K 2": other})
+        self.assertEqual(said.told, ["left out line 2 of it.jsonl: no range"])
+        path = self.file(record_text(one.record()), record_text(Range("KEY", name("p"), "1.1").record()))
+        self.assertEqual(read_ranges([path], said), {})
+        self.assertEqual(said.told[1:], ["left out KEY: line 2 of it.jsonl has another range under this id; neither is decided"])
+        for path in (self.file("{"), str(self.folder / "none")):
+            with self.assertRaises(Fatal):
+                read_ranges([path], said)
+
+    def test_entries_of_records(self):
+        lines = [entry(name("p", "1.0")), deprecate(name("p", "1.0"))]
+        other = record_text({"do": "statement", "id": "CVE-1", "title": 'an "entry"'})
+        self.assertEqual(read_entries([self.file(lines[0], other, "", lines[1] + "\r")]), lines)
+
+    def test_records_of_checks(self):
+        self.assertEqual(check_record("K", True), '{"do":"check","system":"NVD","href":"cpeMatch","id":"K","result":"TRUE"}')
+        self.assertEqual(drop_record("K"), '{"do":"drop-check","system":"NVD","href":"cpeMatch","id":"K"}')
+
+    def test_lists_of_the_match_feed(self):
+        said = Heard()
+        strings = [{"matchString": {"matchCriteriaId": key, "matches": [{"cpeName": name("p", key)}]}} for key in ("A", "B")]
+        odd = [{"matchString": {"matchCriteriaId": "C", "matches": ["text"]}}, "text", {"matchString": {"matchCriteriaId": "D"}}]
+        found = matches.listed([Page("it.json", "matchStrings", strings + odd)], {"A", "C", "D"}, said)
+        self.assertEqual(found, {"A": [name("p", "A")], "D": []})
+        self.assertEqual(said.told, ["left out C: not of the published form"])
+        empty = Page("empty.json", "matchStrings", [])
+        self.assertEqual(matches.listed([empty, Page("it.json", "matchStrings", strings)], {"A"}, said), {"A": [name("p", "A")]})
+        self.assertEqual(said.told[1:], ["remark empty.json: no matchStrings in it"])
+        self.assertEqual(matches.listed([], {"A"}, said), {})
+        with self.assertRaises(Fatal):
+            matches.listed([empty, empty], {"A"}, said)
+
+
+if __name__ == "__main__":
+    unittest.main()

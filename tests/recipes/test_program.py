@@ -1,0 +1,76 @@
+"""How cpe is run, by programs that stand in for it."""
+import os
+import sys
+import tempfile
+import unittest
+from pathlib import Path
+from unittest import mock
+
+sys.path.insert(0, str(Path(__file__).resolve().parents[2] / "recipes"))
+sys.path.insert(0, str(Path(__file__).resolve().parent))
+
+from cpe_recipes.program import Candidate, Program, refusals  # noqa: E402
+from cpe_recipes.said import Fatal  # noqa: E402
+from stand_in import Heard  # noqa: E402
+
+
+class Runs(unittest.TestCase):
+    def setUp(self):
+        folder = tempfile.TemporaryDirectory()
+        self.addCleanup(folder.cleanup)
+        self.path = Path(folder.name) / "program"
+
+    def program(self, text):
+        self.path.write_text(f"#!/bin/sh\n{text}\n")
+        self.path.chmod(0o755)
+        return Program(str(self.path))
+
+    def test_a_program_that_is_not_there_is_fatal(self):
+        for path in (str(self.path), str(self.path.parent)):
+            with self.assertRaises(Fatal):
+                Program(path)
+        with mock.patch.dict(os.environ, {"CPE": "/no/cpe"}), self.assertRaises(Fatal) as caught:
+            Program()
+        self.assertEqual(str(caught.exception), "there is no /no/cpe")
+
+    def test_lines_go_in_and_out_without_waiting(self):
+        # (more in each direction than pipes take)
+        records = [f"line {number} {'x' * 100}" for number in range(20000)]
+        self.assertEqual(self.program("cat").run(["any"], records), records)
+
+    def test_a_status_above_one_is_fatal_whatever_was_written(self):
+        self.assertEqual(self.program("echo one; exit 1").run(["evaluate"], []), ["one"])
+        for end in ("exit 2", "exit 5", "kill -9 $$"):
+            with self.subTest(end), self.assertRaises(Fatal):
+                self.program(f"echo one; {end}").run(["evaluate"], ["a"] * 100000)
+
+    def test_faults_of_the_records_are_told(self):
+        def records():
+            yield "one"
+            raise KeyError("two")
+
+        with self.assertRaises(KeyError):
+            self.program("cat").run([], records())
+
+    def test_a_run_that_is_not_read_to_its_end_is_ended(self):
+        lines = self.program("yes").lines([], [])
+        self.assertEqual(next(lines), "y")
+        lines.close()
+
+    def test_accepted_are_in_order_and_the_others_said(self):
+        program = self.program("cat > /dev/null; echo refused 2 exists; echo refused 4 name name 9; exit 1")
+        said = Heard()
+        candidates = [Candidate("a", "{1}"), Candidate("b", "{2}"), Candidate("c", reason="rejected"), Candidate("d", "{" + "4" * 200)]
+        self.assertEqual(program.accepted(candidates, said), ["{1}"])
+        told = ["left out b: exists: {2}", "left out c: rejected", "left out d: name name 9: {" + "4" * 99 + "..."]
+        self.assertEqual(said.told, told)
+        said = Heard()
+        self.assertEqual(program.accepted(candidates, said, "exists"), ["{1}"])
+        self.assertEqual(said.told, told[1:])
+
+    def test_refusals_have_their_numbers(self):
+        self.assertEqual(refusals(["chain x", "refused 12 name fact 2 7", "refused 30 long"]), {12: "name fact 2 7", 30: "long"})
+
+
+if __name__ == "__main__":
+    unittest.main()

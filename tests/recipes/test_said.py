@@ -1,0 +1,136 @@
+"""What recipes say and write, and how they end."""
+import os
+import signal
+import subprocess
+import sys
+import tempfile
+import unittest
+from pathlib import Path
+from unittest import mock
+
+RECIPES = Path(__file__).resolve().parents[2] / "recipes"
+sys.path.insert(0, str(RECIPES))
+
+from cpe_recipes import said  # noqa: E402
+
+# A recipe in a process of its own: what stands behind `run`, as its body.
+FRAME = "import sys\nsys.path.insert(0, {path!r})\nfrom cpe_recipes.said import *\ndef run(words):\n{body}\nmain(run, 'it.sh', sys.argv[1:])\n"
+
+
+def recipe(body, **options):
+    lines = "\n".join(f"    {line}" for line in body.splitlines())
+    text = FRAME.format(path=str(RECIPES), body=lines)
+    return subprocess.run([sys.executable, "-B", "-c", text], capture_output=True, text=True, **options)
+
+
+class Lines(unittest.TestCase):
+    def setUp(self):
+        self.file = tempfile.TemporaryFile()
+        self.addCleanup(self.file.close)
+
+    def told(self):
+        self.file.seek(0)
+        return self.file.read().decode()
+
+    def test_left_out_gives_status_one_and_a_remark_none(self):
+        here = said.Said(self.file.fileno())
+        here.remark("nothing is lost")
+        self.assertEqual(here.status(), 0)
+        here.left_out("CVE-1", "rejected")
+        self.assertEqual(here.status(), 1)
+        self.assertEqual((here.left, here.remarks), (1, 1))
+        self.assertEqual(self.told(), "remark nothing is lost\nleft out CVE-1: rejected\n")
+
+    def test_a_line_stays_one_line_and_no_terminal_obeys_it(self):
+        said.Said(self.file.fileno()).left_out("a\nb", "\x1b[2J \u202e \U000e0001 “c”")
+        self.assertEqual(self.told(), "left out a\\u000ab: \\u001b[2J \\u202e \\U000e0001 “c”\n")
+
+    def test_output_is_written_at_its_end_alone(self):
+        output = said.Output(self.file.fileno())
+        output.line("one")
+        output.lines(["two", "three"])
+        self.assertEqual(self.told(), "")
+        output.end()
+        self.assertEqual(self.told(), "one\ntwo\nthree\n")
+
+
+class Ends(unittest.TestCase):
+    def test_fatal_is_one_sentence_and_nothing_is_written(self):
+        run = recipe("output = Output()\noutput.line('a row')\nraise Fatal('there is\\nno cpe')")
+        self.assertEqual((run.returncode, run.stdout, run.stderr), (2, "", "it.sh: there is\\u000ano cpe\n"))
+
+    def test_help_is_what_the_module_says_of_itself(self):
+        for entry in ("scan.py", "decide.py"):
+            run = subprocess.run([sys.executable, str(RECIPES / entry), "--help"], capture_output=True, text=True)
+            self.assertEqual((run.returncode, run.stderr), (0, ""))
+            self.assertIn(f"    python3 {entry} --", run.stdout)
+
+    @unittest.skipUnless(os.path.exists("/dev/full"), "there is no /dev/full")
+    def test_a_full_disk_is_fatal(self):
+        with open("/dev/full", "w") as full:
+            text = FRAME.format(path=str(RECIPES), body="    it = Output()\n    it.line('a')\n    it.end()\n    return 0")
+            run = subprocess.run([sys.executable, "-B", "-c", text], stdout=full, stderr=subprocess.PIPE, text=True)
+        self.assertEqual(run.returncode, 2)
+        self.assertEqual(run.stderr, "it.sh: the output could not be written: No space left on device\n")
+
+    @unittest.skipUnless(os.path.exists("/dev/full"), "there is no /dev/full")
+    def test_what_was_left_out_and_can_not_be_said_is_fatal(self):
+        with open("/dev/full", "w") as full:
+            text = FRAME.format(path=str(RECIPES), body="    it = Said()\n    it.left_out('a', 'b')\n    return it.status()")
+            run = subprocess.run([sys.executable, "-B", "-c", text], stderr=full)
+        self.assertEqual(run.returncode, 2)
+
+    def test_a_pipe_that_nobody_reads_is_fatal(self):
+        read, write = os.pipe()
+        os.close(read)
+        with self.assertRaises(said.Fatal):
+            output = said.Output(write)
+            output.line("a")
+            output.end()
+        os.close(write)
+
+    def test_temporary_files_go_with_a_signal(self):
+        body = "import time\nwith room() as it:\n    (it / 'file').write_text('a')\n    print(it, flush=True)\n    time.sleep(60)\nreturn 0"
+        text = FRAME.format(path=str(RECIPES), body="\n".join(f"    {line}" for line in body.splitlines()))
+        for number in (signal.SIGTERM, signal.SIGINT, signal.SIGHUP):
+            with subprocess.Popen([sys.executable, "-B", "-c", text], stdout=subprocess.PIPE, text=True) as run:
+                folder = run.stdout.readline().strip()
+                self.assertTrue(os.path.isdir(folder))
+                run.send_signal(number)
+                self.assertEqual(run.wait(10), 130)
+            self.assertFalse(os.path.exists(folder))
+
+    def test_a_full_folder_for_temporary_files_is_fatal(self):
+        with mock.patch("tempfile.TemporaryDirectory", side_effect=OSError(28, "No space left on device")):
+            with self.assertRaises(said.Fatal), said.room():
+                self.fail("there is a room")
+
+
+class Files(unittest.TestCase):
+    def test_a_file_is_whole_or_as_it_was(self):
+        with tempfile.TemporaryDirectory() as folder:
+            path = f"{folder}/rows"
+            said.write_file(path, ["one", "two"])
+            self.assertEqual(Path(path).read_text(), "one\ntwo\n")
+
+            def torn():
+                yield "three"
+                raise said.Fatal("no more")
+
+            with self.assertRaises(said.Fatal):
+                said.write_file(path, torn())
+            self.assertEqual(Path(path).read_text(), "one\ntwo\n")
+            with self.assertRaises(said.Fatal):
+                said.write_file(f"{folder}/none/rows", ["one"])
+            self.assertEqual(os.listdir(folder), ["rows"])
+
+    @unittest.skipUnless(os.path.exists("/dev/full"), "there is no /dev/full")
+    def test_a_device_stays_and_its_faults_are_fatal(self):
+        with self.assertRaises(said.Fatal):
+            said.write_file("/dev/full", ["one"])
+        said.write_file("/dev/null", ["one"])
+        self.assertFalse(Path("/dev/null").is_file())
+
+
+if __name__ == "__main__":
+    unittest.main()

@@ -1,0 +1,334 @@
+"""The whole way, by the program that CPE names; without it these tests are skipped."""
+import io
+import json
+import os
+import random
+import sys
+import tempfile
+import unittest
+from pathlib import Path
+from unittest import mock
+
+sys.path.insert(0, str(Path(__file__).resolve().parent))
+
+from stand_in import Heard  # noqa: E402 (it knows where the recipes are)
+from cpe_recipes import affected, scan  # noqa: E402
+from cpe_recipes.advisories import Range  # noqa: E402
+from cpe_recipes.cases import Known  # noqa: E402
+from cpe_recipes.decide import Lists  # noqa: E402
+from cpe_recipes.feeds import record_text  # noqa: E402
+from cpe_recipes.machines import Machine  # noqa: E402
+from cpe_recipes.program import Program  # noqa: E402
+from cpe_recipes.progress import Progress  # noqa: E402
+from cpe_recipes.said import Fatal, Said  # noqa: E402
+from cpe_recipes.outcome import Hanging, json_of, machines_with_verdicts, perhaps, tell_perhaps  # noqa: E402
+from cpe_recipes.scan import Scan  # noqa: E402
+from cpe_recipes.suppressed import Accepted, Suppressed  # noqa: E402
+from cpe_recipes.versions import Letters  # noqa: E402
+
+NO_LETTERS = Letters({})
+SAMPLES = Path(__file__).resolve().parents[2] / "recipes" / "samples" / "ranges"
+
+
+def name(vendor, product, version="*"):
+    return f"cpe:2.3:a:{vendor}:{product}:{version}:*:*:*:*:*:*:*"
+
+
+def entry(it):
+    return record_text({"do": "entry", "name": it})
+
+
+def deprecate(old, *new):
+    kind = ("NAME_REMOVAL", "NAME_CORRECTION", "ADDITIONAL_INFORMATION")[min(len(new), 2)]
+    return record_text({"do": "deprecate", "name": old, "kind": kind, "successors": list(new), "date": "2024-01-01"})
+
+
+def statement(id, *children, op="OR", negate=False):
+    return record_text({"do": "statement", "id": id, "mode": "follow", "test": {"op": op, "negate": negate, "of": list(children)}})
+
+
+def ranged(one):
+    return {"op": "AND", "of": [{"fact": one.criteria}, {"check": {"system": "NVD", "href": "cpeMatch", "id": one.key}}]}
+
+
+def scanned(known, machines, listed=None, **more):
+    program = Program()
+    made = Scan(program, known, Lists(program, listed or {}), NO_LETTERS, Progress(is_shown=False))
+    return made, made.machines(machines, **more)
+
+
+def truths(known, made, found):
+    """All verdicts of a machine, by the ids of statements."""
+    return {one.id: found.truths.get(place, made.bare[place]) for place, one in enumerate(known.statements)}
+
+
+class Drawn:
+    """A dictionary, statements and machines, drawn at random from few names, so that they meet."""
+
+    VENDORS, PRODUCTS, VERSIONS = ["v", "w"], ["p", "q", "r", "s"], ["1.0", "1.1", "2.0", "1.0b", "*"]
+
+    def __init__(self, seed):
+        self.draw = random.Random(seed)
+        self.ranges = {}
+
+    def name(self, versions=None):
+        return name(self.draw.choice(self.VENDORS), self.draw.choice(self.PRODUCTS), self.draw.choice(versions or self.VERSIONS))
+
+    def entries(self):
+        all_names = list(dict.fromkeys(self.name() for _ in range(12)))
+        records = [entry(it) for it in all_names]
+        # (a name leads to one that stands behind it, so there is no circle)
+        for place, old in enumerate(all_names[:-2]):
+            if self.draw.random() < 0.4:
+                records.append(deprecate(old, *self.draw.sample(all_names[place + 1 :], self.draw.randint(0, 2))))
+        return records
+
+    def child(self, depth):
+        kind = self.draw.random()
+        if depth and kind < 0.4:
+            of = [self.child(depth - 1) for _ in range(self.draw.randint(1, 3))]
+            return {"op": self.draw.choice(["AND", "OR"]), "negate": self.draw.random() < 0.3, "of": of}
+        if kind < 0.5:
+            return {"check": {"system": "NVD", "href": "configuration", "id": "open"}}
+        if kind < 0.6:
+            return {"fact": self.draw.choice([name("v", "*", "1.0"), name("*", "q*"), name("v", "-")])}
+        if kind < 0.8:
+            return {"fact": self.name()}
+        one = Range(f"K{len(self.ranges)}", self.name(["*"]), self.draw.choice([None, "1.0"]), self.draw.choice(["1.1", "2"]))
+        self.ranges[one.key] = one
+        return ranged(one)
+
+    def known(self):
+        entries = self.entries()
+        records = [statement(f"S{k}", self.child(2), negate=self.draw.random() < 0.2) for k in range(12)]
+        return Known(entries, records, self.ranges, {}, {})
+
+    def machines(self):
+        versions = ["1.0", "1.1", "2.0", "1.0b", "-"]
+        return [Machine(f"m{k}", [self.name(versions) for _ in range(self.draw.randint(1, 4))]) for k in range(6)]
+
+
+@unittest.skipUnless(os.environ.get("CPE"), "CPE names no program")
+class Verdicts(unittest.TestCase):
+    def test_the_statements_that_are_asked_are_all_that_could_differ(self):
+        spared = differing = 0
+        for seed in range(25):
+            drawn = Drawn(seed)
+            known, machines = drawn.known(), drawn.machines()
+            made, found = scanned(known, machines)
+            made_all, found_all = scanned(known, machines, is_all_asked=True)
+            for one, other in zip(found, found_all):
+                self.assertEqual(truths(known, made, one), truths(known, made_all, other), f"seed {seed}")
+                spared += len(known.statements) - len(one.truths)
+                differing += sum(truth != made.bare[place] for place, truth in one.truths.items())
+        self.assertGreater(spared, 100)
+        self.assertGreater(differing, 300)
+
+    def known(self, *records, entries=(), ranges=(), stand_ins=None, details=None):
+        return Known(list(entries), list(records), {one.key: one for one in ranges}, details or {}, stand_ins or {})
+
+    def test_a_range_ends_true_on_one_machine_and_false_on_another(self):
+        one = Range("KEY", name("v", "p"), "1.0", "2.0", end_excluded=True)
+        known = self.known(statement("CVE-1", ranged(one)), ranges=[one])
+        machines = [Machine("old", [name("v", "p", "1.5")]), Machine("new", [name("v", "p", "2.0")]), Machine("odd", [name("v", "p", "1.0b")])]
+        made, found = scanned(known, machines)
+        self.assertEqual([truths(known, made, it)["CVE-1"] for it in found], ["TRUE", "FALSE", "UNKNOWN"])
+        self.assertEqual(Hanging(known, found).on("CVE-1", "odd"), [f"{name('v', 'p', '1.0b')}: a letter decides between 1.0b and 1.0"])
+        made, found = scanned(known, machines, {"KEY": [name("v", "p", "1.0b")]})
+        self.assertEqual([truths(known, made, it)["CVE-1"] for it in found], ["TRUE", "FALSE", "TRUE"])
+
+    def test_results_of_one_machine_are_not_those_of_the_next(self):
+        one = Range("KEY", name("v", "p"), "1.0", "2.0")
+        known = self.known(statement("CVE-1", ranged(one), negate=True), ranges=[one])
+        made, found = scanned(known, [Machine("a", [name("v", "p", "1.5")]), Machine("b", [name("v", "p", "1.0b")]), Machine("c", [name("w", "q")])])
+        self.assertEqual([truths(known, made, it)["CVE-1"] for it in found], ["FALSE", "UNKNOWN", "TRUE"])
+
+    def test_parts_of_an_advisory_are_one(self):
+        one, other = {"fact": name("v", "p")}, {"fact": name("v", "q")}
+        known = self.known(statement("CVE-1", one), statement("CVE-1#2", other), statement("CVE-2", other))
+        made, found = scanned(known, [Machine("a", [name("v", "q", "1.0")])])
+        machines = machines_with_verdicts(known, made.bare, found)
+        self.assertEqual(machines[0].shown, {"CVE-1": "TRUE", "CVE-2": "TRUE"})
+        self.assertEqual(len(machines[0].statements.advisories), 2)
+
+    def test_an_item_that_no_entry_has_may_be_what_its_product_became(self):
+        old, new = name("redislabs", "redis", "6.0"), name("redis", "redis", "6.0")
+        one = Range("KEY", name("redis", "redis"), None, "6.2")
+        known = self.known(statement("CVE-1", ranged(one)), entries=[entry(old), entry(new), deprecate(old, new)], ranges=[one])
+        machines = [Machine(it, [name("redislabs", "redis", version)]) for it, version in (("listed", "6.0"), ("not", "6.1"), ("behind", "7.0"))]
+        made, found = scanned(known, machines)
+        self.assertEqual([truths(known, made, it)["CVE-1"] for it in found], ["TRUE", "UNKNOWN", "FALSE"])
+        why = f"{name('redislabs', 'redis', '6.1')} is not in the dictionary, and may be {name('redis', 'redis', '6.1')}"
+        self.assertEqual(Hanging(known, found).on("CVE-1", "not"), [why])
+        said = Heard()
+        made.tell_items(found, said)
+        self.assertEqual(said.told, [f"remark not in the dictionary {it.machine.name} {it.leads[0].name} goes on as redis:redis" for it in found[1:]])
+
+    def test_what_a_dictionary_or_a_name_hides_is_told(self):
+        gone = name("v", "gone", "1.0")
+        known = self.known(statement("CVE-1", {"fact": gone}), entries=[entry(gone), deprecate(gone)])
+        items = [gone, "cpe:/a:v:p:1.%02", name("v", "p", "1.0"), "cpe:/a:v:p:1.0"]
+        made, found = scanned(known, [Machine("a", items), Machine("bare"), Machine("bad", ["cpe:/x"])])
+        said = Heard()
+        made.tell_items(found, said)
+        wanted = [
+            "left out a: wildcards: cpe:/a:v:p:1.%02",
+            f"remark under a removed name a {gone}",
+            "left out bare: no items",
+            "left out bad: name name 5: cpe:/x",
+            "left out bad: no items",
+            "remark not in the dictionary: 1 item, on 1 machine; unlisted.sh lists them",
+        ]
+        self.assertEqual(said.told, wanted)
+        self.assertEqual([it.has_items() for it in found], [True, False, False])
+
+    def test_a_machine_without_items_has_no_verdicts(self):
+        known = self.known(statement("CVE-1", {"fact": name("v", "p")}, negate=True))
+        made, found = scanned(known, [Machine("bare"), Machine("a", [name("v", "q", "1.0")])])
+        machines = machines_with_verdicts(known, made.bare, found)
+        about = affected.About({}, Suppressed([]), Hanging(known, found))
+        rows = json_of(known, found, machines, about, [])["machines"]
+        self.assertEqual(rows[0], {"name": "bare", "items": 0})
+        self.assertEqual(rows[1]["verdicts"], [{"id": "CVE-1", "verdict": "TRUE"}])
+        self.assertEqual((rows[1]["perhaps"], rows[1]["notInDictionary"]), ([], [name("v", "q", "1.0")]))
+        table = "\n".join(affected.table_of(affected.Verdicts(machines), about))
+        self.assertIn("bare              no items", table)
+        self.assertIn("2 machines, 1 without items: 1 TRUE, 0 ERROR, 0 UNKNOWN, 0 FALSE", table)
+
+    def test_what_is_accepted_is_told(self):
+        known = self.known(statement("CVE-1", {"fact": name("v", "p")}), details={"CVE-1": {"id": "CVE-1", "score": 7.5, "title": "A title"}})
+        made, found = scanned(known, [Machine("a", [name("v", "p", "1.0")])])
+        machines = machines_with_verdicts(known, made.bare, found)
+        about = affected.About(known.details, Suppressed([Accepted("it line 1", "CVE-1", "*", "not reachable")]), Hanging(known, found))
+        row = json_of(known, found, machines, about, [])["machines"][0]["verdicts"][0]
+        self.assertEqual(row, {"id": "CVE-1", "verdict": "TRUE", "score": 7.5, "title": "A title", "accepted": "not reachable"})
+        table = list(affected.table_of(affected.Verdicts(machines), about))
+        self.assertIn("accepted a CVE-1 TRUE: not reachable", table)
+
+    def test_an_item_that_knows_less_is_told_where_the_verdict_is_false(self):
+        known = self.known(statement("CVE-1", {"fact": name("v", "p", "1.0")}), statement("CVE-2", {"fact": name("v", "p")}, {"fact": name("v", "p", "2.0")}))
+        made, found = scanned(known, [Machine("a machine", [name("v", "p")]), Machine("b", [name("v", "q", "1.0")])])
+        machines = machines_with_verdicts(known, made.bare, found)
+        rows = perhaps(made.pairs(), found, machines)
+        self.assertEqual(rows, [("a machine", "CVE-1", name("v", "p"), name("v", "p", "1.0"))])
+        about = affected.About({}, Suppressed([]), Hanging(known, found))
+        row = json_of(known, found, machines, about, rows)["machines"][0]
+        self.assertEqual(row["perhaps"], [{"id": "CVE-1", "item": name("v", "p"), "fact": name("v", "p", "1.0")}])
+        said = Heard()
+        tell_perhaps(rows * 30, said)
+        self.assertEqual(said.told[:20], [f"remark perhaps a machine CVE-1 {name('v', 'p')} {name('v', 'p', '1.0')}"] * 20)
+        self.assertEqual(said.told[20:], ["remark perhaps: 10 more, which --json and perhaps.sh list"])
+
+    def test_a_check_that_stays_open_is_what_an_unknown_hangs_on(self):
+        check = {"check": {"system": "NVD", "href": "cpeMatch", "id": "BAD"}}
+        known = self.known(statement("CVE-1", check, {"fact": name("v", "p")}), stand_ins={"BAD": "name name 9: cpe:2.3:bad"})
+        made, found = scanned(known, [Machine("a", [name("v", "q", "1.0")])])
+        self.assertEqual(truths(known, made, found[0]), {"CVE-1": "UNKNOWN"})
+        self.assertEqual(Hanging(known, found).on("CVE-1", "a"), ["name name 9: cpe:2.3:bad"])
+
+
+@unittest.skipUnless(os.environ.get("CPE"), "CPE names no program")
+class Words(unittest.TestCase):
+    DICTIONARY, ADVISORIES, MATCHES = (str(SAMPLES / f"{name}.json") for name in ("dictionary", "advisories", "matches"))
+
+    def run_over(self, *words):
+        """The status of a run over these words, what it writes, and what it says."""
+        streams = {1: io.BytesIO(), 2: io.BytesIO()}
+        with mock.patch("cpe_recipes.said.os.write", side_effect=lambda to, data: streams[to].write(data)):
+            try:
+                status = scan.run(words)
+            except Fatal:
+                self.assertEqual(streams[1].getvalue(), b"")
+                raise
+        return status, streams[1].getvalue().decode(), streams[2].getvalue().decode()
+
+    def scanned(self, *words, dictionary=(DICTIONARY,), advisories=(ADVISORIES,), matches=(MATCHES,), lists=(str(SAMPLES / "app-1.txt"),)):
+        return self.run_over("--dictionary", *dictionary, "--advisories", *advisories, "--matches", *matches, "--lists", *lists, *words)
+
+    def test_wrong_words_are_fatal(self):
+        good = ["--dictionary", self.DICTIONARY, "--advisories", self.ADVISORIES]
+        machines = ["--lists", str(SAMPLES / "app-1.txt")]
+        for words in ([], good, machines, good[:2] + machines, good[2:] + machines, ["more"], [*good, *machines, "--machines", "m"]):
+            with self.subTest(words), self.assertRaises(Fatal):
+                self.run_over(*words)
+
+    def test_what_is_no_feed_is_fatal_wherever_it_stands(self):
+        bad = {
+            "none.json": None,
+            "empty.json": "",
+            "page.json": "<html>too many requests</html>",
+            "array.json": "[]",
+            "torn.json": (SAMPLES / "dictionary.json").read_text()[:700],
+            "spdx3.json": '{"@context":"https://spdx.org/rdf/3.0.1/spdx-context.jsonld","@graph":[]}',
+            "list.json": '{"products":7,"vulnerabilities":7,"matchStrings":7,"bomFormat":"CycloneDX","components":7}',
+            "nothing.json": '{"products":[],"vulnerabilities":[],"matchStrings":[],"bomFormat":"CycloneDX","components":[]}',
+        }
+        with tempfile.TemporaryDirectory() as folder:
+            for name, text in bad.items():
+                path = f"{folder}/{name}"
+                if text is not None:
+                    Path(path).write_text(text)
+                for where, good in (("dictionary", self.DICTIONARY), ("advisories", self.ADVISORIES), ("matches", self.MATCHES)):
+                    self.refuses(name, **{where: (path,)})
+                    # (an empty page beside others is no fault)
+                    if name != "nothing.json":
+                        self.refuses(name, **{where: (good, path)})
+                self.refuses(name, lists=(path,))
+                self.refuses(name, lists=(str(SAMPLES / "app-1.txt"), path))
+
+    def refuses(self, name, **feeds):
+        with self.subTest(name, **feeds), self.assertRaises(Fatal) as caught:
+            self.scanned(**feeds)
+        self.assertIn(name, str(caught.exception))
+
+    def test_of_more_advisories_than_cpe_takes_those_of_products_that_are_here(self):
+        lists = (str(SAMPLES / "app-1.txt"), str(SAMPLES / "desk-1.txt"))
+        status, whole, said = self.scanned("--json", lists=lists)
+        self.assertNotIn("may concern", said)
+        with mock.patch("cpe_recipes.products.MOST_STATEMENTS", 20):
+            status_of_some, some, said = self.scanned("--json", lists=lists)
+        self.assertIn("of 21 advisories may concern a product of these machines", said)
+        self.assertEqual((status, status_of_some), (0, 0))
+        self.assertLess(json.loads(some)["advisories"], json.loads(whole)["advisories"])
+        self.assertEqual(json.loads(some)["machines"], json.loads(whole)["machines"])
+
+    def test_records_stand_for_a_dictionary(self):
+        with tempfile.TemporaryDirectory() as folder:
+            records = Path(folder) / "dictionary.jsonl"
+            records.write_text(entry(name("v", "p", "1.0")) + "\n{}\n")
+            words = ("--records", str(records), "--advisories", self.ADVISORIES, "--lists", str(SAMPLES / "app-1.txt"), "--json")
+            status, written, said = self.run_over(*words)
+        self.assertEqual(status, 1)
+        self.assertIn("left out dictionary.jsonl line 2: member do: {}", said)
+        self.assertEqual(json.loads(written)["machines"][0]["name"], "app-1")
+
+
+class Shown(unittest.TestCase):
+    def written(self, file):
+        file.seek(0)
+        return file.read()
+
+    def test_progress_is_one_line_that_goes(self):
+        with tempfile.TemporaryFile() as file, Progress(file.fileno(), is_shown=True) as progress:
+            progress.step("reading")
+            progress.count("asking", 1, 9)
+            Said(file.fileno(), before=progress.clear).remark("so")
+            progress.clear()
+            self.assertEqual(self.written(file), b"\r\x1b[Kreading ..\r\x1b[Kremark so\n")
+
+    def test_it_goes_with_a_fault(self):
+        with tempfile.TemporaryFile() as file:
+            with self.assertRaises(Fatal), Progress(file.fileno(), is_shown=True) as progress:
+                progress.step("reading")
+                raise Fatal("no more")
+            self.assertEqual(self.written(file), b"\r\x1b[Kreading ..\r\x1b[K")
+
+    def test_nothing_is_shown_elsewhere(self):
+        with tempfile.TemporaryFile() as file, Progress(file.fileno()) as progress:
+            progress.step("reading")
+            progress.clear()
+            self.assertEqual(self.written(file), b"")
+
+
+if __name__ == "__main__":
+    unittest.main()

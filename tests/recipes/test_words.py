@@ -1,0 +1,42 @@
+"""The words behind a recipe's name."""
+import os
+import sys
+import tempfile
+import unittest
+from pathlib import Path
+
+sys.path.insert(0, str(Path(__file__).resolve().parents[2] / "recipes"))
+
+from cpe_recipes.said import Fatal  # noqa: E402
+from cpe_recipes.words import FLAG, MANY, ONE, Words, read_words  # noqa: E402
+
+OPTIONS = {"--json": FLAG, "--ranges": ONE, "--lists": MANY}
+
+
+class Read(unittest.TestCase):
+    def setUp(self):
+        folder = tempfile.TemporaryDirectory()
+        self.addCleanup(folder.cleanup)
+        self.addCleanup(os.chdir, os.getcwd())
+        os.chdir(folder.name)
+        Path("-odd.json").touch()
+
+    def test_options_and_files(self):
+        read = read_words(["a", "--ranges", "r", "--lists", "b", "-odd.json", "--json", "c"], OPTIONS, "it")
+        self.assertEqual(read, Words({"--ranges": ["r"], "--lists": ["b", "-odd.json"], "--json": []}, ["a", "c"]))
+        self.assertEqual((read.one("--ranges"), read.many("--lists"), read.has("--json")), ("r", ["b", "-odd.json"], True))
+        self.assertEqual((read_words([], OPTIONS, "it").one("--ranges"), read_words([], OPTIONS, "it").many("--lists")), (None, []))
+
+    def test_files_that_begin_with_a_hyphen(self):
+        self.assertEqual(read_words(["-odd.json"], OPTIONS, "it").files, ["-odd.json"])
+        self.assertEqual(read_words(["--", "--json", "-none"], OPTIONS, "it").files, ["--json", "-none"])
+
+    def test_wrong_words_are_fatal(self):
+        for words in (["--jsn"], ["-none.json"], ["--ranges"], ["--lists"], ["--lists", "--json"]):
+            with self.subTest(words), self.assertRaises(Fatal) as caught:
+                read_words(words, OPTIONS, "it [FILE..]")
+            self.assertIn("usage: it [FILE..]", str(caught.exception))
+
+
+if __name__ == "__main__":
+    unittest.main()

@@ -1,0 +1,174 @@
+#!/bin/sh
+# Checks of scan.py, and of the modules of all recipes: their unit tests, the samples of ranges against their truths, the same by
+# the short recipes, feeds that must not look like an all-clear, and full disks: sh tests/scan-checks.sh [PROGRAM].
+. "$(dirname "$0")/checks.sh"
+
+CPE=$program
+export CPE
+ranges=recipes/samples/ranges
+
+# scans WORD..: scan.py over the samples of ranges, with more words.
+scans() {
+    limited python3 recipes/scan.py --dictionary "$ranges/dictionary.json" --advisories "$ranges/advisories.json" \
+        --matches "$ranges/matches.json" "$@" < /dev/null
+}
+
+# The lists of the samples, a machine each.
+lists() { for list in "$ranges"/*.cdx.json "$ranges"/*.spdx.json "$ranges"/*-?.txt; do echo "$list"; done; }
+
+runs_unit_tests() {
+    for tests in tests/recipes/test_*.py; do
+        what="unit tests of the recipes: $(basename "$tests" .py)"
+        limited python3 -B -m unittest discover -s tests/recipes -p "$(basename "$tests")" > "$room/out" 2>&1
+        status=$?
+        if [ "$status" = 0 ]; then
+            pass "$what, $(sed -n 's/^Ran \([0-9]*\) .*/\1/p' "$room/out") of them"
+        else
+            fail "$what" "status $status"
+            tail -n 12 "$room/out"
+        fi
+    done
+}
+
+# What the vendors mean, by hand, beside what comes out: no affected pair FALSE, no other one TRUE, few UNKNOWN.
+counts_truths() {
+    what='ranges of versions against their truths'
+    # shellcheck disable=SC2046 # a word each
+    scans --json --lists $(lists) > "$room/scan.json" 2> "$room/error"
+    python3 tests/recipes/truths.py "$ranges/truths.txt" < "$room/scan.json" > "$room/out"
+    status=$?
+    cat "$room/out"
+    judge "$what" "$status" 0 "$ranges/truths.out" "$ranges/table.said"
+}
+
+shows_tables() {
+    # shellcheck disable=SC2046
+    scans --lists $(lists) > "$room/out" 2> "$room/error"
+    judge 'the table of scan.py' $? 0 "$ranges/table.out" "$ranges/table.said"
+    # shellcheck disable=SC2046
+    scans --suppress "$ranges/suppress.txt" --lists "$ranges/web-1.cdx.json" "$ranges/app-1.txt" > "$room/out" 2> "$room/error"
+    judge 'the table of scan.py with accepted ids' $? 1 "$ranges/accepted.out" "$ranges/accepted.said"
+    limited sh recipes/whole-way.sh recipes/samples/dictionary.json recipes/samples/advisories.json recipes/samples/cyclonedx.json \
+        > "$room/out" 2> "$room/error"
+    judge 'the whole way over records of which some are odd' $? 1 recipes/samples/affected.out recipes/samples/affected.said
+}
+
+# The same verdicts by the short recipes, one step after the other, for each machine.
+goes_step_by_step() {
+    what='the short recipes and cpe evaluate say of each machine what scan.py says'
+    needs "$what" awk sort || return
+    sh recipes/dictionary.sh "$ranges/dictionary.json" > "$room/entries"
+    sh recipes/advisories.sh --ranges "$room/ranges" "$ranges/advisories.json" > "$room/statements"
+    cat "$room/entries" "$room/statements" > "$room/records"
+    : > "$room/machines"
+    for list in $(lists); do
+        machine=$(basename "$list")
+        sh recipes/inventory.sh "$list" | sed 's/.*"name":"\(.*\)"}/\1/; s/\\\\/\\/g' | tr '\n' ' ' > "$room/items"
+        echo "${machine%%.*} $(cat "$room/items")" >> "$room/machines"
+    done
+    limited python3 recipes/decide.py --ranges "$room/ranges" --records "$room/records" --matches "$ranges/matches.json" \
+        --machines "$room/machines" > "$room/decided" 2> "$room/said"
+    # (the one item that is asked for under another name too, scan.py alone does)
+    while read -r machine items; do
+        {
+            cat "$room/records"
+            for item in $items; do echo "$item"; done | sed 's/\\/\\\\/g; s/.*/{"do":"item","name":"&"}/'
+            sed -n "s/^$machine	\(.*\)	\(.*\)/{\"do\":\"check\",\"system\":\"NVD\",\"href\":\"cpeMatch\",\"id\":\"\1\",\"result\":\"\2\"}/p" \
+                "$room/decided"
+        } | limited "$program" evaluate | sed -n "s/^verdict \(.*\) \(TRUE\|UNKNOWN\)$/$machine \1 \2/p"
+    done < "$room/machines" | sort > "$room/steps"
+    awk '$2 == "TRUE" || $2 == "UNKNOWN" { print $1, $3, $2 }' "$ranges/table.out" |
+        grep -v '^desk-1 CVE-2024-98003 UNKNOWN$' | sort > "$room/wanted"
+    cp "$room/steps" "$room/out"
+    : > "$room/error"
+    judge "$what" 0 0 "$room/wanted"
+}
+
+# refuses WHAT WORD..: scan.py ends with status 2, no table, and one line.
+refuses() {
+    what=$1
+    shift
+    limited python3 recipes/scan.py "$@" > "$room/out" 2> "$room/said" < /dev/null
+    status=$?
+    : > "$room/error"
+    if [ "$(grep -c '^scan.py: ' "$room/said")" != 1 ] || [ "$(wc -l < "$room/said")" != 1 ]; then
+        fail "$what" "it says: $(head -n 3 "$room/said")"
+    else
+        judge "$what: $(sed 's/^scan.py: //' "$room/said" | cut -c 1-60)" "$status" 2 /dev/null
+    fi
+}
+
+# A feed that isn't there must not look like an all-clear, wherever it stands. (The unit tests have more that is wrong with them.)
+refuses_feeds() {
+    needs 'feeds that are no feeds' wc || return
+    : > "$room/empty.json"
+    set -- --dictionary "$ranges/dictionary.json" --advisories "$ranges/advisories.json" --lists "$ranges/app-1.txt"
+    for bad in none.json empty.json; do
+        refuses "a dictionary that is none, $bad" --dictionary "$room/$bad" --advisories "$4" --lists "$6"
+        refuses "advisories that are none, $bad" --dictionary "$2" --advisories "$4" "$room/$bad" --lists "$6"
+        refuses "a software list that is none, $bad" --dictionary "$2" --advisories "$4" --lists "$6" "$room/$bad"
+        refuses "machines that are none, $bad" --dictionary "$2" --advisories "$4" --machines "$room/$bad"
+    done
+    refuses 'no words'
+    refuses 'a word that is no option' "$@" --jsn
+    CPE=$room/none
+    refuses 'no program' "$@"
+    printf '#!/bin/sh\nif [ "$1" = advise ]; then exit 5; fi\nexec "%s" "$@"\n' "$program" > "$room/failing"
+    chmod +x "$room/failing"
+    CPE=$room/failing
+    refuses 'a program that comes to no end' "$@"
+    CPE=$program
+}
+
+# What is written to a disk that is full, or is not written at all.
+minds_disks() {
+    set -- --lists "$ranges/app-1.txt"
+    if [ -c /dev/full ]; then
+        scans "$@" > /dev/full 2> "$room/said"
+        status=$?
+        grep -q '^scan.py: the output could not be written: ' "$room/said" || status="$status, and doesn't say so"
+        : > "$room/out"
+        : > "$room/error"
+        judge 'a table to a full disk' "$status" 2 /dev/null
+        scans "$@" 2> /dev/full > "$room/out"
+        judge 'a table beside words to a full disk' $? 0 "$room/out"
+    else
+        skip 'a table to a full disk' 'there is no /dev/full'
+    fi
+    (ulimit -f 0; scans "$@" > "$room/out" 2> /dev/null)
+    judge 'a table to a file that must not grow' $? 2 /dev/null
+    (exec >&-; scans "$@" 2> /dev/null)
+    judge 'a table to nowhere' $? 2 /dev/null
+    scans "$@" > "$room/wanted" 2> /dev/null
+    TMPDIR=$room/none scans "$@" > "$room/out" 2> "$room/error"
+    judge 'a table without room for temporary files' $? 0 "$room/wanted"
+}
+
+# Machines in a file of lines, names of files that begin with a hyphen, and packed feeds.
+reads_machines() {
+    printf 'web-1\t%s  %s\r\n\r\n bare\r\nodd cpe:/a:%%zz\r\n' \
+        'cpe:2.3:a:openssl:openssl:1.1.1t:*:*:*:*:*:*:*' cpe:/a:vim:vim:9.0.1000 > "$room/machines.txt"
+    scans --machines "$room/machines.txt" > "$room/out" 2> "$room/error"
+    judge 'machines in lines with tabs and line ends of Windows' $? 1 "$ranges/machines.out" "$ranges/machines.said"
+    needs 'files that begin with a hyphen, and packed ones' gzip || return
+    cp "$ranges/app-1.txt" "$room/_app-1.txt"
+    scans --lists "$room/_app-1.txt" 2> /dev/null | sed 's/^_app-1/-app-1/' > "$room/wanted"
+    cp "$ranges/app-1.txt" "$room/-app-1.txt"
+    gzip -c "$ranges/dictionary.json" > "$room/-d.json.gz"
+    gzip -c "$ranges/advisories.json" > "$room/-a.json.gz"
+    here=$PWD
+    (cd "$room" && limited python3 "$here/recipes/scan.py" --dictionary -d.json.gz --advisories -a.json.gz --lists -app-1.txt) \
+        < /dev/null > "$room/out" 2> "$room/error"
+    judge 'files that begin with a hyphen, and packed ones' $? 0 "$room/wanted"
+}
+
+if needs 'the recipes in Python' python3; then
+    runs_unit_tests
+    counts_truths
+    shows_tables
+    goes_step_by_step
+    refuses_feeds
+    minds_disks
+    reads_machines
+fi
+end_of_checks 'scan checks'
