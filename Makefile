@@ -39,6 +39,7 @@ test: need_rt
 	sh tests/own-checks.sh build/cpe
 	sh tests/manual-checks.sh build/cpe
 	sh tests/recipe-checks.sh build/cpe
+	sh tests/scan-checks.sh build/cpe
 
 limits: build
 	sh tests/limits.sh build/cpe
