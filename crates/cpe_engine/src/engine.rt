@@ -96,7 +96,13 @@ impl Engine {
     {
         let _ = steps;
         rows_stay_lawful();
-        let checked = self.parts.check(&edit)?;
+        let checked = match self.parts.check(&edit) {
+            Ok(checked) => checked,
+            Err(fault) => {
+                drop(edit);
+                return Err(fault);
+            }
+        };
         self.parts.commit(self.alloc, edit, checked)?;
         Ok(())
     }
