@@ -62,6 +62,7 @@ class Hanging:
 def machines_with_verdicts(known: Known, bare: Sequence[str], found: Iterable[Found]) -> list[verdicts.Machine]:
     """The machines with what isn't FALSE there, the parts of an advisory joined by OR."""
     statements = verdicts.Statements([statement.id for statement in known.statements])
+    without_items = {place: truth for place, truth in enumerate(bare) if truth != "FALSE"}
     machines = []
     for one in found:
         if not one.has_items():
@@ -69,8 +70,7 @@ def machines_with_verdicts(known: Known, bare: Sequence[str], found: Iterable[Fo
             machines.append(verdicts.Machine(one.machine.name, has_items=False))
             continue
         machine = verdicts.Machine(one.machine.name, statements)
-        for place, truth in enumerate(bare):
-            truth = one.truths.get(place, truth)
+        for place, truth in sorted({**without_items, **one.truths}.items()):
             if truth != "FALSE":
                 machine.put(known.statements[place].id, truth)
         machines.append(machine)

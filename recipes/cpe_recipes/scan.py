@@ -25,7 +25,7 @@ import json
 from collections.abc import Collection, Iterable, Mapping, Sequence
 
 from . import advisories, affected, dictionary, inventory, matches, names, products, suppressed, unlisted, verdicts
-from .cases import Cases, Index, Known, Product, lines_of, verdicts_of
+from .cases import Cases, Index, Known, Product, items_by_product, lines_of, verdicts_of
 from .decide import LETTERS, Decider, Lead, Leads, Lists, decide, leads_of
 from .feeds import FeedFault, Page, name_of, pages, read_feed
 from .machines import Machine, read_lists, read_machines
@@ -146,9 +146,7 @@ class Scan:
         if not beside:
             one.truths = truths
             return
-        by_product: dict[Product, list[str]] = {}
-        for name in beside:
-            by_product.setdefault(names.product_of(name), []).append(name)
+        by_product = items_by_product((name, [name]) for name in beside)
         for place, truth in truths.items():
             if truth != one.truths.get(place, self.bare[place]):
                 one.truths[place] = "UNKNOWN"
