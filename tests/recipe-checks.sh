@@ -279,7 +279,7 @@ answers_readme() {
     if needs "$what, of more machines" parallel; then
         answers_sessions "$what" < recipes/README.md
     else
-        sed '/^## More machines/,$d' recipes/README.md | answers_sessions "$what"
+        sed '/^## More than one machine/,$d' recipes/README.md | answers_sessions "$what"
     fi
 }
 

@@ -132,12 +132,12 @@ def _count(verdicts: Verdicts, about: About) -> str:
     counts: Counter[str] = Counter()
     for machine in verdicts.machines:
         counts.update(machine.shown.values())
-        counts["FALSE"] += len(machine.statements.advisories) - len(machine.shown)
+        counts["FALSE"] += machine.statements.count - len(machine.shown)
     counts.subtract(truth for _, _, truth, _ in about.accepted)
     numbers = ", ".join(f"{counts[truth]} {truth}" for truth in TRUTHS if truth != "FALSE") + f", {counts['FALSE']} FALSE"
     accepted = f", {len(about.accepted)} accepted" if about.accepted else ""
     if not verdicts.has_machines:
-        return f"{counted(len(verdicts.machines[0].statements.advisories), 'statement')}: {numbers}{accepted}"
+        return f"{counted(verdicts.machines[0].statements.count, 'statement')}: {numbers}{accepted}"
     bare = sum(not machine.has_items for machine in verdicts.machines)
     of_these = f", {bare} without items" if bare else ""
     return f"{counted(len(verdicts.machines), 'machine')}{of_these}: {numbers}{accepted}"

@@ -1,4 +1,5 @@
-"""What changed between two sets of verdicts, of `cpe evaluate` or of a fleet: sh changes.sh BEFORE AFTER.
+"""What changed between two sets of verdicts: sh changes.sh BEFORE AFTER. They are of `cpe evaluate`, of a fleet, or of
+`scan.py --json`.
 
 It writes a line for each verdict that isn't FALSE on one side at least, and isn't the same on both:
 

@@ -2,7 +2,6 @@
 `parallel.py` tells what they take and write."""
 from __future__ import annotations
 
-import io
 import json
 from collections.abc import Iterator
 from dataclasses import dataclass
@@ -65,7 +64,12 @@ def read_records(program: Program, path: str, said: Said) -> Records:
 
 def _lines_of(text: str) -> Iterator[str]:
     """The lines of a text, one at a time, so that a dictionary isn't in memory twice."""
-    return (line.rstrip("\n") for line in io.StringIO(text, newline="\n"))
+    start = 0
+    while start < len(text):
+        end = text.find("\n", start)
+        end = len(text) if end < 0 else end
+        yield text[start:end]
+        start = end + 1
 
 
 def _note_state(feed: str, number: int, line: str, results: set[str]) -> None:

@@ -1,7 +1,7 @@
-"""Verdicts that were written: the table that `cpe evaluate` ends with, or the lines of a fleet.
+"""Verdicts that were written: the table that `cpe evaluate` ends with, the lines of a fleet, or what `scan.py --json` writes.
 
-Either tells how much of it there is (`verdicts COUNT` above the table, `machines COUNT` behind the lines), so what was cut short
-is known, and refused. Statements that are parts of one advisory, `CVE-..`, `CVE-..#2` and so on, are joined by the OR of their
+Each tells how much of it there is (`verdicts COUNT` above the table, `machines COUNT` behind the lines, the end of the JSON), so
+what was cut short is known, and refused. Statements that are parts of one advisory, `CVE-..`, `CVE-..#2` and so on, are joined by the OR of their
 truths.
 """
 from __future__ import annotations
@@ -10,7 +10,7 @@ from collections.abc import Sequence
 from dataclasses import dataclass, field
 
 from .advisories import base_id
-from .feeds import FeedFault, name_of, read_feed
+from .feeds import FeedFault, FormFault, Json, member, members, name_of, read_feed, text_at, values_of
 from .said import Fatal
 
 # In the order of OR: the first that occurs among its children.
@@ -19,14 +19,19 @@ _RANK = {truth: rank for rank, truth in enumerate(TRUTHS)}
 
 
 class Statements:
-    """The ids of statements, and of which advisory each is a part."""
+    """The ids of statements, and of which advisory each is a part. Where only their number is known, any may be there."""
 
-    def __init__(self, ids: Sequence[str]) -> None:
+    def __init__(self, ids: Sequence[str], count: int | None = None) -> None:
         self.ids = list(ids)
         all_ids = set(ids)
         # (an id is that of a part where the first part is there)
         self.whole = {id: base_id(id) if base_id(id) in all_ids else id for id in self.ids}
         self.advisories = dict.fromkeys(self.whole.values())
+        self._is_open = count is not None
+        self.count = len(self.advisories) if count is None else count
+
+    def has(self, advisory: str) -> bool:
+        return self._is_open or advisory in self.advisories
 
 
 @dataclass
@@ -39,13 +44,13 @@ class Machine:
     has_items: bool = True
 
     def put(self, id: str, truth: str) -> None:
-        whole = self.statements.whole[id]
+        whole = self.statements.whole.get(id, id)
         if _RANK[truth] < _RANK[self.shown.get(whole, "FALSE")]:
             self.shown[whole] = truth
 
     def truth(self, advisory: str) -> str | None:
         """The verdict of an advisory, None where there is none."""
-        return self.shown.get(advisory) or ("FALSE" if advisory in self.statements.advisories else None)
+        return self.shown.get(advisory) or ("FALSE" if self.statements.has(advisory) else None)
 
 
 @dataclass
@@ -61,9 +66,14 @@ def read_verdicts(path: str | None) -> Verdicts:
     """The verdicts at this path, of standard input where there is none. Fatal where they aren't whole."""
     feed = name_of(path)
     try:
-        lines = read_feed(path).decode(errors="backslashreplace").split("\n")
+        data = read_feed(path)
+        if data.startswith(b"{"):
+            return _scan(list(values_of(data)))
+        lines = data.decode(errors="backslashreplace").split("\n")
     except FeedFault as fault:
         raise Fatal(f"{feed}: {fault}") from fault
+    except FormFault as fault:
+        raise Fatal(f"{feed}: it isn't what scan.py writes") from fault
     try:
         if lines.pop():
             raise ValueError("its last line has no end")
@@ -91,6 +101,26 @@ def _machine(name: str | None, statements: Statements, rows: list[tuple[str, str
     for id, truth in rows:
         machine.put(id, truth)
     return machine
+
+
+def _scan(values: Sequence[Json]) -> Verdicts:
+    """The result of one scan. FormFault where it is none."""
+    count = member(values[0], "advisories")
+    if len(values) != 1 or not isinstance(count, int):
+        raise FormFault
+    statements = Statements([], count)
+    machines: dict[str, Machine] = {}
+    for row in members(values[0], "machines"):
+        name = text_at(row, "name")
+        if not name or name in machines:
+            raise FormFault
+        machines[name] = Machine(name, statements if "verdicts" in row else Statements([]), has_items="verdicts" in row)
+        for one in members(row, "verdicts"):
+            id, truth = text_at(one, "id"), text_at(one, "verdict")
+            if id is None or truth not in _RANK:
+                raise FormFault
+            machines[name].put(id, truth)
+    return Verdicts(list(machines.values()))
 
 
 def _table(lines: list[str]) -> Verdicts:

@@ -23,13 +23,18 @@ from pathlib import Path
 
 _RECIPES = Path(__file__).resolve().parent.parent
 sys.path.insert(0, str(_RECIPES))
-
-from distributed import Client, LocalCluster, get_worker, wait  # noqa: E402
-from distributed.diagnostics.plugin import UploadFile  # noqa: E402
+sys.dont_write_bytecode = True  # (run.py says why)
 
 from cpe_recipes import fleet, said, session  # noqa: E402
 from cpe_recipes.program import Program  # noqa: E402
 from cpe_recipes.words import ONE, Words, read_words  # noqa: E402
+
+try:
+    from distributed import Client, LocalCluster, get_worker, wait
+    from distributed.diagnostics.plugin import UploadFile
+except ImportError:
+    print("dask_fleet.py: this python3 has no module distributed", file=sys.stderr)
+    sys.exit(said.NO_RESULT)
 
 OPTIONS = {**fleet.OPTIONS, "--scheduler": ONE, "--workers": ONE, "--block": ONE, "--cpe": ONE}
 USAGE = f"dask_fleet.py {fleet.USAGE} [--workers N] [--block N] [--scheduler ADDRESS] [--cpe PROGRAM]"
@@ -126,9 +131,12 @@ def run(words: list[str]) -> int:
     most = number(given, "--block", 100)
     heard, program = said.Said(), Program(given.one("--cpe"))
     asked = fleet.read_fleet(program, given, heard)
-    with said.room() as folder, cluster_of(given, folder) as client:
-        put_session(client, folder)
-        return ask_all(client, program.path, asked, most, heard)
+    try:
+        with said.room() as folder, cluster_of(given, folder) as client:
+            put_session(client, folder)
+            return ask_all(client, program.path, asked, most, heard)
+    except OSError as fault:
+        raise said.Fatal(f"the cluster can not be worked with: {fault}") from fault
 
 
 if __name__ == "__main__":

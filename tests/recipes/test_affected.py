@@ -215,6 +215,27 @@ class Changes(RecipeCase):
         )
         self.assertEqual((status, said), (1, ["left out m: no items", "remark n is no machine any more"]))
 
+    def test_changes_of_scans(self):
+        shown = [{"id": "a", "verdict": "TRUE"}, {"id": "b", "verdict": "UNKNOWN"}]
+        before = {"advisories": 3, "machines": [{"name": "m", "verdicts": shown}, {"name": "n", "verdicts": []}]}
+        after = {
+            "advisories": 3,
+            "machines": [{"name": "m", "verdicts": shown[:1]}, {"name": "n", "items": 0}, {"name": "o", "verdicts": shown[1:]}],
+        }
+        status, lines, said = self.changes(json.dumps(before, indent=1), json.dumps(after))
+        self.assertEqual((status, lines), (1, ["gone m b UNKNOWN FALSE", "new o b none UNKNOWN"]))
+        self.assertEqual(said, ["left out n: no items"])
+        _, lines, _ = self.changes(json.dumps(before), FLEET)
+        self.assertEqual(lines, ["new n b FALSE UNKNOWN"])
+        bad = [{"advisories": "3"}, {"advisories": 3, "machines": 7}, {"advisories": 3, "machines": [{}]}, [before, before]]
+        bad += [
+            {"advisories": 3, "machines": [{"name": "m", "verdicts": [row]}]}
+            for row in (7, {"id": "a"}, {"id": "a", "verdict": "PERHAPS"})
+        ]
+        sides = [json.dumps(one) if isinstance(one, dict) else "".join(map(json.dumps, one)) for one in bad]
+        for side in (*sides, json.dumps(before)[:-1]):
+            self.assertEqual(self.changes(json.dumps(before), side)[:2], (2, []), side)
+
     def test_sides_that_can_not_be_compared(self):
         for before, after in ((TABLE, FLEET), (FLEET, TABLE), (TABLE[:-1], TABLE), (FLEET, FLEET[:-1]), ("", "")):
             status, lines, said = self.changes(before, after)
