@@ -13,8 +13,8 @@ from .perhaps import Pairs
 from .said import Said
 from .table import counted
 
-# How many lines of one kind are said before only their number is.
-_MOST_SAID = 20
+# How many lines that are alike are said before only their number is.
+MOST_ALIKE = 20
 
 
 @dataclass
@@ -77,7 +77,9 @@ def machines_with_verdicts(known: Known, bare: Sequence[str], found: Iterable[Fo
     return machines
 
 
-def tell_items(found: Iterable[Found], refused: Mapping[str, str], successors: Mapping[Product, Sequence[Product]], said: Said) -> None:
+def tell_items(
+    found: Iterable[Found], refused: Mapping[str, str], successors: Mapping[Product, Sequence[Product]], said: Said
+) -> None:
     """Says of the items what the verdicts don't show: what is none, and what the dictionary doesn't lead on."""
     strange, where = set(), set()
     for one in found:
@@ -119,10 +121,10 @@ def perhaps(pairs: Pairs, found: Sequence[Found], machines: Sequence[verdicts.Ma
 
 
 def tell_perhaps(rows: Sequence[Perhaps], said: Said) -> None:
-    for row in rows[:_MOST_SAID]:
+    for row in rows[:MOST_ALIKE]:
         said.remark(f"perhaps {' '.join(row)}")
-    if len(rows) > _MOST_SAID:
-        said.remark(f"perhaps: {len(rows) - _MOST_SAID} more, which --json and perhaps.sh list")
+    if len(rows) > MOST_ALIKE:
+        said.remark(f"perhaps: {len(rows) - MOST_ALIKE} more, which --json and perhaps.sh list")
 
 
 def json_of(

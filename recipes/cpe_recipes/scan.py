@@ -29,7 +29,7 @@ from .cases import Cases, Index, Known, Product, items_by_product, lines_of, ver
 from .decide import LETTERS, Decider, Lead, Leads, Lists, decide, leads_of
 from .feeds import FeedFault, Page, name_of, pages, read_feed
 from .machines import Machine, read_lists, read_machines
-from .outcome import Found, Hanging, json_of, machines_with_verdicts, perhaps, tell_items, tell_perhaps
+from .outcome import MOST_ALIKE, Found, Hanging, json_of, machines_with_verdicts, perhaps, tell_items, tell_perhaps
 from .perhaps import Pairs, facts_of
 from .program import Candidate, Program
 from .progress import Progress
@@ -151,7 +151,8 @@ class Scan:
             if truth != one.truths.get(place, self.bare[place]):
                 one.truths[place] = "UNKNOWN"
                 meant = index.items(place, by_product, tuple(beside)) or beside
-                one.supposed[place] = "; ".join(f"{beside[name].name} is not in the dictionary, and may be {name}" for name in meant)
+                why = (f"{beside[name].name} is not in the dictionary, and may be {name}" for name in meant)
+                one.supposed[place] = "; ".join(why)
 
 
 def _renamed(name: str, product: Product) -> str:
@@ -224,8 +225,9 @@ def run(words: Sequence[str]) -> int:
         raise Fatal(f"usage: {USAGE}")
     program = Program()
     with Progress() as progress:
-        said = Said(before=progress.clear)
+        said = Said(before=progress.clear, most_alike=MOST_ALIKE)
         lines = _result(read, program, said, progress)
+        said.tell_others()
     output = Output()
     output.lines(lines)
     output.end()
