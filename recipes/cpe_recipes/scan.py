@@ -22,7 +22,7 @@ result: then nothing was written, but why.
 from __future__ import annotations
 
 import json
-from collections.abc import Collection, Iterable, Mapping, Sequence
+from collections.abc import Collection, Iterable, Iterator, Mapping, Sequence
 
 from . import advisories, affected, dictionary, inventory, matches, names, products, suppressed, unlisted, verdicts
 from .cases import Cases, Index, Known, Product, items_by_product, lines_of, verdicts_of
@@ -52,6 +52,7 @@ OPTIONS = {
     "--letters": ONE,
     "--json": FLAG,
 }
+
 
 class Scan:
     """Verdicts of machines over what is known."""
@@ -132,10 +133,10 @@ class Scan:
         self._progress.step("asking for verdicts")
         in_order = cases.in_order()
         answers = verdicts_of(self._program.lines(["resolve"], lines_of(self._known, in_order)))
-        self.bare = [next(answers) for _ in self._known.statements]
+        self.bare = [_next(answers) for _ in self._known.statements]
         truths = [""] * len(in_order)
         for done, (_, _, _, number) in enumerate(in_order):
-            truths[number] = next(answers)
+            truths[number] = _next(answers)
             self._progress.count("asking for verdicts", done, len(in_order))
         for answer in answers:
             raise Fatal(f"cpe answered more than was asked: {answer}")
@@ -153,6 +154,13 @@ class Scan:
                 meant = index.items(place, by_product, tuple(beside)) or beside
                 why = (f"{beside[name].name} is not in the dictionary, and may be {name}" for name in meant)
                 one.supposed[place] = "; ".join(why)
+
+
+def _next(answers: Iterator[str]) -> str:
+    answer = next(answers, None)
+    if answer is None:
+        raise Fatal("cpe answered less than was asked")
+    return answer
 
 
 def _renamed(name: str, product: Product) -> str:
