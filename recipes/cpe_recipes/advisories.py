@@ -245,7 +245,7 @@ class _Converter:
         try:
             cve = member(vulnerability, "cve")
             if text_at(cve, "vulnStatus") == "Rejected":
-                self._said.remark(f"{id}: rejected")
+                self._said.remark("rejected", id)
                 return
             tests = self._tests(id, members(cve, "configurations"), text_at(cve, "vulnStatus"))
         except FormFault as fault:

@@ -106,13 +106,14 @@ class Index:
             found.update(self._by_range.get(key, ()))
         return sorted(found)
 
-    def items(self, place: int, by_product: Mapping[Product, Collection[str]], all_items: Items) -> Items:
-        """Those items that may fit the facts of a statement."""
+    def items(self, place: int, by_product: Mapping[Product, Items], all_items: Items) -> Items:
+        """Those items that may fit the facts of a statement, of such by product that are in order."""
         products, is_all = self._products[place]
         if is_all:
             return all_items
-        found = {item for product in products for item in by_product.get(product, ())}
-        return tuple(sorted(found))
+        found = [by_product[product] for product in products if product in by_product]
+        # (mostly it is one product)
+        return found[0] if len(found) == 1 else tuple(sorted({item for items in found for item in items}))
 
 
 def _products(facts: Iterable[str], leads: Leads) -> tuple[set[Product], bool]:
@@ -120,6 +121,15 @@ def _products(facts: Iterable[str], leads: Leads) -> tuple[set[Product], bool]:
     products = {names.product_of(end) for fact in facts for end in leads.found[fact].ends}
     plain = {product for product in products if all(map(names.is_plain, product))}
     return plain, len(plain) < len(products)
+
+
+def items_by_product(ends: Iterable[tuple[str, Iterable[str]]]) -> dict[Product, Items]:
+    """Items with their ends, by the products of these, in order."""
+    found: dict[Product, set[str]] = {}
+    for item, ends_of_item in ends:
+        for end in ends_of_item:
+            found.setdefault(names.product_of(end), set()).add(item)
+    return {product: tuple(sorted(items)) for product, items in found.items()}
 
 
 class Cases:
@@ -132,16 +142,12 @@ class Cases:
     def put(self, leads: Collection[Lead], decided: Decided) -> dict[int, int]:
         """The cases of a machine by the places of the statements that are asked of it."""
         all_items = tuple(sorted({lead.name for lead in leads}))
-        by_product: dict[Product, set[str]] = {}
-        for lead in leads:
-            for end in lead.ends:
-                by_product.setdefault(names.product_of(end), set()).add(lead.name)
+        by_product = items_by_product((lead.name, lead.ends) for lead in leads)
         places = range(len(self._known.statements)) if self._is_all_asked else self._index.concerned(leads, decided)
-        cases = {}
+        truths, cases = decided.truths, {}
         for place in places:
             items = all_items if self._is_all_asked else self._index.items(place, by_product, all_items)
-            keys = self._known.statements[place].checks
-            results = tuple((key, decided.truths[key]) for key in keys if key in decided.truths)
+            results = tuple([(key, truths[key]) for key in self._known.statements[place].checks if key in truths])
             cases[place] = self._numbers.setdefault((items, results, place), len(self._numbers))
         return cases
 

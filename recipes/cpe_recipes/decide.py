@@ -160,7 +160,7 @@ class Decider:
             return "letters count upward in its versions, and the range is of more than its product"
         found, reason = standing(end.version, end.update, one)
         if found is Standing.UNSURE:
-            return reason
+            return f"{reason}, letters that count upward being numbers" if self._letters.has(end.product) else reason
         # (both orders are one; where they weren't, neither could be trusted)
         return is_inside if is_inside == (found is Standing.INSIDE) else "cpe orders its version otherwise than this recipe"
 

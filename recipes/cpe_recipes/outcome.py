@@ -13,8 +13,8 @@ from .perhaps import Pairs
 from .said import Said
 from .table import counted
 
-# How many lines of one kind are said before only their number is.
-_MOST_SAID = 20
+# How many lines that are alike are said before only their number is.
+MOST_ALIKE = 20
 
 
 @dataclass
@@ -62,6 +62,7 @@ class Hanging:
 def machines_with_verdicts(known: Known, bare: Sequence[str], found: Iterable[Found]) -> list[verdicts.Machine]:
     """The machines with what isn't FALSE there, the parts of an advisory joined by OR."""
     statements = verdicts.Statements([statement.id for statement in known.statements])
+    without_items = {place: truth for place, truth in enumerate(bare) if truth != "FALSE"}
     machines = []
     for one in found:
         if not one.has_items():
@@ -69,15 +70,16 @@ def machines_with_verdicts(known: Known, bare: Sequence[str], found: Iterable[Fo
             machines.append(verdicts.Machine(one.machine.name, has_items=False))
             continue
         machine = verdicts.Machine(one.machine.name, statements)
-        for place, truth in enumerate(bare):
-            truth = one.truths.get(place, truth)
+        for place, truth in sorted({**without_items, **one.truths}.items()):
             if truth != "FALSE":
                 machine.put(known.statements[place].id, truth)
         machines.append(machine)
     return machines
 
 
-def tell_items(found: Iterable[Found], refused: Mapping[str, str], successors: Mapping[Product, Sequence[Product]], said: Said) -> None:
+def tell_items(
+    found: Iterable[Found], refused: Mapping[str, str], successors: Mapping[Product, Sequence[Product]], said: Said
+) -> None:
     """Says of the items what the verdicts don't show: what is none, and what the dictionary doesn't lead on."""
     strange, where = set(), set()
     for one in found:
@@ -119,10 +121,10 @@ def perhaps(pairs: Pairs, found: Sequence[Found], machines: Sequence[verdicts.Ma
 
 
 def tell_perhaps(rows: Sequence[Perhaps], said: Said) -> None:
-    for row in rows[:_MOST_SAID]:
+    for row in rows[:MOST_ALIKE]:
         said.remark(f"perhaps {' '.join(row)}")
-    if len(rows) > _MOST_SAID:
-        said.remark(f"perhaps: {len(rows) - _MOST_SAID} more, which --json and perhaps.sh list")
+    if len(rows) > MOST_ALIKE:
+        said.remark(f"perhaps: {len(rows) - MOST_ALIKE} more, which --json and perhaps.sh list")
 
 
 def json_of(

@@ -10,6 +10,7 @@ import os
 import signal
 import sys
 import tempfile
+from collections import Counter
 from collections.abc import Callable, Iterator
 from pathlib import Path
 from typing import NoReturn
@@ -49,25 +50,42 @@ def write_all(descriptor: int, data: bytes, what: str) -> None:
 
 
 class Said:
-    """What is told on standard error, and how much was left out. `before` is called before each line, to clear the place."""
+    """What is told on standard error, and how much was left out.
 
-    def __init__(self, descriptor: int = 2, before: Callable[[], None] | None = None) -> None:
-        self._descriptor, self._before = descriptor, before
+    `before` is called before each line, to clear the place. Of lines that are alike but for whom they are about, `most_alike`
+    are told, and of the others how many there are, by `tell_others`; all are told where it is left out.
+    """
+
+    def __init__(self, descriptor: int = 2, before: Callable[[], None] | None = None, most_alike: int | None = None) -> None:
+        self._descriptor, self._before, self._most_alike = descriptor, before, most_alike
+        self._alike: Counter[str] = Counter()
         self.left = 0
         self.remarks = 0
 
     def left_out(self, id: str, reason: str) -> None:
         """Something was not read, or is no record."""
         self.left += 1
-        self._say(f"left out {id}: {reason}")
+        self._say_some(f"left out {id}: {reason}", f"left out {{}} more: {reason}")
 
-    def remark(self, text: str) -> None:
+    def remark(self, text: str, id: str = "") -> None:
         """Worth knowing, and nothing is lost."""
         self.remarks += 1
-        self._say(f"remark {text}")
+        self._say_some(f"remark {id}: {text}" if id else f"remark {text}", f"remark {{}} more: {text}")
+
+    def tell_others(self) -> None:
+        """How many lines were not told, since they are like others."""
+        for line, count in self._alike.items():
+            if self._most_alike is not None and count > self._most_alike:
+                self._say(line.replace("{}", str(count - self._most_alike), 1))
+        self._alike.clear()
 
     def status(self) -> int:
         return LEFT_OUT if self.left else DONE
+
+    def _say_some(self, line: str, others: str) -> None:
+        self._alike[others] += 1
+        if self._most_alike is None or self._alike[others] <= self._most_alike:
+            self._say(line)
 
     def _say(self, line: str) -> None:
         if self._before is not None:

@@ -22,14 +22,14 @@ result: then nothing was written, but why.
 from __future__ import annotations
 
 import json
-from collections.abc import Collection, Iterable, Mapping, Sequence
+from collections.abc import Collection, Iterable, Iterator, Mapping, Sequence
 
 from . import advisories, affected, dictionary, inventory, matches, names, products, suppressed, unlisted, verdicts
-from .cases import Cases, Index, Known, Product, lines_of, verdicts_of
+from .cases import Cases, Index, Known, Product, items_by_product, lines_of, verdicts_of
 from .decide import LETTERS, Decider, Lead, Leads, Lists, decide, leads_of
 from .feeds import FeedFault, Page, name_of, pages, read_feed
 from .machines import Machine, read_lists, read_machines
-from .outcome import Found, Hanging, json_of, machines_with_verdicts, perhaps, tell_items, tell_perhaps
+from .outcome import MOST_ALIKE, Found, Hanging, json_of, machines_with_verdicts, perhaps, tell_items, tell_perhaps
 from .perhaps import Pairs, facts_of
 from .program import Candidate, Program
 from .progress import Progress
@@ -52,6 +52,7 @@ OPTIONS = {
     "--letters": ONE,
     "--json": FLAG,
 }
+
 
 class Scan:
     """Verdicts of machines over what is known."""
@@ -132,10 +133,10 @@ class Scan:
         self._progress.step("asking for verdicts")
         in_order = cases.in_order()
         answers = verdicts_of(self._program.lines(["resolve"], lines_of(self._known, in_order)))
-        self.bare = [next(answers) for _ in self._known.statements]
+        self.bare = [_next(answers) for _ in self._known.statements]
         truths = [""] * len(in_order)
         for done, (_, _, _, number) in enumerate(in_order):
-            truths[number] = next(answers)
+            truths[number] = _next(answers)
             self._progress.count("asking for verdicts", done, len(in_order))
         for answer in answers:
             raise Fatal(f"cpe answered more than was asked: {answer}")
@@ -146,14 +147,20 @@ class Scan:
         if not beside:
             one.truths = truths
             return
-        by_product: dict[Product, list[str]] = {}
-        for name in beside:
-            by_product.setdefault(names.product_of(name), []).append(name)
+        by_product = items_by_product((name, [name]) for name in beside)
         for place, truth in truths.items():
             if truth != one.truths.get(place, self.bare[place]):
                 one.truths[place] = "UNKNOWN"
                 meant = index.items(place, by_product, tuple(beside)) or beside
-                one.supposed[place] = "; ".join(f"{beside[name].name} is not in the dictionary, and may be {name}" for name in meant)
+                why = (f"{beside[name].name} is not in the dictionary, and may be {name}" for name in meant)
+                one.supposed[place] = "; ".join(why)
+
+
+def _next(answers: Iterator[str]) -> str:
+    answer = next(answers, None)
+    if answer is None:
+        raise Fatal("cpe answered less than was asked")
+    return answer
 
 
 def _renamed(name: str, product: Product) -> str:
@@ -226,8 +233,9 @@ def run(words: Sequence[str]) -> int:
         raise Fatal(f"usage: {USAGE}")
     program = Program()
     with Progress() as progress:
-        said = Said(before=progress.clear)
+        said = Said(before=progress.clear, most_alike=MOST_ALIKE)
         lines = _result(read, program, said, progress)
+        said.tell_others()
     output = Output()
     output.lines(lines)
     output.end()

@@ -20,8 +20,8 @@ from .said import Fatal
 
 _PIECE = re.compile(r"[0-9]+|[a-z]+")
 _LETTERED = re.compile(r"(?P<word>[a-z]{1,2})[0-9]*")
-# Words of two letters that stand before a release, whoever makes it.
-_BEFORE_RELEASE = frozenset({"rc", "cr", "ea"})
+# What comes behind z is za. (Other words of two letters mostly stand before a release: rc, tp.)
+_LETTER = re.compile(r"[a-z]|z[a-z]")
 
 LESS, EQUAL, GREATER = -1, 0, 1
 Orders = frozenset[int]
@@ -125,8 +125,8 @@ def standing(version: str, update: str | None, one: Range) -> tuple[Standing, st
 
 @dataclass(frozen=True)
 class Letters:
-    """The products of which letters in versions count upward, each with the words that do, or with none where all of one or
-    two letters do."""
+    """The products of which letters in versions count upward, each with the words that do, or with none where it is a letter,
+    and za behind z."""
 
     products: Mapping[tuple[str, str], frozenset[str]]
 
@@ -134,8 +134,8 @@ class Letters:
         return product in self.products
 
     def rewritten(self, product: tuple[str, str], version: str) -> str:
-        """The version of such a product with numbers in place of letters: 1.1.1k as 1.1.1.11, 0.9.8za as 0.9.8.26.1. Words
-        that stand before a release, and those of three or more letters, are left."""
+        """The version of such a product with numbers in place of letters: 1.1.1k as 1.1.1.11, 0.9.8za as 0.9.8.26.1. All other
+        words are left."""
         out, last = [], 0
         text = version.lower()
         for match in _PIECE.finditer(text):
@@ -156,9 +156,9 @@ class Letters:
 
     def _counts(self, product: tuple[str, str], word: str) -> bool:
         words = self.products.get(product)
-        if words is None or word[0].isdigit() or len(word) > 2:
+        if words is None:
             return False
-        return word in words if words else word not in _BEFORE_RELEASE
+        return word in words if words else _LETTER.fullmatch(word) is not None
 
 
 def read_letters(path: str) -> Letters:

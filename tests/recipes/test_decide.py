@@ -67,10 +67,12 @@ class Decisions(unittest.TestCase):
     def test_letters_that_count_upward(self):
         for version, wanted in (("1.1.1", True), ("1.1.1k", True), ("1.1.1u", False), ("1.1.1v", False), ("1.1.0z", False), ("3.0", False)):
             self.assertIs(self.one(version, "1.1.1", "1.1.1u", "lettered", end_excluded=True), wanted, version)
-        self.assertEqual(self.one("1.1.1-rc1", "1.1.1", None, "lettered"), "a letter decides between 1.1.1-rc1 and 1.1.1")
+        unsure = "a letter decides between 1.1.1-rc1 and 1.1.1.1, letters that count upward being numbers"
+        self.assertEqual(self.one("1.1.1-rc1", "1.1.1a", None, "lettered"), unsure)
         for update, wanted in (("-", True), ("p1", True), ("p2", False), ("p10", False)):
             self.assertIs(self.one("9.3", None, "9.3p2", "patched", update, end_excluded=True), wanted, update)
-        self.assertEqual(self.one("9.3", None, "9.3", "patched", "b1"), "9.3 is the bound, and has the update b1")
+        unsure = "9.3 is the bound, and has the update b1, letters that count upward being numbers"
+        self.assertEqual(self.one("9.3", None, "9.3", "patched", "b1"), unsure)
 
     def test_one_item_in_the_range_is_enough_and_one_that_is_unsure_beats_those_outside(self):
         one = Range("KEY", name("p"), "1.0", "2.0")

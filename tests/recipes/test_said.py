@@ -41,6 +41,19 @@ class Lines(unittest.TestCase):
         self.assertEqual((here.left, here.remarks), (1, 1))
         self.assertEqual(self.told(), "remark nothing is lost\nleft out CVE-1: rejected\n")
 
+    def test_of_lines_that_are_alike_some_are_told_and_the_others_counted(self):
+        here = said.Said(self.file.fileno(), most_alike=2)
+        for number in range(5):
+            here.left_out(f"CVE-{number}", "no configurations {}")
+            here.remark("rejected", f"CVE-1{number}")
+        here.left_out("CVE-9", "exists")
+        here.tell_others()
+        here.tell_others()
+        wanted = ["left out CVE-0: no configurations {}", "remark CVE-10: rejected", "left out CVE-1: no configurations {}", "remark CVE-11: rejected"]
+        wanted += ["left out CVE-9: exists", "left out 3 more: no configurations {}", "remark 3 more: rejected"]
+        self.assertEqual(self.told().splitlines(), wanted)
+        self.assertEqual((here.left, here.remarks, here.status()), (6, 5, 1))
+
     def test_a_line_stays_one_line_and_no_terminal_obeys_it(self):
         said.Said(self.file.fileno()).left_out("a\nb", "\x1b[2J \u202e \U000e0001 “c”")
         self.assertEqual(self.told(), "left out a\\u000ab: \\u001b[2J \\u202e \\U000e0001 “c”\n")

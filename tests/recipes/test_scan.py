@@ -137,6 +137,17 @@ class Verdicts(unittest.TestCase):
         made, found = scanned(known, machines, {"KEY": [name("v", "p", "1.0b")]})
         self.assertEqual([truths(known, made, it)["CVE-1"] for it in found], ["TRUE", "FALSE", "TRUE"])
 
+    def test_a_program_that_answers_less_is_fatal(self):
+        known = self.known(statement("CVE-1", {"fact": name("v", "p")}))
+        whole = Program.lines
+
+        def less(program, words, records):
+            # (as if the last answer had been lost)
+            return list(whole(program, words, records))[:-1]
+
+        with mock.patch.object(Program, "lines", less), self.assertRaises(Fatal):
+            scanned(known, [])
+
     def test_results_of_one_machine_are_not_those_of_the_next(self):
         one = Range("KEY", name("v", "p"), "1.0", "2.0")
         known = self.known(statement("CVE-1", ranged(one), negate=True), ranges=[one])

@@ -98,7 +98,7 @@ class Upward(unittest.TestCase):
             self.assertEqual(self.letters.rewritten(("v", "all"), version), wanted)
 
     def test_words_before_a_release_and_long_ones_are_left(self):
-        for version in ("1.0-rc1", "1.0beta2", "1.0-pre", "1.0.dev3", "1.0-final"):
+        for version in ("1.0-rc1", "4.0.0tp2", "1.0beta2", "1.0-pre", "1.0.dev3", "1.0-final"):
             self.assertEqual(self.letters.rewritten(("v", "all"), version), version)
         self.assertEqual(self.letters.rewritten(("v", "all"), "1.0a-rc1"), "1.0.1-rc1")
 

@@ -33,6 +33,8 @@ def count(result, machines, affected):
         sys.exit("these are verdicts of other machines or advisories")
     counts, wrong = Counter(), []
     for row in result["machines"]:
+        if "verdicts" not in row:
+            sys.exit(f"{row['name']} has no verdicts")
         said = {one["id"]: one["verdict"] for one in row["verdicts"]}
         if not said.keys() <= affected.keys():
             sys.exit(f"{row['name']} has verdicts of other advisories")
