@@ -21,7 +21,9 @@ fn put_plain(alloc: Global, shelf: &mut Shelf, product: &[u8], version: Value) -
     let Some(name) = name_of(alloc, product, version) else {
         return false;
     };
-    shelf.put(&name).is_ok()
+    let is_put = shelf.put(&name).is_ok();
+    drop(name);
+    is_put
 }
 
 fn count_covered<L: Ledger>(
@@ -34,7 +36,9 @@ fn count_covered<L: Ledger>(
 {
     let product = text(alloc, Edge::None, product, Edge::None)?;
     let name = name_of(alloc, product, Value::Any)?;
-    match shelf.covered_by(alloc, &name, steps) {
+    let covered = shelf.covered_by(alloc, &name, steps);
+    drop(name);
+    match covered {
         Ok(found) => Some(found.len()),
         Err(_) => None,
     }

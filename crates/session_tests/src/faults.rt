@@ -1,5 +1,6 @@
 // Runs in which one read or one write fails, at each call in turn, and in which bytes come and go in pieces, beside runs without
-// faults. What is owned is made at once and handed on by reference: so the proofs are quick.
+// faults. What is owned is made in one function each and handed on by reference, and no call answers more than whether all went so:
+// then the proofs are quick.
 mod generated;
 mod names;
 mod records;
@@ -8,7 +9,6 @@ use crate::runs::{ended, words_of};
 use cpe_command::Status;
 use cpe_io::{MemSink, MemSource};
 use std::alloc::Global;
-use std::test::Fail;
 
 // As many bytes as any write here has.
 const ALL: usize = 65_536;
@@ -32,50 +32,53 @@ struct Ends<'e> {
     writes: &'e [u64],
 }
 
-// How a run ends, and what it writes.
-fn outcome(
+// Whether a run ends so, and the sink holds this.
+fn goes_between(
+    alloc: Global,
+    words: &[String],
+    source: &mut MemSource,
+    sink: &mut MemSink,
+    status: Status,
+    output: &[u8],
+) -> bool {
+    ended(alloc, words, source, sink) == status && sink.bytes() == output
+}
+
+fn goes_from(
+    alloc: Global,
+    words: &[String],
+    source: &mut MemSource,
+    ends: &Ends,
+    status: Status,
+    output: &[u8],
+) -> bool {
+    match MemSink::new(alloc, ends.most, ends.writes) {
+        Ok(mut sink) => goes_between(alloc, words, source, &mut sink, status, output),
+        Err(_) => false,
+    }
+}
+
+// Whether a run over this input ends and writes so.
+fn goes_over(
     alloc: Global,
     words: &[String],
     input: &[u8],
     ends: &Ends,
-) -> Result<(Status, MemSink), Fail> {
-    let mut source = MemSource::new(alloc, input, ends.pieces, ends.reads)?;
-    let mut sink = MemSink::new(alloc, ends.most, ends.writes)?;
-    let status = ended(alloc, words, &mut source, &mut sink);
-    Ok((status, sink))
-}
-
-// What lines write under these words where nothing fails and all bytes come and go at once.
-fn written(alloc: Global, words: &[String], input: &[u8]) -> Result<MemSink, Fail> {
-    let ends = Ends {
-        pieces: &[],
-        reads: &[],
-        most: ALL,
-        writes: &[],
-    };
-    let (_, sink) = outcome(alloc, words, input, &ends)?;
-    Ok(sink)
-}
-
-// Whether a run of the session ends and writes so.
-fn goes(
-    alloc: Global,
-    session: &Session,
-    ends: &Ends,
     status: Status,
     output: &[u8],
-) -> Result<bool, Fail> {
-    let (ended, sink) = outcome(alloc, session.words, session.input, ends)?;
-    Ok(ended == status && sink.bytes() == output)
+) -> bool {
+    match MemSource::new(alloc, input, ends.pieces, ends.reads) {
+        Ok(mut source) => goes_from(alloc, words, &mut source, ends, status, output),
+        Err(_) => false,
+    }
+}
+
+fn goes(alloc: Global, session: &Session, ends: &Ends, status: Status, output: &[u8]) -> bool {
+    goes_over(alloc, session.words, session.input, ends, status, output)
 }
 
 // Whether a run goes as one at once does, where bytes come in such pieces and so many go at a time.
-fn goes_in_pieces(
-    alloc: Global,
-    session: &Session,
-    pieces: &[usize],
-    most: usize,
-) -> Result<bool, Fail> {
+fn goes_in_pieces(alloc: Global, session: &Session, pieces: &[usize], most: usize) -> bool {
     let ends = Ends {
         pieces,
         reads: &[],
@@ -85,13 +88,11 @@ fn goes_in_pieces(
     goes(alloc, session, &ends, Status::SomeRefused, session.output)
 }
 
-fn goes_in_all_pieces(alloc: Global, session: &Session) -> Result<bool, Fail> {
-    Ok(
-        goes_in_pieces(alloc, session, &[], ALL)?
-            && goes_in_pieces(alloc, session, &[], 1)?
-            && goes_in_pieces(alloc, session, &[1], ALL)?
-            && goes_in_pieces(alloc, session, &[1, 2, ALL], 3)?,
-    )
+fn goes_in_all_pieces(alloc: Global, session: &Session) -> bool {
+    goes_in_pieces(alloc, session, &[], ALL)
+        && goes_in_pieces(alloc, session, &[], 1)
+        && goes_in_pieces(alloc, session, &[1], ALL)
+        && goes_in_pieces(alloc, session, &[1, 2, ALL], 3)
 }
 
 fn front(bytes: &[u8], count: usize) -> &[u8] {
@@ -105,7 +106,7 @@ fn goes_until_read(
     read: usize,
     status: Status,
     output: &[u8],
-) -> Result<bool, Fail> {
+) -> bool {
     let ends = Ends {
         pieces: &[1],
         reads: &[read as u64],
@@ -115,23 +116,34 @@ fn goes_until_read(
     goes(alloc, session, &ends, status, output)
 }
 
+// Gives the sink what lines write under these words where nothing fails and all bytes come at once.
+fn write(alloc: Global, words: &[String], lines: &[u8], sink: &mut MemSink) -> bool {
+    match MemSource::new(alloc, lines, &[], &[]) {
+        Ok(mut source) => {
+            let _ = ended(alloc, words, &mut source, sink);
+            true
+        }
+        Err(_) => false,
+    }
+}
+
 // Whether a run whose read of this number fails has written what the whole lines until then say, and nothing behind it.
-fn stops_at_read(
-    alloc: Global,
-    session: &Session,
-    read: usize,
-    lines: &[u8],
-) -> Result<bool, Fail> {
-    let wanted = written(alloc, session.without_table, lines)?;
-    goes_until_read(alloc, session, read, Status::ReadFault, wanted.bytes())
+fn stops_at_read(alloc: Global, session: &Session, read: usize, lines: &[u8]) -> bool {
+    match MemSink::new(alloc, ALL, &[]) {
+        Ok(mut sink) => {
+            write(alloc, session.without_table, lines, &mut sink)
+                && goes_until_read(alloc, session, read, Status::ReadFault, sink.bytes())
+        }
+        Err(_) => false,
+    }
 }
 
 // Whether a run stops so at each read before the one that finds the end.
-fn stops_at_each_read(alloc: Global, session: &Session) -> Result<bool, Fail> {
+fn stops_at_each_read(alloc: Global, session: &Session) -> bool {
     let mut lines: &[u8] = &[];
     for (read, byte) in session.input.iter().enumerate() {
-        if !stops_at_read(alloc, session, read, lines)? {
-            return Ok(false);
+        if !stops_at_read(alloc, session, read, lines) {
+            return false;
         }
         if *byte == b'\n' {
             lines = front(session.input, read.saturating_add(1));
@@ -141,17 +153,15 @@ fn stops_at_each_read(alloc: Global, session: &Session) -> Result<bool, Fail> {
 }
 
 // Whether it stops so at the read that finds the end, and a later one is never made.
-fn stops_at_end(alloc: Global, session: &Session, lines: &[u8]) -> Result<bool, Fail> {
+fn stops_at_end(alloc: Global, session: &Session, lines: &[u8]) -> bool {
     let end = session.input.len();
     let behind = end.saturating_add(1);
-    Ok(
-        stops_at_read(alloc, session, end, lines)?
-            && goes_until_read(alloc, session, behind, Status::SomeRefused, session.output)?,
-    )
+    stops_at_read(alloc, session, end, lines)
+        && goes_until_read(alloc, session, behind, Status::SomeRefused, session.output)
 }
 
 // Whether a run whose write of this number fails has written the bytes until then. Each write takes a byte.
-fn stops_at_write(alloc: Global, session: &Session, write: usize) -> Result<bool, Fail> {
+fn stops_at_write(alloc: Global, session: &Session, write: usize) -> bool {
     let ends = Ends {
         pieces: &[64],
         reads: &[],
@@ -162,21 +172,19 @@ fn stops_at_write(alloc: Global, session: &Session, write: usize) -> Result<bool
     goes(alloc, session, &ends, Status::WriteFault, output)
 }
 
-fn stops_at_each_write(alloc: Global, session: &Session) -> Result<bool, Fail> {
+fn stops_at_each_write(alloc: Global, session: &Session) -> bool {
     for (write, _) in session.output.iter().enumerate() {
-        if !stops_at_write(alloc, session, write)? {
-            return Ok(false);
+        if !stops_at_write(alloc, session, write) {
+            return false;
         }
     }
-    Ok(true)
+    true
 }
 
-fn stands(alloc: Global, session: &Session) -> Result<bool, Fail> {
-    Ok(
-        goes_in_all_pieces(alloc, session)?
-            && stops_at_each_read(alloc, session)?
-            && stops_at_each_write(alloc, session)?,
-    )
+fn stands(alloc: Global, session: &Session) -> bool {
+    goes_in_all_pieces(alloc, session)
+        && stops_at_each_read(alloc, session)
+        && stops_at_each_write(alloc, session)
 }
 
 // Whether a run writes so in whatever pieces bytes come and go, and at each read and each write that fails leaves what the
@@ -187,24 +195,22 @@ pub fn stands_without_table<'w>(
     without_table: &[&'w str],
     input: &[u8],
     output: &[u8],
-) -> Result<bool, Fail> {
-    let words = words_of(alloc, words)?;
-    let without_table = words_of(alloc, without_table)?;
-    let session = Session {
-        words: &words,
-        without_table: &without_table,
-        input,
-        output,
-    };
-    stands(alloc, &session)
+) -> bool {
+    match (words_of(alloc, words), words_of(alloc, without_table)) {
+        (Ok(words), Ok(without_table)) => {
+            let session = Session {
+                words: &words,
+                without_table: &without_table,
+                input,
+                output,
+            };
+            stands(alloc, &session)
+        }
+        _ => false,
+    }
 }
 
 // The same of a command that puts no table behind the answers.
-pub fn stands_at_each_fault(
-    alloc: Global,
-    words: &[&str],
-    input: &[u8],
-    output: &[u8],
-) -> Result<bool, Fail> {
+pub fn stands_at_each_fault(alloc: Global, words: &[&str], input: &[u8], output: &[u8]) -> bool {
     stands_without_table(alloc, words, words, input, output)
 }

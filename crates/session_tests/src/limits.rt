@@ -129,17 +129,22 @@ fn edit_of(alloc: Global, sample: Sample) -> Result<Edit, Memory> {
 
 // ---- their ends
 
+fn end_by(edited: &Result<(), EditFault>) -> End {
+    match edited {
+        Ok(()) => End::Made,
+        Err(EditFault::Full(Which::Weight)) => End::TooHeavy,
+        Err(EditFault::Unknown) => End::Unknown,
+        Err(_) => End::Other,
+    }
+}
+
 fn end_of_valid<L: Ledger>(engine: &mut Engine, edit: Edit, steps: &mut Steps<L>) -> End {
     if !edit.valid() {
         drop(edit);
         return End::Other;
     }
-    match engine.apply(edit, steps) {
-        Ok(_) => End::Made,
-        Err(EditFault::Full(Which::Weight)) => End::TooHeavy,
-        Err(EditFault::Unknown) => End::Unknown,
-        Err(_) => End::Other,
-    }
+    let edited = engine.edit(edit, steps);
+    end_by(&edited)
 }
 
 fn end_of<L: Ledger>(
@@ -189,6 +194,21 @@ fn holds<L: Ledger>(
     }
 }
 
+fn hold_all<L: Ledger>(
+    alloc: Global,
+    engine: &mut Engine,
+    all: &[Asked],
+    steps: &mut Steps<L>,
+) -> bool {
+    for asked in all {
+        if !holds(alloc, engine, *asked, steps) {
+            return false;
+        }
+    }
+    true
+}
+
+// (An engine is let go by one call: at the end of a scope all that it owns is let go in place, which takes minutes to prove.)
 fn succeeds_over<L: Ledger>(alloc: Global, all: &[Asked], blank: Blank) -> bool
     requires name { blank.name ≡ L.name }
     requires parts { blank.parts ≡ L.parts }
@@ -196,12 +216,9 @@ fn succeeds_over<L: Ledger>(alloc: Global, all: &[Asked], blank: Blank) -> bool
 {
     let mut engine = Engine::new(alloc);
     let mut steps = Steps::<L>::new(blank);
-    for asked in all {
-        if !holds(alloc, &mut engine, *asked, &mut steps) {
-            return false;
-        }
-    }
-    true
+    let holds = hold_all(alloc, &mut engine, all, &mut steps);
+    drop(engine);
+    holds
 }
 
 // Whether all holds of an engine, one after the other.
@@ -261,6 +278,36 @@ fn an_entry_and_an_item_are_counted(rt: HostRuntime) {
         Asked::Makes(Sample::Entry),
         Asked::Makes(Sample::Application),
         Asked::Counts(counts),
+    ];
+    assert!(rt; succeeds(rt.alloc(), &all));
+}
+
+// What is dropped is no longer counted, the facts of a statement neither.
+#[test]
+fn a_statement_and_its_fact_are_counted(rt: HostRuntime) {
+    let none = Counts {
+        entries: 0,
+        deprecated: 0,
+        items: 0,
+        statements: 0,
+        facts: 0,
+        checks: 0,
+        weight: 0,
+    };
+    let one = Counts {
+        entries: 0,
+        deprecated: 0,
+        items: 0,
+        statements: 1,
+        facts: 1,
+        checks: 0,
+        weight: 127,
+    };
+    let all = [
+        Asked::Makes(Sample::Heavy(1)),
+        Asked::Counts(one),
+        Asked::Makes(Sample::NoStatement),
+        Asked::Counts(none),
     ];
     assert!(rt; succeeds(rt.alloc(), &all));
 }

@@ -44,7 +44,9 @@ fn run_over<L: Ledger>(
 {
     let mut engine = Engine::new(alloc);
     let mut steps = Steps::<L>::new(blank);
-    run_unseen(alloc, words, source, sink, &mut engine, &mut steps)
+    let status = run_unseen(alloc, words, source, sink, &mut engine, &mut steps);
+    drop(engine);
+    status
 }
 
 // How a run ends.

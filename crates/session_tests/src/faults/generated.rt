@@ -1,9 +1,8 @@
 // Commands that read nothing: no read is made, so none fails, and a write that fails leaves a front.
-use crate::faults::{ALL, Ends, front, outcome};
+use crate::faults::{ALL, Ends, front, goes_over};
 use crate::runs::words_of;
 use cpe_command::{Status, generated};
 use std::alloc::Global;
-use std::test::Fail;
 
 // Whether a run ends and writes so, where the first read would fail, and so many bytes go at a time.
 fn goes_unread(
@@ -13,78 +12,84 @@ fn goes_unread(
     writes: &[u64],
     status: Status,
     output: &[u8],
-) -> Result<bool, Fail> {
+) -> bool {
     let ends = Ends {
         pieces: &[1],
         reads: &[0],
         most,
         writes,
     };
-    let (ended, sink) = outcome(alloc, words, b"unread", &ends)?;
-    Ok(ended == status && sink.bytes() == output)
+    goes_over(alloc, words, b"unread", &ends, status, output)
 }
 
-fn stops_at_write(
-    alloc: Global,
-    words: &[String],
-    output: &[u8],
-    write: usize,
-) -> Result<bool, Fail> {
+fn stops_at_write(alloc: Global, words: &[String], output: &[u8], write: usize) -> bool {
     let left = front(output, write);
     goes_unread(alloc, words, 1, &[write as u64], Status::WriteFault, left)
 }
 
-fn stops_at_each_write(alloc: Global, words: &[String], output: &[u8]) -> Result<bool, Fail> {
+fn stops_at_each_write(alloc: Global, words: &[String], output: &[u8]) -> bool {
     for (write, _) in output.iter().enumerate() {
-        if !stops_at_write(alloc, words, output, write)? {
-            return Ok(false);
+        if !stops_at_write(alloc, words, output, write) {
+            return false;
         }
     }
-    Ok(true)
+    true
 }
 
 // Whether a run under these words writes this, at once and a byte at a time, and stops at each write that fails.
-fn stands(alloc: Global, words: &[&str], output: &[u8]) -> Result<bool, Fail> {
-    let words = words_of(alloc, words)?;
-    Ok(
-        goes_unread(alloc, &words, ALL, &[], Status::Done, output)?
-            && goes_unread(alloc, &words, 1, &[], Status::Done, output)?
-            && stops_at_each_write(alloc, &words, output)?,
-    )
+fn stands(alloc: Global, words: &[&str], output: &[u8]) -> bool {
+    match words_of(alloc, words) {
+        Ok(words) => {
+            goes_unread(alloc, &words, ALL, &[], Status::Done, output)
+                && goes_unread(alloc, &words, 1, &[], Status::Done, output)
+                && stops_at_each_write(alloc, &words, output)
+        }
+        Err(_) => false,
+    }
 }
 
 const DRILLED: &[u8] =
     b"drill 16\nrefused 0\nentries 4\ndeprecated 1\nitems 2\nstatements 2\nchecks 2\nfound 4\nTRUE 1\nFALSE 1\nERROR 0\nUNKNOWN 0\n";
 
 #[test]
-fn drill_stands_at_each_fault(rt: HostRuntime) -> Result<(), Fail> {
-    assert!(rt; stands(rt.alloc(), &["drill", "16"], DRILLED)?);
-    Ok(())
+fn drill_stands_at_each_fault(rt: HostRuntime) {
+    assert!(rt; stands(rt.alloc(), &["drill", "16"], DRILLED));
 }
 
-// The first lines, one after the other.
-fn first_lines(alloc: Global, count: u64) -> Result<Vec<u8>, Fail> {
-    let mut lines = Vec::new(alloc);
-    for number in 0..count {
-        let line = generated(alloc, number)?;
-        lines.extend_from_slice(&line)?;
-        lines.push(b'\n')?;
+// Puts the line of this number behind others.
+fn push_line(alloc: Global, lines: &mut Vec<u8>, number: u64) -> bool {
+    match generated(alloc, number) {
+        Ok(line) => lines.extend_from_slice(&line).is_ok() && lines.push(b'\n').is_ok(),
+        Err(_) => false,
     }
-    Ok(lines)
+}
+
+fn push_lines(alloc: Global, lines: &mut Vec<u8>, count: u64) -> bool {
+    for number in 0..count {
+        if !push_line(alloc, lines, number) {
+            return false;
+        }
+    }
+    true
 }
 
 #[test]
-fn make_stands_at_each_fault(rt: HostRuntime) -> Result<(), Fail> {
-    let lines = first_lines(rt.alloc(), 9)?;
-    assert!(rt; stands(rt.alloc(), &["make", "9"], &lines)?);
-    Ok(())
+fn make_stands_at_each_fault(rt: HostRuntime) {
+    let mut lines = Vec::new(rt.alloc());
+    assert!(rt; push_lines(rt.alloc(), &mut lines, 9));
+    assert!(rt; stands(rt.alloc(), &["make", "9"], &lines));
+}
+
+fn is_generated(alloc: Global, number: u64, wanted: &[u8]) -> bool {
+    match generated(alloc, number) {
+        Ok(line) => &line[..] == wanted,
+        Err(_) => false,
+    }
 }
 
 #[test]
-fn a_line_has_its_number(rt: HostRuntime) -> Result<(), Fail> {
-    let line = generated(rt.alloc(), 8 * 131 + 4)?;
+fn a_line_has_its_number(rt: HostRuntime) {
     let wanted: &[u8] =
         b"{\"do\":\"check\",\"system\":\"s\",\"href\":\"h\",\"id\":\"c5\",\"result\":\"UNKNOWN\"}";
-    assert!(rt; &line[..] == wanted);
-    Ok(())
+    assert!(rt; is_generated(rt.alloc(), 8 * 131 + 4, wanted));
 }
