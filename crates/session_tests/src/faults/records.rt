@@ -37,7 +37,6 @@ const ADVISED: &[u8] =
     b"refused 5 json\naffected adv-1 2\nitem cpe:2.3:a:acme:editor:2.0beta:*:*:*:*:*:*:*\nitem cpe:2.3:a:acme:editor:2.0:*:*:*:*:*:*:*\nadvisories cpe:2.3:a:zeta:mailbox:1.0:*:*:*:*:*:*:* 1\nadvisory adv-2\naffected adv-1 1\nitem cpe:2.3:a:acme:editor:2.0beta:*:*:*:*:*:*:*\naffected adv-3 absent\n";
 
 #[test]
-fn advise_stands_at_each_fault(rt: HostRuntime) -> Result<(), Fail> {
-    assert!(rt; stands_at_each_fault(rt.alloc(), &["advise"], ADVICE, ADVISED)?);
-    Ok(())
+fn advise_stands_at_each_fault(rt: HostRuntime) {
+    assert!(rt; stands_at_each_fault(rt.alloc(), &["advise"], ADVICE, ADVISED));
 }
