@@ -24,6 +24,7 @@ from collections.abc import Sequence
 from pathlib import Path
 
 from . import fleet, worker, workers
+from .feeds import text_lines
 from .program import Program
 from .said import Fatal, Said, room, write_all
 from .session import Asked
@@ -57,7 +58,7 @@ def _gather(pieces: dict[Path, list[Asked]], said: Said) -> int:
         if piece in missing:
             fleet.say_missing(said, machines, "since their worker came to no end")
             continue
-        for line in Path(f"{piece}.said").read_text().splitlines():
+        for line in text_lines(Path(f"{piece}.said").read_text()):
             fleet.say_told(said, *json.loads(line))
         workers.copy_out(piece)
     if missing:
