@@ -1,5 +1,7 @@
 """From NVD's API 2.0 to advisories: the JSON of /rest/json/cves/2.0 (vulnerabilities) to records `statement`.
 
+    sh advisories.sh [--ranges FILE] [--details FILE] [FILE..] > records
+
 A statement has the id of its CVE, follows deprecations, and is TRUE where one of the configurations holds with a vulnerable
 product there.
 
@@ -14,6 +16,9 @@ product there.
 - An advisory of more names than a line has room for becomes several statements, CVE-..#2 and so on, of which one is TRUE where
   the whole would be: an OR of ids needs nothing but the table to be put together again, where an OR over checks would have to
   be asked twice.
+
+--ranges is where the ranges go, and --details where scores and titles go, by id, for affected.sh. What is left out is said, and
+the status is 1. A feed in which there is no vulnerability at all is refused.
 """
 from __future__ import annotations
 
