@@ -44,6 +44,10 @@ class Lead:
     is_entry: bool
     ends: tuple[str, ...]
 
+    def is_removed(self) -> bool:
+        """Whether it leads nowhere, since a name was removed from the dictionary."""
+        return self.is_entry and not self.ends
+
 
 @dataclass
 class Leads:

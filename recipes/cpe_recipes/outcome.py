@@ -33,7 +33,7 @@ class Found:
 
     def removed(self) -> list[str]:
         """Its items under removed names, which lead nowhere."""
-        return [lead.name for lead in self.leads if lead.is_entry and not lead.ends]
+        return [lead.name for lead in self.leads if lead.is_removed()]
 
 
 class Hanging:
@@ -95,7 +95,7 @@ def tell_items(
             said.left_out(name, "no items")
         for lead in one.leads:
             goes_on = successors.get(names.product_of(lead.name))
-            if lead.is_entry and not lead.ends:
+            if lead.is_removed():
                 said.remark(f"under a removed name {name} {lead.name}")
             elif not lead.is_entry and goes_on:
                 said.remark(f"not in the dictionary {name} {lead.name} goes on as {' '.join(map(':'.join, goes_on))}")

@@ -30,11 +30,11 @@ from dataclasses import dataclass, field
 from . import advisories, affected, dictionary, inventory, matches, products, suppressed, unlisted, verdicts
 from .cases import Cases, Index, Known, Product, items_by_product, lines_of, verdicts_of
 from .decide import LETTERS, Decider, Lead, Leads, Lists, decide, leads_of
-from .feeds import FeedFault, Page, name_of, pages, read_feed, record_text, text_lines
+from .feeds import FeedFault, Page, name_of, pages, read_feed, text_lines
 from .machines import Machine, read_lists, read_machines
 from .outcome import MOST_ALIKE, Found, Hanging, json_of, machines_with_verdicts, perhaps, tell_items, tell_perhaps
 from .perhaps import Pairs, facts_of
-from .program import Candidate, Program, refusals
+from .program import Candidate, Program
 from .progress import Progress
 from .said import Fatal, Output, Said
 from .versions import Letters, read_letters
@@ -56,8 +56,6 @@ OPTIONS = {
     "--all": FLAG,
     "--json": FLAG,
 }
-# A restore has a date, which no verdict hangs on.
-_ANY_DATE = "2000-01-01"
 
 
 class Scan:
@@ -134,10 +132,7 @@ class Scan:
         removed = dict.fromkeys(name for one in found for name in one.removed())
         if not removed:
             return None
-        edits = [record_text({"do": "restore", "name": name, "date": _ANY_DATE}) for name in removed]
-        # (one that is refused changes nothing, and so no verdict)
-        reasons = refusals(self._program.lines(["resolve"], [*self._known.entries, *edits]))
-        edits = [edit for number, edit in enumerate(edits, len(self._known.entries) + 1) if number not in reasons]
+        edits = unlisted.restores(self._program, self._known.entries, removed)
         items = dict.fromkeys(item for one in found for item in one.machine.items)
         leads = leads_of(self._program, [*self._known.entries, *edits], items, self._facts())
         return self._state(leads, _leads_in(leads, items), is_all_asked, edits)
