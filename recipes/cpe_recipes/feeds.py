@@ -67,7 +67,7 @@ def read_feed(path: str | None) -> bytes:
 
 
 def text_lines(text: str) -> list[str]:
-    """The lines of a text, without the line ends of Windows. (A text of JSON may have in it what str.splitlines takes for ends.)"""
+    """The lines of a text, without the line ends of Windows. (JSON may have in it what str.splitlines takes for ends.)"""
     lines = [line.removesuffix("\r") for line in text.split("\n")]
     return lines if lines[-1] else lines[:-1]
 

@@ -95,7 +95,7 @@ class Session:
             others.append(self._ask_with(machine.name, machine.items + machine.supposed, machine.beside).lines)
         if told.has_items and machine.restored is not None:
             others.append(self._with_restores()._ask_with(machine.name, machine.items, machine.restored).lines)
-        lines = [one if {one}.issuperset(more) else f"{one.rpartition(' ')[0]} UNKNOWN" for one, *more in zip(told.lines, *others)]
+        lines = [one if {one}.issuperset(more) else _unknown(one) for one, *more in zip(told.lines, *others)]
         return Told(told.machine, told.left_out, lines, told.has_items)
 
     def _with_restores(self) -> Session:
@@ -153,6 +153,10 @@ class Session:
 
 def _record(word: str, **members: str) -> str:
     return json.dumps({"do": word, **members}, ensure_ascii=False, separators=(",", ":")) + "\n"
+
+
+def _unknown(line: str) -> str:
+    return f"{line.rpartition(' ')[0]} UNKNOWN"
 
 
 def _without_items(name: str, left_out: list[tuple[str, str]]) -> Told:

@@ -36,7 +36,8 @@ class Statements:
 
 @dataclass
 class Machine:
-    """The verdicts of a machine, which has no name in a table of one inventory. Those that are FALSE are kept where all are asked for."""
+    """The verdicts of a machine, which has no name in a table of one inventory. Only those that aren't FALSE are shown, where not
+    all are asked for."""
 
     name: str | None
     statements: Statements = field(default_factory=lambda: Statements([]))

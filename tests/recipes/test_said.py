@@ -83,6 +83,12 @@ class Ends(unittest.TestCase):
             self.assertEqual(told.returncode, 2)
             self.assertRegex(told.stderr, f"^Traceback (.|\n)*\n{wanted}$")
 
+    def test_a_python_that_is_too_old_is_told(self):
+        text = f"import sys\nsys.version_info, sys.version = (3, 10, 4), '3.10.4 (main)'\nsys.path.insert(0, {str(RECIPES)!r})\nimport cpe_recipes.said"
+        run = subprocess.run([sys.executable, "-B", "-c", text], capture_output=True, text=True)
+        self.assertEqual((run.returncode, run.stdout), (2, ""))
+        self.assertEqual(run.stderr, "-c: this python3 is 3.10.4, and the recipes need 3.11 or newer\n")
+
     def test_help_is_what_the_module_says_of_itself(self):
         for entry in ("scan.py", "decide.py"):
             run = subprocess.run([sys.executable, str(RECIPES / entry), "--help"], capture_output=True, text=True)

@@ -335,6 +335,16 @@ class Words(unittest.TestCase):
         self.assertLess(json.loads(some)["advisories"], json.loads(whole)["advisories"])
         self.assertEqual(json.loads(some)["machines"], json.loads(whole)["machines"])
 
+    def test_all_has_what_is_false_too(self):
+        status, whole, _ = self.scanned("--json", "--all")
+        found = json.loads(whole)
+        verdicts = [(one["id"], one["verdict"]) for one in found["machines"][0]["verdicts"]]
+        self.assertEqual((status, len(dict(verdicts))), (0, found["advisories"]))
+        _, some, _ = self.scanned("--json")
+        shown = [(one["id"], one["verdict"]) for one in json.loads(some)["machines"][0]["verdicts"]]
+        self.assertEqual([one for one in verdicts if one[1] != "FALSE"], shown)
+        self.assertEqual({truth for _, truth in verdicts[len(shown) :]}, {"FALSE"})
+
     def test_records_stand_for_a_dictionary(self):
         with tempfile.TemporaryDirectory() as folder:
             records = Path(folder) / "dictionary.jsonl"
