@@ -10,12 +10,13 @@ take_program = mkdir -p build && { cmp -s crates/cpe/out/cpe build/cpe || \
 
 help:
 	@echo 'make build    proves the program, and builds it into build/cpe'
-	@echo 'make demo     builds it, reads examples/names.txt with it, and goes the whole way from feeds to advisories (needs jq)'
+	@echo 'make demo     builds it, reads examples/names.txt with it, and goes the whole way from feeds to the advisories of two'
+	@echo '              machines (that needs python3)'
 	@echo 'make test     the gate: rt ci, what each crate took, then checks of the program as rt ci built it, of the manual'
 	@echo '              page, and of the recipes'
 	@echo 'make limits   builds it, and fills it up to its limits: minutes, and 4 GB of memory; not in the gate'
 	@echo 'make install  builds it, and puts it into PREFIX/bin, and its manual page into PREFIX/share/man (PREFIX=$(PREFIX))'
-	@echo 'make bench    builds it, and measures it against unproved Rust'
+	@echo 'make bench    builds it, and measures it against unproved Rust, and the whole way by itself (needs python3)'
 	@echo 'make clean    removes all that was built'
 
 # rt has no command that builds a program without running it. Over an empty input this one writes
@@ -24,14 +25,18 @@ build: need_rt
 	cd crates/cpe && rt run -- unbind < /dev/null
 	@$(take_program)
 
-# The samples have odd records among them, so the whole way says what it leaves out, and its status is 1.
-whole_way = CPE=build/cpe sh recipes/whole-way.sh recipes/samples/dictionary.json recipes/samples/advisories.json \
-	recipes/samples/cyclonedx.json
+# Two web servers. CVE-2024-98001 has ranges of versions, and is TRUE on the one and FALSE on the other, which --all shows.
+# (Status 1 is a result too: something was left out, and that was said.)
+ranges = recipes/samples/ranges
+whole_way = CPE=build/cpe python3 recipes/scan.py --dictionary $(ranges)/dictionary.json --advisories $(ranges)/advisories.json \
+	--matches $(ranges)/matches.json --lists $(ranges)/web-1.cdx.json $(ranges)/web-2.cdx.json
 
 demo: build
 	build/cpe unbind < examples/names.txt
-	@if command -v jq > /dev/null; then echo '$(whole_way)'; $(whole_way) || [ $$? = 1 ]; \
-	else echo 'SKIPPED: the whole way from feeds to advisories: there is no jq'; fi
+	@if command -v python3 > /dev/null; then \
+	echo '$(whole_way)'; $(whole_way) || [ $$? = 1 ] || exit 1; \
+	echo '$(whole_way) --all 2> /dev/null | grep CVE-2024-98001'; $(whole_way) --all 2> /dev/null | grep CVE-2024-98001; \
+	else echo 'SKIPPED: the whole way from feeds to advisories: there is no python3'; fi
 
 test: need_rt
 	sh tests/gate.sh
@@ -54,6 +59,7 @@ bench: need_python3 build
 	python3 bench/run.py build/cpe
 	python3 bench/index.py build/cpe
 	python3 bench/advise.py build/cpe
+	python3 bench/scan.py build/cpe
 
 clean:
 	rm -rf build crates/*/out

@@ -14,7 +14,7 @@ rm -f "$room/machines.out"
 export CPE="$program"
 
 python3 -B - "$room" "$machines" <<'END'
-import itertools, json, random, sys
+import json, os, random, subprocess, sys
 sys.path.insert(0, "bench")
 import make_lines
 room, machines = sys.argv[1], int(sys.argv[2])
@@ -28,6 +28,12 @@ with open(f"{room}/records.jsonl", "wb") as file:
             items.append(json.loads(line)["name"])
         else:
             file.write(line + b"\n")
+# (of an item under a removed name a fleet says UNKNOWN where cpe evaluate says FALSE)
+with open(f"{room}/records.jsonl", "rb") as file:
+    asked = file.read() + b"".join(json.dumps({"do": "chain", "name": item}).encode() + b"\n" for item in items)
+answers = subprocess.run([os.environ["CPE"], "resolve"], input=asked, stdout=subprocess.PIPE).stdout.decode().split("\n")
+chains = [line for line in answers if line.startswith("chain ")][-len(items):]
+items = [item for item, chain in zip(items, chains) if not chain.endswith(" 0")]
 draw = random.Random(7)
 with open(f"{room}/machines.txt", "w") as file:
     for number in range(machines):

@@ -2,6 +2,7 @@
 # The whole way, from what NVD and the makers of software lists publish to the advisories that concern this inventory:
 # sh whole-way.sh DICTIONARY ADVISORIES INVENTORY [MATCHES]. It is scan.py over one machine, whose ranges of versions are decided.
 # The status is 1 where something was left out, which is said, and 2 where there is no result.
+case ${1-} in --help | -h) sed -n '2,4s/^# //p' "$0"; exit ;; esac
 case $# in
 3 | 4) ;;
 *) echo 'usage: whole-way.sh DICTIONARY ADVISORIES INVENTORY [MATCHES]' >&2; exit 2 ;;

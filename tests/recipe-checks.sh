@@ -291,7 +291,7 @@ converts inventory spdx
 refuses_feeds dictionary dictionary '{"resultsPerPage":0,"startIndex":0,"totalResults":0,"format":"NVD_CPE","version":"2.0","products":[]}' \
     2 'dictionary.sh: no-records.json: no products'
 refuses_feeds advisories advisories '{"resultsPerPage":0,"startIndex":0,"totalResults":0,"format":"NVD_CVE","version":"2.0","vulnerabilities":[]}' \
-    0 'remark no-records.json: no vulnerabilities'
+    2 'advisories.sh: no-records.json: no vulnerabilities'
 refuses_feeds inventory spdx '{"spdxVersion":"SPDX-2.3","packages":[]}' 2 'inventory.sh: no-records.json: no item'
 answers_readme
 makes_tables

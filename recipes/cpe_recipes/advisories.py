@@ -1,5 +1,7 @@
 """From NVD's API 2.0 to advisories: the JSON of /rest/json/cves/2.0 (vulnerabilities) to records `statement`.
 
+    sh advisories.sh [--ranges FILE] [--details FILE] [FILE..] > records
+
 A statement has the id of its CVE, follows deprecations, and is TRUE where one of the configurations holds with a vulnerable
 product there.
 
@@ -14,6 +16,9 @@ product there.
 - An advisory of more names than a line has room for becomes several statements, CVE-..#2 and so on, of which one is TRUE where
   the whole would be: an OR of ids needs nothing but the table to be put together again, where an OR over checks would have to
   be asked twice.
+
+--ranges is where the ranges go, and --details where scores and titles go, by id, for affected.sh. What is left out is said, and
+the status is 1. A feed in which there is no vulnerability at all is refused.
 """
 from __future__ import annotations
 
@@ -23,7 +28,7 @@ from dataclasses import dataclass, field
 
 from .feeds import FormFault, Json, Page, member, members, pages, record_text, text_at
 from .program import Candidate, Program, refusals
-from .said import Output, Said, write_file
+from .said import Fatal, Output, Said, write_file
 from .words import ONE, read_words
 
 USAGE = "advisories.sh [--ranges FILE] [--details FILE] [FILE..]"
@@ -197,12 +202,15 @@ class Advisories:
 
 
 def convert(feed: Iterable[Page], program: Program, said: Said, is_decided: bool) -> Advisories:
-    """The advisories of these pages. Where ranges aren't decided behind this, each is remarked."""
-    all_of, empty_pages = [], []
+    """The advisories of these pages. Where ranges aren't decided behind this, each is remarked. Fatal where none is there."""
+    all_of: list[tuple[str, Json]] = []
+    empty_pages: list[str] = []
     for page in feed:
         if not page.records:
             empty_pages.append(page.name)
         all_of.extend(page.each("vulnerability", lambda it: text_at(member(it, "cve"), "id")))
+    if empty_pages and not all_of:
+        raise Fatal("; ".join(f"{page}: no vulnerabilities in it" for page in empty_pages))
     bad_names = _bad_names((cve for _, cve in all_of), program)
     converter = _Converter(bad_names, said, is_decided)
     converter.found.empty_pages = empty_pages
@@ -360,7 +368,8 @@ def _logic(logic: Node | Configuration, children: list[Test]) -> Test:
 def parts(test: Test, most: int) -> list[Test]:
     """Tests of at most so many bytes, of which one is TRUE exactly where this one is. What can't be taken apart is longer, and
     so is the test itself where it would be more than MOST_PARTS."""
-    done, left = [], [test]
+    done: list[Test] = []
+    left = [test]
     while left:
         if len(done) + len(left) > MOST_PARTS:
             return [test]

@@ -57,6 +57,10 @@ class About:
         score = self.details.get(id, {}).get("score")
         return float(score) if isinstance(score, (int, float)) else -1.0
 
+    def accepted_for(self, id: str, truth: str, machine: str | None) -> str | None:
+        """Why this verdict is accepted, None where it isn't; there is nothing to accept where it is FALSE."""
+        return None if truth == "FALSE" else self.suppressed.reason(id, machine)
+
 
 def run(words: list[str]) -> int:
     given = read_words(words, OPTIONS, USAGE)
@@ -108,7 +112,7 @@ def _rows(machine: Machine, about: About) -> Iterator[list[str]]:
         yield [name, "", "no items", "", "", ""]
     shown = sorted(machine.shown.items(), key=lambda row: (TRUTHS.index(row[1]), -about.score(row[0])))
     for id, truth in shown:
-        reason = about.suppressed.reason(id, machine.name)
+        reason = about.accepted_for(id, truth, machine.name)
         if reason is not None:
             about.accepted.append((machine.name, id, truth, reason))
             continue

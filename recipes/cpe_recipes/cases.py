@@ -8,7 +8,7 @@ is asked over those items alone that may fit its facts, and once for all machine
 from __future__ import annotations
 
 import json
-from collections.abc import Collection, Iterable, Iterator, Mapping
+from collections.abc import Collection, Iterable, Iterator, Mapping, Sequence
 from dataclasses import dataclass, field
 
 from . import names
@@ -43,7 +43,7 @@ class Statement:
         while waiting:
             one = waiting.pop()
             key = _range_of(one)
-            if key in ranges:
+            if key is not None and key in ranges:
                 ranged[key] = checks[key] = None
             elif "op" in one:
                 waiting.extend(reversed(one["of"]))
@@ -59,7 +59,8 @@ def _range_of(test: Json) -> str | None:
     of = test.get("of", ())
     if test.get("op") != "AND" or test.get("negate") or len(of) != 2 or "fact" not in of[0] or "check" not in of[1]:
         return None
-    return of[1]["check"]["id"]
+    key: str = of[1]["check"]["id"]
+    return key
 
 
 @dataclass
@@ -156,12 +157,22 @@ class Cases:
         return sorted((*case, number) for case, number in self._numbers.items())
 
 
-def lines_of(known: Known, cases: Iterable[tuple[Items, Results, int, int]]) -> Iterator[str]:
+# Cases in order, and the edits of the dictionary that stand before them.
+Part = tuple[Sequence[str], Sequence[tuple[Items, Results, int, int]]]
+
+
+def lines_of(known: Known, parts: Iterable[Part]) -> Iterator[str]:
     """All that is known, a question for each statement, and then the cases: the statement of each, over its items and results."""
     yield from known.entries
     yield from known.records
     asks = [record_text({"do": "verdict", "id": statement.id}) for statement in known.statements]
     yield from asks
+    for edits, cases in parts:
+        yield from edits
+        yield from _lines_of_cases(asks, cases)
+
+
+def _lines_of_cases(asks: Sequence[str], cases: Iterable[tuple[Items, Results, int, int]]) -> Iterator[str]:
     here: Items = ()
     for items, results, place, _ in cases:
         if items != here:
@@ -171,6 +182,7 @@ def lines_of(known: Known, cases: Iterable[tuple[Items, Results, int, int]]) -> 
         yield from (check_record(key, is_true) for key, is_true in results)
         yield asks[place]
         yield from (drop_record(key) for key, _ in reversed(results))
+    yield from _drops(here)
 
 
 def _drops(items: Items) -> Iterator[str]:

@@ -20,7 +20,7 @@ from pathlib import Path
 
 from . import matches, names
 from .advisories import MATCH, SYSTEM, Range, is_bound
-from .feeds import FeedFault, FormFault, name_of, pages, read_feed, record_text, values_of
+from .feeds import FeedFault, FormFault, name_of, pages, read_feed, record_text, text_lines, values_of
 from .machines import Machine, read_machines
 from .program import Program
 from .said import Fatal, Output, Said
@@ -44,6 +44,10 @@ class Lead:
     is_entry: bool
     ends: tuple[str, ...]
 
+    def is_removed(self) -> bool:
+        """Whether it leads nowhere, since a name was removed from the dictionary."""
+        return self.is_entry and not self.ends
+
 
 @dataclass
 class Leads:
@@ -57,7 +61,8 @@ def leads_of(program: Program, records: Sequence[str], items: Iterable[str], fac
     """Where these names lead by these records. A name with specials is no item, and is refused as one. (What is refused of the
     records is told where they are evaluated.)"""
     asked = [*((name, True) for name in dict.fromkeys(items)), *((name, False) for name in dict.fromkeys(facts))]
-    reasons, chains = {}, []
+    reasons: dict[int, str] = {}
+    chains: list[tuple[str, bool, list[str]]] = []
     for line in program.lines(["resolve"], _questions(records, asked)):
         word, rest = line.split(" ", 1)
         if word == "refused":
@@ -71,13 +76,15 @@ def leads_of(program: Program, records: Sequence[str], items: Iterable[str], fac
     leads, answers = Leads(), iter(chains)
     for place, (name, is_item) in enumerate(asked):
         first = len(records) + 1 + 3 * place
-        lead = None if first in reasons else next(answers)
+        if first in reasons:
+            leads.refused[name] = reasons[first]
+            continue
+        written, is_entry, ends = next(answers)
         # (the edits that try an item stand behind the question)
-        reason = reasons.get(first) or (reasons.get(first + 1) if is_item else None)
-        if reason:
-            leads.refused[name] = reason
+        if is_item and first + 1 in reasons:
+            leads.refused[name] = reasons[first + 1]
         else:
-            leads.found[name] = Lead(lead[0], lead[1], tuple(lead[2]))
+            leads.found[name] = Lead(written, is_entry, tuple(ends))
     return leads
 
 
@@ -144,14 +151,14 @@ class Decider:
     def _ask_advise(self, ends: Sequence[str], ranges: Sequence[Range]) -> None:
         """Puts how the ends stand to ranges of plain criteria."""
         asked: dict[str, list[_End]] = {}
-        for end in ends:
-            one = _End.of(end, self._letters)
-            asked.setdefault(one.asked, []).append(one)
+        for name in ends:
+            end = _End.of(name, self._letters)
+            asked.setdefault(end.asked, []).append(end)
         answers = _answers(self._program.lines(["advise"], _advise(asked, ranges)))
         for one, (covered, inside) in zip(ranges, _pairs(answers, len(ranges))):
-            for name in covered:
-                for end in asked[name]:
-                    self._put(end.name, one.key, self._stand(end, one, name in inside))
+            for item in covered:
+                for end in asked[item]:
+                    self._put(end.name, one.key, self._stand(end, one, item in inside))
 
     def _stand(self, end: _End, one: Range, is_inside: bool) -> Stand:
         if end.version is None:
@@ -346,18 +353,19 @@ def read_entries(paths: Sequence[str]) -> list[str]:
             data = read_feed(path)
         except FeedFault as fault:
             raise Fatal(f"{name_of(path)}: {fault}") from fault
-        lines.extend(data.decode(errors="replace").splitlines())
+        lines.extend(text_lines(data.decode(errors="replace")))
     return [line for line in lines if any(word in line for word in _LEADING)]
 
 
 def run(words: Sequence[str]) -> int:
     options = {"--ranges": MANY, "--records": MANY, "--machines": ONE, "--matches": MANY, "--letters": ONE}
     read = read_words(words, options, USAGE)
-    if read.files or not all(read.has(option) for option in ("--ranges", "--records", "--machines")):
+    machines_path = read.one("--machines")
+    if read.files or machines_path is None or not read.has("--ranges") or not read.has("--records"):
         raise Fatal(f"usage: {USAGE}")
     said, output, program = Said(), Output(), Program()
     ranges, records = read_ranges(read.many("--ranges"), said), read_entries(read.many("--records"))
-    machines = read_machines(read.one("--machines"), said)
+    machines = read_machines(machines_path, said)
     feed = pages(read.many("--matches"), said, matches.KINDS, strict=True) if read.has("--matches") else []
     lists = Lists(program, matches.listed(feed, ranges.keys(), said))
     items = {item: None for machine in machines for item in machine.items}

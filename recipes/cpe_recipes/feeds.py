@@ -66,6 +66,12 @@ def read_feed(path: str | None) -> bytes:
         raise FeedFault(f"can not be unpacked: {fault}") from fault
 
 
+def text_lines(text: str) -> list[str]:
+    """The lines of a text, without the line ends of Windows. (JSON may have in it what str.splitlines takes for ends.)"""
+    lines = [line.removesuffix("\r") for line in text.split("\n")]
+    return lines if lines[-1] else lines[:-1]
+
+
 def values_of(data: bytes) -> Iterator[Json]:
     """The values of JSON that stand one behind the other; those before a fault come out."""
     if not data.strip():
@@ -75,7 +81,7 @@ def values_of(data: bytes) -> Iterator[Json]:
     except UnicodeDecodeError as fault:
         raise FeedFault(f"no JSON: it is no UTF-8 at byte {fault.start + 1}") from fault
     decoder = json.JSONDecoder(parse_constant=_no_constant)
-    place = _SPACE.match(text, 0).end()
+    place = _behind_space(text, 0)
     while place < len(text):
         try:
             value, place = decoder.raw_decode(text, place)
@@ -84,7 +90,12 @@ def values_of(data: bytes) -> Iterator[Json]:
         except ValueError as fault:
             raise FeedFault(f"no JSON: {fault}") from fault
         yield value
-        place = _SPACE.match(text, place).end()
+        place = _behind_space(text, place)
+
+
+def _behind_space(text: str, place: int) -> int:
+    found = _SPACE.match(text, place)
+    return place if found is None else found.end()
 
 
 def _no_constant(word: str) -> None:
@@ -98,7 +109,8 @@ def pages(paths: Sequence[str], said: Said, kinds: Sequence[str], strict: bool =
     and that is said; where there is no page at all, or `strict` is asked for, it is Fatal.
     """
     good, faults = 0, []
-    for path in paths or [None]:
+    feeds: Sequence[str | None] = list(paths) or [None]
+    for path in feeds:
         name = name_of(path)
         try:
             for value in values_of(read_feed(path)):

@@ -4,7 +4,7 @@ from __future__ import annotations
 
 import json
 from collections.abc import Iterator
-from dataclasses import dataclass
+from dataclasses import dataclass, replace
 
 from . import decide, matches, unlisted
 from .advisories import Range
@@ -13,7 +13,7 @@ from .machines import Machine, read_machines
 from .program import Program
 from .said import Fatal, Said
 from .session import Asked, Known
-from .versions import read_letters
+from .versions import Letters, read_letters
 from .words import MANY, ONE, Words
 
 OPTIONS = {"--ranges": ONE, "--matches": MANY, "--letters": ONE, "--decided": ONE}
@@ -122,16 +122,19 @@ def read_fleet(program: Program, words: Words, said: Said) -> Fleet:
     machines = read_machines(machines_path, said)
     ranges = decide.read_ranges(words.many("--ranges"), said)
     names = _Names(program, decide.read_entries([records_path]), machines, [one.criteria for one in ranges.values()])
-    asked = []
     decided = _decided(program, words, ranges, names, machines, said)
+    asked = []
     for machine in machines:
-        own, beside = (_without(records.results, found) for found in decided.get(machine.name, ([], [])))
-        supposed = names.supposed(machine)
+        own, beside, restored = (_without(records.results, found) for found in decided.get(machine.name, ([], [], [])))
+        supposed, removed = names.supposed(machine), names.removed(machine)
         for item in supposed:
             said.remark(f"not in the dictionary {machine.name} {item}{names.goes_on(item)}")
+        for item in removed:
+            said.remark(f"under a removed name {machine.name} {item}")
         new = dict.fromkeys(name for found in supposed.values() for name in found)
-        asked.append(Asked(machine.name, machine.items, own, list(new), beside))
-    return Fleet(records.known, asked)
+        asked.append(Asked(machine.name, machine.items, own, list(new), beside, restored if removed else None))
+    restores = "".join(f"{record}\n" for record in names.restores).encode()
+    return Fleet(replace(records.known, restores=restores), asked)
 
 
 def _without(results: set[str], decided: list[tuple[str, str]]) -> list[tuple[str, str]]:
@@ -140,7 +143,8 @@ def _without(results: set[str], decided: list[tuple[str, str]]) -> list[tuple[st
 
 
 class _Names:
-    """Where the names of items lead, and under which others they may go on that no entry has."""
+    """Where the names of items lead, under which others they may go on that no entry has, and where they would lead if no name
+    of theirs had been removed."""
 
     def __init__(self, program: Program, entries: list[str], machines: list[Machine], criteria: list[str]) -> None:
         items = dict.fromkeys(item for machine in machines for item in machine.items)
@@ -149,12 +153,16 @@ class _Names:
         self._successors = unlisted.successors_of(program, entries, own)
         new = dict.fromkeys(name for lead in own for name in unlisted.supposed_names(lead, self._successors))
         self.beside = decide.leads_of(program, entries, new, ()).found if new else {}
-        # (by their names as cpe writes them, so that one stands for all spellings)
-        self.all_leads = {lead.name: lead for lead in (*own, *self.beside.values())}
+        self.restores = unlisted.restores(program, entries, dict.fromkeys(lead.name for lead in own if lead.is_removed()))
+        self.restored = decide.leads_of(program, [*entries, *self.restores], items, criteria) if self.restores else self.leads
 
     def items(self, machine: Machine) -> dict[str, decide.Lead]:
         """Where its items lead; what is no item is said where it is put."""
         return {item: self.leads.found[item] for item in dict.fromkeys(machine.items) if item not in self.leads.refused}
+
+    def removed(self, machine: Machine) -> list[str]:
+        """Its items under removed names."""
+        return [item for item, lead in self.items(machine).items() if lead.is_removed()]
 
     def supposed(self, machine: Machine) -> dict[str, list[str]]:
         """Of items that no entry has the names under which they may go on."""
@@ -165,13 +173,13 @@ class _Names:
         return unlisted.goes_on(self.leads.found[item], self._successors)
 
 
-# What is decided of machines by name: with their own items, and with those beside that they may have.
-_BothDecided = dict[str, tuple[list[tuple[str, str]], list[tuple[str, str]]]]
+# What is decided of machines by name: with their own items, with those beside that they may have, and where no name is removed.
+_AllDecided = dict[str, tuple[list[tuple[str, str]], ...]]
 
 
 def _decided(
     program: Program, words: Words, ranges: dict[str, Range], names: _Names, machines: list[Machine], said: Said
-) -> _BothDecided:
+) -> _AllDecided:
     decided_path = words.one("--decided")
     if decided_path is not None:
         before = read_decided(decided_path)
@@ -179,24 +187,40 @@ def _decided(
         for name in before:
             if name not in here:
                 said.remark(f"{name} has decided ranges, and is no machine here")
-        return {name: (decided, decided) for name, decided in before.items()}
+        return {name: (decided, decided, decided) for name, decided in before.items()}
     if not ranges:
         return {}
     feed = pages(words.many("--matches"), said, matches.KINDS, strict=True) if words.has("--matches") else []
     lists = decide.Lists(program, matches.listed(feed, ranges.keys(), said))
-    criteria = {one.criteria for one in ranges.values()} & names.leads.found.keys()
-    leads = names.all_leads | {name: names.leads.found[name] for name in criteria}
     letters = read_letters(words.one("--letters") or decide.LETTERS)
-    decider = decide.Decider(program, ranges.values(), decide.Leads(leads), list(names.all_leads), letters)
-    both = {}
+    items = [item for machine in machines for item in names.items(machine)]
+    own_and_beside = [*(names.leads.found[item] for item in items), *names.beside.values()]
+    decider = _decider(program, ranges, names.leads, own_and_beside, letters)
+    found: _AllDecided = {}
     for machine in machines:
         own = list(names.items(machine).values())
-        new = [names.beside[name] for found in names.supposed(machine).values() for name in found]
-        found = decide.decide(own, decider, lists)
-        for key, one in found.unsure.items():
-            said.left_out(machine.name, f"{one.end} in {ranges[key].criteria} {ranges[key].words()}: {one.reason}")
-        both[machine.name] = _results(found), _results(decide.decide([*own, *new], decider, lists))
-    return both
+        new = [names.beside[name] for supposed in names.supposed(machine).values() for name in supposed]
+        one = decide.decide(own, decider, lists)
+        for key, unsure in one.unsure.items():
+            said.left_out(machine.name, f"{unsure.end} in {ranges[key].criteria} {ranges[key].words()}: {unsure.reason}")
+        found[machine.name] = _results(one), _results(decide.decide([*own, *new], decider, lists)), []
+    removed = [machine for machine in machines if names.removed(machine)]
+    if removed:
+        leads = {machine.name: [names.restored.found[item] for item in names.items(machine)] for machine in removed}
+        decider = _decider(program, ranges, names.restored, [lead for some in leads.values() for lead in some], letters)
+        for name, some in leads.items():
+            found[name] = *found[name][:2], _results(decide.decide(some, decider, lists))
+    return found
+
+
+def _decider(
+    program: Program, ranges: dict[str, Range], leads: decide.Leads, of_items: list[decide.Lead], letters: Letters
+) -> decide.Decider:
+    # (items by their names as cpe writes them, so that one stands for all spellings)
+    by_name = {lead.name: lead for lead in of_items}
+    criteria = {one.criteria for one in ranges.values()} & leads.found.keys()
+    known = decide.Leads(by_name | {name: leads.found[name] for name in criteria})
+    return decide.Decider(program, ranges.values(), known, list(by_name), letters)
 
 
 def _results(decided: decide.Decided) -> list[tuple[str, str]]:

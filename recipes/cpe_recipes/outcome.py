@@ -31,6 +31,10 @@ class Found:
     def has_items(self) -> bool:
         return bool(self.leads)
 
+    def removed(self) -> list[str]:
+        """Its items under removed names, which lead nowhere."""
+        return [lead.name for lead in self.leads if lead.is_removed()]
+
 
 class Hanging:
     """What the UNKNOWNs of the machines hang on."""
@@ -91,7 +95,7 @@ def tell_items(
             said.left_out(name, "no items")
         for lead in one.leads:
             goes_on = successors.get(names.product_of(lead.name))
-            if lead.is_entry and not lead.ends:
+            if lead.is_removed():
                 said.remark(f"under a removed name {name} {lead.name}")
             elif not lead.is_entry and goes_on:
                 said.remark(f"not in the dictionary {name} {lead.name} goes on as {' '.join(map(':'.join, goes_on))}")
@@ -130,7 +134,7 @@ def tell_perhaps(rows: Sequence[Perhaps], said: Said) -> None:
 def json_of(
     known: Known, found: Sequence[Found], machines: Sequence[verdicts.Machine], about: affected.About, rows: Iterable[Perhaps]
 ) -> dict[str, Json]:
-    """The result as one value. Verdicts that are FALSE aren't listed."""
+    """The result as one value, with the verdicts that the machines show."""
     maybe: dict[str, list[Json]] = {}
     for name, id, item, fact in rows:
         maybe.setdefault(name, []).append({"id": id, "item": item, "fact": fact})
@@ -145,19 +149,19 @@ def _machine_json(one: Found, machine: verdicts.Machine, about: affected.About, 
         row["verdicts"] = [_verdict_json(id, truth, machine, about) for id, truth in _in_order(machine, about)]
         row["perhaps"] = maybe.get(one.machine.name, [])
         row["notInDictionary"] = [lead.name for lead in one.leads if not lead.is_entry]
-        row["underRemovedName"] = [lead.name for lead in one.leads if lead.is_entry and not lead.ends]
+        row["underRemovedName"] = one.removed()
     return row
 
 
 def _in_order(machine: verdicts.Machine, about: affected.About) -> list[tuple[str, str]]:
-    """What isn't FALSE, in the order of the table."""
+    """What is shown, in the order of the table."""
     return sorted(machine.shown.items(), key=lambda row: (verdicts.TRUTHS.index(row[1]), -about.score(row[0])))
 
 
 def _verdict_json(id: str, truth: str, machine: verdicts.Machine, about: affected.About) -> dict[str, Json]:
     known = {key: value for key, value in about.details.get(id, {}).items() if key != "id"}
-    row = {"id": id, "verdict": truth, **known}
+    row: dict[str, Json] = {"id": id, "verdict": truth, **known}
     if truth == "UNKNOWN":
         row["hangsOn"] = about.hanging.on(id, machine.name)
-    reason = about.suppressed.reason(id, machine.name)
+    reason = about.accepted_for(id, truth, machine.name)
     return row if reason is None else {**row, "accepted": reason}

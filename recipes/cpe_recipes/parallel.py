@@ -8,7 +8,7 @@
   and the statements that wait for it get the answer. --decided has what `decide.py` wrote before.
 
 An item that no entry of the dictionary has is asked for under the products too to which entries of its own lead; where a verdict
-would be another so, it is UNKNOWN, and the item is remarked.
+would be another so, it is UNKNOWN, and the item is remarked; so it is for an item under a removed name, as if that led to itself.
 
 It writes a line `MACHINE STATEMENT TRUTH` for each, in the order of the machines and of the statements, and `MACHINE no items`
 for a machine without items, of which nothing is known. The last line, `machines COUNT`, stands where every machine was told.
@@ -24,6 +24,7 @@ from collections.abc import Sequence
 from pathlib import Path
 
 from . import fleet, worker, workers
+from .feeds import text_lines
 from .program import Program
 from .said import Fatal, Said, room, write_all
 from .session import Asked
@@ -57,7 +58,7 @@ def _gather(pieces: dict[Path, list[Asked]], said: Said) -> int:
         if piece in missing:
             fleet.say_missing(said, machines, "since their worker came to no end")
             continue
-        for line in Path(f"{piece}.said").read_text().splitlines():
+        for line in text_lines(Path(f"{piece}.said").read_text()):
             fleet.say_told(said, *json.loads(line))
         workers.copy_out(piece)
     if missing:

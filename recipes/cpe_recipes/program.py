@@ -8,6 +8,7 @@ import subprocess
 import threading
 from collections.abc import Iterable, Iterator, Sequence
 from dataclasses import dataclass
+from typing import IO
 
 from .said import Fatal, Said, why
 
@@ -44,7 +45,7 @@ class Program:
             writer = _Writer(run, records)
             writer.start()
             try:
-                for line in run.stdout:
+                for line in _pipe(run.stdout):
                     yield line.rstrip(b"\n").decode(errors="backslashreplace")
             except BaseException:
                 # (a run that nobody reads to its end)
@@ -87,15 +88,20 @@ class _Writer(threading.Thread):
 
     def run(self) -> None:
         # (a program that is gone takes no more; its status tells)
-        with contextlib.suppress(BrokenPipeError), self._run.stdin:
+        with contextlib.suppress(BrokenPipeError), _pipe(self._run.stdin) as to_run:
             try:
                 for piece in _pieces(self._records):
-                    self._run.stdin.write(piece)
+                    to_run.write(piece)
             except BrokenPipeError:
                 raise
             except BaseException as fault:  # noqa: BLE001 (of the records; told where the answers are read)
                 self.fault = fault
                 self._run.kill()
+
+
+def _pipe(stream: IO[bytes] | None) -> IO[bytes]:
+    assert stream is not None, "the run was asked for pipes"
+    return stream
 
 
 def _pieces(records: Iterable[str]) -> Iterator[bytes]:

@@ -10,12 +10,19 @@ import os
 import signal
 import sys
 import tempfile
+import traceback
 from collections import Counter
 from collections.abc import Callable, Iterator
 from pathlib import Path
 from typing import NoReturn
 
 DONE, LEFT_OUT, NO_RESULT, STOPPED = 0, 1, 2, 130
+# Where this variable is set, a fault of a recipe is told with all that led to it.
+TRACEBACK = "CPE_TRACEBACK"
+
+if sys.version_info < (3, 11):
+    print(f"{sys.argv[0]}: this python3 is {sys.version.split()[0]}, and the recipes need 3.11 or newer", file=sys.stderr)
+    sys.exit(NO_RESULT)
 
 
 class Fatal(Exception):
@@ -148,6 +155,22 @@ def _stop(_number: int, _frame: object) -> NoReturn:
     raise SystemExit(STOPPED)
 
 
+def _fault(fault: Exception) -> str:
+    """A fault of the recipe itself, in words, with the place where it came."""
+    if os.environ.get(TRACEBACK):
+        with contextlib.suppress(OSError):
+            os.write(2, "".join(traceback.format_exception(fault)).encode(errors="replace"))
+    frames = traceback.extract_tb(fault.__traceback__)
+    place = f" in {Path(frames[-1].filename).name} line {frames[-1].lineno}" if frames else ""
+    return f"there is no result, since the recipe has a fault{place}: {type(fault).__name__} {fault}; {TRACEBACK}=1 shows more"
+
+
+def _end(name: str, reason: str) -> int:
+    with contextlib.suppress(OSError, Fatal):
+        write_all(2, f"{name}: {shown(reason)}\n".encode(errors="replace"), "the reason")
+    return NO_RESULT
+
+
 def _help(run: Callable[[list[str]], int]) -> int:
     output = Output()
     output.line((sys.modules[run.__module__].__doc__ or "").rstrip("\n"))
@@ -165,11 +188,9 @@ def main(run: Callable[[list[str]], int], name: str, words: list[str]) -> NoRetu
     try:
         status = _help(run) if words in (["--help"], ["-h"]) else run(words)
     except Fatal as fault:
-        with contextlib.suppress(OSError, Fatal):
-            write_all(2, f"{name}: {shown(str(fault))}\n".encode(errors="replace"), "the reason")
-        status = NO_RESULT
+        status = _end(name, str(fault))
     except MemoryError:
-        with contextlib.suppress(OSError):
-            os.write(2, f"{name}: memory ran out\n".encode())
-        status = NO_RESULT
+        status = _end(name, "memory ran out")
+    except Exception as fault:  # noqa: BLE001 (by Python's own status, 1, it would pass for a result with something left out)
+        status = _end(name, _fault(fault))
     sys.exit(status)

@@ -1,18 +1,20 @@
 """The whole way, from feeds and what machines have to the advisories that concern each machine.
 
     python3 scan.py --dictionary FILE.. | --records FILE.. --advisories FILE.. [--matches FILE..]
-        --machines FILE | --lists FILE.. [--suppress FILE] [--letters FILE] [--json]
+        --machines FILE | --lists FILE.. [--suppress FILE] [--letters FILE] [--all] [--json]
 
 - --dictionary, --advisories, --matches: pages of NVD's API 2.0, as they come or packed by gzip. --records: what dictionary.sh
   made of such pages before.
 - --machines: a line a machine, its name and names of items; --lists: software lists (CycloneDX, SPDX, plain), each a machine.
 - --suppress: accepted advisories, lines `ID MACHINE REASON`, where * is every machine. They are told below the table.
 - --letters: the products of which letters in versions count upward, in place of letters.txt.
+- --all: the table and the JSON have the verdicts that are FALSE too.
 
 What machines are asked for, cases.py says; all verdicts come from one run of cpe.
 
 An item that no entry of the dictionary has leads nowhere, though entries of its product may lead to another product. It is asked
-for under that one too; where the verdict would be another so, it is UNKNOWN.
+for under that one too; where the verdict would be another so, it is UNKNOWN. An item under a removed name leads nowhere either;
+where the verdict would be another if it led to itself, it is UNKNOWN.
 
 An item that knows less than an advisory asks for is FALSE, and remarked as `perhaps`; perhaps.py says when.
 
@@ -22,12 +24,13 @@ result: then nothing was written, but why.
 from __future__ import annotations
 
 import json
-from collections.abc import Collection, Iterable, Iterator, Mapping, Sequence
+from collections.abc import Collection, Iterable, Iterator, Sequence
+from dataclasses import dataclass, field
 
-from . import advisories, affected, dictionary, inventory, matches, names, products, suppressed, unlisted, verdicts
+from . import advisories, affected, dictionary, inventory, matches, products, suppressed, unlisted, verdicts
 from .cases import Cases, Index, Known, Product, items_by_product, lines_of, verdicts_of
 from .decide import LETTERS, Decider, Lead, Leads, Lists, decide, leads_of
-from .feeds import FeedFault, Page, name_of, pages, read_feed
+from .feeds import FeedFault, Page, name_of, pages, read_feed, text_lines
 from .machines import Machine, read_lists, read_machines
 from .outcome import MOST_ALIKE, Found, Hanging, json_of, machines_with_verdicts, perhaps, tell_items, tell_perhaps
 from .perhaps import Pairs, facts_of
@@ -39,7 +42,7 @@ from .words import FLAG, MANY, ONE, Words, read_words
 
 USAGE = (
     "scan.py --dictionary FILE.. | --records FILE.. --advisories FILE.. [--matches FILE..] "
-    "--machines FILE | --lists FILE.. [--suppress FILE] [--letters FILE] [--json]"
+    "--machines FILE | --lists FILE.. [--suppress FILE] [--letters FILE] [--all] [--json]"
 )
 OPTIONS = {
     "--dictionary": MANY,
@@ -50,6 +53,7 @@ OPTIONS = {
     "--lists": MANY,
     "--suppress": ONE,
     "--letters": ONE,
+    "--all": FLAG,
     "--json": FLAG,
 }
 
@@ -66,9 +70,8 @@ class Scan:
     def machines(self, machines: Sequence[Machine], is_all_asked: bool = False) -> list[Found]:
         """What comes of the machines. Where all statements are asked of each, that is the same, and takes longer."""
         self._lead(dict.fromkeys(item for machine in machines for item in machine.items))
-        found = [Found(machine, self._leads_of(machine.items)) for machine in machines]
-        supposed = [self._supposed(one) for one in found]
-        self._decide(found, supposed, is_all_asked)
+        found = [Found(machine, _leads_in(self._leads, machine.items)) for machine in machines]
+        self._decide(found, is_all_asked)
         return found
 
     def tell_items(self, found: Sequence[Found], said: Said) -> None:
@@ -80,80 +83,128 @@ class Scan:
 
     def _lead(self, items: Collection[str]) -> None:
         self._progress.step("following names in the dictionary")
-        facts = {fact: None for statement in self._known.statements for fact in statement.facts}
-        facts.update((one.criteria, None) for one in self._known.ranges.values())
-        facts.update(dict.fromkeys(unlisted.deprecated_names(self._known.entries)))
-        self._leads = leads_of(self._program, self._known.entries, items, facts)
+        names_of_feeds = dict.fromkeys([*self._facts(), *unlisted.deprecated_names(self._known.entries)])
+        self._leads = leads_of(self._program, self._known.entries, items, names_of_feeds)
         self.successors = unlisted.successors(self._known.entries, self._leads)
 
-    def _leads_of(self, items: Iterable[str]) -> list[Lead]:
-        """Where the items lead, each once, however it is spelled."""
-        return list({lead.name: lead for item in items if (lead := self._leads.found.get(item))}.values())
+    def _facts(self) -> list[str]:
+        """The names that statements and ranges ask for."""
+        facts = [fact for statement in self._known.statements for fact in statement.facts]
+        return [*facts, *(one.criteria for one in self._known.ranges.values())]
 
-    def _supposed(self, one: Found) -> dict[str, Lead]:
-        """The names under which items that no entry has may go on, with the items."""
+    def _renamed(self, one: Found) -> dict[str, str]:
+        """The names under which items that no entry has may go on, and in words why."""
         return {
-            _renamed(lead.name, product): lead
+            name: f"{lead.name} is not in the dictionary, and may be {name}"
             for lead in one.leads
-            if not lead.is_entry
-            for product in self.successors.get(names.product_of(lead.name), ())
+            for name in unlisted.supposed_names(lead, self.successors)
         }
 
-    def _decide(self, found: Sequence[Found], supposed: Sequence[Mapping[str, Lead]], is_all_asked: bool) -> None:
+    def _decide(self, found: Sequence[Found], is_all_asked: bool) -> None:
         """Puts what is decided of the ranges, and the verdicts."""
-        other = dict.fromkeys(name for names_of_machine in supposed for name in names_of_machine)
-        beside = leads_of(self._program, self._known.entries, other, ()).found if other else {}
+        renamed = [self._renamed(one) for one in found]
+        new = dict.fromkeys(name for reasons in renamed for name in reasons)
+        beside = leads_of(self._program, self._known.entries, new, ()).found if new else {}
         self._progress.step("deciding ranges of versions")
-        decider = self._decider([*(lead for one in found for lead in one.leads), *beside.values()])
-        index = Index(self._known, self._leads)
-        cases = Cases(self._known, index, is_all_asked)
-        asked = []
-        for one, names_of_machine in zip(found, supposed):
-            one.decided = decide(one.leads, decider, self._lists)
-            asked.append([(cases.put(one.leads, one.decided) if one.has_items() else {}, {})])
-            if names_of_machine:
-                together = [*one.leads, *(beside[name] for name in names_of_machine)]
-                asked[-1].append((cases.put(together, decide(together, decider, self._lists)), names_of_machine))
-        truths = self._ask(cases)
+        here = self._state(self._leads, [*(lead for one in found for lead in one.leads), *beside.values()], is_all_asked)
+        restored = self._restored([one for one in found if one.removed()], is_all_asked)
+        asked: list[list[_Asked]] = []
+        for one, reasons in zip(found, renamed):
+            one.decided = decide(one.leads, here.decider, self._lists)
+            asked.append([_Asked(here, here.cases.put(one.leads, one.decided) if one.has_items() else {}, {})])
+            if reasons:
+                asked[-1].append(self._asked_so(here, [*one.leads, *(beside[name] for name in reasons)], reasons))
+            if restored is not None and one.removed():
+                reasons = {name: f"{name} was removed from the dictionary" for name in one.removed()}
+                asked[-1].append(self._asked_so(restored, _leads_in(restored.leads, one.machine.items), reasons))
+        self._ask([here] if restored is None else [here, restored])
         for one, of_machine in zip(found, asked):
-            for numbers, names_of_machine in of_machine:
-                self._put(one, {place: truths[number] for place, number in numbers.items()}, names_of_machine, index)
+            self._put(one, of_machine)
             # (what is decided is in the verdicts, and would be much beside them)
             one.decided.truths.clear()
 
-    def _decider(self, leads: Iterable[Lead]) -> Decider:
-        """What decides for all that leads so. (Names are as cpe writes them, so that one stands for all its spellings.)"""
-        known = Leads({lead.name: lead for lead in leads})
-        items = list(known.found)
-        known.found.update((one.criteria, self._leads.found[one.criteria]) for one in self._known.ranges.values())
-        return Decider(self._program, self._known.ranges.values(), known, items, self._letters)
+    def _asked_so(self, state: _State, leads: list[Lead], reasons: dict[str, str]) -> _Asked:
+        """What is asked of a machine where its items lead so, and in words why they may."""
+        return _Asked(state, state.cases.put(leads, decide(leads, state.decider, self._lists)), reasons)
 
-    def _ask(self, cases: Cases) -> list[str]:
-        """The verdicts of the cases, by their numbers."""
+    def _restored(self, found: Sequence[Found], is_all_asked: bool) -> _State | None:
+        """The dictionary in which the items of these machines that are under removed names lead to themselves."""
+        removed = dict.fromkeys(name for one in found for name in one.removed())
+        if not removed:
+            return None
+        edits = unlisted.restores(self._program, self._known.entries, removed)
+        items = dict.fromkeys(item for one in found for item in one.machine.items)
+        leads = leads_of(self._program, [*self._known.entries, *edits], items, self._facts())
+        return self._state(leads, _leads_in(leads, items), is_all_asked, edits)
+
+    def _state(self, leads: Leads, of_items: Iterable[Lead], is_all_asked: bool, edits: Sequence[str] = ()) -> _State:
+        """The dictionary behind these edits, by which the names of the feeds and these items lead so."""
+        # (names are as cpe writes them, so that one stands for all its spellings)
+        known = Leads({lead.name: lead for lead in of_items})
+        items = list(known.found)
+        known.found.update((one.criteria, leads.found[one.criteria]) for one in self._known.ranges.values())
+        decider = Decider(self._program, self._known.ranges.values(), known, items, self._letters)
+        index = Index(self._known, leads)
+        return _State(edits, leads, decider, index, Cases(self._known, index, is_all_asked))
+
+    def _ask(self, states: Sequence[_State]) -> None:
+        """Puts the verdicts of the cases, by their numbers."""
         self._progress.step("asking for verdicts")
-        in_order = cases.in_order()
-        answers = verdicts_of(self._program.lines(["resolve"], lines_of(self._known, in_order)))
+        parts = [(state.edits, state.cases.in_order()) for state in states]
+        answers = verdicts_of(self._program.lines(["resolve"], lines_of(self._known, parts)))
         self.bare = [_next(answers) for _ in self._known.statements]
-        truths = [""] * len(in_order)
-        for done, (_, _, _, number) in enumerate(in_order):
-            truths[number] = _next(answers)
-            self._progress.count("asking for verdicts", done, len(in_order))
+        done, of = 0, sum(len(cases) for _, cases in parts)
+        for state, (_, cases) in zip(states, parts):
+            for _, _, _, number in cases:
+                state.truths[number] = _next(answers)
+                done += 1
+                self._progress.count("asking for verdicts", done, of)
         for answer in answers:
             raise Fatal(f"cpe answered more than was asked: {answer}")
-        return truths
 
-    def _put(self, one: Found, truths: dict[int, str], beside: Mapping[str, Lead], index: Index) -> None:
-        """Puts verdicts of a machine. One that is another where items are what their products became is UNKNOWN."""
-        if not beside:
-            one.truths = truths
-            return
-        by_product = items_by_product((name, [name]) for name in beside)
-        for place, truth in truths.items():
-            if truth != one.truths.get(place, self.bare[place]):
-                one.truths[place] = "UNKNOWN"
-                meant = index.items(place, by_product, tuple(beside)) or beside
-                why = (f"{beside[name].name} is not in the dictionary, and may be {name}" for name in meant)
-                one.supposed[place] = "; ".join(why)
+    def _put(self, one: Found, asked: Sequence[_Asked]) -> None:
+        """Puts verdicts of a machine. One that is another where items are what they perhaps are is UNKNOWN."""
+        own, *others = asked
+        one.truths = own.truths()
+        sure = dict(one.truths)
+        for other in others:
+            by_product = items_by_product((name, [name]) for name in other.reasons)
+            for place, truth in other.truths().items():
+                if truth != sure.get(place, self.bare[place]):
+                    one.truths[place] = "UNKNOWN"
+                    meant = other.state.index.items(place, by_product, tuple(other.reasons)) or other.reasons
+                    why = [one.supposed[place]] if place in one.supposed else []
+                    one.supposed[place] = "; ".join([*why, *(other.reasons[name] for name in meant)])
+
+
+@dataclass(frozen=True)
+class _State:
+    """A dictionary, which comes by these edits, and what is decided and asked in it; `truths` are those of the cases, by their
+    numbers."""
+
+    edits: Sequence[str]
+    leads: Leads
+    decider: Decider
+    index: Index
+    cases: Cases
+    truths: dict[int, str] = field(default_factory=dict)
+
+
+@dataclass(frozen=True)
+class _Asked:
+    """What is asked of a machine: the cases by the places of statements, and in words why its items perhaps are these names."""
+
+    state: _State
+    cases: dict[int, int]
+    reasons: dict[str, str]
+
+    def truths(self) -> dict[int, str]:
+        return {place: self.state.truths[number] for place, number in self.cases.items()}
+
+
+def _leads_in(leads: Leads, items: Iterable[str]) -> list[Lead]:
+    """Where the items lead, each once, however it is spelled."""
+    return list({lead.name: lead for item in items if (lead := leads.found.get(item))}.values())
 
 
 def _next(answers: Iterator[str]) -> str:
@@ -161,12 +212,6 @@ def _next(answers: Iterator[str]) -> str:
     if answer is None:
         raise Fatal("cpe answered less than was asked")
     return answer
-
-
-def _renamed(name: str, product: Product) -> str:
-    parts = names.components(name)
-    parts[names.VENDOR], parts[names.PRODUCT] = product
-    return names.joined(parts)
 
 
 def read_known(read: Words, asked: Sequence[Machine], program: Program, said: Said, progress: Progress) -> Known:
@@ -213,7 +258,7 @@ def _records(paths: Sequence[str]) -> list[Candidate]:
     for path in paths:
         feed = name_of(path)
         try:
-            lines = read_feed(path).decode(errors="backslashreplace").splitlines()
+            lines = text_lines(read_feed(path).decode(errors="backslashreplace"))
         except FeedFault as fault:
             raise Fatal(f"{feed}: {fault}") from fault
         candidates += [Candidate(f"{feed} line {number}", line) for number, line in enumerate(lines, 1) if line.strip()]
@@ -254,6 +299,9 @@ def _result(read: Words, program: Program, said: Said, progress: Progress) -> li
     found = scan.machines(asked)
     scan.tell_items(found, said)
     machines = machines_with_verdicts(known, scan.bare, found)
+    if read.has("--all"):
+        for machine in machines:
+            machine.show_all()
     about = affected.About(known.details, accepted, Hanging(known, found))
     rows = perhaps(scan.pairs(), found, machines)
     tell_perhaps(rows, said)

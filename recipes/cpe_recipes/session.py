@@ -14,18 +14,23 @@ from dataclasses import dataclass, field
 
 @dataclass(frozen=True)
 class Known:
-    """What every worker of a fleet knows: the records, how many lines cpe answers to them, and the ids of the statements."""
+    """What every worker of a fleet knows: the records, how many lines cpe answers to them, and the ids of the statements.
+
+    `restores` are lines of edits behind which the items that are under removed names lead to themselves.
+    """
 
     lines: bytes
     answers: int
     statements: list[str]
+    restores: bytes = b""
 
 
 @dataclass(frozen=True)
 class Asked:
     """A machine, the names of its items, and what was decided of the ranges for it: keys of checks, with TRUE or FALSE.
 
-    `supposed` are names that items of it may have which no dictionary has, and `beside` is what is decided with them too.
+    `supposed` are names that items of it may have which no dictionary has, and `beside` is what is decided with them too. Where
+    items of it are under removed names, `restored` is what is decided where these lead to themselves.
     """
 
     name: str
@@ -33,6 +38,7 @@ class Asked:
     decided: list[tuple[str, str]] = field(default_factory=list)
     supposed: list[str] = field(default_factory=list)
     beside: list[tuple[str, str]] = field(default_factory=list)
+    restored: list[tuple[str, str]] | None = None
 
 
 @dataclass(frozen=True)
@@ -50,6 +56,8 @@ class Session:
     """The run. It ends where its process dies; then OSError or EOFError comes."""
 
     def __init__(self, program: str, known: Known) -> None:
+        self._program, self._known = program, known
+        self._restored: Session | None = None
         self._ask = [_record("verdict", id=id) for id in known.statements]
         self._run = subprocess.Popen([program, "resolve"], stdin=subprocess.PIPE, stdout=subprocess.PIPE)
         assert self._run.stdin is not None and self._run.stdout is not None
@@ -77,15 +85,25 @@ class Session:
         return line[:-1].decode(errors="backslashreplace")
 
     def ask(self, machine: Asked) -> Told:
-        """The verdicts of a machine. One that would be another with the supposed items is UNKNOWN."""
+        """The verdicts of a machine. One that would be another with the supposed items, or where names weren't removed, is
+        UNKNOWN."""
         if not machine.items:
             return _without_items(machine.name, [])
         told = self._ask_with(machine.name, machine.items, machine.decided)
-        if not machine.supposed or not told.has_items:
-            return told
-        other = self._ask_with(machine.name, machine.items + machine.supposed, machine.beside)
-        lines = [one if one == beside else f"{one.rpartition(' ')[0]} UNKNOWN" for one, beside in zip(told.lines, other.lines)]
-        return Told(told.machine, told.left_out, lines)
+        others: list[list[str]] = []
+        if told.has_items and machine.supposed:
+            others.append(self._ask_with(machine.name, machine.items + machine.supposed, machine.beside).lines)
+        if told.has_items and machine.restored is not None:
+            others.append(self._with_restores()._ask_with(machine.name, machine.items, machine.restored).lines)
+        lines = [one if {one}.issuperset(more) else _unknown(one) for one, *more in zip(told.lines, *others)]
+        return Told(told.machine, told.left_out, lines, told.has_items)
+
+    def _with_restores(self) -> Session:
+        """The run behind the restores, which few machines need."""
+        if self._restored is None:
+            known = Known(self._known.lines + self._known.restores, self._known.answers, self._known.statements)
+            self._restored = Session(self._program, known)
+        return self._restored
 
     def _ask_with(self, name: str, items: list[str], decided: list[tuple[str, str]]) -> Told:
         """The verdicts with these items and results: they are put, the statements asked, and the former dropped again."""
@@ -123,6 +141,8 @@ class Session:
         return refused, verdicts
 
     def end(self) -> None:
+        if self._restored is not None:
+            self._restored.end()
         self._waiting.put(b"")
         self._run.kill()
         self._run.wait()
@@ -133,6 +153,10 @@ class Session:
 
 def _record(word: str, **members: str) -> str:
     return json.dumps({"do": word, **members}, ensure_ascii=False, separators=(",", ":")) + "\n"
+
+
+def _unknown(line: str) -> str:
+    return f"{line.rpartition(' ')[0]} UNKNOWN"
 
 
 def _without_items(name: str, left_out: list[tuple[str, str]]) -> Told:

@@ -16,13 +16,16 @@ from collections.abc import Collection, Iterable, Iterator, Mapping, Sequence
 
 from . import names
 from .decide import Lead, Leads, leads_of, read_entries
+from .feeds import record_text
 from .machines import Machine, read_machines
-from .program import Program
+from .program import Program, refusals
 from .said import Fatal, Output, Said
 from .words import read_words
 
 USAGE = "unlisted.sh RECORDS MACHINES"
 Product = tuple[str, str]
+# A restore has a date, and nothing hangs on it.
+_ANY_DATE = "2000-01-01"
 
 
 def run(words: Sequence[str]) -> int:
@@ -104,6 +107,13 @@ def supposed_names(lead: Lead, successors: Mapping[Product, Sequence[Product]]) 
     return found
 
 
+def restores(program: Program, entries: Sequence[str], removed: Iterable[str]) -> list[str]:
+    """The records by which these names, which were removed, lead to themselves. (One that cpe refuses would change nothing.)"""
+    records = [record_text({"do": "restore", "name": name, "date": _ANY_DATE}) for name in removed]
+    reasons = refusals(program.lines(["resolve"], [*entries, *records])) if records else {}
+    return [record for number, record in enumerate(records, len(entries) + 1) if number not in reasons]
+
+
 def goes_on(lead: Lead, successors: Mapping[Product, Sequence[Product]]) -> str:
     """The vendors and products under which that of a name goes on, in words; empty where there are none."""
     found = successors.get(names.product_of(lead.name))
@@ -118,5 +128,5 @@ def unlisted(machines: Iterable[Machine], leads: Leads, successors: Mapping[Prod
             lead = leads.found[item]
             if not lead.is_entry:
                 yield f"not in the dictionary {machine.name} {item}{goes_on(lead, successors)}"
-            elif not lead.ends:
+            elif lead.is_removed():
                 yield f"under a removed name {machine.name} {item}"

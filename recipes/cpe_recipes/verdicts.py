@@ -36,7 +36,8 @@ class Statements:
 
 @dataclass
 class Machine:
-    """The verdicts of a machine, which has no name in a table of one inventory. Only those that aren't FALSE are kept."""
+    """The verdicts of a machine, which has no name in a table of one inventory. Only those that aren't FALSE are shown, where not
+    all are asked for."""
 
     name: str | None
     statements: Statements = field(default_factory=lambda: Statements([]))
@@ -47,6 +48,11 @@ class Machine:
         whole = self.statements.whole.get(id, id)
         if _RANK[truth] < _RANK[self.shown.get(whole, "FALSE")]:
             self.shown[whole] = truth
+
+    def show_all(self) -> None:
+        """Keeps those that are FALSE too."""
+        for advisory in self.statements.advisories:
+            self.shown.setdefault(advisory, "FALSE")
 
     def truth(self, advisory: str) -> str | None:
         """The verdict of an advisory, None where there is none."""

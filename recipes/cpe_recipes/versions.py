@@ -15,7 +15,7 @@ from enum import Enum
 
 from . import names
 from .advisories import Range
-from .feeds import FeedFault, name_of, read_feed
+from .feeds import FeedFault, name_of, read_feed, text_lines
 from .said import Fatal
 
 _PIECE = re.compile(r"[0-9]+|[a-z]+")
@@ -164,7 +164,7 @@ class Letters:
 def read_letters(path: str) -> Letters:
     """The table at this path: a line for each product, `vendor:product` and perhaps words; `#` begins a comment."""
     try:
-        lines = read_feed(path).decode(errors="backslashreplace").splitlines()
+        lines = text_lines(read_feed(path).decode(errors="backslashreplace"))
     except FeedFault as fault:
         raise Fatal(f"{name_of(path)}: {fault}") from fault
     return letters_of(lines, name_of(path))

@@ -11,6 +11,7 @@ sys.path.insert(0, str(Path(__file__).resolve().parent))
 from stand_in import Heard, Names  # noqa: E402 (it knows where the recipes are)
 from cpe_recipes.advisories import Range, base_id, convert, details, parts  # noqa: E402
 from cpe_recipes.feeds import FormFault, Page, record_text  # noqa: E402
+from cpe_recipes.said import Fatal  # noqa: E402
 
 
 def name(product, version="*"):
@@ -151,10 +152,16 @@ class Faults(unittest.TestCase):
                 self.assertEqual((len(tests), len(left)), (1, 1))
 
     def test_an_empty_page_is_remarked(self):
-        found, said = converted()
-        self.assertEqual((found.candidates, said.told), ([], []))
+        said, empty = Heard(), Page("empty.json", "vulnerabilities", [])
+        found = convert([empty, Page("it.json", "vulnerabilities", [cve({"nodes": [node(match("a", "1"))]})])], Names(), said, True)
+        self.assertEqual((len(found.candidates), said.told), (1, []))
         found.tell_empty_pages(said)
-        self.assertEqual(said.told, ["remark it.json: no vulnerabilities in it"])
+        self.assertEqual(said.told, ["remark empty.json: no vulnerabilities in it"])
+
+    def test_empty_pages_alone_are_fatal(self):
+        with self.assertRaises(Fatal) as caught:
+            converted()
+        self.assertEqual(str(caught.exception), "it.json: no vulnerabilities in it")
 
 
 def truth(test, facts):

@@ -185,6 +185,10 @@ class Files(unittest.TestCase):
         other = record_text({"do": "statement", "id": "CVE-1", "title": 'an "entry"'})
         self.assertEqual(read_entries([self.file(lines[0], other, "", lines[1] + "\r")]), lines)
 
+    def test_a_title_with_odd_separators_is_no_end_of_a_line(self):
+        titled = record_text({"do": "entry", "name": name("p", "1.0"), "title": "one\u2028two\u2029three\x85four"})
+        self.assertEqual(read_entries([self.file(titled, entry(name("p", "2.0")))]), [titled, entry(name("p", "2.0"))])
+
     def test_records_of_checks(self):
         self.assertEqual(check_record("K", True), '{"do":"check","system":"NVD","href":"cpeMatch","id":"K","result":"TRUE"}')
         self.assertEqual(drop_record("K"), '{"do":"drop-check","system":"NVD","href":"cpeMatch","id":"K"}')

@@ -29,6 +29,11 @@ class Pages(unittest.TestCase):
     def read(self, *paths, kinds=("rows",), strict=False):
         return [(page.name, page.kind, page.records) for page in feeds.pages(paths, self.said, kinds, strict)]
 
+    def test_a_line_ends_where_cpe_ends_it_alone(self):
+        odd = "a\u2028b\u2029c\x85d\x0be\x0cf\x1cg\x1dh\x1ei\rj"
+        self.assertEqual(feeds.text_lines(f"{odd}\r\n\n{odd}"), [odd, "", odd])
+        self.assertEqual((feeds.text_lines(""), feeds.text_lines("a\n")), ([], ["a"]))
+
     def test_pages_of_files_in_their_order(self):
         one, two = self.file("one.json", '{"rows":[1]}'), self.file("two.json", '{"others":[2],"rows":7}')
         self.assertEqual(self.read(one, two, kinds=("rows", "others")), [("one.json", "rows", [1]), ("two.json", "others", [2])])

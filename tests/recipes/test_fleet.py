@@ -11,6 +11,7 @@ from cpe_recipes import fleet
 from cpe_recipes.program import Program
 from cpe_recipes.said import Fatal
 from cpe_recipes.session import Asked, Session
+from cpe_recipes.words import read_words
 
 OPENSSL = fs("openssl", "openssl", "1.1.1t")
 RANGE = {
@@ -67,6 +68,23 @@ class Sessions(RecipeCase):
         asked = Asked("a", ["cpe:/a:x:y"], [], [OPENSSL], [('key "1"', "FALSE")])
         self.assertEqual(session.ask(asked).lines, ["a ranged FALSE", "a named UNKNOWN", "a not UNKNOWN"])
         self.assertEqual(session.ask(Asked("b", ["cpe:/a:x:y"])).lines, ["b ranged FALSE", "b named FALSE", "b not TRUE"])
+
+    def test_a_verdict_that_hangs_on_a_removed_name_is_unknown(self):
+        gone = fs("openssl", "gone", "1.0")
+        entries = [{"do": "entry", "name": gone}, {"do": "deprecate", "name": gone, "kind": "NAME_REMOVAL", "date": "2024-01-02"}]
+        asks = [{"do": "statement", "id": "gone", "mode": "follow", "test": {"op": "OR", "of": [{"fact": fs("openssl", "gone")}]}}]
+        program, path = Program(CPE), self.file("records", [*entries, *asks, *STATEMENTS])
+        words = read_words([path, self.file("machines", f"a {gone} {OPENSSL}\nb {OPENSSL}\nc {gone}\n")], fleet.OPTIONS, fleet.USAGE)
+        asked = fleet.read_fleet(program, words, self.said)
+        self.assertEqual(self.said.told, [f"remark under a removed name {machine} {gone}" for machine in "ac"])
+        self.assertEqual([one.restored for one in asked.machines], [[], None, []])
+        session = Session(CPE, asked.known)
+        self.addCleanup(session.end)
+        lines = [line for machine in asked.machines for line in session.ask(machine).lines]
+        self.assertEqual(
+            [line for line in lines if "ranged" not in line],
+            ["a gone UNKNOWN", "a named TRUE", "b gone FALSE", "b named TRUE", "c gone UNKNOWN", "c named FALSE"],
+        )
 
     def test_a_run_that_dies_is_noticed(self):
         session = self.session()
@@ -149,13 +167,15 @@ class Parallel(RecipeCase):
         entries = [{"do": "entry", "name": old}, {"do": "entry", "name": OPENSSL}]
         entries.append({"do": "deprecate", "name": old, "kind": "NAME_CORRECTION", "successors": [OPENSSL], "date": "2024-01-02"})
         follow = [{**one, "mode": "follow"} for one in STATEMENTS]
-        self.file("records", [*entries, *follow])
         name = fs("openssl", "openssl")
         ranges = self.file(
             "ranges", [{"do": "advisory", "id": 'key "1"', "name": name, "start": "1.1.1", "end": "1.1.1u", "end-excluded": True}]
         )
         unlisted = fs("ossl", "openssl", "1.1.1s")
-        machines = f"a {old}\nb {fs('openssl', 'openssl', '1.1.1u')}\nc {fs('openssl', 'openssl')}\nd {unlisted}\ne cpe:/a:x\n"
+        gone = fs("openssl", "openssl", "1.1.1q")
+        removed = [{"do": "entry", "name": gone}, {"do": "deprecate", "name": gone, "kind": "NAME_REMOVAL", "date": "2024-01-02"}]
+        self.file("records", [*entries, *removed, *follow])
+        machines = f"a {old}\nb {fs('openssl', 'openssl', '1.1.1u')}\nc {fs('openssl', 'openssl')}\nd {unlisted}\ne cpe:/a:x\nf {gone}\n"
         status, lines, said = self.fleet(machines, "--ranges", ranges)
         self.assertEqual(
             lines,
@@ -170,7 +190,9 @@ class Parallel(RecipeCase):
                 "d named FALSE",
                 "e ranged FALSE",
                 "e named FALSE",
-                "machines 5",
+                "f ranged UNKNOWN",
+                "f named FALSE",
+                "machines 6",
             ],
         )
         self.assertEqual(
@@ -178,6 +200,7 @@ class Parallel(RecipeCase):
             [
                 f"left out c: {name} in {name} from 1.1.1, before 1.1.1u: its version isn't known",
                 f"remark not in the dictionary d {unlisted} goes on as openssl:openssl",
+                f"remark under a removed name f {gone}",
             ],
         )
         self.assertEqual(status, 1)

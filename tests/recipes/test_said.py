@@ -1,5 +1,6 @@
 """What recipes say and write, and how they end."""
 import os
+import re
 import signal
 import subprocess
 import sys
@@ -71,6 +72,22 @@ class Ends(unittest.TestCase):
     def test_fatal_is_one_sentence_and_nothing_is_written(self):
         run = recipe("output = Output()\noutput.line('a row')\nraise Fatal('there is\\nno cpe')")
         self.assertEqual((run.returncode, run.stdout, run.stderr), (2, "", "it.sh: there is\\u000ano cpe\n"))
+
+    def test_a_fault_of_the_recipe_is_no_result(self):
+        for body, fault in (("return {}['a\\nb']", "KeyError 'a\\nb'"), ("raise OSError(5, 'no luck')", "OSError [Errno 5] no luck")):
+            run = recipe(body)
+            wanted = rf"it\.sh: there is no result, since the recipe has a fault in <string> line 5: {re.escape(fault)}; CPE_TRACEBACK=1 shows more\n"
+            self.assertEqual((run.returncode, run.stdout), (2, ""))
+            self.assertRegex(run.stderr, f"^{wanted}$")
+            told = recipe(body, env={**os.environ, "CPE_TRACEBACK": "1"})
+            self.assertEqual(told.returncode, 2)
+            self.assertRegex(told.stderr, f"^Traceback (.|\n)*\n{wanted}$")
+
+    def test_a_python_that_is_too_old_is_told(self):
+        text = f"import sys\nsys.version_info, sys.version = (3, 10, 4), '3.10.4 (main)'\nsys.path.insert(0, {str(RECIPES)!r})\nimport cpe_recipes.said"
+        run = subprocess.run([sys.executable, "-B", "-c", text], capture_output=True, text=True)
+        self.assertEqual((run.returncode, run.stdout), (2, ""))
+        self.assertEqual(run.stderr, "-c: this python3 is 3.10.4, and the recipes need 3.11 or newer\n")
 
     def test_help_is_what_the_module_says_of_itself(self):
         for entry in ("scan.py", "decide.py"):

@@ -216,6 +216,38 @@ class Verdicts(unittest.TestCase):
         table = list(affected.table_of(affected.Verdicts(machines), about))
         self.assertIn("accepted a CVE-1 TRUE: not reachable", table)
 
+    def test_an_item_under_a_removed_name_is_unknown_where_it_would_be_another(self):
+        old, new, gone = (name("v", product, "1.0") for product in ("old", "new", "gone"))
+        one = Range("K", name("v", "gone"), None, "2.0")
+        asks = [statement("NAME", {"fact": gone}), statement("RANGE", ranged(one)), statement("OTHER", {"fact": new})]
+        asks += [statement("NOT", {"fact": name("v", "gone")}, negate=True), statement("LEADS", {"fact": old})]
+        entries = [entry(old), entry(new), entry(gone), deprecate(old, gone), deprecate(gone)]
+        known = self.known(*asks, entries=entries, ranges=[one])
+        made, found = scanned(known, [Machine("a", [gone, new]), Machine("b", [new]), Machine("c", [name("v", "gone", "1.5")])])
+        wanted = {"NAME": "UNKNOWN", "RANGE": "UNKNOWN", "OTHER": "TRUE", "NOT": "UNKNOWN", "LEADS": "UNKNOWN"}
+        self.assertEqual(truths(known, made, found[0]), wanted)
+        self.assertEqual(Hanging(known, found).on("RANGE", "a"), [f"{gone} was removed from the dictionary"])
+        wanted = {"NAME": "FALSE", "RANGE": "FALSE", "OTHER": "TRUE", "NOT": "TRUE", "LEADS": "FALSE"}
+        self.assertEqual(truths(known, made, found[1]), wanted)
+        # (what no entry has, nothing was removed of)
+        wanted = {"NAME": "FALSE", "RANGE": "TRUE", "OTHER": "FALSE", "NOT": "FALSE", "LEADS": "FALSE"}
+        self.assertEqual(truths(known, made, found[2]), wanted)
+
+    def test_what_is_false_is_listed_where_all_is_asked_for(self):
+        known = self.known(statement("CVE-1", {"fact": name("v", "p")}), statement("CVE-2", {"fact": name("v", "q")}))
+        made, found = scanned(known, [Machine("a", [name("v", "p", "1.0")]), Machine("bare", [])])
+        machines = machines_with_verdicts(known, made.bare, found)
+        for machine in machines:
+            machine.show_all()
+        accepted = Suppressed([Accepted("it line 1", "CVE-2", "*", "not here")])
+        about = affected.About({}, accepted, Hanging(known, found))
+        rows = json_of(known, found, machines, about, [])["machines"]
+        self.assertEqual(rows[0]["verdicts"], [{"id": "CVE-1", "verdict": "TRUE"}, {"id": "CVE-2", "verdict": "FALSE"}])
+        self.assertNotIn("verdicts", rows[1])
+        table = list(affected.table_of(affected.Verdicts(machines), about))
+        self.assertEqual([line.split() for line in table[1:4]], [["a", "TRUE", "CVE-1"], ["a", "FALSE", "CVE-2"], ["bare", "no", "items"]])
+        self.assertEqual(table[-1], "2 machines, 1 without items: 1 TRUE, 0 ERROR, 0 UNKNOWN, 1 FALSE")
+
     def test_an_item_that_knows_less_is_told_where_the_verdict_is_false(self):
         known = self.known(statement("CVE-1", {"fact": name("v", "p", "1.0")}), statement("CVE-2", {"fact": name("v", "p")}, {"fact": name("v", "p", "2.0")}))
         made, found = scanned(known, [Machine("a machine", [name("v", "p")]), Machine("b", [name("v", "q", "1.0")])])
@@ -303,14 +335,25 @@ class Words(unittest.TestCase):
         self.assertLess(json.loads(some)["advisories"], json.loads(whole)["advisories"])
         self.assertEqual(json.loads(some)["machines"], json.loads(whole)["machines"])
 
+    def test_all_has_what_is_false_too(self):
+        status, whole, _ = self.scanned("--json", "--all")
+        found = json.loads(whole)
+        verdicts = [(one["id"], one["verdict"]) for one in found["machines"][0]["verdicts"]]
+        self.assertEqual((status, len(dict(verdicts))), (0, found["advisories"]))
+        _, some, _ = self.scanned("--json")
+        shown = [(one["id"], one["verdict"]) for one in json.loads(some)["machines"][0]["verdicts"]]
+        self.assertEqual([one for one in verdicts if one[1] != "FALSE"], shown)
+        self.assertEqual({truth for _, truth in verdicts[len(shown) :]}, {"FALSE"})
+
     def test_records_stand_for_a_dictionary(self):
         with tempfile.TemporaryDirectory() as folder:
             records = Path(folder) / "dictionary.jsonl"
-            records.write_text(entry(name("v", "p", "1.0")) + "\n{}\n")
+            odd = record_text({"do": "entry", "name": name("v", "p", "1.1"), "title": "one\u2028two\x85three"})
+            records.write_text("\n".join([entry(name("v", "p", "1.0")), "{}", odd]) + "\r\n")
             words = ("--records", str(records), "--advisories", self.ADVISORIES, "--lists", str(SAMPLES / "app-1.txt"), "--json")
             status, written, said = self.run_over(*words)
         self.assertEqual(status, 1)
-        self.assertIn("left out dictionary.jsonl line 2: member do: {}", said)
+        self.assertEqual([line for line in said.splitlines() if "dictionary.jsonl" in line], ["left out dictionary.jsonl line 2: member do: {}"])
         self.assertEqual(json.loads(written)["machines"][0]["name"], "app-1")
 
 
