@@ -19,7 +19,7 @@ abbrev pub answer : AdviceRows → AdviceQuery → AdviceReply
 answer rows (query.Affected id) = reply.Affected id (option_map (λ a. filter (affects a) rows.items) (advisory_of rows id))
 answer rows (query.Advisories n) = reply.Advisories n (ids_affecting n rows.advisories)
 
--- as many as items have a product to which that of the advisory is near
+-- as many as items have a product to which that of the advisory is near. The advisories of a name are found without a look at an item
 abbrev pub looks : AdviceRows → AdviceQuery → ℕ
 looks rows (query.Affected id) = option_map_or (λ a. near_count a.name rows.items) (advisory_of rows id) 0
 looks rows (query.Advisories n) = 0

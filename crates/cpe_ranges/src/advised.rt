@@ -165,8 +165,8 @@ fn let_go(advisory: Advisory, memory: Memory) -> Memory {
     memory
 }
 
-/// Whether an advisory of these terms affects an item of this name. It takes no memory.
-pub(crate) fn affects(terms: &Terms, item: &Wfn) -> bool
+// Whether an advisory of these terms affects an item of this name.
+fn affects(terms: &Terms, item: &Wfn) -> bool
     ensures { (id : List ℕ) → result ≡ affects (advisory_from (id, terms.now)) item.now }
 {
     covers(&terms.name, item) && is_in_range(&terms.start, &terms.end, item.get(Attribute::Version))
@@ -242,6 +242,7 @@ fn find_places(
     requires { AreGrouped (advisories_in by_id.now.entries) groups.now }
     ensures { IfOk result (λ places. places.items ≡ places_where (is_beside product.now) by_id.now.entries) }
 {
+    // That ids are different is told by any call of the map.
     let _count = by_id.len();
     let mut places = Vec::new(alloc);
     push_places(by_id, groups.of(&Value::Any), &mut places)?;
@@ -316,7 +317,8 @@ impl Advised {
         find_terms(&self.by_id, id)
     }
 
-    /// Puts one of a new id last, whose name is in lower case. It is moved, and its id is copied once.
+    /// Puts one of a new id last, whose name is in lower case. It is moved; its id is copied once, and its product where it is the
+    /// first of it.
     ///
     /// # Errors
     /// Want of memory alone; the advisories are then as they were.

@@ -35,6 +35,7 @@ use std::sync::ledger::Ledger;
 // No more items are kept.
 const MOST_ITEMS: u64 = 1_000_000;
 
+// No more advisories are kept.
 const MOST_ADVISORIES: u64 = 100_000;
 
 // All rows together weigh no more.
@@ -140,7 +141,7 @@ fn refused_advisory(advisory: Advisory, fault: AdviceFault) -> Result<(), Advice
 
 // ---- answers
 
-fn has_version_in(terms: &Terms, name: &Wfn) -> bool
+fn is_version_in_range(terms: &Terms, name: &Wfn) -> bool
     ensures { result ≡ is_in_range terms.now.start terms.now.end name.now.version }
 {
     is_in_range(&terms.start, &terms.end, name.get(Attribute::Version))
@@ -151,7 +152,7 @@ fn in_range(names: List<Wfn>, terms: &Terms) -> List<Wfn>
     ensures { result ≡ filter (λ n. is_in_range terms.now.start terms.now.end n.version) names }
 {
     let mut names = names.into_vec();
-    names.retain(|name| has_version_in(terms, name));
+    names.retain(|name| is_version_in_range(terms, name));
     List::from_vec(names)
 }
 
@@ -301,7 +302,8 @@ impl Advisories {
         Ok(())
     }
 
-    /// Makes an edit, which is in order. What it brings is moved in; an item's name is copied once besides. It takes no step.
+    /// Makes an edit, which is in order. What it brings is moved in; an item's name is copied once besides, and of an advisory its id,
+    /// and its product where it is the first of it. It takes no step.
     ///
     /// # Errors
     /// The first fault of the edit in the order of [`AdviceFault`], or want of memory. After either the rows are as they were.
