@@ -49,7 +49,7 @@ pub enum AdviceWhich {
 /// Why an edit was refused: the first cause, in this order.
 #[derive(Debug, Clone, Copy, PartialEq, Eq)]
 pub enum AdviceFault {
-    /// An item's name has a special.
+    /// The name of an item that is added has a special.
     Wildcards,
     /// The version of an advisory's name isn't ANY.
     Version,

@@ -1,6 +1,8 @@
 -- Advisories by the products of their names.
 use Rattle.std.proofs.Common.{◌≡◌, ℕ, List, [], ◌∷◌, ◌++◌, map, filter, find, Bool, true, false, not, cond, ◌&&◌, ◌||◌, IsTrue, refl, ap, sym, subst, ◌∙◌}
-use Rattle.std.specs.Prelude.{Some}
+use Rattle.std.specs.Prelude.{None, Some}
+use Rattle.std.specs.Option.{option_map_or}
+use Rattle.std.specs.Map.{lookup}
 use Rattle.std.specs.Str.{bytes_eq}
 use Rattle.std.proofs.lemmas.Bool.{and_parts, and_from}
 use Rattle.cpe_values.specs.declared.value.Edge.{Edge}
@@ -22,7 +24,7 @@ use Rattle.cpe_rows.specs.After.{without_first}
 use Rattle.cpe_ranges.specs.Affected.{affects, is_in_range}
 use Rattle.cpe_ranges.specs.Answers.{ids_affecting}
 use Rattle.cpe_ranges.specs.Found.{is_beside}
-use Rattle.cpe_ranges.specs.Groups.{group_of, ids_in_group, is_in_group, is_plain}
+use Rattle.cpe_ranges.specs.Groups.{Grouped, group, group_of, ids_in_group, is_in_group, is_plain}
 use Rattle.cpe_ranges.specs.Kept.{advisory_from, advisories_in, AreLower}
 use Rattle.cpe_ranges.specs.Rows.{has_id}
 use Rattle.cpe_advisories.specs.declared.advisory.Advisory.{Advisory}
@@ -63,6 +65,15 @@ module _ (v : Value) where
             (at_first (is_in_group v x) x (filter (is_in_group v) xs) e)
         go false e found later =
             further (is_in_group v x) (is_in_group v a) x (filter (is_in_group v) xs) (filter (is_in_group v) (without_first (has_id id) xs)) e (later found)
+
+-- ---- groups where an empty one is let go
+
+pub emptied : (p v : Value) (gs : Grouped) → group gs p ≡ [] → option_map_or (λ ids. ids) (cond (same_value p v) None (lookup (same_value v) gs)) [] ≡ group gs v
+emptied p v gs h = go (same_value p v) refl
+  where
+    go : (b : Bool) → same_value p v ≡ b → option_map_or (λ ids. ids) (cond b None (lookup (same_value v) gs)) [] ≡ group gs v
+    go true e = sym h ∙ ap (group gs) ((same_value-Decides p v).0 e)
+    go false e = refl
 
 -- ---- plain products that are near are the same
 

@@ -2,3 +2,4 @@ pub mod KeptLemmas
 pub mod WeightLemmas
 pub mod GroupLemmas
 pub mod PlaceLemmas
+pub mod LimitLemmas

@@ -4,6 +4,7 @@
 mod advised;
 mod advisories;
 mod groups;
+mod laws;
 mod range;
 
 pub use advisories::Advisories;
@@ -12,3 +13,4 @@ pub use cpe_advisories::{
     AdviceWhich, Advisory, Bound, read_advice,
 };
 pub use cpe_versions::version_cmp;
+pub use laws::drops_are_never_full;

@@ -1,0 +1,64 @@
+-- Rows within their limits stay so where something is dropped.
+use Rattle.std.proofs.Common.{◌≡◌, ◌≤◌, ℕ, length, nat_lt, List, [], ◌∷◌, Bool, true, false, cond, refl, ap, ◌∙◌, arith}
+use Rattle.std.specs.Prelude.{Some, None, option_map}
+use Rattle.std.proofs.lemmas.Bool.Decides.{nat_tests}
+use Rattle.cpe_name.specs.declared.name.Values.{Values}
+use Rattle.cpe_rows.specs.After.{without_first}
+use Rattle.cpe_rows.specs.Names.{is_same}
+use Rattle.cpe_rows.specs.Weight.{name_weight}
+use Rattle.cpe_weight.proofs.Totals.{total-without}
+use Rattle.cpe_ranges.specs.Rows.{AdviceRows, has_id}
+use Rattle.cpe_ranges.specs.Weight.{advisory_weight, weight}
+use Rattle.cpe_ranges.specs.Step.{after, full, full_by}
+use Rattle.cpe_advisories.specs.declared.edit.AdviceEdit.TheVariants as edit
+use Rattle.cpe_advisories.specs.declared.edit.AdviceFault.TheVariants as fault
+use Rattle.cpe_advisories.specs.declared.edit.AdviceWhich.TheVariants as limit
+
+-- numbers within their limits
+record AreWithin (items advisories heavy : ℕ) : Type 0 where
+  items_within : items ≤ 1000000
+  advisories_within : advisories ≤ 100000
+  heavy_within : heavy ≤ 536870912
+
+within : (items advisories heavy : ℕ) → full_by items advisories heavy ≡ None → AreWithin items advisories heavy
+within items advisories heavy h = go (nat_lt 1000000 items) (nat_lt 100000 advisories) (nat_lt 536870912 heavy) refl refl refl h
+  where
+    go : (a b c : Bool) → nat_lt 1000000 items ≡ a → nat_lt 100000 advisories ≡ b → nat_lt 536870912 heavy ≡ c
+        → option_map fault.Full (cond a (Some limit.Items) (cond b (Some limit.Advisories) (cond c (Some limit.Weight) None))) ≡ None → AreWithin items advisories heavy
+    go true b c ea eb ec wrong = let no : ⊥ = cc in absurd no
+    go false true c ea eb ec wrong = let no : ⊥ = cc in absurd no
+    go false false true ea eb ec wrong = let no : ⊥ = cc in absurd no
+    go false false false ea eb ec same = record { items_within = grind (arith, nat_tests); advisories_within = grind (arith, nat_tests); heavy_within = grind (arith, nat_tests) }
+
+not_more : (most n : ℕ) → n ≤ most → nat_lt most n ≡ false
+not_more most n h = grind (arith, nat_tests)
+
+not_full : (items advisories heavy : ℕ) → AreWithin items advisories heavy → full_by items advisories heavy ≡ None
+not_full items advisories heavy h =
+    ap (λ (a : Bool). option_map fault.Full (cond a (Some limit.Items) (cond (nat_lt 100000 advisories) (Some limit.Advisories) (cond (nat_lt 536870912 heavy) (Some limit.Weight) None)))) (not_more 1000000 items h.items_within)
+    ∙ ap (λ (b : Bool). option_map fault.Full (cond b (Some limit.Advisories) (cond (nat_lt 536870912 heavy) (Some limit.Weight) None))) (not_more 100000 advisories h.advisories_within)
+    ∙ ap (λ (c : Bool). option_map fault.Full (cond c (Some limit.Weight) None)) (not_more 536870912 heavy h.heavy_within)
+
+fewer : {A : Type 0} (p : A → Bool) (xs : List A) → length (without_first p xs) ≤ length xs
+fewer p [] = omega arith
+fewer p (x ∷ xs) = go (p x) (fewer p xs)
+  where
+    go : (b : Bool) → length (without_first p xs) ≤ length xs → length (cond b xs (x ∷ without_first p xs)) ≤ length (x ∷ xs)
+    go true h = omega arith
+    go false h = omega (arith, h)
+
+pub drop_item_not_full : (rows : AdviceRows) (n : Values) → full rows ≡ None → full (after rows (edit.DropItem n)) ≡ None
+drop_item_not_full rows n h =
+    let all = within (length rows.items) (length rows.advisories) (weight rows) h in
+    let less = fewer (is_same n) rows.items in
+    let lighter = total-without name_weight (is_same n) rows.items in
+    not_full (length (without_first (is_same n) rows.items)) (length rows.advisories) (weight (after rows (edit.DropItem n)))
+    (record { items_within = omega (arith, all.items_within, less); advisories_within = all.advisories_within; heavy_within = omega (arith, all.heavy_within, lighter) })
+
+pub drop_not_full : (rows : AdviceRows) (id : List ℕ) → full rows ≡ None → full (after rows (edit.Drop id)) ≡ None
+drop_not_full rows id h =
+    let all = within (length rows.items) (length rows.advisories) (weight rows) h in
+    let less = fewer (has_id id) rows.advisories in
+    let lighter = total-without advisory_weight (has_id id) rows.advisories in
+    not_full (length rows.items) (length (without_first (has_id id) rows.advisories)) (weight (after rows (edit.Drop id)))
+    (record { items_within = all.items_within; advisories_within = omega (arith, all.advisories_within, less); heavy_within = omega (arith, all.heavy_within, lighter) })
