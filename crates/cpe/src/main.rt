@@ -9,6 +9,7 @@ use cpe_io::{StdSink, StdSource};
 use cpe_steps::Steps;
 use std::env;
 use std::marker::Brand;
+use std::mem::forget;
 use std::process::ExitCode;
 use std::sync::ledger::{Blank, Ledger};
 
@@ -35,13 +36,15 @@ fn status_of<L: Ledger>(rt: &HostRuntime, words: &[String], blank: Blank) -> u8
     let mut source = StdSource::new(rt.stdin());
     let mut sink = StdSink::new(rt.stdout());
     let mut engine = Engine::new(rt.alloc());
-    run(
+    let status = run(
         rt.alloc(),
         words,
         &mut source,
         &mut sink,
         &mut engine,
         &mut steps,
-    )
-    .number()
+    );
+    // The process ends here: to give back the memory of each row would take a tenth of the time of a long load.
+    forget(engine);
+    status.number()
 }

@@ -9,22 +9,20 @@ use crate::{ATTRIBUTES, Values, Wfn};
 use cpe_values::{Memory, Value};
 use std::alloc::Global;
 
-fn into_lower_values(values: Values) -> Values
-    ensures { result ≡ lower_name values }
+fn make_lower_values(values: &mut Values)
+    ensures { values.new ≡ lower_name values.old }
 {
-    Values {
-        part: values.part.into_lower(),
-        vendor: values.vendor.into_lower(),
-        product: values.product.into_lower(),
-        version: values.version.into_lower(),
-        update: values.update.into_lower(),
-        edition: values.edition.into_lower(),
-        language: values.language.into_lower(),
-        sw_edition: values.sw_edition.into_lower(),
-        target_sw: values.target_sw.into_lower(),
-        target_hw: values.target_hw.into_lower(),
-        other: values.other.into_lower(),
-    }
+    values.part.make_lower();
+    values.vendor.make_lower();
+    values.product.make_lower();
+    values.version.make_lower();
+    values.update.make_lower();
+    values.edition.make_lower();
+    values.language.make_lower();
+    values.sw_edition.make_lower();
+    values.target_sw.make_lower();
+    values.target_hw.make_lower();
+    values.other.make_lower();
 }
 
 impl Wfn {
@@ -42,8 +40,8 @@ impl Wfn {
     pub fn into_lower(self) -> Wfn
         ensures { result ≡ lower_name self }
     {
-        let Wfn { values } = self;
-        let values = into_lower_values(values);
+        let Wfn { mut values } = self;
+        make_lower_values(&mut values);
         Wfn { values }
     }
 

@@ -6,8 +6,8 @@ ghost use Rattle.cpe_name.specs.Names.{named};
 ghost use Rattle.cpe_name.specs.Scanning.{slot, put_text, none_given};
 ghost use Rattle.cpe_name.specs.Spans.{texts};
 
-use crate::name::{any_of_each, put_value};
-use crate::{ATTRIBUTES, Attribute, Values};
+use crate::name::any_of_each;
+use crate::{Attribute, Values};
 use cpe_values::{Memory, Value};
 
 /// The eleven values of a name as they stand in a text, spelled as that text's binding spells them: in the text of a well-formed name
@@ -106,11 +106,17 @@ pub fn read_values<R: ReadValue>(reader: &mut R, written: &Written) -> Result<Va
     requires { AllByRecursion R.may_stand (texts written.now) }
     ensures { IfOk result (λ values. values ≡ named (map R.value (texts written.now))) }
 {
-    // One loop: eleven early returns, each with more values to be let go, would be slow to prove.
     let mut values = any_of_each();
-    for which in &ATTRIBUTES {
-        let value = reader.read(written.get(*which))?;
-        put_value(&mut values, *which, value);
-    }
+    values.part = reader.read(written.part)?;
+    values.vendor = reader.read(written.vendor)?;
+    values.product = reader.read(written.product)?;
+    values.version = reader.read(written.version)?;
+    values.update = reader.read(written.update)?;
+    values.edition = reader.read(written.edition)?;
+    values.language = reader.read(written.language)?;
+    values.sw_edition = reader.read(written.sw_edition)?;
+    values.target_sw = reader.read(written.target_sw)?;
+    values.target_hw = reader.read(written.target_hw)?;
+    values.other = reader.read(written.other)?;
     Ok(values)
 }

@@ -2,6 +2,7 @@
 ghost use Rattle.std.specs.Prelude.{◌≡◌, true, IfOk};
 ghost use Rattle.serde_json.specs.View.{view};
 ghost use Rattle.cpe_records.specs.Verbs.{verb_of};
+ghost use Rattle.cpe_records.specs.declared.verb.Verb.TheVariants as verb;
 ghost use Rattle.cpe_members.specs.Gives.{Gives, GivesBy};
 ghost use Rattle.cpe_members.specs.Forms.{word_at};
 ghost use Rattle.cpe_records.specs.Taken.{is_valid_record};
@@ -34,26 +35,140 @@ fn verb_at(source: &Value) -> Result<Verb, RecordFault>
     }
 }
 
+// The record of each kind is made in a frame of its own, as its members are: one frame for all would be cleared for each record.
+
+#[inline(never)]
+fn entry_record(alloc: Global, source: &Value) -> Result<Record, RecordFault>
+    ensures { Gives result (record_by verb.Entry (view source.now)) }
+{
+    Ok(Record::Edit(Edit::Entry(entry_in(alloc, source)?)))
+}
+
+#[inline(never)]
+fn deprecate_record(alloc: Global, source: &Value) -> Result<Record, RecordFault>
+    ensures { Gives result (record_by verb.Deprecate (view source.now)) }
+{
+    Ok(Record::Edit(deprecation_in(alloc, source, false)?))
+}
+
+#[inline(never)]
+fn amend_record(alloc: Global, source: &Value) -> Result<Record, RecordFault>
+    ensures { Gives result (record_by verb.Amend (view source.now)) }
+{
+    Ok(Record::Edit(deprecation_in(alloc, source, true)?))
+}
+
+#[inline(never)]
+fn restore_record(alloc: Global, source: &Value) -> Result<Record, RecordFault>
+    ensures { Gives result (record_by verb.Restore (view source.now)) }
+{
+    Ok(Record::Edit(restore_in(alloc, source)?))
+}
+
+#[inline(never)]
+fn item_record(alloc: Global, source: &Value) -> Result<Record, RecordFault>
+    ensures { Gives result (record_by verb.Item (view source.now)) }
+{
+    Ok(Record::Edit(Edit::Item(name_at(alloc, source)?)))
+}
+
+#[inline(never)]
+fn drop_item_record(alloc: Global, source: &Value) -> Result<Record, RecordFault>
+    ensures { Gives result (record_by verb.DropItem (view source.now)) }
+{
+    Ok(Record::Edit(Edit::DropItem(name_at(alloc, source)?)))
+}
+
+#[inline(never)]
+fn statement_record(alloc: Global, source: &Value) -> Result<Record, RecordFault>
+    ensures { Gives result (record_by verb.Statement (view source.now)) }
+{
+    Ok(Record::Edit(Edit::PutStatement(statement_in(alloc, source)?)))
+}
+
+#[inline(never)]
+fn drop_statement_record(alloc: Global, source: &Value) -> Result<Record, RecordFault>
+    ensures { Gives result (record_by verb.DropStatement (view source.now)) }
+{
+    Ok(Record::Edit(Edit::DropStatement(id_at(alloc, source)?)))
+}
+
+#[inline(never)]
+fn check_record(alloc: Global, source: &Value) -> Result<Record, RecordFault>
+    ensures { Gives result (record_by verb.Check (view source.now)) }
+{
+    Ok(Record::Edit(check_in(alloc, source)?))
+}
+
+#[inline(never)]
+fn drop_check_record(alloc: Global, source: &Value) -> Result<Record, RecordFault>
+    ensures { Gives result (record_by verb.DropCheck (view source.now)) }
+{
+    Ok(Record::Edit(Edit::DropCheck(key_at(alloc, source)?)))
+}
+
+#[inline(never)]
+fn lookup_record(alloc: Global, source: &Value) -> Result<Record, RecordFault>
+    ensures { Gives result (record_by verb.Lookup (view source.now)) }
+{
+    Ok(Record::Query(Query::Lookup(name_at(alloc, source)?)))
+}
+
+#[inline(never)]
+fn search_record(alloc: Global, source: &Value) -> Result<Record, RecordFault>
+    ensures { Gives result (record_by verb.Search (view source.now)) }
+{
+    Ok(Record::Query(search_in(alloc, source)?))
+}
+
+#[inline(never)]
+fn items_record(alloc: Global, source: &Value) -> Result<Record, RecordFault>
+    ensures { Gives result (record_by verb.Items (view source.now)) }
+{
+    Ok(Record::Query(Query::Items(name_at(alloc, source)?)))
+}
+
+#[inline(never)]
+fn chain_record(alloc: Global, source: &Value) -> Result<Record, RecordFault>
+    ensures { Gives result (record_by verb.Chain (view source.now)) }
+{
+    Ok(Record::Query(Query::Chain(name_at(alloc, source)?)))
+}
+
+#[inline(never)]
+fn show_record(alloc: Global, source: &Value) -> Result<Record, RecordFault>
+    ensures { Gives result (record_by verb.Show (view source.now)) }
+{
+    Ok(Record::Query(Query::Show(name_at(alloc, source)?)))
+}
+
+#[inline(never)]
+fn verdict_record(alloc: Global, source: &Value) -> Result<Record, RecordFault>
+    ensures { Gives result (record_by verb.Verdict (view source.now)) }
+{
+    Ok(Record::Query(Query::Verdict(id_at(alloc, source)?)))
+}
+
 fn record_by(alloc: Global, verb: Verb, source: &Value) -> Result<Record, RecordFault>
     ensures { Gives result (record_by verb (view source.now)) }
 {
     match verb {
-        Verb::Entry => Ok(Record::Edit(Edit::Entry(entry_in(alloc, source)?))),
-        Verb::Deprecate => Ok(Record::Edit(deprecation_in(alloc, source, false)?)),
-        Verb::Amend => Ok(Record::Edit(deprecation_in(alloc, source, true)?)),
-        Verb::Restore => Ok(Record::Edit(restore_in(alloc, source)?)),
-        Verb::Item => Ok(Record::Edit(Edit::Item(name_at(alloc, source)?))),
-        Verb::DropItem => Ok(Record::Edit(Edit::DropItem(name_at(alloc, source)?))),
-        Verb::Statement => Ok(Record::Edit(Edit::PutStatement(statement_in(alloc, source)?))),
-        Verb::DropStatement => Ok(Record::Edit(Edit::DropStatement(id_at(alloc, source)?))),
-        Verb::Check => Ok(Record::Edit(check_in(alloc, source)?)),
-        Verb::DropCheck => Ok(Record::Edit(Edit::DropCheck(key_at(alloc, source)?))),
-        Verb::Lookup => Ok(Record::Query(Query::Lookup(name_at(alloc, source)?))),
-        Verb::Search => Ok(Record::Query(search_in(alloc, source)?)),
-        Verb::Items => Ok(Record::Query(Query::Items(name_at(alloc, source)?))),
-        Verb::Chain => Ok(Record::Query(Query::Chain(name_at(alloc, source)?))),
-        Verb::Show => Ok(Record::Query(Query::Show(name_at(alloc, source)?))),
-        Verb::Verdict => Ok(Record::Query(Query::Verdict(id_at(alloc, source)?))),
+        Verb::Entry => entry_record(alloc, source),
+        Verb::Deprecate => deprecate_record(alloc, source),
+        Verb::Amend => amend_record(alloc, source),
+        Verb::Restore => restore_record(alloc, source),
+        Verb::Item => item_record(alloc, source),
+        Verb::DropItem => drop_item_record(alloc, source),
+        Verb::Statement => statement_record(alloc, source),
+        Verb::DropStatement => drop_statement_record(alloc, source),
+        Verb::Check => check_record(alloc, source),
+        Verb::DropCheck => drop_check_record(alloc, source),
+        Verb::Lookup => lookup_record(alloc, source),
+        Verb::Search => search_record(alloc, source),
+        Verb::Items => items_record(alloc, source),
+        Verb::Chain => chain_record(alloc, source),
+        Verb::Show => show_record(alloc, source),
+        Verb::Verdict => verdict_record(alloc, source),
     }
 }
 

@@ -1,5 +1,5 @@
 -- When two values are the same, and what they feed a hasher.
-use Rattle.std.specs.Prelude.{ℕ, ◌+◌, Bool, true, false, ◌&&◌, ◌==◌, nat_eq, List, ◌++◌}
+use Rattle.std.specs.Prelude.{ℕ, Bool, true, false, ◌&&◌, ◌==◌, nat_eq, List, [], ◌∷◌}
 use Rattle.std.specs.Hash as fed
 use lib.Pointwise.{pointwise}
 use Rattle.cpe_values.specs.declared.value.Edge.{Edge}
@@ -33,16 +33,10 @@ same_value (value.Text t) value.Any = false
 same_value (value.Text t) value.Na = false
 same_value (value.Text s) (value.Text t) = same_parts s t
 
--- nothing, an asterisk, and each count of question marks have numbers of their own
-abbrev pub edge_number : Edge → ℕ
-edge_number edge.None = 0
-edge_number edge.Star = 1
-edge_number (edge.Marks n) = n + 1
-
 abbrev pub parts_input : Parts → List (List ℕ)
-parts_input t = fed.u64 (edge_number t.lead) ++ fed.slice fed.u8 t.body ++ fed.u64 (edge_number t.trail)
+parts_input t = t.body ∷ []
 
 abbrev pub value_input : Value → List (List ℕ)
-value_input value.Any = fed.u8 0
+value_input value.Any = []
 value_input value.Na = fed.u8 1
-value_input (value.Text t) = fed.u8 2 ++ parts_input t
+value_input (value.Text t) = parts_input t

@@ -66,7 +66,26 @@ impl Pattern {
     }
 }
 
+impl Pattern {
+    /// Brings every letter of the text into lower case, in its place. It takes no memory.
+    pub fn make_lower(&mut self)
+        ensures { self.new ≡ lower_parts self.old }
+    {
+        make_lower_form(&mut self.form);
+    }
+}
+
 impl Value {
+    /// Brings every letter of the value into lower case, in its place. It takes no memory.
+    pub fn make_lower(&mut self)
+        ensures { self.new ≡ lower_value self.old }
+    {
+        match self {
+            Value::Any | Value::Na => {}
+            Value::Text(text) => text.make_lower(),
+        }
+    }
+
     /// The value with every letter in lower case.
     ///
     /// # Errors

@@ -1,8 +1,8 @@
-// When two texts or two values are equal, and what they feed a hasher. Equal is equal as contracts see it, letter case too.
+// When two texts or two values are equal, and what they feed a hasher. Equal is equal as contracts see it, letter case too. What is
+// equal feeds equally; little is fed, since names are hashed at each look-up: a text feeds its body alone, and ANY nothing.
 ghost use Rattle.std.specs.Prelude.{◌≡◌};
-ghost use Rattle.cpe_values.specs.Same.{edge_number};
 
-use crate::{Edge, Pattern, Value};
+use crate::{Pattern, Value};
 use std::hash::{Hash, Hasher};
 
 impl PartialEq for Pattern {
@@ -41,20 +41,7 @@ impl Hash for Pattern {
     ghost respects_eq = { (same_Alike parts_input same_parts-Decides).fed };
 
     fn hash<H: Hasher>(&self, state: &mut H) {
-        state.write_u64(edge_code(self.lead()));
-        self.stem().hash(state);
-        state.write_u64(edge_code(self.trail()));
-    }
-}
-
-// The number of an edge, which no other edge has: `*` and one `?` are told apart.
-fn edge_code(edge: Edge) -> u64
-    ensures { result ≡ edge_number edge }
-{
-    match edge {
-        Edge::None => 0,
-        Edge::Star => 1,
-        Edge::Marks(marks) => marks as u64 + 1,
+        state.write(self.stem());
     }
 }
 
@@ -100,12 +87,9 @@ impl Hash for Value {
 
     fn hash<H: Hasher>(&self, state: &mut H) {
         match self {
-            Value::Any => state.write_u8(0),
+            Value::Any => {}
             Value::Na => state.write_u8(1),
-            Value::Text(text) => {
-                state.write_u8(2);
-                text.hash(state);
-            }
+            Value::Text(text) => text.hash(state),
         }
     }
 }
