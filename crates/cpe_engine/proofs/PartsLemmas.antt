@@ -7,6 +7,7 @@ use Rattle.cpe_rows.specs.After.{after}
 use Rattle.cpe_rows.specs.Causes.{heavy}
 use Rattle.cpe_rows.specs.Faults.{when}
 use Rattle.cpe_rows.specs.Limits.{AreWithin, most}
+use Rattle.cpe_rows.specs.declared.limits.TheConstants.{MOST_WEIGHT}
 use Rattle.cpe_rows.specs.Lawful.{IsLawful}
 use Rattle.cpe_rows.specs.Rows.{Rows}
 use Rattle.cpe_rows.specs.Step.{first_some}
@@ -46,7 +47,7 @@ on_err (Ok x) f h = tt
 on_err (Err e) f h = f h
 
 -- a weight that is counted above the limit is above it
-pub is_heavy : (rows : Rows) (e : Edit) (n : ℕ) → n ≡ capped (weight (after rows e)) → 536870912 < n → heavy (after rows e) ≡ Some (fault.Full limit.Weight)
+pub is_heavy : (rows : Rows) (e : Edit) (n : ℕ) → n ≡ capped (weight (after rows e)) → MOST_WEIGHT < n → heavy (after rows e) ≡ Some (fault.Full limit.Weight)
 is_heavy rows e n counted above =
     let less : most limit.Weight < weight (after rows e) = omega (arith, counted, above) in
     ap (λ (b : Bool). when b (fault.Full limit.Weight)) (lt-ltb (most limit.Weight) (weight (after rows e)) less)
@@ -61,7 +62,7 @@ pub record IsLight (next : Rows) (n : ℕ) : Type 0 where
   pub exact : n ≡ weight next
 
 -- a weight that is counted within the limit is as it was counted
-pub is_light : (next : Rows) (n : ℕ) → n ≡ capped (weight next) → n ≤ 536870912 → IsLight next n
+pub is_light : (next : Rows) (n : ℕ) → n ≡ capped (weight next) → n ≤ MOST_WEIGHT → IsLight next n
 is_light next n counted below =
     let within : weight next ≤ most limit.Weight = omega (arith, counted, below) in
     record {

@@ -6,10 +6,9 @@ ghost use Rattle.cpe_engine.specs.Parts.{AreKept, rows_in};
 
 use crate::parts::Parts;
 use cpe_dictionary::Plan;
-use cpe_rows::{Edit, EditFault, Which, causes_are_faults, causes_refuse, rows_stay_lawful};
-
-// All rows together weigh no more.
-const MOST_WEIGHT: u64 = 536_870_912;
+use cpe_rows::{
+    Edit, EditFault, MOST_WEIGHT, Which, causes_are_faults, causes_refuse, rows_stay_lawful,
+};
 
 /// What is known of an edit that has no fault.
 #[derive(Drop)]
@@ -31,6 +30,7 @@ impl Parts {
         ensures ok { IfOk result (λ c. IsChecked self.now edit.now c) }
         ensures err { IfErr result (λ f. Refuses f (step (rows_in self.now) edit.now)) }
     {
+        edit.formed();
         causes_are_faults();
         causes_refuse();
         rows_stay_lawful();

@@ -11,13 +11,7 @@ use Rattle.std.proofs.lemmas.Slice.Eq.{bytes_eq-Decides}
 use Rattle.cpe_name.specs.declared.name.Values.{Values}
 use Rattle.cpe_rows.specs.Rows.{has_id}
 use Rattle.cpe_rows.specs.After.{without_first}
-use Rattle.std.proofs.lemmas.List.Folds.{flat_map-map}
-use Rattle.cpe_rows.specs.FactNames.{fact_names, fact_names_step, number_of_facts}
-use Rattle.cpe_rows.specs.declared.test.Operator.{Operator}
-use Rattle.cpe_rows.specs.declared.test.Test.{Test, Logic}
-use Rattle.cpe_rows.specs.declared.test.Test.TheFolds.{fold-roll-Test}
-use Rattle.cpe_rows.specs.declared.test.Test.TheVariants.{rolls-Logic}
-use Rattle.cpe_rows.specs.declared.test.Test.TheOpen.{Test-F}
+use Rattle.cpe_rows.specs.FactNames.{fact_names, number_of_facts}
 use Rattle.cpe_rows.specs.declared.statement.Statement.{Statement}
 use Rattle.cpe_inventory.specs.Kept.{AreByIds}
 use Rattle.cpe_inventory.proofs.KeptLemmas.{there_if}
@@ -90,12 +84,6 @@ last_by_id [] id s h same = (same, h)
 last_by_id (e ∷ es) id s h same = (h.0, last_by_id es id s h.1 same)
 
 -- ---- fact references
-
-pub names-logic : (operator : Operator) (negate : Bool) (of : List Test)
-    → fact_names (Logic operator negate of) ≡ flat_map fact_names of
-names-logic operator negate of =
-    ap fact_names (sym (rolls-Logic operator negate of))
-    ∙ (fold-roll-Test (List Values) fact_names_step (Test-F.Logic operator negate of) ∙ flat_map-map (λ names. names) fact_names of)
 
 abbrev facts_in : Statement → List Values
 facts_in s = fact_names s.test

@@ -8,16 +8,10 @@ ghost use Rattle.cpe_rows.specs.Causes.{item_causes, statement_causes, check_cau
 use crate::count::with_facts_of;
 use crate::{Checks, Items, Statements};
 use cpe_name::Wfn;
-use cpe_rows::{CheckKey, EditFault, Statement, Which, has_wildcards};
-
-// The limits of an inventory.
-const MOST_ITEMS: usize = 1_000_000;
-
-const MOST_STATEMENTS: usize = 100_000;
-
-const MOST_FACTS: usize = 1_000_000;
-
-const MOST_CHECKS: usize = 100_000;
+use cpe_rows::{
+    CheckKey, EditFault, MOST_CHECKS, MOST_FACTS, MOST_ITEMS, MOST_STATEMENTS, Statement, Which,
+    has_wildcards,
+};
 
 /// Why an item of this name can't be added: the first cause in the order of [`EditFault`], without the weight. There is none
 /// exactly where an edit that adds it is in order but for the weight. It takes no memory.

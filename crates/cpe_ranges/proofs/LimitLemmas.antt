@@ -7,6 +7,8 @@ use Rattle.cpe_rows.specs.After.{without_first}
 use Rattle.cpe_rows.specs.Names.{is_same}
 use Rattle.cpe_rows.specs.Weight.{name_weight}
 use Rattle.cpe_weight.proofs.Totals.{total-without}
+use Rattle.cpe_rows.specs.declared.limits.TheConstants.{MOST_ITEMS, MOST_WEIGHT}
+use Rattle.cpe_ranges.specs.declared.limits.TheConstants.{MOST_ADVISORIES}
 use Rattle.cpe_ranges.specs.Rows.{AdviceRows, has_id}
 use Rattle.cpe_ranges.specs.Weight.{advisory_weight, weight}
 use Rattle.cpe_ranges.specs.Step.{after, full, full_by}
@@ -16,14 +18,14 @@ use Rattle.cpe_advisories.specs.declared.edit.AdviceWhich.TheVariants as limit
 
 -- numbers within their limits
 record AreWithin (items advisories heavy : ℕ) : Type 0 where
-  items_within : items ≤ 1000000
-  advisories_within : advisories ≤ 100000
-  heavy_within : heavy ≤ 536870912
+  items_within : items ≤ MOST_ITEMS
+  advisories_within : advisories ≤ MOST_ADVISORIES
+  heavy_within : heavy ≤ MOST_WEIGHT
 
 within : (items advisories heavy : ℕ) → full_by items advisories heavy ≡ None → AreWithin items advisories heavy
-within items advisories heavy h = go (nat_lt 1000000 items) (nat_lt 100000 advisories) (nat_lt 536870912 heavy) refl refl refl h
+within items advisories heavy h = go (nat_lt MOST_ITEMS items) (nat_lt MOST_ADVISORIES advisories) (nat_lt MOST_WEIGHT heavy) refl refl refl h
   where
-    go : (a b c : Bool) → nat_lt 1000000 items ≡ a → nat_lt 100000 advisories ≡ b → nat_lt 536870912 heavy ≡ c
+    go : (a b c : Bool) → nat_lt MOST_ITEMS items ≡ a → nat_lt MOST_ADVISORIES advisories ≡ b → nat_lt MOST_WEIGHT heavy ≡ c
         → option_map fault.Full (cond a (Some limit.Items) (cond b (Some limit.Advisories) (cond c (Some limit.Weight) None))) ≡ None → AreWithin items advisories heavy
     go true b c ea eb ec wrong = let no : ⊥ = cc in absurd no
     go false true c ea eb ec wrong = let no : ⊥ = cc in absurd no
@@ -35,9 +37,9 @@ not_more most n h = grind (arith, nat_tests)
 
 not_full : (items advisories heavy : ℕ) → AreWithin items advisories heavy → full_by items advisories heavy ≡ None
 not_full items advisories heavy h =
-    ap (λ (a : Bool). option_map fault.Full (cond a (Some limit.Items) (cond (nat_lt 100000 advisories) (Some limit.Advisories) (cond (nat_lt 536870912 heavy) (Some limit.Weight) None)))) (not_more 1000000 items h.items_within)
-    ∙ ap (λ (b : Bool). option_map fault.Full (cond b (Some limit.Advisories) (cond (nat_lt 536870912 heavy) (Some limit.Weight) None))) (not_more 100000 advisories h.advisories_within)
-    ∙ ap (λ (c : Bool). option_map fault.Full (cond c (Some limit.Weight) None)) (not_more 536870912 heavy h.heavy_within)
+    ap (λ (a : Bool). option_map fault.Full (cond a (Some limit.Items) (cond (nat_lt MOST_ADVISORIES advisories) (Some limit.Advisories) (cond (nat_lt MOST_WEIGHT heavy) (Some limit.Weight) None)))) (not_more MOST_ITEMS items h.items_within)
+    ∙ ap (λ (b : Bool). option_map fault.Full (cond b (Some limit.Advisories) (cond (nat_lt MOST_WEIGHT heavy) (Some limit.Weight) None))) (not_more MOST_ADVISORIES advisories h.advisories_within)
+    ∙ ap (λ (c : Bool). option_map fault.Full (cond c (Some limit.Weight) None)) (not_more MOST_WEIGHT heavy h.heavy_within)
 
 fewer : {A : Type 0} (p : A → Bool) (xs : List A) → length (without_first p xs) ≤ length xs
 fewer p [] = omega arith

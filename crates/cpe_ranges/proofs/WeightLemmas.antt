@@ -11,6 +11,8 @@ use Rattle.cpe_rows.specs.Weight.{name_weight}
 use Rattle.cpe_weight.specs.Capped.{capped}
 use Rattle.cpe_weight.specs.Gain.{weight_of_first}
 use Rattle.cpe_weight.proofs.Totals.{total-added, total-without, first-known}
+use Rattle.cpe_rows.specs.declared.limits.TheConstants.{MOST_ITEMS, MOST_WEIGHT}
+use Rattle.cpe_ranges.specs.declared.limits.TheConstants.{MOST_ADVISORIES}
 use Rattle.cpe_ranges.specs.Rows.{AdviceRows, has_id, is_item, is_advisory}
 use Rattle.cpe_ranges.specs.Kept.{IsWeight}
 use Rattle.cpe_ranges.specs.Weight.{advisory_weight, weight}
@@ -43,13 +45,13 @@ weighs_drop rows id = let all = total-without advisory_weight (has_id id) rows.a
 
 -- ---- limits
 
-pub uncapped : (n : ℕ) → n ≤ 536870912 → capped n ≡ n
+pub uncapped : (n : ℕ) → n ≤ MOST_WEIGHT → capped n ≡ n
 uncapped n h = grind arith
 
-full_within : (items advisories heavy : ℕ) → full_by items advisories heavy ≡ None → heavy ≤ 536870912
-full_within items advisories heavy h = go (nat_lt 1000000 items) (nat_lt 100000 advisories) (nat_lt 536870912 heavy) refl h where
-  go : (a b c : Bool) → nat_lt 536870912 heavy ≡ c
-      → option_map fault.Full (cond a (Some limit.Items) (cond b (Some limit.Advisories) (cond c (Some limit.Weight) None))) ≡ None → heavy ≤ 536870912
+full_within : (items advisories heavy : ℕ) → full_by items advisories heavy ≡ None → heavy ≤ MOST_WEIGHT
+full_within items advisories heavy h = go (nat_lt MOST_ITEMS items) (nat_lt MOST_ADVISORIES advisories) (nat_lt MOST_WEIGHT heavy) refl h where
+  go : (a b c : Bool) → nat_lt MOST_WEIGHT heavy ≡ c
+      → option_map fault.Full (cond a (Some limit.Items) (cond b (Some limit.Advisories) (cond c (Some limit.Weight) None))) ≡ None → heavy ≤ MOST_WEIGHT
   go true b c e wrong = let no : ⊥ = cc in absurd no
   go false true c e wrong = let no : ⊥ = cc in absurd no
   go false false true e wrong = let no : ⊥ = cc in absurd no
@@ -61,23 +63,23 @@ last_none false true f g o h = let no : ⊥ = cc in absurd no
 last_none false false f g None h = refl
 last_none false false f g (Some x) h = let no : ⊥ = cc in absurd no
 
-pub item_within : (rows : AdviceRows) (n : Values) → first_some (faults rows (edit.Item n)) ≡ None → weight (after rows (edit.Item n)) ≤ 536870912
+pub item_within : (rows : AdviceRows) (n : Values) → first_some (faults rows (edit.Item n)) ≡ None → weight (after rows (edit.Item n)) ≤ MOST_WEIGHT
 item_within rows n h = let next = after rows (edit.Item n) in full_within (length next.items) (length next.advisories) (weight next) (last_none (has_wildcards n) (is_item rows n) fault.Wildcards fault.Exists (full (after rows (edit.Item n))) h)
 
-pub put_within : (rows : AdviceRows) (a : Advisory) → first_some (faults rows (edit.Put a)) ≡ None → weight (after rows (edit.Put a)) ≤ 536870912
+pub put_within : (rows : AdviceRows) (a : Advisory) → first_some (faults rows (edit.Put a)) ≡ None → weight (after rows (edit.Put a)) ≤ MOST_WEIGHT
 put_within rows a h = let next = after rows (edit.Put a) in full_within (length next.items) (length next.advisories) (weight next) (last_none (not (is_any a.name.version)) (is_advisory rows a.id) fault.Version fault.Exists (full (after rows (edit.Put a))) h)
 
-pub weight_kept : (number : ℕ) (next kept : AdviceRows) → number ≡ capped (weight next) → weight next ≤ 536870912 → next ≡ kept → IsWeight number kept
+pub weight_kept : (number : ℕ) (next kept : AdviceRows) → number ≡ capped (weight next) → weight next ≤ MOST_WEIGHT → next ≡ kept → IsWeight number kept
 weight_kept number next kept is within same =
     let exact : number ≡ weight next = is ∙ uncapped (weight next) within in
-    record { weighs = exact ∙ ap weight same; within = let small : weight next ≤ 536870912 = within in omega (arith, exact) }
+    record { weighs = exact ∙ ap weight same; within = let small : weight next ≤ MOST_WEIGHT = within in omega (arith, exact) }
 
 -- what is lost of a weight is no more than it was
 pub part_known : (number lost part : ℕ) (rows next : AdviceRows) → IsWeight number rows → lost ≡ capped (0 + part) → weight next + part ≡ weight rows → lost ≡ part
 part_known number lost part rows next kept is sum =
     let weighs = kept.weighs in
     let within = kept.within in
-    let small : 0 + part ≤ 536870912 = omega (arith, sum, weighs, within) in
+    let small : 0 + part ≤ MOST_WEIGHT = omega (arith, sum, weighs, within) in
     is ∙ uncapped (0 + part) small ∙ (omega arith)
 
 pub less_lost : (number lost part : ℕ) (rows next : AdviceRows) → IsWeight number rows → lost ≡ capped (0 + part) → weight next + part ≡ weight rows → lost ≤ number

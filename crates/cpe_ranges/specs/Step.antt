@@ -5,6 +5,8 @@ use Rattle.cpe_values.specs.declared.value.Value.TheVariants as value
 use Rattle.cpe_rows.specs.Names.{is_same, has_wildcards}
 use Rattle.cpe_rows.specs.After.{without_first}
 use Rattle.cpe_rows.specs.Step.{first_some}
+use Rattle.cpe_rows.specs.declared.limits.TheConstants.{MOST_ITEMS, MOST_WEIGHT}
+use Rattle.cpe_ranges.specs.declared.limits.TheConstants.{MOST_ADVISORIES}
 use Rattle.cpe_ranges.specs.Rows.{AdviceRows, has_id, is_item, is_advisory}
 use Rattle.cpe_ranges.specs.Weight.{weight}
 use Rattle.cpe_advisories.specs.declared.edit.AdviceEdit.{AdviceEdit}
@@ -26,9 +28,9 @@ after rows (edit.Drop id) = record rows { advisories = without_first (has_id id)
 
 -- no number is greater
 abbrev pub most : AdviceWhich → ℕ
-most limit.Items = 1000000
-most limit.Advisories = 100000
-most limit.Weight = 536870912
+most limit.Items = MOST_ITEMS
+most limit.Advisories = MOST_ADVISORIES
+most limit.Weight = MOST_WEIGHT
 
 -- what is limited, in the order in which it is tested
 abbrev pub limited : List AdviceWhich

@@ -17,6 +17,7 @@ ghost use Rattle.cpe_ranges.specs.Step.{after, Applied, faults, full_by, is_any}
 ghost use Rattle.cpe_advisories.specs.Valid.{is_valid_advisory, is_valid_edit, is_valid_query};
 ghost use Rattle.cpe_ranges.specs.Weight.{advisory_weight, bound_bytes, weight as weight_of};
 
+use crate::MOST_ADVISORIES;
 use crate::advised::{Advised, Terms};
 use crate::range::is_in_range;
 use cpe_advisories::{
@@ -24,22 +25,13 @@ use cpe_advisories::{
 };
 use cpe_inventory::Items;
 use cpe_name::{Attribute, Wfn};
-use cpe_rows::{List, Text, has_wildcards, names_are_equal};
+use cpe_rows::{List, MOST_ITEMS, MOST_WEIGHT, Text, has_wildcards, names_are_equal};
 use cpe_steps::Steps;
 use cpe_values::{Memory, Value};
 use cpe_weight::with_name;
 use std::alloc::Global;
 use std::marker::Model;
 use std::sync::ledger::Ledger;
-
-// No more items are kept.
-const MOST_ITEMS: u64 = 1_000_000;
-
-// No more advisories are kept.
-const MOST_ADVISORIES: u64 = 100_000;
-
-// All rows together weigh no more.
-const MOST_WEIGHT: u64 = 536_870_912;
 
 /// Items and advisories. Contracts see them as the two lists, in the order in which they came.
 #[derive(Drop)]
@@ -98,7 +90,7 @@ fn with_advisory(weight: u64, advisory: &Advisory) -> u64
 fn full_by(items: u64, advisories: u64, weight: u64) -> Option<AdviceFault>
     ensures { result ≡ full_by items advisories weight }
 {
-    if items > MOST_ITEMS {
+    if items > MOST_ITEMS as u64 {
         return Some(AdviceFault::Full(AdviceWhich::Items));
     }
     if advisories > MOST_ADVISORIES {

@@ -5,6 +5,7 @@ mod advised;
 mod advisories;
 mod groups;
 mod laws;
+mod limits;
 mod range;
 
 pub use advisories::Advisories;
@@ -14,3 +15,4 @@ pub use cpe_advisories::{
 };
 pub use cpe_versions::version_cmp;
 pub use laws::drops_are_never_full;
+pub use limits::MOST_ADVISORIES;

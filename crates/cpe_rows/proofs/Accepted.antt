@@ -9,7 +9,8 @@ use Rattle.cpe_name.specs.declared.name.Values.{Values}
 use Rattle.cpe_rows.specs.Names.{is_same, is_lower, is_identifier, has_wildcards}
 use Rattle.cpe_rows.specs.Rows.{Rows, no_rows, is_named}
 use Rattle.cpe_rows.specs.Chains.{successors_of, is_active, chain, ends, leads_to}
-use Rattle.cpe_rows.specs.Limits.{limited, exceeds, is_wide, most_ends}
+use Rattle.cpe_rows.specs.Limits.{limited, exceeds, is_wide}
+use Rattle.cpe_rows.specs.declared.limits.TheConstants.{MOST_ENDS}
 use Rattle.cpe_rows.specs.After.{after}
 use Rattle.cpe_rows.specs.Faults.{is_count}
 use Rattle.cpe_rows.specs.Lawful.{IsLawful, IsDictionary, is_entry_name, has_count, has_successors, is_cyclic, are_different}
@@ -21,10 +22,12 @@ use Rattle.cpe_rows.specs.declared.fault.EditFault.TheVariants as fault
 use Rattle.cpe_rows.proofs.Lists.{not_found, each_element, all_elements, same_any, any_with_last, all_with_last, different_with_last}
 use Rattle.cpe_rows.proofs.NameTests.{not_same}
 use Rattle.cpe_rows.proofs.Unrefused.{IsUnrefused, unrefused, none_when}
+use Rattle.cpe_rows.proofs.StayFormed.{formed_at_start, stay_formed}
 use Rattle.cpe_rows.proofs.Added as added
 
 pub at_start : IsLawful no_rows
 at_start = record {
+  formed = formed_at_start;
   dictionary = record { names = refl; names_differ = refl; counts = refl; successors = refl; successors_differ = refl; no_cycle = refl; no_wide = refl };
   item_names = refl;
   items_differ = refl;
@@ -83,10 +86,10 @@ module _ (rows next : Rows) (e : Entry) (h : IsAccepted rows (edit.Entry e) next
   same_ends = added.same_ends rows.entries e new active before.successors
 
   same_width : (a : Entry) → is_wide left.entries a ≡ is_wide rows.entries a
-  same_width a = ap (λ (l : List Values). nat_lt most_ends (length l)) (same_ends a.name)
+  same_width a = ap (λ (l : List Values). nat_lt MOST_ENDS (length l)) (same_ends a.name)
 
   not_wide : is_wide left.entries e ≡ false
-  not_wide = same_width e ∙ (λ i. nat_lt most_ends (length (cond (new i) (map (λ x. x.name) (filter is_active (chain rows.entries e.name))) (e.name ∷ []))))
+  not_wide = same_width e ∙ (λ i. nat_lt MOST_ENDS (length (cond (new i) (map (λ x. x.name) (filter is_active (chain rows.entries e.name))) (e.name ∷ []))))
 
   dictionary : IsDictionary left.entries
   dictionary = record {
@@ -105,6 +108,7 @@ module _ (rows next : Rows) (e : Entry) (h : IsAccepted rows (edit.Entry e) next
 
   stays : IsLawful left
   stays = record {
+    formed = stay_formed rows (edit.Entry e) h.lawful.formed h.formed;
     dictionary = dictionary;
     item_names = h.lawful.item_names;
     items_differ = h.lawful.items_differ;

@@ -14,6 +14,7 @@ use Rattle.cpe_rows.specs.declared.fault.EditFault.TheVariants as fault
 use Rattle.cpe_rows.proofs.Limited.{still_within, item_less}
 use Rattle.cpe_rows.proofs.Lists.{not_found, not_element, all_with_last, different_with_last}
 use Rattle.cpe_rows.proofs.NameTests.{not_same}
+use Rattle.cpe_rows.proofs.StayFormed.{stay_formed}
 use Rattle.cpe_rows.proofs.Unrefused.{IsUnrefused, unrefused, none_when}
 
 module _ (rows next : Rows) (n : Values) (h : IsAccepted rows (edit.Item n) next) where
@@ -28,6 +29,7 @@ module _ (rows next : Rows) (n : Values) (h : IsAccepted rows (edit.Item n) next
 
   stays : IsLawful left
   stays = record {
+    formed = stay_formed rows (edit.Item n) h.lawful.formed h.formed;
     dictionary = h.lawful.dictionary;
     item_names = all_with_last is_item_name rows.items n named ∙ h.lawful.item_names;
     items_differ = different_with_last is_same rows.items n (λ a m. not_same n a (not_element (is_same n) rows.items (none_when (is_item rows n) fault.Exists result.0.1.0) a m)) ∙ h.lawful.items_differ;
@@ -72,6 +74,7 @@ module _ (rows next : Rows) (n : Values) (h : IsAccepted rows (edit.DropItem n) 
 
   still_lawful : IsLawful without
   still_lawful = record {
+    formed = stay_formed rows (edit.DropItem n) h.lawful.formed h.formed;
     dictionary = h.lawful.dictionary;
     item_names = all_but_first (is_same n) is_item_name rows.items h.lawful.item_names;
     items_differ = different_but_first (is_same n) is_same rows.items h.lawful.items_differ;

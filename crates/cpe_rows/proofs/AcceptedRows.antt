@@ -16,6 +16,7 @@ use Rattle.cpe_rows.proofs.AcceptedItems.{all_but_first, different_but_first}
 use Rattle.cpe_rows.proofs.KeyTests.{other_bytes, other_key}
 use Rattle.cpe_rows.proofs.Limited.{still_within, statement_less, check_less}
 use Rattle.cpe_rows.proofs.Lists.{not_found, not_element, all_with_last, different_with_last}
+use Rattle.cpe_rows.proofs.StayFormed.{stay_formed}
 use Rattle.cpe_rows.proofs.Unrefused.{IsUnrefused, unrefused, none_when}
 
 module _ (rows next : Rows) (s : Statement) (h : IsAccepted rows (edit.PutStatement s) next) where
@@ -27,6 +28,7 @@ module _ (rows next : Rows) (s : Statement) (h : IsAccepted rows (edit.PutStatem
 
   pub put_lawful : IsLawful next
   put_lawful = subst IsLawful result.1 record {
+    formed = stay_formed rows (edit.PutStatement s) h.lawful.formed h.formed;
     dictionary = h.lawful.dictionary;
     item_names = h.lawful.item_names;
     items_differ = h.lawful.items_differ;
@@ -42,6 +44,7 @@ module _ (rows next : Rows) (id : List ℕ) (h : IsAccepted rows (edit.DropState
 
   pub dropped_lawful : IsLawful next
   dropped_lawful = subst IsLawful (unrefused h).1 record {
+    formed = stay_formed rows (edit.DropStatement id) h.lawful.formed h.formed;
     dictionary = h.lawful.dictionary;
     item_names = h.lawful.item_names;
     items_differ = h.lawful.items_differ;
@@ -77,6 +80,7 @@ module _ (rows next : Rows) (k : CheckKey) (t : Truth) (h : IsAccepted rows (edi
 
   pub set_lawful : IsLawful next
   set_lawful = subst IsLawful set_result.1 record {
+    formed = stay_formed rows (edit.SetCheck k t) h.lawful.formed h.formed;
     dictionary = h.lawful.dictionary;
     item_names = h.lawful.item_names;
     items_differ = h.lawful.items_differ;
@@ -92,6 +96,7 @@ module _ (rows next : Rows) (k : CheckKey) (h : IsAccepted rows (edit.DropCheck 
 
   pub cleared_lawful : IsLawful next
   cleared_lawful = subst IsLawful (unrefused h).1 record {
+    formed = stay_formed rows (edit.DropCheck k) h.lawful.formed h.formed;
     dictionary = h.lawful.dictionary;
     item_names = h.lawful.item_names;
     items_differ = h.lawful.items_differ;

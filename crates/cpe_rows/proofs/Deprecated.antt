@@ -9,6 +9,7 @@ use Rattle.cpe_rows.specs.Rows.{Rows, is_named, is_entry}
 use Rattle.cpe_rows.specs.Chains.{successors_of, leads_to}
 use Rattle.cpe_rows.specs.Limits.{limited, exceeds, is_wide}
 use Rattle.cpe_rows.specs.After.{after, changed, deprecated}
+use Rattle.cpe_rows.specs.Formed.{AreFormed}
 use Rattle.cpe_rows.specs.Faults.{full, too_wide, is_count, successor_faults, repeated_from}
 use Rattle.cpe_rows.specs.Lawful.{IsLawful, IsDictionary, is_entry_name, has_count, has_successors, are_different}
 use Rattle.cpe_rows.specs.Accepted.{IsAccepted}
@@ -20,6 +21,7 @@ use Rattle.cpe_rows.specs.declared.edit.Edit.TheVariants as edit
 use Rattle.cpe_rows.specs.declared.fault.EditFault.TheVariants as fault
 use Rattle.cpe_rows.proofs.Lists.{not_found}
 use Rattle.cpe_rows.proofs.NameTests.{not_same}
+use Rattle.cpe_rows.proofs.StayFormed.{stay_formed}
 use Rattle.cpe_rows.proofs.Unrefused.{unrefused, both_none, none_when, none_mapped, none_placed, all_where_none_not, none_repeated}
 use Rattle.cpe_rows.proofs.ChangedEntries.{same_any_changed, same_all_changed, all_changed, different_changed}
 use Rattle.cpe_rows.proofs.Cycles.{no_new_cycle}
@@ -72,8 +74,9 @@ module _ (rows : Rows) (n : Values) (d : Option Deprecation) (kind : NoteKind) (
     no_wide = not_found (λ e. fault.TooWide e.name) (is_wide left.entries) left.entries narrow;
   }
 
-  stays : too_wide left ≡ None → full left ≡ None → IsLawful left
-  stays narrow room = record {
+  stays : AreFormed left → too_wide left ≡ None → full left ≡ None → IsLawful left
+  stays formed narrow room = record {
+    formed = formed;
     dictionary = dictionary narrow;
     item_names = ok.item_names;
     items_differ = ok.items_differ;
@@ -103,7 +106,8 @@ module _ (rows next : Rows) (n : Values) (d : Deprecation) (date comment : List 
       let result = unrefused h in
       let parts = both_none (successor_faults rows n d) (too_wide left ∷ full left ∷ []) result.0.1.1 in
       subst IsLawful result.1
-      (stays rows n (Some d) note.Deprecation date comment h.lawful (not_refused rows n d parts.0) parts.1.0 parts.1.1.0)
+      (stays rows n (Some d) note.Deprecation date comment h.lawful (not_refused rows n d parts.0)
+      (stay_formed rows (edit.Deprecate n d date comment) h.lawful.formed h.formed) parts.1.0 parts.1.1.0)
 
   pub amended_lawful : IsAccepted rows (edit.Amend n d date comment) next → IsLawful next
   amended_lawful h =
@@ -111,10 +115,12 @@ module _ (rows next : Rows) (n : Values) (d : Deprecation) (date comment : List 
       let result = unrefused h in
       let parts = both_none (successor_faults rows n d) (too_wide left ∷ full left ∷ []) result.0.1.1 in
       subst IsLawful result.1
-      (stays rows n (Some d) note.DeprecationModification date comment h.lawful (not_refused rows n d parts.0) parts.1.0 parts.1.1.0)
+      (stays rows n (Some d) note.DeprecationModification date comment h.lawful (not_refused rows n d parts.0)
+      (stay_formed rows (edit.Amend n d date comment) h.lawful.formed h.formed) parts.1.0 parts.1.1.0)
 
 module _ (rows next : Rows) (n : Values) (date comment : List ℕ) where
   pub restored_lawful : IsAccepted rows (edit.Restore n date comment) next → IsLawful next
   restored_lawful h = let result = unrefused h in
       subst IsLawful result.1
-      (stays rows n None note.DeprecationModification date comment h.lawful (no_successors rows.entries n) result.0.1.1.0 result.0.1.1.1.0)
+      (stays rows n None note.DeprecationModification date comment h.lawful (no_successors rows.entries n)
+      (stay_formed rows (edit.Restore n date comment) h.lawful.formed h.formed) result.0.1.1.0 result.0.1.1.1.0)

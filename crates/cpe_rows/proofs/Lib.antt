@@ -15,7 +15,9 @@ pub mod Paths
 pub mod Raised
 pub mod Reaches
 pub mod Refused
+pub mod StayFormed
 pub mod Tables
+pub mod TestNames
 pub mod Unrefused
 pub mod Within
 mod AcceptedItems

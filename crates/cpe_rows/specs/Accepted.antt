@@ -1,12 +1,14 @@
--- A valid edit of lawful rows that is not refused.
+-- A valid and formed edit of lawful rows that is not refused.
 use Rattle.std.specs.Prelude.{◌≡◌, true, Ok}
 use Rattle.cpe_rows.specs.Rows.{Rows}
 use Rattle.cpe_rows.specs.Valid.{is_valid_edit}
+use Rattle.cpe_rows.specs.Formed.{IsFormed}
 use Rattle.cpe_rows.specs.Lawful.{IsLawful}
 use Rattle.cpe_rows.specs.Step.{step}
 use Rattle.cpe_rows.specs.declared.edit.Edit.{Edit}
 
 pub record IsAccepted (rows : Rows) (e : Edit) (next : Rows) : Type 0 where
   pub lawful : IsLawful rows
+  pub formed : IsFormed e
   pub valid : is_valid_edit e ≡ true
   pub accepted : step rows e ≡ Ok next

@@ -7,7 +7,8 @@ use Rattle.cpe_rows.specs.Names.{is_same, is_identifier, has_wildcards}
 use Rattle.cpe_rows.specs.Rows.{Rows, entry_of, is_entry, is_item, is_statement, is_checked}
 use Rattle.cpe_rows.specs.Chains.{is_active, leads_to}
 use Rattle.cpe_rows.specs.After.{after}
-use Rattle.cpe_rows.specs.Limits.{limited, exceeds, is_wide, most_successors}
+use Rattle.cpe_rows.specs.Limits.{limited, exceeds, is_wide}
+use Rattle.cpe_rows.specs.declared.limits.TheConstants.{MOST_SUCCESSORS}
 use Rattle.cpe_rows.specs.declared.entry.Deprecation.{Deprecation}
 use Rattle.cpe_rows.specs.declared.entry.Kind.{Kind}
 use Rattle.cpe_rows.specs.declared.entry.Kind.TheVariants.{NameCorrection, NameRemoval, AdditionalInformation}
@@ -34,8 +35,8 @@ too_wide rows = option_map (λ e. fault.TooWide e.name) (find (is_wide rows.entr
 -- a deprecation of this kind may have so many successors
 abbrev pub is_count : Kind → ℕ → Bool
 is_count NameRemoval n = nat_le n 0
-is_count NameCorrection n = nat_le 1 n && nat_le n most_successors
-is_count AdditionalInformation n = nat_le 1 n && nat_le n most_successors
+is_count NameCorrection n = nat_le 1 n && nat_le n MOST_SUCCESSORS
+is_count AdditionalInformation n = nat_le 1 n && nat_le n MOST_SUCCESSORS
 
 -- the place of the first that passes
 abbrev pub place_of : {A : Type 0} → (A → Bool) → List A → Option ℕ

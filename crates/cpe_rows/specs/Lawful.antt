@@ -9,6 +9,7 @@ use Rattle.cpe_rows.specs.Chains.{successors_of, leads_to}
 use Rattle.cpe_rows.specs.Valid.{is_id, is_statement_test}
 use Rattle.cpe_rows.specs.Limits.{AreWithin, is_wide}
 use Rattle.cpe_rows.specs.Faults.{is_count}
+use Rattle.cpe_rows.specs.Formed.{AreFormed}
 use Rattle.cpe_rows.specs.declared.entry.Entry.{Entry}
 use Rattle.cpe_rows.specs.declared.statement.Statement.{Statement}
 
@@ -52,6 +53,7 @@ pub record IsDictionary (entries : List Entry) : Type 0 where
   pub no_wide : list_any (is_wide entries) entries ≡ false
 
 pub record IsLawful (rows : Rows) : Type 0 where
+  pub formed : AreFormed rows
   pub dictionary : IsDictionary rows.entries
   pub item_names : list_all is_item_name rows.items ≡ true
   pub items_differ : are_different is_same rows.items ≡ true

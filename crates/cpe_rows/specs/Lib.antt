@@ -2,6 +2,7 @@ pub mod formers
 pub mod Names
 pub mod Date
 pub mod Filling
+pub mod Formed
 pub mod Truth
 pub mod Evaluation
 pub mod Negation

@@ -8,6 +8,7 @@ use Rattle.cpe_rows.specs.Weight.{weight}
 use Rattle.cpe_rows.specs.declared.entry.Entry.{Entry}
 use Rattle.cpe_rows.specs.declared.fault.Which.{Which}
 use Rattle.cpe_rows.specs.declared.fault.Which.TheVariants as limit
+use Rattle.cpe_rows.specs.declared.limits.TheConstants.{MOST_ENTRIES, MOST_ITEMS, MOST_STATEMENTS, MOST_FACTS, MOST_CHECKS, MOST_WEIGHT, MOST_ENDS}
 
 abbrev pub number_of : Which → Rows → ℕ
 number_of limit.Entries rows = length rows.entries
@@ -19,12 +20,12 @@ number_of limit.Weight rows = weight rows
 
 -- no number is greater
 abbrev pub most : Which → ℕ
-most limit.Entries = 2000000
-most limit.Items = 1000000
-most limit.Statements = 100000
-most limit.Facts = 1000000
-most limit.Checks = 100000
-most limit.Weight = 536870912
+most limit.Entries = MOST_ENTRIES
+most limit.Items = MOST_ITEMS
+most limit.Statements = MOST_STATEMENTS
+most limit.Facts = MOST_FACTS
+most limit.Checks = MOST_CHECKS
+most limit.Weight = MOST_WEIGHT
 
 -- what is limited, in the order in which it is tested
 abbrev pub limited : List Which
@@ -37,13 +38,6 @@ exceeds rows which = nat_lt (most which) (number_of which rows)
 abbrev pub AreWithin : Rows → Type 0
 AreWithin rows = list_any (exceeds rows) limited ≡ false
 
--- an entry has no more ends
-abbrev pub most_ends : ℕ
-most_ends = 64
-
+-- an entry has more ends than it may
 abbrev pub is_wide : List Entry → Entry → Bool
-is_wide entries e = nat_lt most_ends (length (ends entries e.name))
-
--- a deprecation has no more successors
-abbrev pub most_successors : ℕ
-most_successors = 16
+is_wide entries e = nat_lt MOST_ENDS (length (ends entries e.name))

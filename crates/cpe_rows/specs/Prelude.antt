@@ -1,6 +1,6 @@
 -- What most contracts over the plain state name, in one place.
 pub use Rattle.cpe_rows.specs.Rows.{Rows, no_rows, is_named, has_id, has_key}
-pub use Rattle.cpe_rows.specs.Limits.{most, most_successors}
+pub use Rattle.cpe_rows.specs.Limits.{most}
 pub use Rattle.cpe_rows.specs.FactNames.{fact_names, number_of_facts}
 pub use Rattle.cpe_rows.specs.Valid.{is_valid_edit}
 pub use Rattle.cpe_rows.specs.Lawful.{IsDictionary, IsLawful}

@@ -2,7 +2,8 @@
 use Rattle.std.specs.Prelude.{ℕ, ◌&&◌, List, length, Bool, true, false, nat_lt, nat_le, is_none}
 use Rattle.std.specs.List.{list_all}
 use Rattle.cpe_rows.specs.Names.{is_lower}
-use Rattle.cpe_rows.specs.Shape.{depth_of, is_sound, most_depth}
+use Rattle.cpe_rows.specs.Shape.{depth_of, is_sound}
+use Rattle.cpe_rows.specs.declared.limits.TheConstants.{MOST_LEVELS, MOST_ID_BYTES}
 use Rattle.cpe_rows.specs.declared.test.Test.{Test, out-Test}
 use Rattle.cpe_rows.specs.declared.test.Test.TheOpen.{Test-F}
 use Rattle.cpe_rows.specs.declared.edit.Edit.{Edit}
@@ -13,9 +14,9 @@ use Rattle.cpe_rows.specs.declared.edit.Query.TheVariants as query
 abbrev pub is_visible : ℕ → Bool
 is_visible b = nat_le 33 b && nat_le b 126
 
--- 1 to 256 visible characters
+-- visible characters, one at least and not too many
 abbrev pub is_id : List ℕ → Bool
-is_id id = nat_lt 0 (length id) && nat_le (length id) 256 && list_all is_visible id
+is_id id = nat_lt 0 (length id) && nat_le (length id) MOST_ID_BYTES && list_all is_visible id
 
 abbrev pub is_logic : Test-F Test → Bool
 is_logic (Test-F.Logic operator negate of) = true
@@ -24,7 +25,7 @@ is_logic (Test-F.Check key) = false
 
 -- a logical test that is not too deep and sound
 abbrev pub is_statement_test : Test → Bool
-is_statement_test t = is_logic (out-Test t) && nat_le (depth_of t) most_depth && is_sound t
+is_statement_test t = is_logic (out-Test t) && nat_le (depth_of t) MOST_LEVELS && is_sound t
 
 abbrev pub is_valid_edit : Edit → Bool
 is_valid_edit (Entry e) = is_lower e.name && is_none e.deprecation

@@ -4,7 +4,10 @@ ghost use Rattle.std.specs.List.{list_all};
 ghost use Rattle.cpe_rows.specs.Names.{is_lower};
 ghost use Rattle.cpe_rows.specs.Valid.{is_valid_edit, is_valid_query, is_id, is_visible, is_statement_test};
 
-use crate::{CheckKey, Date, Deprecation, Entry, Statement, Test, Text, Truth, is_lower};
+use crate::{
+    CheckKey, Date, Deprecation, Entry, MOST_ID_BYTES, MOST_LEVELS, Statement, Test, Text, Truth,
+    is_lower,
+};
 use cpe_name::Wfn;
 
 /// A change of the rows.
@@ -77,14 +80,14 @@ pub fn is_id(text: &str) -> bool
     ensures { result ≡ is_id text.now }
 {
     let bytes = text.as_bytes();
-    0 < bytes.len() && bytes.len() <= 256 && are_visible(bytes)
+    0 < bytes.len() && bytes.len() <= MOST_ID_BYTES && are_visible(bytes)
 }
 
 fn is_statement_test(test: &Test) -> bool
     ensures { result ≡ is_statement_test test.now }
 {
     match test {
-        Test::Logic { .. } => test.is_within(32) && test.is_sound(),
+        Test::Logic { .. } => test.is_within(MOST_LEVELS) && test.is_sound(),
         _ => false,
     }
 }

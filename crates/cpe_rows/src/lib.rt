@@ -12,7 +12,9 @@ mod edit;
 mod entry;
 mod facts;
 mod fault;
+mod formed;
 mod laws;
+mod limits;
 mod list;
 mod names;
 mod reply;
@@ -33,6 +35,10 @@ pub use laws::{
     checks_after_edits, entries_stand_alone, faults_refuse, names_are_equal, negation_moves_inward,
     negation_swaps_tables, rows_stay_lawful, statements_stand_alone, tables_are_folds,
     tables_are_of_members, tables_have_deciding_truths,
+};
+pub use limits::{
+    MOST_CHECKS, MOST_ENDS, MOST_ENTRIES, MOST_FACTS, MOST_ID_BYTES, MOST_ITEMS, MOST_LEVELS,
+    MOST_STATEMENTS, MOST_SUCCESSORS, MOST_WEIGHT,
 };
 pub use list::List;
 pub use names::{has_wildcards, is_identifier, is_lower, is_same};

@@ -12,7 +12,7 @@ use Rattle.cpe_rows.specs.After.{changed}
 use Rattle.cpe_rows.specs.Chains.{successors_of}
 use Rattle.cpe_rows.specs.Faults.{is_count}
 use Rattle.cpe_rows.specs.Lawful.{has_count}
-use Rattle.cpe_rows.specs.Limits.{most_successors}
+use Rattle.cpe_rows.specs.declared.limits.TheConstants.{MOST_SUCCESSORS}
 use Rattle.cpe_rows.specs.declared.entry.Entry.{Entry}
 use Rattle.cpe_rows.specs.declared.entry.Deprecation.{Deprecation}
 use Rattle.cpe_rows.specs.declared.entry.Kind.{Kind}
@@ -65,19 +65,19 @@ numbers_few entries (n ∷ ns) = go (position (is_named n) entries) (numbers_few
     go None h = omega (arith, h)
     go (Some i) h = omega (arith, h)
 
-pub count_few : (kind : Kind) (n : ℕ) → is_count kind n ≡ true → n ≤ most_successors
+pub count_few : (kind : Kind) (n : ℕ) → is_count kind n ≡ true → n ≤ MOST_SUCCESSORS
 count_few NameRemoval n h = omega (arith, leb-true n 0 h)
-count_few NameCorrection n h = leb-true n most_successors (and_parts (nat_le 1 n) (nat_le n most_successors) h).1
-count_few AdditionalInformation n h = leb-true n most_successors (and_parts (nat_le 1 n) (nat_le n most_successors) h).1
+count_few NameCorrection n h = leb-true n MOST_SUCCESSORS (and_parts (nat_le 1 n) (nat_le n MOST_SUCCESSORS) h).1
+count_few AdditionalInformation n h = leb-true n MOST_SUCCESSORS (and_parts (nat_le 1 n) (nat_le n MOST_SUCCESSORS) h).1
 
-successors_few : (e : Entry) → has_count e ≡ true → length (successors_of e) ≤ most_successors
+successors_few : (e : Entry) → has_count e ≡ true → length (successors_of e) ≤ MOST_SUCCESSORS
 successors_few e = go e.deprecation
   where
-    go : (o : Option Deprecation) → option_map_or (λ (d : Deprecation). is_count d.kind (length d.successors)) o true ≡ true → length (option_map_or (λ (d : Deprecation). d.successors) o []) ≤ most_successors
+    go : (o : Option Deprecation) → option_map_or (λ (d : Deprecation). is_count d.kind (length d.successors)) o true ≡ true → length (option_map_or (λ (d : Deprecation). d.successors) o []) ≤ MOST_SUCCESSORS
     go None h = omega arith
     go (Some d) h = count_few d.kind (length d.successors) h
 
-edges_few : (entries es : List Entry) → list_all has_count es ≡ true → edge_count (map (node_of_entry entries) es) ≤ most_successors * length es
+edges_few : (entries es : List Entry) → list_all has_count es ≡ true → edge_count (map (node_of_entry entries) es) ≤ MOST_SUCCESSORS * length es
 edges_few entries [] h = omega arith
 edges_few entries (e ∷ es) h =
     let parts = and_parts (has_count e) (list_all has_count es) h in

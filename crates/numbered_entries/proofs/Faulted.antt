@@ -11,7 +11,8 @@ use Rattle.cpe_rows.specs.Names.{is_same}
 use Rattle.cpe_rows.specs.Rows.{is_named}
 use Rattle.cpe_rows.specs.Chains.{leads_to}
 use Rattle.cpe_rows.specs.Faults.{repeated_from}
-use Rattle.cpe_rows.specs.Limits.{is_wide, most_ends}
+use Rattle.cpe_rows.specs.Limits.{is_wide}
+use Rattle.cpe_rows.specs.declared.limits.TheConstants.{MOST_ENDS}
 use Rattle.cpe_rows.specs.declared.entry.Entry.{Entry}
 use Rattle.deprecation_graph.specs.Graph.{next_in, active_in}
 use Rattle.deprecation_graph.specs.Chains.{reaches, ends_of}
@@ -134,7 +135,7 @@ width_law widths numbered marked entries different =
     let nodes = nodes_of_entries entries in
     let count : length nodes ≡ length entries = length-map entries (node_of_entry entries) in
     find_at (is_wide entries) (is_wide_in nodes) entries entries 0 (λ i. ap (slice_get entries) (sym (zero-add i))) (λ i x here.
-    ap (nat_lt most_ends) (
+    ap (nat_lt MOST_ENDS) (
     widths entries (next_in nodes) (active_in nodes) i x (numbered entries different) (marked entries) here
     ∙ ap (λ (c : ℕ). length (ends_of (next_in nodes) (active_in nodes) c i)) (sym count)
     )

@@ -7,7 +7,8 @@ use Rattle.cpe_rows.specs.Rows.{is_named}
 use Rattle.cpe_rows.specs.After.{changed}
 use Rattle.cpe_rows.specs.Chains.{leads_to}
 use Rattle.cpe_rows.specs.Faults.{place_of, repeated_from}
-use Rattle.cpe_rows.specs.Limits.{is_wide, most_successors}
+use Rattle.cpe_rows.specs.Limits.{is_wide}
+use Rattle.cpe_rows.specs.declared.limits.TheConstants.{MOST_SUCCESSORS}
 use Rattle.cpe_rows.specs.Lawful.{are_different, has_count}
 use Rattle.cpe_rows.specs.declared.entry.Entry.{Entry}
 use Rattle.deprecation_graph.specs.Graph.{edge_count}
@@ -57,4 +58,4 @@ WidthByNumber = (entries : List Entry) → AreDifferent entries → find (is_wid
 
 -- there are few edges, where deprecations have few successors
 abbrev pub EdgesAreFew : Type 0
-EdgesAreFew = (entries : List Entry) → list_all has_count entries ≡ true → edge_count (nodes_of_entries entries) ≤ most_successors * length entries
+EdgesAreFew = (entries : List Entry) → list_all has_count entries ≡ true → edge_count (nodes_of_entries entries) ≤ MOST_SUCCESSORS * length entries

@@ -1,8 +1,4 @@
 // Laws of entries and their numbers. These functions do nothing: their clauses are the laws.
-ghost use Rattle.std.specs.Prelude.{◌≡◌};
-ghost use Rattle.cpe_rows.specs.Limits.{most, most_ends, most_successors};
-ghost use Rattle.cpe_rows.specs.declared.fault.Which.TheVariants as limit;
-ghost use Rattle.deprecation_graph.specs.declared.limits.TheConstants.{MOST_ENDS, MOST_SUCCESSORS, MOST_NODES};
 ghost use Rattle.numbered_entries.specs.Numbers.{ChainsByNumber, EndsByNumber, WidthsByNumber, PathsByNumber, NodesAreNumbered, NodesAreMarked, ChangesByNumber, AdditionsByNumber};
 ghost use Rattle.numbered_entries.specs.Answers.{ChainsOfNodes, EndsOfNodes};
 ghost use Rattle.numbered_entries.specs.Edits.{KnownAreEntries, EditsAreChanges, NamesStayDifferent, WidthAfterByNumber};
@@ -48,7 +44,7 @@ pub fn answers_by_number()
 }
 
 /// A change of the entry of a name writes at that entry's number. Names of entries have as many numbers, each that of an entry.
-/// Where no deprecation has more successors than it may, there are at most `most_successors` edges for each entry.
+/// Where no deprecation has more successors than it may, there are at most `MOST_SUCCESSORS` edges for each entry.
 pub fn edits_by_number()
     ensures writes { WritesByNumber }
     ensures numbers { NamesHaveNumbers }
@@ -82,10 +78,3 @@ pub fn edits_are_changes()
     edits_by_number();
     faults_by_number();
 }
-
-/// The rows and the graph have the same limits of ends, of successors, and of entries, which are its nodes.
-pub fn limits_are_one()
-    ensures ends { most_ends ≡ MOST_ENDS }
-    ensures successors { most_successors ≡ MOST_SUCCESSORS }
-    ensures entries { most limit.Entries ≡ MOST_NODES }
-{}

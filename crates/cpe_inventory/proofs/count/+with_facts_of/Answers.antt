@@ -1,5 +1,5 @@
 use Rattle.std.proofs.Common.{take_all}
-use Rattle.cpe_inventory.proofs.StatementLemmas.{names-logic}
+use Rattle.cpe_rows.proofs.TestNames.{names-logic}
 use Rattle.cpe_inventory.proofs.count.+with_facts_of.Goals as goal
 
 pub returns-after-loop-child : goal.returns-after-loop-child

@@ -38,6 +38,7 @@ returns-clause-ok c =
     record {
       accepted = record {
         lawful = c.requires.kept.lawful;
+        formed = c.formed.ensures;
         valid = c.requires.valid;
         accepted = c.causes_refuse.ensures.accepted rows e c.requires.kept.lawful.within none weighed.light;
       };

@@ -1,0 +1,90 @@
+// What edits have by the types of their parts. These functions do nothing: their clauses are facts of every edit.
+ghost use Rattle.std.specs.Prelude.{All};
+ghost use Rattle.cpe_name.specs.Names.{IsName};
+ghost use Rattle.cpe_rows.specs.Chains.{successors_of};
+ghost use Rattle.cpe_rows.specs.FactNames.{fact_names};
+ghost use Rattle.cpe_rows.specs.Formed.{IsDated, IsFormed, IsFormedEntry, IsFormedStatement};
+
+use crate::{Edit, Entry, Note, Statement, Test};
+use cpe_name::Wfn;
+
+fn are_names(names: &[Wfn])
+    ensures { All IsName names.now }
+{
+    for name in names {
+        name.lawful();
+    }
+}
+
+fn are_dated(notes: &[Note])
+    ensures { All IsDated notes.now }
+{
+    for note in notes {
+        note.date.lawful();
+    }
+}
+
+fn are_facts(test: &Test)
+    ensures { All IsName (fact_names test.now) }
+{
+    match test {
+        Test::Logic { of, .. } => {
+            for child in of.as_slice() {
+                are_facts(child);
+            }
+        }
+        Test::Fact(name) => name.lawful(),
+        Test::Check(_) => {}
+    }
+}
+
+fn is_formed_entry(entry: &Entry)
+    ensures { IsFormedEntry entry.now }
+{
+    entry.name.lawful();
+    are_dated(entry.provenance.notes.as_slice());
+    if let Some(deprecation) = &entry.deprecation {
+        are_names(deprecation.successors.as_slice());
+    }
+}
+
+fn is_formed_statement(statement: &Statement)
+    ensures { IsFormedStatement statement.now }
+{
+    are_facts(&statement.test);
+}
+
+impl Edit {
+    /// What is so of every edit: its names are well-formed (NIST IR 7695, 5), and its dates have the shape of one. It does nothing, and
+    /// tells a proof so.
+    pub fn formed(&self)
+        ensures { IsFormed self.now }
+    {
+        match self {
+            Edit::Entry(entry) => is_formed_entry(entry),
+            Edit::Item(name) | Edit::DropItem(name) => name.lawful(),
+            Edit::Deprecate {
+                name,
+                deprecation,
+                date,
+                ..
+            }
+            | Edit::Amend {
+                name,
+                deprecation,
+                date,
+                ..
+            } => {
+                name.lawful();
+                are_names(deprecation.successors.as_slice());
+                date.lawful();
+            }
+            Edit::Restore { name, date, .. } => {
+                name.lawful();
+                date.lawful();
+            }
+            Edit::PutStatement(statement) => is_formed_statement(statement),
+            Edit::DropStatement(_) | Edit::SetCheck { .. } | Edit::DropCheck(_) => {}
+        }
+    }
+}
