@@ -23,3 +23,10 @@ pub record IsPut (p : ℕ → Bool) (number : ℕ) (old new : List ℕ) : Type 0
   pub passing : AllAre p true front
   pub failing : AllAre p false back
   pub put : new ≡ front ++ (number ∷ back)
+
+-- a number was taken out where it stood
+pub record IsTaken (number : ℕ) (old new : List ℕ) : Type 0 where
+  pub front : List ℕ
+  pub back : List ℕ
+  pub whole : old ≡ front ++ (number ∷ back)
+  pub left : new ≡ front ++ back

@@ -1,10 +1,12 @@
 // The list.
 ghost use Rattle.std.specs.Prelude.{◌≡◌, true, false, not, ◌&&◌, [], IsOk, OnOk, filter};
-ghost use Rattle.number_blocks.specs.Blocks.{IsParted, IsPut};
+ghost use Rattle.std.specs.List.{Contains};
+ghost use Rattle.number_blocks.specs.Blocks.{IsParted, IsPut, IsTaken};
 
 use crate::piece::{Piece, all_of, piece_between};
 use crate::put::{BLOCK, put_at, put_first, take_spare};
-use crate::search::{Test, find};
+use crate::search::{Test, find, find_block};
+use crate::take::{place_of, take_and_join};
 use std::alloc::{AllocError, Global};
 use std::marker::Model;
 
@@ -65,6 +67,22 @@ impl Blocks {
         }
         let place = find(&self.blocks, test);
         put_at(&mut self.blocks, &mut self.spare, place, number);
+    }
+
+    /// Takes out a number that fails the test. Where numbers that fail it stand before this one, it goes over them. It takes no
+    /// memory.
+    pub fn take<T: Test>(&mut self, test: &T, number: u32)
+        requires parted { IsParted (T.passes test.now) self.old.items }
+        requires fails { T.passes test.now number ≡ false }
+        requires there { Contains self.old.items number }
+        ensures { IsTaken number self.old.items self.new.items }
+    {
+        if self.blocks.is_empty() {
+            unreachable!();
+        }
+        let from = find_block(&self.blocks, test);
+        let place = place_of(&self.blocks, from, number);
+        take_and_join(&mut self.blocks, place);
     }
 
     /// All numbers.

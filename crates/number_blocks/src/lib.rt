@@ -2,13 +2,15 @@
 //!
 //! Contracts see the list. Where a number goes, and which numbers are asked for, is told by a [`Test`] that holds of a front
 //! of the list: binary searches over the blocks and in one of them find where it ends. A [`Piece`] is a walk over numbers
-//! that stand side by side; it takes no memory.
+//! that stand side by side; it takes no memory. Where numbers are taken out, two blocks side by side that would fill no more
+//! than half a block become one, so the memory stays in proportion to the numbers.
 #![tactic(auto)]
 
 mod blocks;
 mod piece;
 mod put;
 mod search;
+mod take;
 
 pub use blocks::Blocks;
 pub use piece::Piece;

@@ -12,7 +12,7 @@ use std::mem::replace;
 // How many numbers a block has at most.
 pub(crate) const BLOCK: usize = 1024;
 
-const HALF: usize = 512;
+pub(crate) const HALF: usize = 512;
 
 fn has_space(block: &[u32]) -> bool
     ensures space { OnTrue result (length block.now < BLOCK) }

@@ -68,7 +68,7 @@ fn count_in<T: Test>(block: &[u32], test: &T) -> usize
 }
 
 // The first block that ends with a number that fails, or the last one.
-fn find_block<T: Test>(blocks: &[Vec<u32>], test: &T) -> usize
+pub(crate) fn find_block<T: Test>(blocks: &[Vec<u32>], test: &T) -> usize
     requires some { 0 < length blocks.now }
     requires filled { AreFilled blocks.now }
     requires parted { IsParted (T.passes test.now) (flat blocks.now) }

@@ -1,7 +1,8 @@
 pub mod Texts
 pub mod Runs
 pub mod Orders
-pub mod Added
+pub mod Live
+pub mod Placed
 pub mod WalkSteps
 pub mod Lower
 pub mod Sums

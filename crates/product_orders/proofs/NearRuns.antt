@@ -16,7 +16,8 @@ use Rattle.product_orders.specs.declared.keys.End.TheVariants as end
 use Rattle.product_orders.specs.declared.keys.Shape.{Shape}
 use Rattle.product_orders.specs.declared.keys.Shape.TheVariants as shape
 use Rattle.product_orders.specs.Elements.{SameElements}
-use Rattle.product_orders.specs.Keys.{shape_by, shape_of, rank, body_of, in_run, value_at}
+use Rattle.product_orders.specs.Keys.{shape_by, shape_of, rank, body_of, in_run}
+use Rattle.product_orders.specs.Listed.{value_at, Listed}
 use Rattle.product_orders.specs.Walk.{runs, all_runs}
 use Rattle.product_orders.proofs.Texts.{nat_Decides}
 use Rattle.product_orders.proofs.Orders.{agree, same_text, text_same}
@@ -25,13 +26,13 @@ use Rattle.product_orders.proofs.Sums.{if_passes, sum_filter, sum_stronger, sum_
 
 -- ---- runs by sums
 
-pub runs_same : (values : List Value) (xs ys : List ℕ) (r : Shape) (piece : ℕ → List ℕ) (k : ℕ) → SameElements xs ys → SameElements (runs values xs r piece k) (runs values ys r piece k)
+pub runs_same : (values : Listed) (xs ys : List ℕ) (r : Shape) (piece : ℕ → List ℕ) (k : ℕ) → SameElements xs ys → SameElements (runs values xs r piece k) (runs values ys r piece k)
 runs_same values xs ys r piece zero same f = refl
 runs_same values xs ys r piece (suc k) same f =
     let here = λ (n : ℕ). in_run end.Front r (piece k) true (value_at values n) in
     omega (arith, sum_by-append f (filter here xs) (runs values xs r piece k), sum_by-append f (filter here ys) (runs values ys r piece k), filter_same here xs ys same f, runs_same values xs ys r piece k same f)
 
-pub all_same : (values : List Value) (xs ys text : List ℕ) (k m : ℕ) → SameElements xs ys → SameElements (all_runs values xs text k m) (all_runs values ys text k m)
+pub all_same : (values : Listed) (xs ys text : List ℕ) (k m : ℕ) → SameElements xs ys → SameElements (all_runs values xs text k m) (all_runs values ys text k m)
 all_same values xs ys text k m same f =
     let front = λ (j : ℕ). take j text in
     let end_ = λ (j : ℕ). drop (length text - j) text in
@@ -40,7 +41,7 @@ all_same values xs ys text k m same f =
 -- ---- no product has the shape
 
 -- then it is in no run of the shape
-module _ (values : List Value) (ns : List ℕ) (s : Shape) (found : List ℕ) (shaped : SameElements (filter (λ n. in_run end.Front s [] false (value_at values n)) ns) found) (none : found ≡ []) where
+module _ (values : Listed) (ns : List ℕ) (s : Shape) (found : List ℕ) (shaped : SameElements (filter (λ n. in_run end.Front s [] false (value_at values n)) ns) found) (none : found ≡ []) where
   abbrev of_shape : ℕ → Bool
   of_shape n = in_run end.Front s [] false (value_at values n)
 
@@ -61,7 +62,7 @@ abbrev pub adds : Shape → (ℕ → List ℕ) → ℕ → Value → ℕ → ℕ
 adds r piece zero v w = 0
 adds r piece (suc k) v w = cond (in_run end.Front r (piece k) true v) w 0 + adds r piece k v w
 
-pub runs_sum : (values : List Value) (order : List ℕ) (r : Shape) (piece : ℕ → List ℕ) (f : ℕ → ℕ) (k : ℕ) → sum_by f (runs values order r piece k) ≡ sum_by (λ n. adds r piece k (value_at values n) (f n)) order
+pub runs_sum : (values : Listed) (order : List ℕ) (r : Shape) (piece : ℕ → List ℕ) (f : ℕ → ℕ) (k : ℕ) → sum_by f (runs values order r piece k) ≡ sum_by (λ n. adds r piece k (value_at values n) (f n)) order
 runs_sum values order r piece f zero = sym (sum_none order)
 runs_sum values order r piece f (suc k) =
     let here = λ (n : ℕ). in_run end.Front r (piece k) true (value_at values n) in
@@ -211,7 +212,7 @@ over_is t (value.Text p) w low h plain =
 
 -- ---- all products
 
-module _ (values : List Value) (ns : List ℕ) (t : Parts) (lower : (n : ℕ) → lower_value (value_at values n) ≡ value_at values n) (low : lower_value (value.Text t) ≡ value.Text t) (plain : shape_of (value.Text t) ≡ shape.Plain) where
+module _ (values : Listed) (ns : List ℕ) (t : Parts) (lower : (n : ℕ) → lower_value (value_at values n) ≡ value_at values n) (low : lower_value (value.Text t) ≡ value.Text t) (plain : shape_of (value.Text t) ≡ shape.Plain) where
   abbrev at_ : ℕ → Value
   at_ n = value_at values n
 
@@ -297,7 +298,7 @@ near_special t value.Any h = refl
 near_special t value.Na h = refl
 near_special t (value.Text p) h = ap (λ (b : Bool). not b && near_plain p t.body) (special (is_nothing t.lead) (is_nothing t.trail) h) ∙ near_any (value.Text p)
 
-module _ (values : List Value) (ns : List ℕ) where
+module _ (values : Listed) (ns : List ℕ) where
   -- one run alone, and two
   pub one_run : (p : ℕ → Bool) (xs found : List ℕ) → SameElements (filter p ns) xs → SameElements (xs ++ [] ++ [] ++ all_runs values ns [] 0 0) found → SameElements (filter p ns) found
   one_run p xs found a whole f = a f ∙ omega (arith, whole f, sum_by-append f (xs ++ [] ++ []) [], sum_by-append f (xs ++ []) [], sum_by-append f xs [])

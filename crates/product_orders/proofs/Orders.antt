@@ -16,7 +16,8 @@ use Rattle.cpe_values.specs.declared.value.Value.{Value}
 use Rattle.product_orders.specs.declared.keys.End.{End}
 use Rattle.product_orders.specs.declared.keys.End.TheVariants as end
 use Rattle.product_orders.specs.declared.keys.Shape.{Shape}
-use Rattle.product_orders.specs.Keys.{shape_of, rank, body_of, turned, text_order, key, in_run, is_below, value_at, NotAbove, Rises}
+use Rattle.product_orders.specs.Keys.{shape_of, rank, body_of, turned, text_order, key, in_run, is_below, NotAbove, Rises}
+use Rattle.product_orders.specs.Listed.{value_at, Listed}
 use Rattle.product_orders.proofs.Texts.{text_itself, below_or_starts, not_below, touches_key, nat_Decides}
 use Rattle.product_orders.proofs.Runs.{parted, put_ordered}
 
@@ -97,7 +98,7 @@ meets_not_below false k x h = not_below k x h
 
 -- ---- numbers
 
-module _ (values : List Value) (e : End) (r : Shape) (body : List ℕ) (whole : Bool) where
+module _ (values : Listed) (e : End) (r : Shape) (body : List ℕ) (whole : Bool) where
   abbrev pub before : ℕ → Bool
   before n = is_below e r body (value_at values n)
 
@@ -139,7 +140,7 @@ module _ (values : List Value) (e : End) (r : Shape) (body : List ℕ) (whole : 
 less_not_above : (x y : List ℕ) → is_lt (text_order x y) ≡ true → is_lt (text_order y x) ≡ false
 less_not_above x y h = ap is_lt (nat_list_cmp_total.antisymm y x ∙ ap ordering_reverse (lt_is _ h))
 
-module _ (e : End) (values : List Value) (n : ℕ) where
+module _ (e : End) (values : Listed) (n : ℕ) where
   -- which products stand before that of the number
   abbrev pub earlier : ℕ → Bool
   earlier m = is_below e (shape_of (value_at values n)) (body_of (value_at values n)) (value_at values m)

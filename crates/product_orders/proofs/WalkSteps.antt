@@ -2,16 +2,16 @@
 use Rattle.std.proofs.Common.{◌≡◌, ℕ, suc, ◌-◌, ◌<◌, true, List, [], ◌++◌, length, take, drop, sym, ap, ◌∙◌, append_assoc, arith}
 use Rattle.std.specs.List.{filter}
 use Rattle.std.proofs.lemmas.List.{nil_from_length, append-nil}
-use Rattle.cpe_values.specs.declared.value.Value.{Value}
 use Rattle.product_orders.specs.declared.keys.End.TheVariants as end
 use Rattle.product_orders.specs.declared.keys.Shape.TheVariants as shape
-use Rattle.product_orders.specs.Keys.{in_run, value_at}
+use Rattle.product_orders.specs.Keys.{in_run}
+use Rattle.product_orders.specs.Listed.{value_at, Listed}
 use Rattle.product_orders.specs.Walk.{runs, all_runs, StandsIn}
 
 pub none_left : (xs : List ℕ) → length xs ≡ 0 → xs ≡ []
 none_left xs h = nil_from_length xs h
 
-module _ (values : List Value) (order text : List ℕ) where
+module _ (values : Listed) (order text : List ℕ) where
   abbrev fronts_run : ℕ → List ℕ
   fronts_run k = filter (λ n. in_run end.Front shape.WithTrail (take k text) true (value_at values n)) order
 

@@ -1,6 +1,6 @@
 -- Products as they are compared: first by their shapes, then by their bodies, from the front or from the back.
-use Rattle.std.specs.Prelude.{◌≡◌, ℕ, Bool, false, ◌&&◌, nat_eq, if◌then◌else◌, List, [], ◌∷◌, reverse, get_or}
-use Rattle.std.specs.List.{AllByRecursion, starts_with, ends_with, range_with_len}
+use Rattle.std.specs.Prelude.{◌≡◌, ℕ, Bool, false, ◌&&◌, nat_eq, if◌then◌else◌, List, [], ◌∷◌, reverse}
+use Rattle.std.specs.List.{AllByRecursion, starts_with, ends_with}
 use Rattle.std.specs.Ordering.{nat_cmp, is_lt}
 use Rattle.std.proofs.Common.{Ordering}
 use Rattle.std.specs.Cmp.Lexicographic.{slice_cmp}
@@ -12,9 +12,7 @@ use Rattle.product_orders.specs.declared.keys.End.{End}
 use Rattle.product_orders.specs.declared.keys.End.TheVariants as end
 use Rattle.product_orders.specs.declared.keys.Shape.{Shape}
 use Rattle.product_orders.specs.declared.keys.Shape.TheVariants as shape
-
-abbrev pub Product : Type 0
-Product = Value
+use Rattle.product_orders.specs.Listed.{Listed, value_at}
 
 -- by whether nothing stands before the body, and nothing behind it
 abbrev pub shape_by : Bool → Bool → Shape
@@ -68,22 +66,14 @@ in_run e s body whole v = nat_eq (rank s) (rank (shape_of v)) && has_by whole e 
 abbrev pub is_below : End → Shape → List ℕ → Value → Bool
 is_below e s body v = is_lt (text_order (key e v) (rank s ∷ turned e body))
 
--- the product of a number; ANY where there is none
-abbrev pub value_at : List Value → ℕ → Value
-value_at values n = get_or values n value.Any
-
 -- each element stands in the relation to all those after it
 abbrev pub Ordered : {X : Type 0} → (X → X → Type 0) → List X → Type 0
 Ordered R [] = Unit {0}
 Ordered R (x ∷ xs) = AllByRecursion (λ y. R x y) xs × Ordered R xs
 
-abbrev pub NotAbove : End → List Value → ℕ → ℕ → Type 0
+abbrev pub NotAbove : End → Listed → ℕ → ℕ → Type 0
 NotAbove e values m n = is_lt (text_order (key e (value_at values n)) (key e (value_at values m))) ≡ false
 
 -- numbers such that no product stands before one that is less; products with the same body may stand either way
-abbrev pub Rises : End → List Value → List ℕ → Type 0
+abbrev pub Rises : End → Listed → List ℕ → Type 0
 Rises e values order = Ordered (NotAbove e values) order
-
--- the numbers of so many products
-abbrev pub numbers : ℕ → List ℕ
-numbers n = range_with_len 0 n

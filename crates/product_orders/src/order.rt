@@ -1,12 +1,13 @@
 // Numbers in the order of their products.
 ghost use Rattle.std.specs.Prelude.{◌≡◌, ◌||◌, ◌∷◌, true};
-ghost use Rattle.std.specs.List.{filter};
+ghost use Rattle.std.specs.List.{filter, Contains};
 ghost use Rattle.std.specs.List.Sorted.{IsPermutation};
-ghost use Rattle.product_orders.specs.Keys.{shape_of, body_of, in_run, is_below, value_at, Rises};
+ghost use Rattle.product_orders.specs.Keys.{shape_of, body_of, in_run, is_below, Rises};
+ghost use Rattle.product_orders.specs.Listed.{value_at};
+ghost use Rattle.product_orders.specs.Elements.{SameElements};
 
 use crate::keys::{End, Shape, body_of, compare_keys, has_body, rank, shape_of};
-use cpe_values::Value;
-use indexmap::IndexSet;
+use crate::numbered::Numbered;
 use number_blocks::{Blocks, Piece, Test};
 use std::cmp::Ordering;
 
@@ -20,33 +21,33 @@ pub(crate) struct Run<'a> {
 }
 
 // The shape of a number's product, and its body.
-fn key_of(values: &IndexSet<Value>, number: u32) -> (Shape, &[u8])
-    ensures shape { result.0 ≡ shape_of (value_at values.now.keys number) }
-    ensures body { result.1.now ≡ body_of (value_at values.now.keys number) }
+fn key_of(values: &Numbered, number: u32) -> (Shape, &[u8])
+    ensures shape { result.0 ≡ shape_of (value_at values.now number) }
+    ensures body { result.1.now ≡ body_of (value_at values.now number) }
 {
-    match values.get_index(number as usize) {
+    match values.get(number) {
         Some(value) => (shape_of(value), body_of(value)),
         None => (Shape::Any, &[]),
     }
 }
 
 // Whether a number's product stands before the run.
-fn is_below(values: &IndexSet<Value>, run: Run, number: u32) -> bool
-    ensures { result ≡ is_below run.entry.end run.entry.shape run.entry.body.now (value_at values.now.keys number) }
+fn is_below(values: &Numbered, run: Run, number: u32) -> bool
+    ensures { result ≡ is_below run.entry.end run.entry.shape run.entry.body.now (value_at values.now number) }
 {
     let (shape, body) = key_of(values, number);
     compare_keys(run.end, shape, body, run.shape, run.body) == Ordering::Less
 }
 
-fn is_in(values: &IndexSet<Value>, run: Run, number: u32) -> bool
-    ensures { result ≡ in_run run.entry.end run.entry.shape run.entry.body.now run.entry.whole (value_at values.now.keys number) }
+fn is_in(values: &Numbered, run: Run, number: u32) -> bool
+    ensures { result ≡ in_run run.entry.end run.entry.shape run.entry.body.now run.entry.whole (value_at values.now number) }
 {
     let (shape, body) = key_of(values, number);
     rank(run.shape) == rank(shape) && has_body(run.whole, run.end, run.body, body)
 }
 
-fn is_within(values: &IndexSet<Value>, run: Run, number: u32) -> bool
-    ensures { result ≡ (is_below run.entry.end run.entry.shape run.entry.body.now (value_at values.now.keys number) || in_run run.entry.end run.entry.shape run.entry.body.now run.entry.whole (value_at values.now.keys number)) }
+fn is_within(values: &Numbered, run: Run, number: u32) -> bool
+    ensures { result ≡ (is_below run.entry.end run.entry.shape run.entry.body.now (value_at values.now number) || in_run run.entry.end run.entry.shape run.entry.body.now run.entry.whole (value_at values.now number)) }
 {
     is_below(values, run, number) || is_in(values, run, number)
 }
@@ -54,12 +55,12 @@ fn is_within(values: &IndexSet<Value>, run: Run, number: u32) -> bool
 // Which numbers stand before the run.
 #[derive(Clone, Copy)]
 struct Below<'a> {
-    values: &'a IndexSet<Value>,
+    values: &'a Numbered,
     run: Run<'a>,
 }
 
 impl<'a> Test for Below<'a> {
-    ghost passes = { λ b n. is_below b.run.end b.run.shape b.run.body.now (value_at b.values.now.keys n) };
+    ghost passes = { λ b n. is_below b.run.end b.run.shape b.run.body.now (value_at b.values.now n) };
 
     #[inline(always)]
     fn test(&self, number: u32) -> bool {
@@ -70,12 +71,12 @@ impl<'a> Test for Below<'a> {
 // Which numbers stand before the run or in it.
 #[derive(Clone, Copy)]
 struct Within<'a> {
-    values: &'a IndexSet<Value>,
+    values: &'a Numbered,
     run: Run<'a>,
 }
 
 impl<'a> Test for Within<'a> {
-    ghost passes = { λ b n. (is_below b.run.end b.run.shape b.run.body.now (value_at b.values.now.keys n) || in_run b.run.end b.run.shape b.run.body.now b.run.whole (value_at b.values.now.keys n)) };
+    ghost passes = { λ b n. (is_below b.run.end b.run.shape b.run.body.now (value_at b.values.now n) || in_run b.run.end b.run.shape b.run.body.now b.run.whole (value_at b.values.now n)) };
 
     #[inline(always)]
     fn test(&self, number: u32) -> bool {
@@ -84,9 +85,9 @@ impl<'a> Test for Within<'a> {
 }
 
 // The numbers whose products are in the run.
-pub(crate) fn in_run<'a>(values: &IndexSet<Value>, order: &'a Blocks, run: Run) -> Piece<'a>
-    requires { Rises run.end values.now.keys order.now.items }
-    ensures { result ≡ filter (λ n. in_run run.entry.end run.entry.shape run.entry.body.now run.entry.whole (value_at values.now.keys n)) order.now.items }
+pub(crate) fn in_run<'a>(values: &Numbered, order: &'a Blocks, run: Run) -> Piece<'a>
+    requires { Rises run.end values.now order.now.items }
+    ensures { result ≡ filter (λ n. in_run run.entry.end run.entry.shape run.entry.body.now run.entry.whole (value_at values.now n)) order.now.items }
 {
     let below = Below { values, run };
     let within = Within { values, run };
@@ -94,10 +95,10 @@ pub(crate) fn in_run<'a>(values: &IndexSet<Value>, order: &'a Blocks, run: Run) 
 }
 
 // Puts a number behind those whose products stand before its own. It takes no memory.
-pub(crate) fn put_number(values: &IndexSet<Value>, order: &mut Blocks, end: End, number: u32)
-    requires rises { Rises end values.now.keys order.old.items }
+pub(crate) fn put_number(values: &Numbered, order: &mut Blocks, end: End, number: u32)
+    requires rises { Rises end values.now order.old.items }
     requires ready { order.old.ready ≡ true }
-    ensures rises { Rises end values.now.keys order.new.items }
+    ensures rises { Rises end values.now order.new.items }
     ensures added { IsPermutation (number ∷ order.old.items) order.new.items }
 {
     let (shape, body) = key_of(values, number);
@@ -109,4 +110,22 @@ pub(crate) fn put_number(values: &IndexSet<Value>, order: &mut Blocks, end: End,
     };
     let below = Below { values, run };
     order.put(&below, number);
+}
+
+// Takes out a number: it goes over those with the same body. It takes no memory.
+pub(crate) fn take_number(values: &Numbered, order: &mut Blocks, end: End, number: u32)
+    requires rises { Rises end values.now order.old.items }
+    requires there { Contains order.old.items number }
+    ensures rises { Rises end values.now order.new.items }
+    ensures taken { SameElements order.old.items (number ∷ order.new.items) }
+{
+    let (shape, body) = key_of(values, number);
+    let run = Run {
+        end,
+        shape,
+        body,
+        whole: true,
+    };
+    let below = Below { values, run };
+    order.take(&below, number);
 }

@@ -8,22 +8,23 @@ ghost use Rattle.cpe_values.specs.declared.value.Value.TheVariants.{Text};
 ghost use Rattle.product_orders.specs.declared.keys.End.TheVariants as end;
 ghost use Rattle.product_orders.specs.declared.keys.Shape.TheVariants as shapes;
 ghost use Rattle.product_orders.specs.Elements.{SameElements};
-ghost use Rattle.product_orders.specs.Keys.{value_at, in_run, numbers, shape_of};
+ghost use Rattle.product_orders.specs.Keys.{in_run, shape_of};
+ghost use Rattle.product_orders.specs.Listed.{value_at, live};
 ghost use Rattle.product_orders.specs.Near.{near_on};
 ghost use Rattle.product_orders.specs.Walk.{runs, all_runs};
 
 use crate::keys::{End, Shape, text_shape};
+use crate::numbered::Numbered;
 use crate::order::{Run, in_run};
 use crate::products::{Products, Side};
 use cpe_values::{Pattern, Value};
-use indexmap::IndexSet;
 use number_blocks::{Blocks, Piece};
 use std::marker::Model;
 
 /// The numbers of products near a product on a side, each once. Contracts see those that are left. A step takes no memory.
 #[derive(Drop)]
 pub struct NearProducts<'a> {
-    values: &'a IndexSet<Value>,
+    values: &'a Numbered,
     order: &'a Blocks,
     // What is left of three runs, one after another.
     first: Piece<'a>,
@@ -42,9 +43,9 @@ impl<'a> Model for NearProducts<'a> {
 
     ghost Value = { List ℕ };
 
-    ghost view = { λ a. a.first ++ a.second ++ a.third ++ all_runs a.values.now.keys a.order.now.items a.text.now a.fronts a.ends };
+    ghost view = { λ a. a.first ++ a.second ++ a.third ++ all_runs a.values.now a.order.now.items a.text.now a.fronts a.ends };
 
-    ghost invariant = { λ a. StandsIn a.values.now.keys a.order.now.items a.text.now a.fronts a.ends };
+    ghost invariant = { λ a. StandsIn a.values.now a.order.now.items a.text.now a.fronts a.ends };
 }
 
 // So many last bytes.
@@ -104,7 +105,7 @@ impl<'a> Iterator for NearProducts<'a> {
 impl Products {
     // The products of a shape that have the body in front, or whose body it is.
     fn front_run(&self, shape: Shape, body: &[u8], whole: bool) -> Piece<'_>
-        ensures { SameElements (filter (λ n. in_run end.Front shape body.now whole (value_at self.now n)) (numbers (length self.now))) result }
+        ensures { SameElements (filter (λ n. in_run end.Front shape body.now whole (value_at self.now n)) (live self.now)) result }
     {
         let run = Run {
             end: End::Front,
@@ -117,7 +118,7 @@ impl Products {
 
     // The products of a shape that have the body at the end.
     fn end_run(&self, shape: Shape, body: &[u8]) -> Piece<'_>
-        ensures { SameElements (filter (λ n. in_run end.Back shape body.now false (value_at self.now n)) (numbers (length self.now))) result }
+        ensures { SameElements (filter (λ n. in_run end.Back shape body.now false (value_at self.now n)) (live self.now)) result }
     {
         let run = Run {
             end: End::Back,
@@ -129,7 +130,7 @@ impl Products {
     }
 
     fn all(&self) -> Piece<'_>
-        ensures { SameElements (numbers (length self.now)) result }
+        ensures { SameElements (live self.now) result }
     {
         self.fronts.all()
     }
@@ -137,7 +138,7 @@ impl Products {
     // The products to which a text is near: one run.
     fn near_text(&self, text: &Pattern) -> Piece<'_>
         requires { lower_value (Text text.now) ≡ Text text.now }
-        ensures { SameElements (filter (λ n. near (Text text.now) (value_at self.now n)) (numbers (length self.now))) result }
+        ensures { SameElements (filter (λ n. near (Text text.now) (value_at self.now n)) (live self.now)) result }
     {
         self.lawful();
         match text_shape(text) {
@@ -151,7 +152,7 @@ impl Products {
     // The products to which a product is near: one run.
     fn near_targets(&self, asked: &Value) -> Piece<'_>
         requires { lower_value asked.now ≡ asked.now }
-        ensures { SameElements (filter (λ n. near asked.now (value_at self.now n)) (numbers (length self.now))) result }
+        ensures { SameElements (filter (λ n. near asked.now (value_at self.now n)) (live self.now)) result }
     {
         self.lawful();
         match asked {
@@ -164,7 +165,7 @@ impl Products {
     // How many fronts of a text, or ends of it, may be the body of a product of the shape: none where no product has the shape.
     fn piece_count(&self, shape: Shape, text: &[u8]) -> usize
         ensures few { result ≤ length text.now + 1 }
-        ensures enough { (piece : ℕ → List ℕ) → SameElements (runs self.now (numbers (length self.now)) shape piece (length text.now + 1)) (runs self.now (numbers (length self.now)) shape piece result) }
+        ensures enough { (piece : ℕ → List ℕ) → SameElements (runs self.now (live self.now) shape piece (length text.now + 1)) (runs self.now (live self.now) shape piece result) }
     {
         if self.front_run(shape, &[], false).is_empty() {
             return 0;
@@ -185,7 +186,7 @@ impl Products {
     ) -> NearProducts<'a>
         requires fronts { fronts ≤ length text.now + 1 }
         requires ends { ends ≤ length text.now + 1 }
-        ensures { SameElements (first.entry ++ second.entry ++ third.entry ++ all_runs self.now (numbers (length self.now)) text.now fronts ends) result }
+        ensures { SameElements (first.entry ++ second.entry ++ third.entry ++ all_runs self.now (live self.now) text.now fronts ends) result }
     {
         NearProducts {
             values: &self.values,
@@ -203,8 +204,8 @@ impl Products {
     fn near_plain<'a>(&'a self, any: Piece<'a>, text: &'a Pattern) -> NearProducts<'a>
         requires lower { lower_value (Text text.now) ≡ Text text.now }
         requires plain { shape_of (Text text.now) ≡ shapes.Plain }
-        requires any { SameElements (filter (λ n. in_run end.Front shapes.Any [] false (value_at self.now n)) (numbers (length self.now))) any }
-        ensures { SameElements (filter (λ n. near (value_at self.now n) (Text text.now)) (numbers (length self.now))) result }
+        requires any { SameElements (filter (λ n. in_run end.Front shapes.Any [] false (value_at self.now n)) (live self.now)) any }
+        ensures { SameElements (filter (λ n. near (value_at self.now n) (Text text.now)) (live self.now)) result }
     {
         self.lawful();
         let body = text.stem();
@@ -218,7 +219,7 @@ impl Products {
     // The products that are near a product.
     fn near_sources<'a>(&'a self, asked: &'a Value) -> NearProducts<'a>
         requires { lower_value asked.now ≡ asked.now }
-        ensures { SameElements (filter (λ n. near (value_at self.now n) asked.now) (numbers (length self.now))) result }
+        ensures { SameElements (filter (λ n. near (value_at self.now n) asked.now) (live self.now)) result }
     {
         let any = self.front_run(Shape::Any, &[], false);
         match asked {
@@ -243,7 +244,7 @@ impl Products {
     /// there, one more for each of its fronts, and so with a lead alone for its ends.
     pub fn near<'a>(&'a self, asked: &'a Value, side: Side) -> NearProducts<'a>
         requires { lower_value asked.now ≡ asked.now }
-        ensures { SameElements (filter (λ n. near_on side asked.now (value_at self.now n)) (numbers (length self.now))) result }
+        ensures { SameElements (filter (λ n. near_on side asked.now (value_at self.now n)) (live self.now)) result }
     {
         match side {
             Side::Source => self.in_runs(

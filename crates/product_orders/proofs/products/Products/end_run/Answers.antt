@@ -1,17 +1,17 @@
-use Rattle.std.proofs.Common.{◌≡◌, ℕ, List, false, length, sym, ap, subst, ◌∙◌}
+use Rattle.std.proofs.Common.{◌≡◌, ℕ, false, sym, ap, subst, ◌∙◌}
 use Rattle.std.specs.List.{filter, sum_by}
-use Rattle.cpe_values.specs.declared.value.Value.{Value}
 use Rattle.product_orders.specs.declared.keys.End.TheVariants as end
 use Rattle.product_orders.specs.Elements.{SameElements}
-use Rattle.product_orders.specs.Keys.{in_run, value_at, numbers}
+use Rattle.product_orders.specs.Keys.{in_run}
+use Rattle.product_orders.specs.Listed.{value_at, live, Listed}
 use Rattle.product_orders.proofs.Sums.{filter_same}
 use Rattle.product_orders.proofs.products.Products.end_run.Goals as goal
 
 pub returns : goal.returns
 returns c =
-    let values = c.self.inside.values.keys in
+    let values = c.self.inside.values in
     let order = c.self.inside.backs.items in
     let has = λ (n : ℕ). in_run end.Back c.args.shape c.args.body.now false (value_at values n) in
     let found : c.in_run.result ≡ filter has order = c.in_run.ensures in
-    subst (λ (vs : List Value). SameElements (filter (λ n. in_run end.Back c.args.shape c.args.body.now false (value_at vs n)) (numbers (length vs))) c.in_run.result) c.self.view_is
-    (λ f. filter_same has (numbers (length values)) order c.self.invariant.back_all f ∙ ap (sum_by f) (sym found))
+    subst (λ (vs : Listed). SameElements (filter (λ n. in_run end.Back c.args.shape c.args.body.now false (value_at vs n)) (live vs)) c.in_run.result) c.self.view_is
+    (λ f. filter_same has (live values) order c.self.invariant.back_all f ∙ ap (sum_by f) (sym found))

@@ -1,5 +1,10 @@
-use Rattle.product_orders.proofs.Added.{one_place}
+use Rattle.std.proofs.Common.{◌≡◌, subst}
+use Rattle.cpe_values.specs.Lower.{lower_value}
+use Rattle.product_orders.specs.Listed.{Listed, value_at}
+use Rattle.product_orders.proofs.Live.{all_lower}
 use Rattle.product_orders.proofs.products.Products.lawful.Goals as goal
 
-pub returns-clause-different : goal.returns-clause-different
-returns-clause-different c m n v h k = one_place c.self.inside.values.keys m n v c.self.invariant.different (rw (← c.self.view_is) at h) (rw (← c.self.view_is) at k)
+pub returns-clause-lower : goal.returns-clause-lower
+returns-clause-lower c number =
+    let i = c.self.inside in
+    subst (λ (l : Listed). lower_value (value_at l number) ≡ value_at l number) c.self.view_is (all_lower i.values i.fronts.items i.backs.items c.self.invariant number)

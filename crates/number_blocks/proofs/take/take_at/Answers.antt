@@ -1,0 +1,44 @@
+use Rattle.std.proofs.Common.{◌≡◌, ◌<◌, List, ℕ, length, sym, ap, subst, ◌∙◌, arith}
+use Rattle.std.specs.List.{remove}
+use Rattle.number_blocks.specs.Places.{Block, flat, IsBlock, AreBlocks, block_at}
+use Rattle.number_blocks.proofs.BlockLemmas.{at_is, there, put_blocks}
+use Rattle.number_blocks.proofs.Taken.{block_taken, blocks_left, number_taken, less}
+use Rattle.number_blocks.proofs.take.take_at.Goals as goal
+
+pub returns-then-block_of-eq1-clause-taken : goal.returns-then-block_of-eq1-clause-taken
+returns-then-block_of-eq1-clause-taken c =
+    let bs = c.args.blocks.now.items in
+    let i = c.args.place.block in
+    let one = ap length (sym (c.block_of.ensures ∙ ap (λ (u : List Block). block_at u i) c.deref.ensures.value)) ∙ c.if-block_of-eq1.true in
+    ap flat c.take_block.ensures ∙ block_taken bs i c.args.place.at c.requires.inside c.requires.within one
+
+pub returns-then-block_of-eq1-clause-blocks : goal.returns-then-block_of-eq1-clause-blocks
+returns-then-block_of-eq1-clause-blocks c = subst AreBlocks (sym c.take_block.ensures) (blocks_left c.args.blocks.now.items c.args.place.block c.requires.blocks)
+
+pub take_in_block-requires : goal.take_in_block-requires
+take_in_block-requires c =
+    let bs = c.args.blocks.now.items in
+    let i = c.args.place.block in
+    let b = c.index_mut.result.now in
+    let is : b.items ≡ block_at bs i = ap (λ (u : Block). u.items) c.index_mut.ensures.value ∙ at_is bs i b c.requires.inside in
+    omega (arith, ap length is, c.requires.within)
+
+pub returns-clause-blocks : goal.returns-clause-blocks
+returns-clause-blocks c =
+    let bs = c.args.blocks.now.items in
+    let i = c.args.place.block in
+    let b = c.index_mut.result.now in
+    let is : b.items ≡ block_at bs i = ap (λ (u : Block). u.items) c.index_mut.ensures.value ∙ at_is bs i b c.requires.inside in
+    let is_b : IsBlock b = subst IsBlock (sym c.index_mut.ensures.value) (there bs i b c.requires.blocks c.requires.inside) in
+    let here : length (block_at bs i) ≡ length c.block_of.result.now = ap length (sym (c.block_of.ensures ∙ ap (λ (u : List Block). block_at u i) c.deref.ensures.value)) in
+    let more : 1 < length b.items = omega (arith, ap length is, here, c.requires.within, c.if-block_of-eq1.false) in
+    put_blocks c.take_in_block.new.block bs i c.requires.blocks
+    (less b c.take_in_block.new.block c.args.place.at is_b (omega (arith, ap length is, c.requires.within)) more c.take_in_block.ensures.items c.take_in_block.ensures.capacity)
+
+pub returns-clause-taken : goal.returns-clause-taken
+returns-clause-taken c =
+    let bs = c.args.blocks.now.items in
+    let i = c.args.place.block in
+    let b = c.index_mut.result.now in
+    let is : b.items ≡ block_at bs i = ap (λ (u : Block). u.items) c.index_mut.ensures.value ∙ at_is bs i b c.requires.inside in
+    number_taken c.take_in_block.new.block bs i c.args.place.at c.requires.inside (c.take_in_block.ensures.items ∙ ap (λ (u : List ℕ). remove u c.args.place.at) is)
