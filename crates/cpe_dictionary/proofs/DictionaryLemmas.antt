@@ -1,7 +1,7 @@
 -- A dictionary and its graph: answers, and what a change leaves.
-use Rattle.std.proofs.Common.{◌≡◌, ℕ, zero, suc, ◌+◌, ◌<◌, ◌≤◌, Bool, true, false, cond, not, List, [], ◌∷◌, map, find, length, refl, sym, ap, subst, ◌∙◌, position, slice_get, slice_set, eqb, arith}
+use Rattle.std.proofs.Common.{◌≡◌, ℕ, zero, suc, ◌+◌, ◌<◌, ◌≤◌, Bool, true, false, cond, not, List, [], ◌∷◌, map, find, length, refl, sym, ap, subst, ◌∙◌, position, slice_set, eqb, arith}
 use Rattle.std.specs.Prelude.{Option, Some, None, Result, Err, IfErr, is_some}
-use Rattle.std.specs.List.{Contains, list_any, range_with_len, sum_by}
+use Rattle.std.specs.List.{Contains, list_any, range_with_len}
 use Rattle.std.proofs.lemmas.Option.{same_Some, none-some, slice_get_within}
 use Rattle.std.proofs.lemmas.Map.Keys.{IsDistinct-from_apart}
 use Rattle.std.proofs.lemmas.List.{length-map}
@@ -25,7 +25,7 @@ use Rattle.numbered_entries.specs.Answers.{ChainsOfNodes, EndsOfNodes}
 use Rattle.numbered_entries.specs.Faults.{AreDifferent, WritesByNumber}
 use Rattle.numbered_entries.specs.Numbers.{entries_at, node_of_entry, nodes_of_entries, ChangesByNumber, EndsByNumber, NodesAreMarked, NodesAreNumbered}
 use Rattle.numbered_entries.proofs.Numbering.{entry_at}
-use Rattle.cpe_dictionary.specs.Kept.{IsKept, names_at, names_of, rewritten, written}
+use Rattle.cpe_dictionary.specs.Kept.{IsKept, names_at, rewritten, written}
 use Rattle.cpe_dictionary.specs.Plans.{numbered}
 use Rattle.cpe_dictionary.proofs.AtNumbers.{active_names}
 use Rattle.cpe_dictionary.proofs.SeenLemmas.{unknown_by_place}
@@ -103,22 +103,15 @@ length_entries [] k x = refl
 length_entries (e ∷ es) zero x = refl
 length_entries (e ∷ es) (suc k) x = ap suc (length_entries es k x)
 
--- a write that leaves the name
-names_set : (es : List Entry) (k : ℕ) (e x : Entry) → slice_get es k ≡ Some e → x.name ≡ e.name → names_of (slice_set es k x) ≡ names_of es
-names_set [] k e x at is = refl
-names_set (y ∷ es) zero e x at is = ap (λ (n : Values). n ∷ names_of es) (is ∙ ap (λ (z : Entry). z.name) (sym (same_Some y e at)))
-names_set (y ∷ es) (suc k) e x at is = ap (λ (ns : List Values). y.name ∷ ns) (names_set es k e x at is)
-
-pub kept_change : (names : List Values) (es new : List Entry) (nodes next_nodes : List Node) (k : ℕ) (d : Option Deprecation) (note : Note) (next : Option (List ℕ)) → ChangesByNumber → IsKept es nodes names → k < length (nodes_of_entries es)
-    → next ≡ numbered es d → IsDictionary (written (rewritten d note) k es) → new ≡ written (rewritten d note) k es → next_nodes ≡ changed_nodes nodes k next → IsKept new next_nodes names
-kept_change names es new nodes next_nodes k d note next changes kept within same lawful is nodes_are =
+pub kept_change : (es new : List Entry) (nodes next_nodes : List Node) (k : ℕ) (d : Option Deprecation) (note : Note) (next : Option (List ℕ)) → ChangesByNumber → IsKept es nodes → k < length (nodes_of_entries es)
+    → next ≡ numbered es d → IsDictionary (written (rewritten d note) k es) → new ≡ written (rewritten d note) k es → next_nodes ≡ changed_nodes nodes k next → IsKept new next_nodes
+kept_change es new nodes next_nodes k d note next changes kept within same lawful is nodes_are =
     let at = entry_at es k (subst (λ (n : ℕ). k < n) (length-map es (node_of_entry es)) within) in
     let set = is ∙ written_set es k d note at.0 at.1 in
     record {
       lawful = subst IsDictionary (sym is) lawful;
       few = subst (λ (n : ℕ). n ≤ most limit.Entries) (sym (ap length set ∙ length_entries es k (rewritten d note at.0))) kept.few;
       numbered = nodes_are ∙ (λ i. changed_nodes (kept.numbered i) k (same i)) ∙ sym (nodes_rewritten es k d note at.0 at.1 changes) ∙ ap nodes_of_entries (sym set);
-      same = λ f. ap (sum_by f) (ap names_of set ∙ names_set es k at.0 (rewritten d note at.0) at.1 refl) ∙ kept.same f;
     }
 
 -- what is written at the number of a name is what is changed of the name

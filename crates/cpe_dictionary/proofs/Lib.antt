@@ -7,3 +7,4 @@ pub mod DictionaryLemmas
 pub mod PlanLemmas
 pub mod LeftLemmas
 pub mod SourceLemmas
+pub mod EntryLemmas

@@ -1,4 +1,4 @@
--- Entries as a dictionary keeps them: what they have beside their names, by their names; their deprecations by numbers; and their names by product.
+-- Entries as a dictionary keeps them: their names, and beside each what its entry has; and their deprecations by numbers.
 use Rattle.std.specs.Prelude.{◌≡◌, ◌≤◌, ◌++◌, ◌∷◌, ◌||◌, not, Bool, ℕ, List, [], length, map, Option, slice_get, slice_set}
 use Rattle.std.specs.Option.{option_map_or}
 use Rattle.cpe_name.specs.declared.name.Values.{Values}
@@ -11,7 +11,6 @@ use Rattle.cpe_rows.specs.declared.entry.Deprecation.{Deprecation}
 use Rattle.cpe_rows.specs.declared.entry.Note.{Note}
 use Rattle.cpe_rows.specs.declared.fault.Which.TheVariants as limit
 use Rattle.deprecation_graph.specs.Graph.{Node}
-use Rattle.product_orders.specs.Elements.{SameElements}
 use Rattle.numbered_entries.specs.Numbers.{entries_at, nodes_of_entries}
 use Rattle.cpe_dictionary.specs.declared.kept.Details.{Details}
 
@@ -21,12 +20,17 @@ entry_from c = record { name = c.0; title = c.1.title; provenance = c.1.provenan
 abbrev pub names_of : List Entry → List Values
 names_of es = map (λ e. e.name) es
 
--- a lawful dictionary, of which node k is entry k, and the names of its entries in any order
-pub record IsKept (entries : List Entry) (nodes : List Node) (names : List Values) : Type 0 where
+-- the entries of these names, with what stands beside each
+abbrev pub entries_of : List Values → List Details → List Entry
+entries_of [] ds = []
+entries_of (n ∷ ns) [] = []
+entries_of (n ∷ ns) (d ∷ ds) = entry_from (n, d) ∷ entries_of ns ds
+
+-- a lawful dictionary, of which node k is entry k
+pub record IsKept (entries : List Entry) (nodes : List Node) : Type 0 where
   pub lawful : IsDictionary entries
   pub few : length entries ≤ most limit.Entries
   pub numbered : nodes ≡ nodes_of_entries entries
-  pub same : SameElements (names_of entries) names
 
 -- these entries in the place of those of the rows
 abbrev pub with_entries : Rows → List Entry → Rows
@@ -35,6 +39,14 @@ with_entries rows es = record rows { entries = es }
 -- rows that have nothing but these entries
 abbrev pub rows_of : List Entry → Rows
 rows_of es = with_entries no_rows es
+
+-- what an entry has beside its name, with another deprecation or none, and a note that goes last
+abbrev pub rewritten_details : Option Deprecation → Note → Details → Details
+rewritten_details d note x = record x { deprecation = d; provenance = record x.provenance { notes = x.provenance.notes ++ note ∷ [] } }
+
+-- at a place
+abbrev pub details_written : Option Deprecation → Note → ℕ → List Details → List Details
+details_written d note k xs = option_map_or (λ x. slice_set xs k (rewritten_details d note x)) (slice_get xs k) xs
 
 -- another deprecation or none, and a note that goes last
 abbrev pub rewritten : Option Deprecation → Note → Entry → Entry

@@ -2,22 +2,21 @@
 ghost use Rattle.std.specs.Prelude.{◌≡◌, IfOk, filter, map};
 ghost use Rattle.cpe_rows.specs.Prelude.{is_active, row_of};
 ghost use Rattle.numbered_entries.specs.Numbers.{entries_at};
-ghost use Rattle.cpe_dictionary.specs.Kept.{entry_from};
 
-use crate::kept::{Details, row_of};
+use crate::entries::Entries;
+use crate::kept::row_of;
 use cpe_name::Wfn;
 use cpe_rows::{List, Row};
 use cpe_values::Memory;
-use indexmap::IndexMap;
 use std::alloc::Global;
 
 /// The entries of these numbers in short.
 pub(crate) fn rows_at(
     alloc: Global,
-    entries: &IndexMap<Wfn, Details>,
+    entries: &Entries,
     numbers: &[u32],
 ) -> Result<List<Row>, Memory>
-    ensures { IfOk result (λ rs. rs ≡ map row_of (entries_at (map entry_from entries.now.entries) numbers.now)) }
+    ensures { IfOk result (λ rs. rs ≡ map row_of (entries_at entries.now numbers.now)) }
 {
     let mut rows = List::new(alloc);
     for number in numbers {
@@ -31,10 +30,10 @@ pub(crate) fn rows_at(
 /// The names of the active ones of the entries of these numbers.
 pub(crate) fn active_names_at(
     alloc: Global,
-    entries: &IndexMap<Wfn, Details>,
+    entries: &Entries,
     numbers: &[u32],
 ) -> Result<List<Wfn>, Memory>
-    ensures { IfOk result (λ ns. ns ≡ map (λ e. e.name) (filter is_active (entries_at (map entry_from entries.now.entries) numbers.now))) }
+    ensures { IfOk result (λ ns. ns ≡ map (λ e. e.name) (filter is_active (entries_at entries.now numbers.now))) }
 {
     let mut names = List::new(alloc);
     for number in numbers {

@@ -14,66 +14,44 @@ ghost use Rattle.cpe_dictionary.specs.Kept.{names_of, rewritten, written};
 ghost use Rattle.cpe_dictionary.specs.Plans.{IsAllowed, numbered};
 
 use crate::chain::{active_names_at, rows_at};
-use crate::kept::{
-    Details, add_by_product, count_deprecated, entry_of, find_details, has_name, number_of,
-    place_of, put_last, rewrite, state_of,
-};
+use crate::entries::Entries;
+use crate::kept::{entry_of, state_of};
 use crate::plans::Plan;
 use crate::search::wanted_at;
 use cpe_name::Wfn;
 use cpe_rows::{
-    Deprecation, EditFault, Entry, List, Note, Row, State, Which, absent_names_stand_alone,
+    Deprecation, EditFault, Entry, List, MOST_ENTRIES, Note, Row, State, Which,
+    absent_names_stand_alone,
 };
 use cpe_steps::Steps;
 use cpe_values::Memory;
 use deprecation_graph::{DeprecationGraph, GraphFault};
-use indexmap::IndexMap;
-use names_by_product::{NameList, NamesByProduct};
-use numbered_entries::{answers_by_number, changes_by_number, edits_by_number, limits_are_one};
+use numbered_entries::{answers_by_number, changes_by_number, edits_by_number};
 use std::alloc::Global;
 use std::marker::Model;
 use std::sync::ledger::Ledger;
 
-// No more entries are kept.
-const MOST_ENTRIES: usize = 2_000_000;
-
 /// The entries of a dictionary. Contracts see them as the list of the entries in their order.
 ///
-/// They are found by the hashes of their names. Their deprecations are kept a second time by numbers: node k of the graph is
-/// entry k; and their names a second time by product.
+/// They are found by the hashes of their names, by their numbers and by their products; a name is kept once. Their deprecations are
+/// kept a second time by numbers: node k of the graph is entry k.
 #[derive(Drop)]
 pub struct Dictionary {
     alloc: Global,
-    pub(crate) entries: IndexMap<Wfn, Details>,
+    pub(crate) entries: Entries,
     pub(crate) graph: DeprecationGraph,
-    // The names of the entries: searches look at few of them.
-    by_product: NamesByProduct,
 }
 
 impl Model for Dictionary {
-    ghost use Rattle.std.specs.Prelude.{List, map};
+    ghost use Rattle.std.specs.Prelude.{List};
     ghost use Rattle.cpe_rows.specs.declared.entry.Entry.{Entry};
-    ghost use Rattle.cpe_dictionary.specs.Kept.{entry_from, IsKept};
+    ghost use Rattle.cpe_dictionary.specs.Kept.{IsKept};
 
     ghost Value = { List Entry };
 
-    ghost view = { λ d. map entry_from d.entries.entries };
+    ghost view = { λ d. d.entries };
 
-    ghost invariant = { λ d. IsKept (map entry_from d.entries.entries) d.graph.nodes d.by_product };
-}
-
-impl NameList for Dictionary {
-    ghost names = { names_of };
-
-    fn place_of(&self, name: &Wfn) -> Option<usize> {
-        place_of(&self.entries, name)
-    }
-
-    // That keys are different is told by any call of the map.
-    fn lawful(&self) {
-        let count = self.entries.len();
-        let _ = count;
-    }
+    ghost invariant = { λ d. IsKept d.entries d.graph.nodes };
 }
 
 impl Dictionary {
@@ -83,9 +61,8 @@ impl Dictionary {
     {
         Dictionary {
             alloc,
-            entries: IndexMap::new(alloc),
+            entries: Entries::new(alloc),
             graph: DeprecationGraph::new(alloc),
-            by_product: NamesByProduct::new(alloc),
         }
     }
 
@@ -113,14 +90,17 @@ impl Dictionary {
     pub fn has(&self, name: &Wfn) -> bool
         ensures { result ≡ list_any (is_named name.now) self.now }
     {
-        has_name(&self.entries, name)
+        self.entries.has(name)
     }
 
     /// The number of the entry of this name, from 0 in their order.
     pub fn number_of(&self, name: &Wfn) -> Option<u32>
         ensures { result ≡ position (is_named name.now) self.now }
     {
-        number_of(&self.entries, name)
+        match self.entries.place_of(name) {
+            Some(place) => Some(place as u32),
+            None => None,
+        }
     }
 
     /// Whether the entry of this number is active.
@@ -138,7 +118,7 @@ impl Dictionary {
     pub fn state_of(&self, name: &Wfn) -> Option<State>
         ensures { result ≡ option_map state_of (find (is_named name.now) self.now) }
     {
-        match find_details(&self.entries, name) {
+        match self.entries.find(name) {
             Some(details) => Some(state_of(details)),
             None => None,
         }
@@ -148,7 +128,7 @@ impl Dictionary {
     pub fn deprecation_of(&self, name: &Wfn) -> Option<&Deprecation>
         ensures { option_copied result ≡ option_and_then (λ e. e.deprecation) (find (is_named name.now) self.now) }
     {
-        match find_details(&self.entries, name) {
+        match self.entries.find(name) {
             Some(details) => details.deprecation.as_ref(),
             None => None,
         }
@@ -165,7 +145,7 @@ impl Dictionary {
     pub fn count_deprecated(&self) -> usize
         ensures { result ≡ length (filter (λ e. not (is_active e)) self.now) }
     {
-        count_deprecated(&self.entries)
+        self.entries.count_deprecated()
     }
 
     /// A copy of the entry of this name.
@@ -175,7 +155,7 @@ impl Dictionary {
     pub fn entry_of(&self, alloc: Global, name: &Wfn) -> Result<Option<Entry>, Memory>
         ensures { IfOk result (λ e. e ≡ find (is_named name.now) self.now) }
     {
-        match find_details(&self.entries, name) {
+        match self.entries.find(name) {
             Some(details) => Ok(Some(entry_of(alloc, name, details)?)),
             None => Ok(None),
         }
@@ -197,7 +177,7 @@ impl Dictionary {
         ensures rows { IfOk result (λ rs. rs ≡ found asked.now active_only self.now) }
         ensures steps { StepsWithin steps.old steps.new (near_count asked.now (names_of self.now)) }
     {
-        let places = self.by_product.covered_places(alloc, self, asked, steps)?;
+        let places = self.entries.covered_places(alloc, asked, steps)?;
         wanted_at(alloc, &self.entries, &places, active_only)
     }
 
@@ -247,7 +227,7 @@ impl Dictionary {
         }
     }
 
-    /// Puts an active entry of a new name last, which is in lower case. It is moved; its name is copied once.
+    /// Puts an active entry of a new name last, which is in lower case. It is moved, its name too.
     ///
     /// # Errors
     /// Want of memory alone; the entries are then as they were.
@@ -262,20 +242,12 @@ impl Dictionary {
     {
         edits_by_number();
         changes_by_number();
-        limits_are_one();
         if self.graph.reserve(1, 0).is_err() {
             return Err(let_go(entry, Memory));
         }
-        match add_by_product(&mut self.entries, &mut self.by_product, &entry.name) {
-            Ok(()) => {
-                if put_last(&mut self.entries, entry).is_err() {
-                    unreachable!();
-                }
-                self.graph.add_node();
-                Ok(())
-            }
-            Err(memory) => Err(let_go(entry, memory)),
-        }
+        self.entries.push(entry)?;
+        self.graph.add_node();
+        Ok(())
     }
 
     /// Whether the entry of a number may be deprecated, with successors of these numbers, or with none of them be active.
@@ -327,7 +299,6 @@ impl Dictionary {
     {
         edits_by_number();
         changes_by_number();
-        limits_are_one();
         let edges = match plan.next() {
             Some(next) => next.len() as u32,
             None => 0,
@@ -335,7 +306,7 @@ impl Dictionary {
         if self.graph.reserve(0, edges).is_err() {
             return Err(Memory);
         }
-        rewrite(&mut self.entries, plan.number, deprecation, note)?;
+        self.entries.rewrite(plan.number, deprecation, note)?;
         self.graph.set_edges(plan.number, plan.next());
         Ok(())
     }

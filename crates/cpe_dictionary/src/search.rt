@@ -2,13 +2,12 @@
 ghost use Rattle.std.specs.Prelude.{◌≡◌, ◌||◌, IfOk, filter, is_none, map, not};
 ghost use Rattle.cpe_rows.specs.Prelude.{row_of};
 ghost use Rattle.names_by_product.specs.Places.{rows_at};
-ghost use Rattle.cpe_dictionary.specs.Kept.{entry_from, is_wanted};
+ghost use Rattle.cpe_dictionary.specs.Kept.{is_wanted};
 
+use crate::entries::Entries;
 use crate::kept::{Details, row_of};
-use cpe_name::Wfn;
 use cpe_rows::{List, Row};
 use cpe_values::Memory;
-use indexmap::IndexMap;
 use std::alloc::Global;
 
 // Whether an entry with these details is active, where that is asked.
@@ -21,11 +20,11 @@ fn is_wanted(active_only: bool, details: &Details) -> bool
 /// The entries at these places; where asked, the active ones alone.
 pub(crate) fn wanted_at(
     alloc: Global,
-    entries: &IndexMap<Wfn, Details>,
+    entries: &Entries,
     places: &[usize],
     active_only: bool,
 ) -> Result<List<Row>, Memory>
-    ensures { IfOk result (λ rs. rs ≡ map row_of (filter (is_wanted active_only) (rows_at (map entry_from entries.now.entries) places.now))) }
+    ensures { IfOk result (λ rs. rs ≡ map row_of (filter (is_wanted active_only) (rows_at entries.now places.now))) }
 {
     let mut rows = List::new(alloc);
     for place in places {

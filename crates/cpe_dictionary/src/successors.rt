@@ -2,7 +2,8 @@
 ghost use Rattle.std.specs.Prelude.{◌≡◌, ◌∷◌, [], ◌≤◌, IfOk, IfErr, None, Some, length, nat_eq, not, option_map, position};
 ghost use Rattle.std.specs.List.{list_any};
 ghost use Rattle.cpe_rows.specs.Faults.{is_count, place_of, repeated_from, successor_faults};
-ghost use Rattle.cpe_rows.specs.Prelude.{first_some, is_named, IsCause, most_successors};
+ghost use Rattle.cpe_rows.specs.Prelude.{first_some, is_named, IsCause};
+ghost use Rattle.cpe_rows.specs.declared.limits.TheConstants.{MOST_SUCCESSORS};
 ghost use Rattle.cpe_rows.specs.declared.entry.Note.{Note};
 ghost use Rattle.cpe_rows.specs.declared.fault.EditFault.TheVariants as fault;
 ghost use Rattle.numbered_entries.specs.Numbers.{numbers_of};
@@ -12,12 +13,9 @@ ghost use Rattle.cpe_name.specs.declared.name.Values.{Values};
 
 use crate::dictionary::Dictionary;
 use cpe_name::Wfn;
-use cpe_rows::{Deprecation, EditFault, Kind, List};
+use cpe_rows::{Deprecation, EditFault, Kind, List, MOST_SUCCESSORS};
 use numbered_entries::{edits_are_changes, edits_by_number, faults_by_number};
 use std::alloc::Global;
-
-// A deprecation has no more successors.
-const MOST_SUCCESSORS: usize = 16;
 
 // Whether a deprecation of this kind may have so many successors.
 fn is_count(kind: Kind, count: usize) -> bool
@@ -37,7 +35,7 @@ fn find_numbers(
     dictionary: &Dictionary,
     names: &[Wfn],
 ) -> Result<List<u32>, EditFault>
-    requires { length names.now ≤ most_successors }
+    requires { length names.now ≤ MOST_SUCCESSORS }
     ensures ok { IfOk result (λ ks. place_of (λ n. not (list_any (is_named n) dictionary.now)) names.now ≡ None) }
     ensures numbers { IfOk result (λ ks. ks ≡ numbers_of dictionary.now names.now) }
     ensures err { IfErr result (λ f.
@@ -57,7 +55,7 @@ fn find_numbers(
 
 // The place, from 1, of the first number that stands earlier too.
 fn find_repeated(numbers: &[u32]) -> Option<u32>
-    requires { length numbers.now ≤ most_successors }
+    requires { length numbers.now ≤ MOST_SUCCESSORS }
     ensures { result ≡ repeated_from nat_eq [] 1 numbers.now }
 {
     let mut place = 0;

@@ -2,7 +2,7 @@
 use Rattle.std.proofs.Common.{◌≡◌, ◌≢◌, ℕ, ◌+◌, ◌-◌, ◌<◌, ◌≤◌, Bool, true, false, cond, ltb, List, length, get_or, set, Option, Some, None, refl, sym, ap, subst, ◌∙◌, inl, inr, arith, length-set}
 use Rattle.std.specs.Prelude.{IsSome}
 use Rattle.std.proofs.lemmas.Option.{same_Some}
-use Rattle.std.specs.List.{IsDistinct, slice_get, swap_remove}
+use Rattle.std.specs.List.{IsDistinct, swap_remove}
 use Rattle.std.proofs.lemmas.Bool.{ltb-true, lt-ltb, cases_Bool}
 use Rattle.std.proofs.lemmas.List.{get_or-set_same, get_or-set_other, get_or-take, length-take-le, get_or_default}
 use Rattle.std.proofs.lemmas.List.Elements.{All-from_get_or, All-get_or}
@@ -11,13 +11,14 @@ use Rattle.cpe_name.specs.declared.name.Values.{Values}
 use Rattle.cpe_name.specs.Equal.{same_name}
 use Rattle.cpe_name.specs.Lower.{IsLower}
 use Rattle.cpe_name.specs.Put.{any_values}
+use Rattle.product_orders.specs.Listed.{Listed, product_at}
 use Rattle.name_index.specs.declared.table.Row.{Row}
 use Rattle.name_index.specs.Table.{Kept, kept, find_kept, IsLive, released, Releases, AreNames}
 use Rattle.name_index.specs.Rows.{row_with, row_at, number_at, name_at, kept_of, names_of, AreRows, freed_numbers, freed_rows}
 use Rattle.name_index.proofs.Names.{find_at, find_past, place_inside, KeptThere, kept_there}
 use Rattle.name_index.proofs.TableChanges.{same_or, not_less, at_least, read_same, read_other, kept_of_read, find_written, find_unwritten, one_place}
 
-module _ (names : List Values) (rows : List Row) (numbers : List ℕ) (products : List Value) (n last : ℕ) (w : Values) (a : AreRows names rows numbers products) (known : n < length rows) (inside : (row_at rows n).place < length names) (is_last : last + 1 ≡ length names) where
+module _ (names : List Values) (rows : List Row) (numbers : List ℕ) (products : Listed) (n last : ℕ) (w : Values) (a : AreRows names rows numbers products) (known : n < length rows) (inside : (row_at rows n).place < length names) (is_last : last + 1 ≡ length names) where
   abbrev p : ℕ
   p = (row_at rows n).place
 
@@ -167,15 +168,15 @@ module _ (names : List Values) (rows : List Row) (numbers : List ℕ) (products 
         (λ ne nm. subst (λ (x : Row). x.holds < 4294967296) (sym (row_o k ne nm)) (a.small k));
     different = different;
     lower = All-from_get_or IsLower new_names any_values (λ q l. lower_at q (omega (arith, l, names_len)));
-    product = λ k l inside2. by_number (λ j. (row_at new_rows j).place < length new_names → slice_get products (row_at new_rows j).product ≡ Some (name_at new_names (row_at new_rows j).place).product) k
+    product = λ k l inside2. by_number (λ j. (row_at new_rows j).place < length new_names → product_at products (row_at new_rows j).product ≡ Some (name_at new_names (row_at new_rows j).place).product) k
         (λ i. absurd (omega (arith, names_len, subst (λ (x : Row). x.place < length new_names) row_n i)))
         (λ ne i.
-        ap (λ (x : Row). slice_get products x.product) (row_m ne) ∙ a.product m m_known (omega (arith, m_place, is_last))
+        ap (λ (x : Row). product_at products x.product) (row_m ne) ∙ a.product m m_known (omega (arith, m_place, is_last))
         ∙ ap {B = Option Value} (λ (j : ℕ). Some (name_at names j).product) m_place ∙ ap {B = Option Value} (λ (v : Values). Some v.product) (sym (name_p (below_last (m_apart ne)))) ∙ ap {B = Option Value} (λ (x : Row). Some (name_at new_names x.place).product) (sym (row_m ne)))
         (λ ne nm i.
         let l2 : k < length rows = omega (arith, l, rows_len) in
         let at : (row_at rows k).place < last = omega (arith, names_len, subst (λ (x : Row). x.place < length new_names) (row_o k ne nm) i) in
-        ap (λ (x : Row). slice_get products x.product) (row_o k ne nm) ∙ a.product k l2 (omega (arith, at, is_last))
+        ap (λ (x : Row). product_at products x.product) (row_o k ne nm) ∙ a.product k l2 (omega (arith, at, is_last))
         ∙ ap {B = Option Value} (λ (v : Values). Some v.product) (sym (name_o (row_at rows k).place at (place_not_p k l2 ne))) ∙ ap {B = Option Value} (λ (x : Row). Some (name_at new_names x.place).product) (sym (row_o k ne nm)))
         inside2;
   }
@@ -270,17 +271,17 @@ pub record Lived (names : List Values) (rows : List Row) (n : ℕ) : Type 0 wher
   pub held : ltb 0 (row_at rows n).holds ≡ true
   pub inside : (row_at rows n).place < length names
 
-pub lived : (names : List Values) (rows : List Row) (numbers : List ℕ) (products : List Value) (n : ℕ) → AreRows names rows numbers products → IsLive (names_of names rows) n → Lived names rows n
+pub lived : (names : List Values) (rows : List Row) (numbers : List ℕ) (products : Listed) (n : ℕ) → AreRows names rows numbers products → IsLive (names_of names rows) n → Lived names rows n
 lived names rows numbers products n a live =
     let l = live_there names rows n live in
     record { known = l.known; held = l.held; inside = place_inside names rows numbers products a n l.known l.held }
 
 -- a number is freed, and its name taken out
-pub record Gone (names new_names : List Values) (rows new_rows : List Row) (new_numbers : List ℕ) (products : List Value) (n : ℕ) : Type 0 where
+pub record Gone (names new_names : List Values) (rows new_rows : List Row) (new_numbers : List ℕ) (products : Listed) (n : ℕ) : Type 0 where
   pub rows_are : AreRows new_names new_rows new_numbers products
   pub names_are : Releases (names_of names rows) (names_of new_names new_rows) n
 
-pub gone : (names : List Values) (rows : List Row) (numbers : List ℕ) (products : List Value) (n last : ℕ) → AreRows names rows numbers products → Lived names rows n → last + 1 ≡ length names → (row_at rows n).holds ≤ 1
+pub gone : (names : List Values) (rows : List Row) (numbers : List ℕ) (products : Listed) (n last : ℕ) → AreRows names rows numbers products → Lived names rows n → last + 1 ≡ length names → (row_at rows n).holds ≤ 1
     → (new_names : List Values) (new_rows : List Row) (new_numbers : List ℕ) → new_names ≡ swap_remove names (row_at rows n).place (name_at names (row_at rows n).place) → IsDistinct same_name new_names
     → new_rows ≡ freed_rows rows numbers n last → new_numbers ≡ freed_numbers rows numbers n last → Gone names new_names rows new_rows new_numbers products n
 gone names rows numbers products n last a l is_last few new_names new_rows new_numbers names_are different rows_are numbers_are =
@@ -296,7 +297,7 @@ gone names rows numbers products n last a l is_last few new_names new_rows new_n
           (releases names rows numbers products n last w a l.known l.inside is_last (freed_none names rows numbers products n last w a l.known l.inside is_last few l.held)));
     }
 
-pub are_names : (names : List Values) (rows : List Row) (numbers : List ℕ) (products : List Value) → AreRows names rows numbers products → ((m n : ℕ) (v : Value) → slice_get products m ≡ Some v → slice_get products n ≡ Some v → m ≡ n) → AreNames (names_of names rows)
+pub are_names : (names : List Values) (rows : List Row) (numbers : List ℕ) (products : Listed) → AreRows names rows numbers products → ((m n : ℕ) (v : Value) → product_at products m ≡ Some v → product_at products n ≡ Some v → m ≡ n) → AreNames (names_of names rows)
 are_names names rows numbers products a one = record {
   lower = λ id k h. let t = kept_there names rows id k h in subst (λ (x : Kept). IsLower x.name) t.is (All-get_or IsLower names (row_at rows id).place any_values (inside id t.known t.held) a.lower);
   different = λ id other k l h j e.
@@ -308,7 +309,7 @@ are_names names rows numbers products a one = record {
   same_product = λ id other k l h j e.
       let t = kept_there names rows id k h in
       let u = kept_there names rows other l j in
-      same_Some _ _ (sym (of id k t) ∙ ap (slice_get products) e ∙ of other l u);
+      same_Some _ _ (sym (of id k t) ∙ ap (product_at products) e ∙ of other l u);
   one_number = λ id other k l h j e.
       let t = kept_there names rows id k h in
       let u = kept_there names rows other l j in
@@ -318,11 +319,11 @@ are_names names rows numbers products a one = record {
     inside : (n : ℕ) → n < length rows → ltb 0 (row_at rows n).holds ≡ true → (row_at rows n).place < length names
     inside n l t = place_inside names rows numbers products a n l t
 
-    of : (id : ℕ) (k : Kept) → KeptThere names rows id k → slice_get products k.product ≡ Some k.name.product
-    of id k t = subst (λ (x : Kept). slice_get products x.product ≡ Some x.name.product) t.is (a.product id t.known (inside id t.known t.held))
+    of : (id : ℕ) (k : Kept) → KeptThere names rows id k → product_at products k.product ≡ Some k.name.product
+    of id k t = subst (λ (x : Kept). product_at products x.product ≡ Some x.name.product) t.is (a.product id t.known (inside id t.known t.held))
 
 -- the product of a live number is that of its product number
-pub product_there : (names : List Values) (rows : List Row) (numbers : List ℕ) (products : List Value) → AreRows names rows numbers products → (id : ℕ) (k : Kept) → find_kept (names_of names rows) id ≡ Some k → slice_get products k.product ≡ Some k.name.product
+pub product_there : (names : List Values) (rows : List Row) (numbers : List ℕ) (products : Listed) → AreRows names rows numbers products → (id : ℕ) (k : Kept) → find_kept (names_of names rows) id ≡ Some k → product_at products k.product ≡ Some k.name.product
 product_there names rows numbers products a id k h =
     let t = kept_there names rows id k h in
-    subst (λ (x : Kept). slice_get products x.product ≡ Some x.name.product) t.is (a.product id t.known (place_inside names rows numbers products a id t.known t.held))
+    subst (λ (x : Kept). product_at products x.product ≡ Some x.name.product) t.is (a.product id t.known (place_inside names rows numbers products a id t.known t.held))

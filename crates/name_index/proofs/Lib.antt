@@ -1,6 +1,7 @@
 pub mod Names
 pub mod TableChanges
 pub mod Freed
+pub mod Counts
 pub mod Postings
 pub mod WalkSteps
 pub mod NearSums

@@ -1,23 +1,24 @@
 -- A walk over the lists of the near products gives the held numbers that are near.
-use Rattle.std.proofs.Common.{◌≡◌, ℕ, zero, suc, ◌+◌, ◌<◌, ◌≤◌, Bool, true, false, cond, ltb, List, [], ◌∷◌, ◌++◌, map, length, Option, Some, slice_get, refl, sym, ap, subst, ◌∙◌, inl, inr, arith}
+use Rattle.std.proofs.Common.{◌≡◌, ℕ, zero, suc, ◌+◌, ◌<◌, ◌≤◌, Bool, true, false, cond, ltb, List, [], ◌∷◌, ◌++◌, map, length, Option, Some, None, refl, sym, ap, subst, ◌∙◌, inl, inr, arith}
+use Rattle.std.specs.Prelude.{is_some}
 use Rattle.std.specs.List.{sum_by, flat_map, range_with_len, filter, AllByRecursion}
-use Rattle.std.proofs.lemmas.Bool.{cases_Bool, ltb-true, lt-ltb}
-use Rattle.std.proofs.lemmas.Option.{slice_get_past, slice_get_within, get_or_from_slice_get}
+use Rattle.std.proofs.lemmas.Bool.{cases_Bool, ltb-true}
+use Rattle.std.proofs.lemmas.Option.{slice_get_past}
 use Rattle.std.proofs.lemmas.List.Elements.{recursion_from_All, All-weaker}
 use Rattle.std.proofs.lemmas.List.Sums.{sum_by-cons}
 use Rattle.cpe_values.specs.declared.value.Value.{Value}
-use Rattle.cpe_values.specs.declared.value.Value.TheVariants as value
 use Rattle.list_pool.specs.Pool.{Row as CellRow}
 use Rattle.list_pool.specs.declared.ListName.{ListName}
 use Rattle.product_orders.specs.declared.products.Side.{Side}
-use Rattle.product_orders.specs.Keys.{value_at, numbers}
+use Rattle.product_orders.specs.Listed.{product_at, value_or, value_at, numbers, live}
+use Rattle.product_orders.proofs.Live.{none_past}
 use Rattle.product_orders.specs.Near.{near_on}
-use Rattle.product_orders.proofs.Sums.{if_passes, sum_filter}
+use Rattle.product_orders.proofs.Sums.{if_passes, sum_filter, sum_agree}
 use Rattle.name_index.specs.declared.table.NameId.{NameId}
 use Rattle.name_index.specs.Table.{Names, Kept, kept_or, kept_at, find_kept}
 use Rattle.name_index.specs.Index.{ids, name_id, is_near, Fits, posting_of, posting, pairs, walk_left, WalksNear}
 use Rattle.name_index.proofs.Postings.{sum_map, sum_flat, range_agree, range_none, weighs, pairs_sum}
-use Rattle.name_index.proofs.TableChanges.{not_less, at_least}
+use Rattle.name_index.proofs.TableChanges.{at_least}
 use Rattle.name_index.proofs.WalkSteps.{none_left}
 
 pub agree_all : {X : Type 0} (f g : X → ℕ) (xs : List X) → AllByRecursion (λ x. f x ≡ g x) xs → sum_by f xs ≡ sum_by g xs
@@ -59,18 +60,18 @@ module _ (names : Names) (side : Side) (asked : Value) (lists : List (Option (Li
   abbrev passes : ℕ → Bool
   passes p = near_on side asked (value_at w.products p)
 
-  product_of : (x : ℕ × ℕ) (k : Kept) → find_kept names x.0 ≡ Some k → k.product ≡ x.1 → slice_get w.products x.1 ≡ Some (kept_at names x.0).name.product
-  product_of x k e is = ap (slice_get w.products) (sym is) ∙ w.of x.0 k e ∙ ap {B = Option Value} (λ (o : Option Kept). Some (kept_or o).name.product) (sym e)
+  product_of : (x : ℕ × ℕ) (k : Kept) → find_kept names x.0 ≡ Some k → k.product ≡ x.1 → product_at w.products x.1 ≡ Some (kept_at names x.0).name.product
+  product_of x k e is = ap (product_at w.products) (sym is) ∙ w.of x.0 k e ∙ ap {B = Option Value} (λ (o : Option Kept). Some (kept_or o).name.product) (sym e)
 
   near_is : (x : ℕ × ℕ) (k : Kept) → find_kept names x.0 ≡ Some k → k.product ≡ x.1 → is_near names side asked (name_id x.0) ≡ passes x.1
-  near_is x k e is = ap (near_on side asked) (sym (get_or_from_slice_get w.products x.1 (kept_at names x.0).name.product value.Any (product_of x k e is)))
+  near_is x k e is = ap (near_on side asked) (sym (ap value_or (product_of x k e is)))
 
   abbrev beyond_ : ℕ × ℕ → ℕ
-  beyond_ x = cond (ltb x.1 (length w.products)) 0 1
+  beyond_ x = cond (is_some (product_at w.products x.1)) 0 1
 
   none_beyond : sum_by beyond_ (pairs lists heads) ≡ 0
   none_beyond = none_all beyond_ (pairs lists heads) (recursion_from_All (λ (x : ℕ × ℕ). beyond_ x ≡ 0) (pairs lists heads) (All-weaker (λ (x : ℕ × ℕ). (k : Kept) × (find_kept names x.0 ≡ Some k) × (k.product ≡ x.1)) (λ (x : ℕ × ℕ). beyond_ x ≡ 0) (λ x h.
-      ap {B = ℕ} (λ (b : Bool). cond b 0 1) (lt-ltb x.1 (length w.products) (slice_get_within w.products x.1 _ (product_of x h.0 h.1 h.2)))) (pairs lists heads) fits))
+      ap {B = ℕ} (λ (o : Option Value). cond (is_some o) 0 1) (product_of x h.0 h.1 h.2)) (pairs lists heads) fits))
 
   abbrev all_of : (NameId → ℕ) → ℕ → ℕ
   all_of f p = sum_by (λ v. f (name_id v)) (posting lists heads p)
@@ -82,11 +83,12 @@ module _ (names : Names) (side : Side) (asked : Value) (lists : List (Option (Li
   past_lists : (f : NameId → ℕ) (p : ℕ) → length heads ≤ p → all_of f p ≡ 0
   past_lists f p le = ap (λ (o : Option ListName). sum_by (λ v. f (name_id v)) (posting_of lists o)) (slice_get_past heads p le)
 
-  past_products : (f : NameId → ℕ) (p : ℕ) → length w.products ≤ p → all_of f p ≡ 0
-  past_products f p le = elim (cases_Bool (ltb p (length heads))) [
+  -- no number is held with the number of no product
+  free_products : (f : NameId → ℕ) (p : ℕ) → product_at w.products p ≡ None → all_of f p ≡ 0
+  free_products f p free = elim (cases_Bool (ltb p (length heads))) [
     | inl t ↦
         let none : weighs lists heads beyond_ p ≡ 0 = omega (arith, none_beyond, pairs_sum lists heads beyond_, range_ge (weighs lists heads beyond_) 0 (length heads) p (omega arith) (omega (arith, ltb-true p (length heads) t))) in
-        let one : ◌≡◌ {A = ℕ} (cond (ltb p (length w.products)) 0 1) 1 = ap {B = ℕ} (λ (b : Bool). cond b 0 1) (not_less p (length w.products) le) in
+        let one : ◌≡◌ {A = ℕ} (cond (is_some (product_at w.products p)) 0 1) 1 = ap {B = ℕ} (λ (o : Option Value). cond (is_some o) 0 1) free in
         ones (posting lists heads p) (λ v. f (name_id v)) (sym (ap (λ (n : ℕ). sum_by (λ (v : ℕ). n) (posting lists heads p)) one) ∙ none)
     | inr t ↦ past_lists f p (at_least p (length heads) t)
   ]
@@ -94,6 +96,13 @@ module _ (names : Names) (side : Side) (asked : Value) (lists : List (Option (Li
   no_more : (b : Bool) (n : ℕ) → n ≡ 0 → cond b n 0 ≡ 0
   no_more true n h = h
   no_more false n h = refl
+
+  listed : (f : NameId → ℕ) (p : ℕ) → cond (is_some (product_at w.products p)) (cond (passes p) (all_of f p) 0) 0 ≡ cond (passes p) (all_of f p) 0
+  listed f p = by (product_at w.products p) refl
+    where
+      by : (o : Option Value) → product_at w.products p ≡ o → cond (is_some o) (cond (passes p) (all_of f p) 0) 0 ≡ cond (passes p) (all_of f p) 0
+      by None e = sym (no_more (passes p) (all_of f p) (free_products f p e))
+      by (Some v) e = refl
 
   pub near_sum : (f : NameId → ℕ) → sum_by f (filter (is_near names side asked) (ids (pairs lists heads))) ≡ sum_by f (walk_left lists heads 0 0 walk)
   near_sum f =
@@ -110,5 +119,6 @@ module _ (names : Names) (side : Side) (asked : Value) (lists : List (Option (Li
       let right : sum_by f (walk_left lists heads 0 0 walk) ≡ sum_by each (numbers (length w.products)) =
       ap (λ (xs : List ℕ). sum_by f (map name_id (xs ++ flat_map (posting lists heads) walk))) (none_left lists 0)
       ∙ sum_map f name_id (flat_map (posting lists heads) walk) ∙ sum_flat g (posting lists heads) walk
-      ∙ sym (w.walks (all_of f)) ∙ sum_filter (all_of f) passes (numbers (length w.products)) in
-      left ∙ range_same each (length heads) (length w.products) (λ p le. no_more (passes p) (all_of f p) (past_lists f p le)) (λ p le. no_more (passes p) (all_of f p) (past_products f p le)) ∙ sym right
+      ∙ sym (w.walks (all_of f)) ∙ sum_filter (all_of f) passes (live w.products)
+      ∙ sum_filter each (λ n. is_some (product_at w.products n)) (numbers (length w.products)) ∙ sum_agree (if_passes (λ n. is_some (product_at w.products n)) each) each (listed f) (numbers (length w.products)) in
+      left ∙ range_same each (length heads) (length w.products) (λ p le. no_more (passes p) (all_of f p) (past_lists f p le)) (λ p le. no_more (passes p) (all_of f p) (free_products f p (none_past w.products p le))) ∙ sym right

@@ -10,7 +10,7 @@ use Rattle.std.proofs.lemmas.List.Sums.{sum_by-cons, sum_by-append, sum_by_push}
 use Rattle.list_pool.specs.Pool.{Row as CellRow, list_at, find_list, IsLive, Updates, Pushes, has_value, without_first}
 use Rattle.list_pool.specs.declared.ListName.{ListName}
 use Rattle.product_orders.specs.Elements.{SameElements}
-use Rattle.product_orders.specs.Keys.{numbers}
+use Rattle.product_orders.specs.Listed.{numbers}
 use Rattle.name_index.specs.Index.{values, posting_of, posting, pairs_at, pairs, times_held, IsIndex}
 use Rattle.name_index.proofs.Fitting.{is_pair, pair_counts}
 use Rattle.name_index.proofs.TableChanges.{same_or, at_least}

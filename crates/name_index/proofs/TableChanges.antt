@@ -1,6 +1,6 @@
 -- What a table's rows are after a change, and what is kept of each number then.
 use Rattle.std.proofs.Common.{◌≡◌, ◌≢◌, ◌⊎◌, ℕ, zero, suc, ◌+◌, ◌<◌, ◌≤◌, Bool, true, false, cond, eqb, ltb, List, [], ◌∷◌, ◌++◌, length, set, Option, Some, None, refl, sym, ap, subst, ◌∙◌, inl, inr, arith, eqb-true, eq-eqb, length-set}
-use Rattle.std.specs.List.{AllByRecursion, IsDistinct, slice_get}
+use Rattle.std.specs.List.{AllByRecursion, IsDistinct}
 use Rattle.std.proofs.lemmas.Bool.{ltb-true, lt-ltb, both_ways, cases_Bool, false_from_ne_true}
 use Rattle.std.proofs.lemmas.List.{get_or_append_left, get_or_push, get_or-set_same, get_or-set_other, length_push, get_or_past}
 use Rattle.std.proofs.lemmas.List.Elements.{All-push}
@@ -9,6 +9,7 @@ use Rattle.cpe_name.specs.declared.name.Values.{Values}
 use Rattle.cpe_name.specs.Equal.{same_name, same_name-Decides}
 use Rattle.cpe_name.specs.Lower.{IsLower}
 use Rattle.cpe_name.specs.Put.{any_values}
+use Rattle.product_orders.specs.Listed.{Listed, product_at}
 use Rattle.name_index.specs.declared.table.Row.{Row}
 use Rattle.name_index.specs.Table.{Kept, kept, kept_or, kept_at, Names, find_kept, HasName, Holding, Holds}
 use Rattle.name_index.specs.Rows.{row_with, row_at, number_at, name_at, kept_of, names_of, AreRows, Grows}
@@ -54,7 +55,7 @@ field_kept f rows n r lt e m = elim (same_or m n) [
 
 -- ---- other holds
 
-pub with_holds : (names : List Values) (rows : List Row) (numbers : List ℕ) (products : List Value) (n h : ℕ) → AreRows names rows numbers products → n < length rows → ltb 0 h ≡ ltb 0 (row_at rows n).holds → h < 4294967296
+pub with_holds : (names : List Values) (rows : List Row) (numbers : List ℕ) (products : Listed) (n h : ℕ) → AreRows names rows numbers products → n < length rows → ltb 0 h ≡ ltb 0 (row_at rows n).holds → h < 4294967296
     → AreRows names (set rows n (row_with (row_at rows n).place h (row_at rows n).product)) numbers products
 with_holds names rows numbers products n h a lt sign small =
     let r = row_with (row_at rows n).place h (row_at rows n).product in
@@ -78,7 +79,7 @@ with_holds names rows numbers products n h a lt sign small =
       different = a.different;
       lower = a.lower;
       product = λ m l inside.
-          ap (slice_get products) (product m) ∙ a.product m (omega (arith, l, len)) (omega (arith, place m, inside)) ∙ ap {B = Option Value} (λ (k : ℕ). Some (name_at names k).product) (sym (place m));
+          ap (product_at products) (product m) ∙ a.product m (omega (arith, l, len)) (omega (arith, place m, inside)) ∙ ap {B = Option Value} (λ (k : ℕ). Some (name_at names k).product) (sym (place m));
     }
 
 pub kept_of_read : (names : List Values) (r : Row) → ltb 0 r.holds ≡ true → kept_of names r ≡ Some (kept (name_at names r.place) r.holds r.product)
@@ -99,7 +100,7 @@ module _ (names : List Values) (rows : List Row) (n : ℕ) (r : Row) (lt : n < l
         find_past names (set rows n r) m (omega (arith, past, length-set rows n r)) ∙ sym (find_past names rows m past)
   ]
 
-pub raised : (names : List Values) (rows : List Row) (numbers : List ℕ) (products : List Value) (name : Values) (n : ℕ) → AreRows names rows numbers products → n < length rows → ltb 0 (row_at rows n).holds ≡ true → name_at names (row_at rows n).place ≡ name
+pub raised : (names : List Values) (rows : List Row) (numbers : List ℕ) (products : Listed) (name : Values) (n : ℕ) → AreRows names rows numbers products → n < length rows → ltb 0 (row_at rows n).holds ≡ true → name_at names (row_at rows n).place ≡ name
     → ((other : ℕ) → HasName (names_of names rows) other name → other ≡ n)
     → Holds (names_of names rows) (names_of names (set rows n (row_with (row_at rows n).place ((row_at rows n).holds + 1) (row_at rows n).product))) n name
 raised names rows numbers products name n a lt held is only =
@@ -115,7 +116,7 @@ raised names rows numbers products name n a lt held is only =
 
 -- ---- a new place
 
-pub grown : (names : List Values) (rows : List Row) (numbers : List ℕ) (products : List Value) → AreRows names rows numbers products → length names ≡ length rows → length rows < 4294967295
+pub grown : (names : List Values) (rows : List Row) (numbers : List ℕ) (products : Listed) → AreRows names rows numbers products → length names ≡ length rows → length rows < 4294967295
     → AreRows names (rows ++ row_with (length rows) 0 0 ∷ []) (numbers ++ length rows ∷ []) products
 grown names rows numbers products a full few =
     let n = length rows in
@@ -157,7 +158,7 @@ grown names rows numbers products a full few =
       product = λ m l inside. elim (split m (omega (arith, l, len))) [
         | inl old ↦
             let at = row_old m old in
-            ap (λ (x : Row). slice_get products x.product) at ∙ a.product m old (subst (λ (x : Row). x.place < length names) at inside) ∙ ap {B = Option Value} (λ (x : Row). Some (name_at names x.place).product) (sym at)
+            ap (λ (x : Row). product_at products x.product) at ∙ a.product m old (subst (λ (x : Row). x.place < length names) at inside) ∙ ap {B = Option Value} (λ (x : Row). Some (name_at names x.place).product) (sym at)
         | inr is ↦ absurd (omega (arith, full, subst (λ (x : Row). x.place < length names) (row_new m is) inside))
       ];
     }
@@ -203,8 +204,8 @@ find_grown names rows m = elim (cases_Bool (ltb m (length rows))) [
 
 -- ---- a free number is given a name
 
-module _ (names : List Values) (rows : List Row) (numbers : List ℕ) (products : List Value) (name : Values) (product : ℕ) (a : AreRows names rows numbers products) (free : length names < length rows) (low : IsLower name)
-    (is_product : slice_get products product ≡ Some name.product) where
+module _ (names : List Values) (rows : List Row) (numbers : List ℕ) (products : Listed) (name : Values) (product : ℕ) (a : AreRows names rows numbers products) (free : length names < length rows) (low : IsLower name)
+    (is_product : product_at products product ≡ Some name.product) where
   abbrev p : ℕ
   p = length names
 
@@ -269,12 +270,12 @@ module _ (names : List Values) (rows : List Row) (numbers : List ℕ) (products 
     product = λ m l inside. elim (same_or m n) [
       | inl is ↦
           let r = ap (row_at new_rows) is ∙ read_same rows n new_row known in
-          ap (λ (x : Row). slice_get products x.product) r ∙ is_product ∙ ap {B = Option Value} (λ (w : Values). Some w.product) (sym name_new) ∙ ap {B = Option Value} (λ (x : Row). Some (name_at new_names x.place).product) (sym r)
+          ap (λ (x : Row). product_at products x.product) r ∙ is_product ∙ ap {B = Option Value} (λ (w : Values). Some w.product) (sym name_new) ∙ ap {B = Option Value} (λ (x : Row). Some (name_at new_names x.place).product) (sym r)
       | inr ne ↦
           let r = read_other rows n m new_row ne in
           let l2 : m < length rows = omega (arith, l, rows_len) in
           let below : (row_at rows m).place < p = before (row_at rows m).place (elsewhere m l2 ne) (omega (arith, subst (λ (x : Row). x.place < length new_names) r inside, names_len)) in
-          ap (λ (x : Row). slice_get products x.product) r ∙ a.product m l2 below ∙ ap {B = Option Value} (λ (w : Values). Some w.product) (sym (name_old (row_at rows m).place below)) ∙ ap {B = Option Value} (λ (x : Row). Some (name_at new_names x.place).product) (sym r)
+          ap (λ (x : Row). product_at products x.product) r ∙ a.product m l2 below ∙ ap {B = Option Value} (λ (w : Values). Some w.product) (sym (name_old (row_at rows m).place below)) ∙ ap {B = Option Value} (λ (x : Row). Some (name_at new_names x.place).product) (sym r)
     ];
   }
     where
@@ -321,8 +322,8 @@ module _ (names : List Values) (rows : List Row) (numbers : List ℕ) (products 
 
 -- ---- what leaves the table as it is
 
-pub same_rows : (names new_names : List Values) (rows new_rows : List Row) (numbers new_numbers : List ℕ) (products new_products : List Value) → new_names ≡ names → new_rows ≡ rows → new_numbers ≡ numbers
-    → ((n : ℕ) (v : Value) → slice_get products n ≡ Some v → slice_get new_products n ≡ Some v) → AreRows names rows numbers products → AreRows new_names new_rows new_numbers new_products
+pub same_rows : (names new_names : List Values) (rows new_rows : List Row) (numbers new_numbers : List ℕ) (products new_products : Listed) → new_names ≡ names → new_rows ≡ rows → new_numbers ≡ numbers
+    → ((n : ℕ) (v : Value) → product_at products n ≡ Some v → product_at new_products n ≡ Some v) → AreRows names rows numbers products → AreRows new_names new_rows new_numbers new_products
 same_rows names new_names rows new_rows numbers new_numbers products new_products e f g more a =
     subst (λ (ws : List Values). AreRows ws new_rows new_numbers new_products) (sym e) (subst (λ (rs : List Row). AreRows names rs new_numbers new_products) (sym f) (subst (λ (ns : List ℕ). AreRows names rows ns new_products) (sym g) (record {
       paired = a.paired;
@@ -344,17 +345,17 @@ same_view names new_names rows new_rows view e f h = ap (λ (ws : List Values). 
 
 -- ---- a name that is there is held once more
 
-module _ (names : List Values) (rows : List Row) (numbers : List ℕ) (products : List Value) (name : Values) (place n : ℕ) (a : AreRows names rows numbers products) (f : FoundAt names name place) (e : n ≡ number_at numbers place) where
+module _ (names : List Values) (rows : List Row) (numbers : List ℕ) (products : Listed) (name : Values) (place n : ℕ) (a : AreRows names rows numbers products) (f : FoundAt names name place) (e : n ≡ number_at numbers place) where
   place_known : place < length rows
   place_known = omega (arith, f.inside, a.within)
 
-  n_known : n < length rows
+  pub n_known : n < length rows
   n_known = omega (arith, e, a.numbered place place_known)
 
   its_place : (row_at rows n).place ≡ place
   its_place = ap (λ (k : ℕ). (row_at rows k).place) e ∙ a.there place place_known
 
-  is_held : ltb 0 (row_at rows n).holds ≡ true
+  pub is_held : ltb 0 (row_at rows n).holds ≡ true
   is_held = a.live n n_known ∙ ap (λ (k : ℕ). ltb k (length names)) its_place ∙ lt-ltb place (length names) f.inside
 
   its_kept : find_kept (names_of names rows) n ≡ Some (kept (name_at names (row_at rows n).place) (row_at rows n).holds (row_at rows n).product)
@@ -381,12 +382,12 @@ module _ (names : List Values) (rows : List Row) (numbers : List ℕ) (products 
 
 -- ---- a free number, and then the name
 
-pub record Prepared (names : List Values) (rows : List Row) (numbers : List ℕ) (products : List Value) (old : List Row) : Type 0 where
+pub record Prepared (names : List Values) (rows : List Row) (numbers : List ℕ) (products : Listed) (old : List Row) : Type 0 where
   pub rows_are : AreRows names rows numbers products
   pub free : length names < length rows
   pub finds : (m : ℕ) → find_kept (names_of names rows) m ≡ find_kept (names_of names old) m
 
-pub prepared : (names : List Values) (rows new_rows : List Row) (numbers new_numbers : List ℕ) (products : List Value) (place : ℕ) → place ≡ length names → AreRows names rows numbers products → Grows rows numbers place new_rows new_numbers → Prepared names new_rows new_numbers products rows
+pub prepared : (names : List Values) (rows new_rows : List Row) (numbers new_numbers : List ℕ) (products : Listed) (place : ℕ) → place ≡ length names → AreRows names rows numbers products → Grows rows numbers place new_rows new_numbers → Prepared names new_rows new_numbers products rows
 prepared names rows new_rows numbers new_numbers products place at a (Grows.kept_room lt e f) =
     subst (λ (rs : List Row). Prepared names rs new_numbers products rows) (sym e) (subst (λ (ns : List ℕ). Prepared names rows ns products rows) (sym f) (record { rows_are = a; free = omega (arith, lt, at); finds = λ m. refl }))
 prepared names rows new_rows numbers new_numbers products place at a (Grows.one_more is few e f) =
@@ -400,9 +401,9 @@ prepared names rows new_rows numbers new_numbers products place at a (Grows.one_
     }))
 
 -- everything that `hold` does for a name that is new
-module _ (names : List Values) (rows grown_rows : List Row) (numbers grown_numbers : List ℕ) (products : List Value) (name : Values) (place n product : ℕ) (low : IsLower name)
+module _ (names : List Values) (rows grown_rows : List Row) (numbers grown_numbers : List ℕ) (products : Listed) (name : Values) (place n product : ℕ) (low : IsLower name)
     (at : place ≡ length names) (a : AreRows names rows numbers products) (grows : Grows rows numbers place grown_rows grown_numbers) (e : n ≡ number_at grown_numbers place)
-    (is_product : slice_get products product ≡ Some name.product) (new_names : List Values) (put : new_names ≡ names ++ name ∷ []) (new_rows : List Row) (written : new_rows ≡ set grown_rows n (row_with place 1 product)) where
+    (is_product : product_at products product ≡ Some name.product) (new_names : List Values) (put : new_names ≡ names ++ name ∷ []) (new_rows : List Row) (written : new_rows ≡ set grown_rows n (row_with place 1 product)) where
   ready : Prepared names grown_rows grown_numbers products rows
   ready = prepared names rows grown_rows numbers grown_numbers products place at a grows
 

@@ -8,7 +8,7 @@ use Rattle.list_pool.specs.Pool.{Row as CellRow, list_at, IsLive, cell_at}
 use Rattle.list_pool.specs.declared.ListName.{ListName}
 use Rattle.product_orders.specs.declared.products.Side.{Side}
 use Rattle.product_orders.specs.Elements.{SameElements}
-use Rattle.product_orders.specs.Keys.{value_at, numbers}
+use Rattle.product_orders.specs.Listed.{Listed, product_at, value_at, numbers, live}
 use Rattle.product_orders.specs.Near.{near_on}
 use Rattle.name_index.specs.declared.table.NameId.{NameId}
 use Rattle.name_index.specs.Table.{Names, Kept, find_kept, kept_at}
@@ -68,9 +68,9 @@ pub record IsIndex (lists : List (Option (List CellRow))) (heads : List ListName
 -- ---- the products near a product, by numbers of a table
 
 pub record WalksNear (names : Names) (side : Side) (asked : Value) (walk : List ℕ) : Type 0 where
-  pub products : List Value
-  pub of : (id : ℕ) (k : Kept) → find_kept names id ≡ Some k → slice_get products k.product ≡ Some k.name.product
-  pub walks : SameElements (filter (λ n. near_on side asked (value_at products n)) (numbers (length products))) walk
+  pub products : Listed
+  pub of : (id : ℕ) (k : Kept) → find_kept names id ≡ Some k → product_at products k.product ≡ Some k.name.product
+  pub walks : SameElements (filter (λ n. near_on side asked (value_at products n)) (live products)) walk
 
 -- ---- a walk over the lists of products
 

@@ -1,5 +1,5 @@
 // Names by number.
-ghost use Rattle.std.specs.Prelude.{◌≡◌, ◌≢◌, ℕ, ◌+◌, ◌-◌, ◌<◌, ◌≤◌, false, [], ◌∷◌, ◌++◌, length, set, slice_get, Some, IsNone, IfSome, IfOk, OnOk, OnErr};
+ghost use Rattle.std.specs.Prelude.{◌≡◌, ◌≢◌, ℕ, ◌+◌, ◌-◌, ◌<◌, ◌≤◌, false, [], ◌∷◌, ◌++◌, length, set, Some, IsNone, IsSome, IfSome, IfOk, OnOk, OnErr};
 ghost use Rattle.std.specs.Prelude.{vec_len, vec_capacity};
 ghost use Rattle.std.specs.List.{IsDistinct, list_any, swap_remove};
 ghost use Rattle.indexmap.specs.IndexSet.{spare};
@@ -9,7 +9,8 @@ ghost use Rattle.cpe_values.specs.Lower.{lower_value};
 ghost use Rattle.cpe_name.specs.Lower.{IsLower};
 ghost use Rattle.name_index.specs.Table.{Kept, find_kept, IsLive, kept_at, HasName, Holds, Releases, AreNames};
 ghost use Rattle.name_index.specs.Index.{WalksNear};
-ghost use Rattle.name_index.specs.Rows.{row_with, row_at, number_at, name_at, Grows, freed_rows, freed_numbers};
+ghost use Rattle.name_index.specs.Rows.{row_with, row_at, number_at, name_at, Grows, freed_rows, freed_numbers, count_at, IsGiven};
+ghost use Rattle.product_orders.specs.Listed.{product_at, Removes};
 
 use cpe_name::{Attribute, Wfn};
 use cpe_steps::Steps;
@@ -40,8 +41,8 @@ pub(crate) struct Row {
 /// the same product number exactly where their products are equal.
 ///
 /// A name is found by its hash, so [`hold`](NameTable::hold) and [`find`](NameTable::find) do not slow down as names are
-/// added, but for the place of a product that is new. Numbers of released names are used again. A product keeps its number
-/// and its memory after the last of its names is released.
+/// added, but for the place of a product that is new. Numbers of released names are used again. A product goes with the last
+/// of its names: its memory is given back, and its number is used again.
 #[derive(Drop)]
 pub struct NameTable {
     alloc: Global,
@@ -49,31 +50,99 @@ pub struct NameTable {
     names: IndexSet<Wfn>,
     numbers: Vec<u32>,
     rows: Vec<Row>,
+    // The products of the live names, and how many names each has, by product number.
     products: Products,
+    counts: Vec<u32>,
 }
 
 impl Model for NameTable {
     ghost use Rattle.name_index.specs.Table.{Names};
-    ghost use Rattle.name_index.specs.Rows.{names_of, AreRows};
+    ghost use Rattle.name_index.specs.Rows.{names_of, AreRows, AreCounted};
 
     ghost Value = { Names };
 
     ghost view = { λ t. names_of t.names.keys t.rows.items };
 
-    ghost invariant = { λ t. AreRows t.names.keys t.rows.items t.numbers.items t.products };
+    ghost invariant = { λ t. AreRows t.names.keys t.rows.items t.numbers.items t.products × AreCounted t.rows.items t.products t.counts.items };
 }
 
-// The number of a product, which is added where it is new.
-fn product_number(alloc: Global, products: &mut Products, value: &Value) -> Result<u32, Memory>
-    requires { lower_value value.now ≡ value.now }
-    ensures number { IfOk result (λ number. slice_get products.new number ≡ Some value.now) }
-    ensures kept { (number : ℕ) (v : Value) → slice_get products.old number ≡ Some v → slice_get products.new number ≡ Some v }
+// Makes room for the count of a product number. A count that isn't there yet is none.
+fn make_count(counts: &mut Vec<u32>, number: usize) -> Result<(), Memory>
+    ensures same { (p : ℕ) → count_at counts.new.items p ≡ count_at counts.old.items p }
+    ensures room { OnOk result (number < length counts.new.items) }
 {
+    while counts.len() <= number {
+        counts.push(0)?;
+    }
+    Ok(())
+}
+
+// The number of a product, which is added where it is new, and room for the count of its names.
+fn product_number(
+    alloc: Global,
+    products: &mut Products,
+    counts: &mut Vec<u32>,
+    value: &Value,
+) -> Result<u32, Memory>
+    requires { lower_value value.now ≡ value.now }
+    ensures same { (p : ℕ) → count_at counts.new.items p ≡ count_at counts.old.items p }
+    ensures room { IfOk result (λ number. number < length counts.new.items) }
+    ensures number { IfOk result (λ number. IsGiven products.old products.new number value.now) }
+    ensures err { OnErr result (products.new ≡ products.old) }
+{
+    let next = products.len();
+    make_count(counts, next)?;
     if let Some(number) = products.find(value) {
         return Ok(number);
     }
     let copied = value.copy(alloc)?;
     products.add(copied)
+}
+
+fn count_of(counts: &Vec<u32>, product: u32) -> u32
+    requires { product < length counts.now.items }
+    ensures { result ≡ count_at counts.now.items product }
+{
+    counts[product as usize]
+}
+
+fn set_count(counts: &mut Vec<u32>, product: u32, count: u32)
+    requires { product < length counts.old.items }
+    ensures { counts.new.items ≡ set counts.old.items product count }
+{
+    counts[product as usize] = count;
+}
+
+// A product has one name more.
+fn raise_count(counts: &mut Vec<u32>, product: u32)
+    requires inside { product < length counts.old.items }
+    requires few { count_at counts.old.items product < 4294967295 }
+    ensures { counts.new.items ≡ set counts.old.items product (count_at counts.old.items product + 1) }
+{
+    let count = count_of(counts, product);
+    set_count(counts, product, count + 1);
+}
+
+// A product has one name less.
+fn lower_count(counts: &mut Vec<u32>, product: u32)
+    requires some { 0 < count_at counts.old.items product }
+    requires inside { product < length counts.old.items }
+    ensures { counts.new.items ≡ set counts.old.items product (count_at counts.old.items product - 1) }
+{
+    let count = count_of(counts, product);
+    set_count(counts, product, count - 1);
+}
+
+// Lets a product go that no name has.
+fn let_go(products: &mut Products, counts: &Vec<u32>, product: u32)
+    requires inside { product < length counts.now.items }
+    requires there { IsSome (product_at products.old product) }
+    ensures stays { 0 < count_at counts.now.items product → products.new ≡ products.old }
+    ensures goes { count_at counts.now.items product ≡ 0 → Removes products.old products.new product }
+{
+    if count_of(counts, product) == 0 {
+        products.remove(product);
+    }
 }
 
 fn number_of(numbers: &Vec<u32>, place: usize) -> u32
@@ -109,18 +178,21 @@ fn reserve_number(numbers: &mut Vec<u32>, rows: &mut Vec<Row>, place: usize) -> 
     Ok(())
 }
 
-// Makes room for one more name, and gives the number of its product. Nothing that a table shows changes.
+// Makes room for one more name, and gives the number of its product. No name changes.
 fn make_room(
     alloc: Global,
     names: &mut IndexSet<Wfn>,
     numbers: &mut Vec<u32>,
     rows: &mut Vec<Row>,
     products: &mut Products,
-    name: &Wfn,
+    counts: &mut Vec<u32>,
+    product: &Value,
 ) -> Result<u32, Memory>
-    requires { lower_value name.now.product ≡ name.now.product }
-    ensures product { IfOk result (λ number. slice_get products.new number ≡ Some name.now.product) }
-    ensures products { (number : ℕ) (v : Value) → slice_get products.old number ≡ Some v → slice_get products.new number ≡ Some v }
+    requires { lower_value product.now ≡ product.now }
+    ensures same { (p : ℕ) → count_at counts.new.items p ≡ count_at counts.old.items p }
+    ensures room { IfOk result (λ number. number < length counts.new.items) }
+    ensures product { IfOk result (λ number. IsGiven products.old products.new number product.now) }
+    ensures err { OnErr result (products.new ≡ products.old) }
     ensures names { names.new.keys ≡ names.old.keys }
     ensures unique { IsDistinct same_name names.new.keys }
     ensures numbers { numbers.new.items ≡ numbers.old.items }
@@ -132,7 +204,7 @@ fn make_room(
 {
     names.reserve(1)?;
     reserve_number(numbers, rows, names.len())?;
-    product_number(alloc, products, name.get(Attribute::Product))
+    product_number(alloc, products, counts, product)
 }
 
 // The number of the first place behind the names; a new one where none is free.
@@ -192,6 +264,12 @@ fn put_name(names: &mut IndexSet<Wfn>, name: Wfn)
     }
 }
 
+// Lets a name go that memory was wanting for.
+fn let_name_go(name: Wfn, memory: Memory) -> Memory {
+    drop(name);
+    memory
+}
+
 // Takes out the name at a place, and puts the last one there.
 fn take_name(names: &mut IndexSet<Wfn>, place: u32)
     requires { place < length names.old.keys }
@@ -247,6 +325,7 @@ impl NameTable {
             numbers: Vec::new(alloc),
             rows: Vec::new(alloc),
             products: Products::new(alloc),
+            counts: Vec::new(alloc),
         }
     }
 
@@ -276,28 +355,48 @@ impl NameTable {
             raise(&mut self.rows, number);
             return Ok(NameId(number));
         }
-        let product = make_room(
+        let copied = name.copy(self.alloc)?;
+        self.hold_new(copied)
+    }
+
+    /// The number of a name that no live number has, with one hold. The name is moved, not copied.
+    ///
+    /// # Errors
+    /// Want of memory, or of a number below 2^32 - 1; the table is then as it was, and the name is gone.
+    pub fn hold_new(&mut self, name: Wfn) -> Result<NameId, Memory>
+        requires lower { IsLower name }
+        requires fresh { (id : ℕ) → HasName self.old id name → ⊥ }
+        ensures held { IfOk result (λ id. Holds self.old self.new id.0 name) }
+        ensures err { OnErr result (self.new ≡ self.old) }
+    {
+        let given = make_room(
             self.alloc,
             &mut self.names,
             &mut self.numbers,
             &mut self.rows,
             &mut self.products,
-            name,
-        )?;
-        let copied = name.copy(self.alloc)?;
+            &mut self.counts,
+            name.get(Attribute::Product),
+        );
+        let product = match given {
+            Ok(product) => product,
+            Err(memory) => return Err(let_name_go(name, memory)),
+        };
         let place = self.names.len();
         let number = free_number(&mut self.numbers, &mut self.rows, place);
-        put_name(&mut self.names, copied);
+        put_name(&mut self.names, name);
         let row = Row {
             place: place as u32,
             holds: 1,
             product,
         };
         set_row(&mut self.rows, number, row);
+        raise_count(&mut self.counts, product);
         Ok(NameId(number))
     }
 
-    /// One hold less. After the last the number isn't live any more, and the name's memory is given back.
+    /// One hold less. After the last the number isn't live any more, and the name's memory is given back, and with the
+    /// last name of a product the product's. It takes no memory.
     pub fn release(&mut self, id: NameId)
         requires { IsLive self.old id.0 }
         ensures { Releases self.old self.new id.0 }
@@ -315,6 +414,8 @@ impl NameTable {
         let last = self.names.len() - 1;
         take_name(&mut self.names, row.place);
         free_row(&mut self.rows, &mut self.numbers, id.0, last);
+        lower_count(&mut self.counts, row.product);
+        let_go(&mut self.products, &self.counts, row.product);
     }
 
     /// The number of the product of a name.
@@ -326,17 +427,19 @@ impl NameTable {
         ProductId(row.product)
     }
 
-    /// A look at a name, which is one step. No other call hands out a kept name.
+    /// A look at a name, which is one step: what a search compares is looked at so.
     pub fn look<L: Ledger>(&self, id: NameId, steps: &mut Steps<L>) -> &Wfn
         requires { IsLive self.now id.0 }
         ensures name { result.now ≡ (kept_at self.now id.0).name }
         ensures step { steps.new ≡ steps.old + 1 }
     {
         steps.tick();
-        self.name_of(id)
+        self.name(id)
     }
 
-    fn name_of(&self, id: NameId) -> &Wfn
+    /// The name of a number, for a row that is told by its number. It is no look, and no step: a search has
+    /// [`look`](NameTable::look).
+    pub fn name(&self, id: NameId) -> &Wfn
         requires { IsLive self.now id.0 }
         ensures { result.now ≡ (kept_at self.now id.0).name }
     {
@@ -355,7 +458,7 @@ impl NameTable {
         self.products.lawful();
     }
 
-    // How many products have a number.
+    // Above the product number of each live name.
     pub(crate) fn product_count(&self) -> usize
         ensures { (id : ℕ) (k : Kept) → find_kept self.now id ≡ Some k → k.product < result }
     {

@@ -77,15 +77,18 @@ names_move old new held stays fits = go held (λ id some. some) (opened old held
 
 -- ---- a table that keeps the same of each number
 
-pub same_table : (old new : Names) (held : List (ℕ × ℕ)) → ((id : ℕ) → find_kept new id ≡ find_kept old id) → AreHeld old held → AreHeld new held
-same_table old new held same a = record {
-  fits = closed new held (go held (opened old held a.fits));
-  once = λ id k e. a.once id k (sym (same id) ∙ e);
-}
+pub same_fits : (old new : Names) (held : List (ℕ × ℕ)) → ((id : ℕ) → find_kept new id ≡ find_kept old id) → Fits held old → Fits held new
+same_fits old new held same fits = closed new held (go held (opened old held fits))
   where
     go : (some : List (ℕ × ℕ)) → AllByRecursion (FitsAt old) some → AllByRecursion (FitsAt new) some
     go [] h = tt
     go (x ∷ some) h = ((h.0.0, same x.0 ∙ h.0.1, h.0.2), go some h.1)
+
+pub same_table : (old new : Names) (held : List (ℕ × ℕ)) → ((id : ℕ) → find_kept new id ≡ find_kept old id) → AreHeld old held → AreHeld new held
+same_table old new held same a = record {
+  fits = same_fits old new held same a.fits;
+  once = λ id k e. a.once id k (sym (same id) ∙ e);
+}
 
 pub same_names : (old new : Names) (held : List (ℕ × ℕ)) → ((id : ℕ) → find_kept new id ≡ find_kept old id) → Fits held old → names_held new held ≡ names_held old held
 same_names old new held same fits = names_move old new held (λ id k e h. ap (λ (j : Kept). j.name) (kept_is new id k (same id ∙ e))) fits

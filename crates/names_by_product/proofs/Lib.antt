@@ -3,3 +3,4 @@ pub mod Rising
 pub mod Places
 pub mod Rows
 pub mod Same
+pub mod OrderLemmas

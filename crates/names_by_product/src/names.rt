@@ -110,8 +110,8 @@ fn push_covered<N: NameList, L: Ledger>(
     Ok(())
 }
 
-// A walk over the held names to whose products that of the name is near.
-fn near_names<'a>(table: &'a NameTable, index: &'a NameIndex, name: &'a Wfn) -> Near<'a>
+/// A walk over the held names to whose products that of the name is near.
+pub(crate) fn near_names<'a>(table: &'a NameTable, index: &'a NameIndex, name: &'a Wfn) -> Near<'a>
     requires fits { Fits index.now.held table.now }
     requires lower { IsLower name.now }
     ensures { SameElements (filter (is_near table.now side.Source name.now.product) (ids index.now.held)) result }

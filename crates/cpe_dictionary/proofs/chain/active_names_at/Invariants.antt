@@ -1,10 +1,9 @@
 use Rattle.std.proofs.Common.{◌≡◌, ◌++◌, map, filter, drop}
 use Rattle.cpe_rows.specs.Chains.{is_active}
 use Rattle.numbered_entries.specs.Numbers.{entries_at}
-use Rattle.cpe_dictionary.specs.Kept.{entry_from}
 use Rattle.cpe_dictionary.proofs.chain.active_names_at.Given as goal
 
 abbrev pub invariant-loop-number : goal.invariant-loop-number
 invariant-loop-number l =
-    let es = map entry_from l.entries.entries in
+    let es = l.entries in
     l.names ++ map (λ e. e.name) (filter is_active (entries_at es (drop l.number-index l.numbers))) ≡ map (λ e. e.name) (filter is_active (entries_at es l.numbers))

@@ -5,14 +5,13 @@ use Rattle.cpe_rows.specs.declared.reply.Row.{Row}
 use Rattle.numbered_entries.specs.Numbers.{entries_at}
 use Rattle.names_by_product.proofs.Rows.{item_first}
 use Rattle.cpe_dictionary.specs.Kept.{entry_from}
-use Rattle.cpe_dictionary.proofs.AtNumbers.{entry_at, none_at, next_found, next_absent}
+use Rattle.cpe_dictionary.proofs.AtNumbers.{next_found, next_absent}
 use Rattle.cpe_dictionary.proofs.chain.rows_at.Goals.{in-Some+in_ok-row_of+in_ok-push, in_default}
 use Rattle.cpe_dictionary.proofs.chain.rows_at.Goals as goal
 
 pub loop-number-preserved : goal.loop-number-preserved
 loop-number-preserved c =
-    let pairs = c.args.entries.now.entries in
-    let es = map entry_from pairs in
+    let es = c.args.entries.now in
     let ks = c.args.numbers.now in
     let i = c.loop-number.number-index in
     let k = get_or ks i 0 in
@@ -23,10 +22,10 @@ loop-number-preserved c =
     elim c.match-get_index.branch [
       | in-Some+in_ok-row_of+in_ok-push w ↦
           let e = entry_from (w.in-Some.name.now, w.in-Some.details.now) in
-          let at = entry_at pairs k (w.in-Some.name.now, w.in-Some.details.now) (sym w.in-Some.ensures.entry) in
+          let at = sym w.in-Some.ensures.entry in
           let next = next_found (λ (x : Entry). row_of x ∷ []) (map row_of) refl (λ x xs. refl) es rows all k rest e at before in
           ap (λ (rs : List Row). rs ++ map row_of (entries_at es rest)) (w.rows-is ∙ w.in_ok-push.ensures.ok ∙ ap (λ (r : Row). rows ++ r ∷ []) w.in_ok-row_of.ensures) ∙ next
       | in_default w ↦
-          let at = none_at pairs k (sym w.in_default.ensures.entry) in
+          let at = sym w.in_default.ensures.entry in
           ap (λ (rs : List Row). rs ++ map row_of (entries_at es rest)) w.rows-is ∙ next_absent (λ (x : Entry). row_of x ∷ []) (map row_of) refl (λ x xs. refl) es rows all k rest at before
     ]

@@ -1,9 +1,9 @@
-use Rattle.std.proofs.Common.{◌≡◌, ◌<◌, List, length, map, sym, ap, subst, ◌∙◌}
+use Rattle.std.proofs.Common.{◌≡◌, ◌<◌, List, length, sym, ap, subst, ◌∙◌}
 use Rattle.cpe_rows.specs.Lawful.{IsDictionary}
 use Rattle.cpe_rows.specs.declared.entry.Entry.{Entry}
 use Rattle.deprecation_graph.specs.Graph.{Node, changed}
 use Rattle.numbered_entries.specs.Numbers.{nodes_of_entries}
-use Rattle.cpe_dictionary.specs.Kept.{entry_from, rewritten, written}
+use Rattle.cpe_dictionary.specs.Kept.{rewritten, written}
 use Rattle.cpe_dictionary.specs.Plans.{numbered}
 use Rattle.cpe_dictionary.proofs.DictionaryLemmas.{kept_change}
 use Rattle.cpe_dictionary.proofs.dictionary.Dictionary.commit.Goals as goal
@@ -14,9 +14,9 @@ invariant_of-self-2 c =
     let next = c.args.plan.now.next in
     let d = c.args.deprecation in
     let note = c.args.note in
-    let xs = map entry_from c.self.inside.entries.entries in
+    let xs = c.self.inside.entries in
     let back = sym c.self.view_is in
-    kept_change c.self.inside.by_product xs (map entry_from c.rewrite.new.entries.entries) c.self.inside.graph.nodes c.set_edges.new.self.nodes k d note next c.changes_by_number.ensures.changes c.self.invariant
+    kept_change xs c.rewrite.new.self c.self.inside.graph.nodes c.set_edges.new.self.nodes k d note next c.changes_by_number.ensures.changes c.self.invariant
     (subst (λ (es : List Entry). k < length (nodes_of_entries es)) back c.requires.allowed.change.names.node)
     (subst (λ (es : List Entry). next ≡ numbered es d) back c.requires.numbers)
     (subst (λ (es : List Entry). IsDictionary (written (rewritten d note) k es)) back c.requires.lawful)

@@ -3,12 +3,11 @@ use Rattle.std.specs.Prelude.{Some, option_map}
 use Rattle.cpe_name.specs.declared.name.Values.{Values}
 use Rattle.cpe_rows.specs.declared.entry.Entry.{Entry}
 use Rattle.cpe_rows.specs.declared.fault.EditFault.TheVariants as fault
-use Rattle.cpe_dictionary.proofs.AtNumbers.{entry_at}
 use Rattle.cpe_dictionary.proofs.dictionary.Dictionary.too_wide.Goals as goal
 
 pub returns-in-Ok : goal.returns-in-Ok
 returns-in-Ok c =
-    let at = entry_at c.self.inside.entries.entries c.args.number (c.in-Some.name.now, c.in-Some.field-0-1.now) (sym c.in-Some.ensures.entry) in
+    let at = sym c.in-Some.ensures.entry in
     ap (λ (es : List Entry). option_map (λ (e : Entry). fault.TooWide e.name) (slice_get es c.args.number)) (sym c.self.view_is)
     ∙ ap (option_map (λ (e : Entry). fault.TooWide e.name)) at
     ∙ ap (λ (n : Values). Some (fault.TooWide n)) (sym c.in-Ok.ensures)

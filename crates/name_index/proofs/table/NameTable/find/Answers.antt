@@ -11,9 +11,9 @@ returns-in-Some-clause-found c =
     let f = found_at i.names.keys c.args.name.now c.in-Some.place (sym c.in-Some.ensures.index) in
     let at : c.number_of.result ≡ number_at i.numbers.items c.in-Some.place = c.number_of.ensures in
     subst (λ (names : Names). HasName names c.number_of.result c.args.name.now) c.self.view_is
-    (subst (λ (n : ℕ). HasName (names_of i.names.keys i.rows.items) n c.args.name.now) (sym at) (has_name i.names.keys i.rows.items i.numbers.items i.products c.self.invariant c.args.name.now c.in-Some.place f))
+    (subst (λ (n : ℕ). HasName (names_of i.names.keys i.rows.items) n c.args.name.now) (sym at) (has_name i.names.keys i.rows.items i.numbers.items i.products c.self.invariant.0 c.args.name.now c.in-Some.place f))
 
 pub returns-in-None-clause-none : goal.returns-in-None-clause-none
 returns-in-None-clause-none c e id has =
     let i = c.self.inside in
-    both_ways _ (sym c.in-None.ensures.found) (name_found i.names.keys i.rows.items i.numbers.items i.products c.self.invariant id c.args.name.now (subst (λ (names : Names). HasName names id c.args.name.now) (sym c.self.view_is) has))
+    both_ways _ (sym c.in-None.ensures.found) (name_found i.names.keys i.rows.items i.numbers.items i.products c.self.invariant.0 id c.args.name.now (subst (λ (names : Names). HasName names id c.args.name.now) (sym c.self.view_is) has))
