@@ -5,26 +5,22 @@ use Rattle.std.proofs.lemmas.Bool.{cases_eq, ne_eqb}
 use Rattle.std.proofs.lemmas.List.Sums.{sum_by-cons}
 use Rattle.deprecation_graph.specs.Indexed.{list_of, size_of}
 use Rattle.deprecation_graph.specs.Mirror.{times, IsMirror}
+use Rattle.deprecation_graph.specs.Groups.{total}
 use Rattle.deprecation_graph.proofs.Rising.{Contains-rest}
 
--- the sum below a number
-abbrev total : (ℕ → ℕ) → ℕ → ℕ
-total f zero = 0
-total f (suc n) = total f n + f n
-
-total-alike : (f g : ℕ → ℕ) (n : ℕ) → ((i : ℕ) → i < n → f i ≡ g i) → total f n ≡ total g n
+pub total-alike : (f g : ℕ → ℕ) (n : ℕ) → ((i : ℕ) → i < n → f i ≡ g i) → total f n ≡ total g n
 total-alike f g zero e = refl
 total-alike f g (suc n) e = omega (arith, total-alike f g n (λ i lt. e i (omega arith)), e n (omega arith))
 
-total-add : (f g : ℕ → ℕ) (n : ℕ) → total (λ i. f i + g i) n ≡ total f n + total g n
+pub total-add : (f g : ℕ → ℕ) (n : ℕ) → total (λ i. f i + g i) n ≡ total f n + total g n
 total-add f g zero = refl
 total-add f g (suc n) = omega (arith, total-add f g n)
 
-total-none : (n : ℕ) → total (λ i. 0) n ≡ 0
+pub total-none : (n : ℕ) → total (λ i. 0) n ≡ 0
 total-none zero = refl
 total-none (suc n) = omega (arith, total-none n)
 
-total-first : (f : ℕ → ℕ) (n : ℕ) → total f (suc n) ≡ f 0 + total (λ i. f (suc i)) n
+pub total-first : (f : ℕ → ℕ) (n : ℕ) → total f (suc n) ≡ f 0 + total (λ i. f (suc i)) n
 total-first f zero = omega arith
 total-first f (suc n) = omega (arith, total-first f n)
 
@@ -44,7 +40,7 @@ total-more f x (suc n) lt = elim (cases_eq x n) [
   | inr other ↦ omega (arith, total-more f x n (omega arith), ap (λ (b : Bool). cond b (f n + 1) (f n)) (ne_eqb x n other))
 ]
 
-length_total : (xs : List ℕ) (n : ℕ) → ((x : ℕ) → Contains xs x → x < n) → length xs ≡ total (λ v. times v xs) n
+pub length_total : (xs : List ℕ) (n : ℕ) → ((x : ℕ) → Contains xs x → x < n) → length xs ≡ total (λ v. times v xs) n
 length_total [] n below = sym (total-none n)
 length_total (x ∷ xs) n below = omega (arith, length_total xs n (λ y c. below y (Contains-rest y x xs c)), total-more (λ v. times v xs) x n (below x (0, omega arith, refl)))
 

@@ -55,7 +55,7 @@ Adds-none found = record {
   apart = λ h. h;
 }
 
-Adds-kept : {old new ys : List ℕ} → Adds old new ys → (x : ℕ) → Contains old x → Contains new x
+pub Adds-kept : {old new ys : List ℕ} → Adds old new ys → (x : ℕ) → Contains old x → Contains new x
 Adds-kept {old} {new} {ys} h x c = (c.0, omega (arith, c.1, h.longer), h.front c.0 x c.1 ∙ c.2)
 
 Adds-then : {old now new ys zs : List ℕ} → Adds old now ys → Adds now new zs → Adds old new (ys ++ zs)

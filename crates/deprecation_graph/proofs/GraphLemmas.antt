@@ -53,7 +53,7 @@ next_in-other nodes a to b ne = ap next_or_none (slice_get-set_other nodes a b (
 active_in-changed : (nodes : List Node) (a : ℕ) (to : Option (List ℕ)) → a < length nodes → active_in (changed nodes a to) a ≡ (node_of to).active
 active_in-changed nodes a to lt = ap active_or_not (slice_get-set_same nodes a (node_of to) lt)
 
-active_in-other : (nodes : List Node) (a : ℕ) (to : Option (List ℕ)) (b : ℕ) → b ≢ a → active_in (changed nodes a to) b ≡ active_in nodes b
+pub active_in-other : (nodes : List Node) (a : ℕ) (to : Option (List ℕ)) (b : ℕ) → b ≢ a → active_in (changed nodes a to) b ≡ active_in nodes b
 active_in-other nodes a to b ne = ap active_or_not (slice_get-set_other nodes a b (node_of to) ne)
 
 -- ---- tests that find nothing
@@ -95,7 +95,7 @@ module _ (nodes : List Node) (a : ℕ) (to : Option (List ℕ)) (ok : IsLawful n
     | inr ne ↦ ok.closed x y lt (subst (λ (ys : List ℕ). Contains ys y) (next_in-other nodes a to x ne) edge)
   ]
 
-  edge_is_successor : (y : ℕ) → HasEdge (next_in (changed nodes a to)) a y → Contains (successors to) y
+  pub edge_is_successor : (y : ℕ) → HasEdge (next_in (changed nodes a to)) a y → Contains (successors to) y
   edge_is_successor y edge = subst (λ (ys : List ℕ). Contains ys y) (next_in-changed nodes a to change.node) edge
 
   -- no new successor leads to the node

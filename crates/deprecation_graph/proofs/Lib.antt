@@ -12,3 +12,5 @@ pub mod KeptLemmas
 pub mod RootLemmas
 pub mod StoredLemmas
 pub mod CountLemmas
+pub mod GroupLemmas
+pub mod EnclosedLemmas

@@ -1,8 +1,9 @@
 -- The rooms of a graph, and what its changes do to them.
-use Rattle.std.proofs.Common.{◌≡◌, ℕ, zero, suc, ◌+◌, ◌-◌, ◌<◌, ◌≤◌, Bool, true, false, List, [], ◌∷◌, ◌++◌, length, get_or, refl, sym, ap, subst, ◌∙◌, arith, slice_set, Option, Some, None, is_none, is_some, not, vec_capacity, Bor}
+use Rattle.std.proofs.Common.{◌≡◌, ℕ, zero, suc, ◌+◌, ◌-◌, ◌<◌, ◌≤◌, Bool, true, false, List, [], ◌∷◌, ◌++◌, length, get_or, refl, sym, ap, subst, ◌∙◌, arith, slice_set, inl, inr, Option, Some, None, is_none, is_some, not, vec_capacity, Bor}
 use Rattle.std.specs.List.{All, Contains}
 use Rattle.std.specs.Option.{option_copied}
-use Rattle.std.proofs.lemmas.List.{length_push}
+use Rattle.std.proofs.lemmas.Bool.{cases_eq}
+use Rattle.std.proofs.lemmas.List.{length_push, length-set, get_or-set_other}
 use Rattle.std.proofs.lemmas.List.Elements.{Contains-get_or}
 use Rattle.std.proofs.lemmas.List.Sums.{sum_by-cons, sum_by-set, sum_by_push}
 use Rattle.std.proofs.lemmas.Option.{slice_get-get_or}
@@ -12,6 +13,10 @@ use Rattle.deprecation_graph.proofs.GraphLemmas.{lawful_push}
 use Rattle.deprecation_graph.specs.declared.kept.Kept.{Kept}
 use Rattle.deprecation_graph.specs.Indexed.{list_of, size_of}
 use Rattle.deprecation_graph.specs.Mirror.{times, IsMirror}
+use Rattle.deprecation_graph.specs.Groups.{AreMembers, AreGroups, AreGrouped, Recounts, Joins}
+use Rattle.deprecation_graph.specs.declared.groups.Member.{Member}
+use Rattle.deprecation_graph.specs.declared.groups.Member.TheVariants.{Head, Under}
+use Rattle.deprecation_graph.proofs.GroupLemmas.{members_pushed}
 use Rattle.deprecation_graph.specs.Kept.{nodes_of, nodes_in, IsKept, IsStored, Regrows, HasRoom, KeepsRoom}
 use Rattle.deprecation_graph.proofs.MirrorLemmas.{mirror_moved, list_of-set, set-set}
 use Rattle.deprecation_graph.proofs.KeptLemmas.{length-nodes_of, push-nodes, set-nodes, same_steps, kept_closed, closed_lists, closed_before}
@@ -36,13 +41,63 @@ size_nodes (a ∷ marks) [] e = absurd (omega arith)
 size_nodes (a ∷ marks) (xs ∷ lists) e =
     omega (arith, sum_by-cons (λ (ys : List ℕ). length ys + 1) xs lists, sum_by-cons (λ (n : Node). length n.next) (record { active = a; next = xs }) (nodes_of marks lists), size_nodes marks lists (omega arith))
 
+-- ---- groups
+
+groups_moved : {ms ms' : List Member} {marks marks' : List Bool} {lists lists' : List (List ℕ)} → ms' ≡ ms → marks' ≡ marks → lists' ≡ lists → AreGroups ms marks lists → AreGroups ms' marks' lists'
+groups_moved {ms} {ms'} {marks} {marks'} {lists} {lists'} e f h g = record {
+  group = g.group;
+  members = subst (λ (xs : List Member). AreMembers xs marks' g.group) (sym e) (subst (λ (bs : List Bool). AreMembers ms bs g.group) (sym f) g.members);
+  joined = λ a b c. g.joined a b (subst (λ (ls : List (List ℕ)). Contains (list_of ls a) b) h c);
+}
+
+list_of-push : (lists : List (List ℕ)) (i : ℕ) → list_of (lists ++ [] ∷ []) i ≡ list_of lists i
+list_of-push [] zero = refl
+list_of-push [] (suc i) = refl
+list_of-push (xs ∷ lists) zero = refl
+list_of-push (xs ∷ lists) (suc i) = list_of-push lists i
+
+groups_pushed : (ms : List Member) (marks : List Bool) (lists : List (List ℕ)) → AreGroups ms marks lists → AreGroups (ms ++ Head 1 ∷ []) (marks ++ true ∷ []) (lists ++ [] ∷ [])
+groups_pushed ms marks lists g = record {
+  group = g.group;
+  members = members_pushed ms marks g.group g.members;
+  joined = λ a b c. g.joined a b (subst (λ (ys : List ℕ). Contains ys b) (list_of-push lists a) c);
+}
+
+pub groups_changed : (ms counted new : List Member) (marks : List Bool) (lists lists' : List (List ℕ)) (a : ℕ) (is : Bool) (ys : List ℕ) → AreGroups ms marks lists → Recounts ms counted marks (slice_set marks a is) → Joins counted new a ys → lists' ≡ slice_set lists a ys → a < length lists → AreGroups new (slice_set marks a is) lists'
+groups_changed ms counted new marks lists lists' a is ys g recounts joins e lt =
+    let j = joins (slice_set marks a is) g.group (recounts g.group g.members) in
+    record {
+      group = j.wider;
+      members = j.members;
+      joined = λ x y c.
+          let here = subst (λ (ls : List (List ℕ)). Contains (list_of ls x) y) e c in
+          elim (cases_eq x a) [
+            | inl same ↦ ap j.wider same ∙ j.joined y (subst (λ (zs : List ℕ). Contains zs y) (ap (list_of (slice_set lists a ys)) same ∙ list_of-set lists a ys lt) here)
+            | inr other ↦ j.still x y (g.joined x y (subst (λ (zs : List ℕ). Contains zs y) (get_or-set_other lists a x ys [] other) here))
+          ];
+    }
+
+pub groups_recounted : (ms counted : List Member) (marks : List Bool) (a : ℕ) (is : Bool) → AreGrouped ms → (group : ℕ → ℕ) → AreMembers ms marks group → Recounts ms counted marks (slice_set marks a is) → AreGrouped counted
+groups_recounted ms counted marks a is g group ok recounts =
+    let members = recounts group ok in
+    record { marks = slice_set marks a is; group = group; members = members; few = omega (arith, g.few, ok.same, members.same, length-set marks a is) }
+
+pub kept_grouped : (kept : Kept) → IsKept kept → AreGrouped kept.groups.items
+kept_grouped kept ok = record {
+  marks = kept.active.items;
+  group = ok.groups.group;
+  members = ok.groups.members;
+  few = omega (arith, ok.lawful.few, count_nodes kept ok, ok.groups.members.same);
+}
+
 -- ---- the same with more room
 
-kept_moved : (old new : Kept) → IsKept old → new.active.items ≡ old.active.items → new.next.lists ≡ old.next.lists → new.before.lists ≡ old.before.lists → IsKept new
-kept_moved old new ok marks next before = record {
+kept_moved : (old new : Kept) → IsKept old → new.active.items ≡ old.active.items → new.next.lists ≡ old.next.lists → new.before.lists ≡ old.before.lists → new.groups.items ≡ old.groups.items → IsKept new
+kept_moved old new ok marks next before groups = record {
   next = ap length next ∙ ok.next ∙ sym (ap length marks);
   before = ap length before ∙ ok.before ∙ sym (ap length marks);
   mirror = mirror_moved old.next.lists old.before.lists new.next.lists new.before.lists next before ok.mirror;
+  groups = groups_moved groups marks next ok.groups;
   lawful = subst IsLawful (sym (same_nodes old new marks next)) ok.lawful;
 }
   where
@@ -56,8 +111,9 @@ pub stored_regrown : (old new : Kept) (rn re rn' re' : ℕ) → IsStored old rn 
 stored_regrown old new rn re rn' re' s r h few_nodes few_edges =
     let same = ap edge_count (regrown_nodes old new r) in
     record {
-      sound = kept_moved old new s.sound r.marks r.next r.before;
+      sound = kept_moved old new s.sound r.marks r.next r.before r.groups;
       marks = h.capacity;
+      group_room = h.group_capacity;
       next_room = h.next_room;
       before_room = h.before_room;
       next_spare = h.next_spare;
@@ -68,12 +124,6 @@ stored_regrown old new rn re rn' re' s r h few_nodes few_edges =
 
 -- ---- a node more
 
-list_of-push : (lists : List (List ℕ)) (i : ℕ) → list_of (lists ++ [] ∷ []) i ≡ list_of lists i
-list_of-push [] zero = refl
-list_of-push [] (suc i) = refl
-list_of-push (xs ∷ lists) zero = refl
-list_of-push (xs ∷ lists) (suc i) = list_of-push lists i
-
 mirror_push : (next before : List (List ℕ)) → IsMirror next before → IsMirror (next ++ [] ∷ []) (before ++ [] ∷ [])
 mirror_push next before m a b = ap (times a) (list_of-push before b) ∙ m a b ∙ sym (ap (times b) (list_of-push next a))
 
@@ -82,7 +132,9 @@ pub record Adds (old new : Kept) : Type 0 where
   pub marks : new.active.items ≡ old.active.items ++ true ∷ []
   pub next : new.next.lists ≡ old.next.lists ++ [] ∷ []
   pub before : new.before.lists ≡ old.before.lists ++ [] ∷ []
+  pub groups : new.groups.items ≡ old.groups.items ++ Head 1 ∷ []
   pub capacity : vec_capacity new.active ≡ vec_capacity old.active
+  pub group_capacity : vec_capacity new.groups ≡ vec_capacity old.groups
   pub next_room : new.next.room + 1 ≡ old.next.room
   pub before_room : new.before.room + 1 ≡ old.before.room
   pub next_spare : new.next.spare + 1 ≡ old.next.spare
@@ -100,9 +152,11 @@ stored_added old new rn re s room a =
         next = omega (arith, count, ap length a.next, length_push old.next.lists [], s.sound.next);
         before = omega (arith, count, ap length a.before, length_push old.before.lists [], s.sound.before);
         mirror = mirror_moved (old.next.lists ++ [] ∷ []) (old.before.lists ++ [] ∷ []) new.next.lists new.before.lists a.next a.before (mirror_push old.next.lists old.before.lists s.sound.mirror);
+        groups = groups_moved a.groups a.marks a.next (groups_pushed old.groups.items old.active.items old.next.lists s.sound.groups);
         lawful = subst IsLawful (sym (added_nodes old new s.sound a)) (lawful_push (nodes_in old) s.sound.lawful (omega (arith, count_nodes old s.sound, s.few_nodes, room)));
       };
       marks = omega (arith, s.marks, count, a.capacity, room);
+      group_room = omega (arith, s.group_room, ap length a.groups, length_push old.groups.items (Head 1), a.group_capacity, room);
       next_room = omega (arith, s.next_room, a.next_room);
       before_room = omega (arith, s.before_room, a.before_room);
       next_spare = omega (arith, s.next_spare, a.next_spare, room);
@@ -147,6 +201,7 @@ stored_changed old new rn re a to value s ok same lt e k room =
     record {
       sound = ok;
       marks = omega (arith, s.marks, k.count, k.capacity);
+      group_room = omega (arith, s.group_room, k.count, ok.groups.members.same, s.sound.groups.members.same, k.group_capacity);
       next_room = omega (arith, s.next_room, k.next_room);
       before_room = omega (arith, s.before_room, k.before_room);
       next_spare = omega (arith, s.next_spare, k.next_spare, room);
@@ -160,3 +215,48 @@ none_answer None true e = refl
 none_answer None false e = absurd cc
 none_answer (Some xs) true e = absurd cc
 none_answer (Some xs) false e = refl
+
+-- ---- no nodes
+
+lawful_none : IsLawful []
+lawful_none = record {
+  few = omega arith;
+  closed = λ a b lt edge. absurd (omega (arith, lt));
+  bare = λ a e. refl;
+  acyclic = λ a b edge l. omega (arith, edge.1);
+  narrow = λ a lt. absurd (omega (arith, lt));
+}
+
+groups_none : AreGroups [] [] []
+groups_none = record {
+  group = λ x. x;
+  members = record {
+    same = refl;
+    past = λ x le. refl;
+    falls = λ x. omega arith;
+    under = λ x lower e. let apart : None ≡ Some (Under lower) = e in absurd cc;
+    head = λ x count e. let apart : None ≡ Some (Head count) = e in absurd cc;
+  };
+  joined = λ a b c. absurd (omega (arith, c.1));
+}
+
+pub stored_none : (kept : Kept) → kept.active.items ≡ [] → kept.next.lists ≡ [] → kept.before.lists ≡ [] → kept.groups.items ≡ [] → IsStored kept 0 0
+stored_none kept marks next before groups =
+    let none : nodes_in kept ≡ [] = ap (λ (ms : List Bool). nodes_of ms kept.next.lists) marks in
+    record {
+      sound = record {
+        next = ap length next ∙ sym (ap length marks);
+        before = ap length before ∙ sym (ap length marks);
+        mirror = mirror_moved [] [] kept.next.lists kept.before.lists next before (λ a b. refl);
+        groups = groups_moved groups marks next groups_none;
+        lawful = subst IsLawful (sym none) lawful_none;
+      };
+      marks = omega (arith, ap length marks);
+      group_room = omega (arith, ap length groups);
+      next_room = omega arith;
+      before_room = omega arith;
+      next_spare = omega arith;
+      before_spare = omega arith;
+      few_nodes = omega (arith, ap length marks);
+      few_edges = omega (arith, ap edge_count none);
+    }

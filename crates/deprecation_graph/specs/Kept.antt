@@ -5,6 +5,7 @@ use Rattle.std.specs.List.{list_all}
 use Rattle.std.specs.Option.{option_copied}
 use Rattle.deprecation_graph.specs.Graph.{Node, successors, changed, edge_count, IsLawful}
 use Rattle.deprecation_graph.specs.Mirror.{IsMirror}
+use Rattle.deprecation_graph.specs.Groups.{AreGroups}
 use Rattle.deprecation_graph.specs.declared.kept.Kept.{Kept}
 use Rattle.deprecation_graph.specs.declared.kept.Change.{Change}
 
@@ -35,17 +36,19 @@ marks_after marks (Some c) = slice_set marks c.node (is_none (option_copied c.ne
 abbrev pub AreFew : List Bool → List ℕ → Type 0
 AreFew marks nodes = (length nodes ≤ 1) ⊎ (list_all (λ node. slice_index_or marks node false) nodes ≡ true)
 
--- as many lists as nodes, kept both ways
+-- as many lists as nodes, kept both ways, and groups that no edge leaves
 pub record IsKept (kept : Kept) : Type 0 where
   pub next : length kept.next.lists ≡ length kept.active.items
   pub before : length kept.before.lists ≡ length kept.active.items
   pub mirror : IsMirror kept.next.lists kept.before.lists
+  pub groups : AreGroups kept.groups.items kept.active.items kept.next.lists
   pub lawful : IsLawful (nodes_in kept)
 
 -- what is so of a whole graph: its rooms are there, and its numbers are small
 pub record IsStored (kept : Kept) (room_nodes room_edges : ℕ) : Type 0 where
   pub sound : IsKept kept
   pub marks : length kept.active.items + room_nodes ≤ vec_capacity kept.active
+  pub group_room : length kept.groups.items + room_nodes ≤ vec_capacity kept.groups
   pub next_room : room_nodes ≤ kept.next.room
   pub before_room : room_nodes ≤ kept.before.room
   pub next_spare : room_nodes + room_edges ≤ kept.next.spare
@@ -58,7 +61,9 @@ pub record Regrows (old new : Kept) : Type 0 where
   pub marks : new.active.items ≡ old.active.items
   pub next : new.next.lists ≡ old.next.lists
   pub before : new.before.lists ≡ old.before.lists
+  pub groups : new.groups.items ≡ old.groups.items
   pub capacity : vec_capacity old.active ≤ vec_capacity new.active
+  pub group_capacity : vec_capacity old.groups ≤ vec_capacity new.groups
   pub next_room : old.next.room ≤ new.next.room
   pub before_room : old.before.room ≤ new.before.room
   pub next_spare : old.next.spare ≤ new.next.spare
@@ -66,6 +71,7 @@ pub record Regrows (old new : Kept) : Type 0 where
 
 pub record HasRoom (kept : Kept) (nodes edges : ℕ) : Type 0 where
   pub capacity : length kept.active.items + nodes ≤ vec_capacity kept.active
+  pub group_capacity : length kept.groups.items + nodes ≤ vec_capacity kept.groups
   pub next_room : nodes ≤ kept.next.room
   pub before_room : nodes ≤ kept.before.room
   pub next_spare : nodes + edges ≤ kept.next.spare
@@ -75,6 +81,7 @@ pub record HasRoom (kept : Kept) (nodes edges : ℕ) : Type 0 where
 pub record KeepsRoom (old new : Kept) (taken given : List ℕ) : Type 0 where
   pub count : length new.active.items ≡ length old.active.items
   pub capacity : vec_capacity new.active ≡ vec_capacity old.active
+  pub group_capacity : vec_capacity new.groups ≡ vec_capacity old.groups
   pub next_room : new.next.room ≡ old.next.room
   pub before_room : new.before.room ≡ old.before.room
   pub next_spare : new.next.spare + length taken ≡ old.next.spare + length given

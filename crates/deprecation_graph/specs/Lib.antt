@@ -7,4 +7,5 @@ pub mod Searches
 pub mod Indexed
 pub mod Heads
 pub mod Mirror
+pub mod Groups
 pub mod Kept

@@ -6,6 +6,7 @@ ghost use Rattle.deprecation_graph.specs.Faults.{change_fault};
 ghost use Rattle.deprecation_graph.specs.Kept.{nodes_in, IsKept, Regrows, HasRoom, KeepsRoom};
 
 use crate::fault::Memory;
+use crate::groups::{join_all, recount};
 use crate::kept::{Kept, successors};
 use crate::limits::{MOST_EDGES, MOST_NODES};
 use crate::mirror::{link_all, unlink_all};
@@ -21,6 +22,7 @@ pub(crate) fn reserve_kept(kept: &mut Kept, nodes: usize, edges: usize) -> Resul
     kept.active.reserve(nodes)?;
     kept.next.reserve(nodes, nodes + edges)?;
     kept.before.reserve(nodes, nodes + edges)?;
+    kept.groups.reserve(nodes)?;
     Ok(())
 }
 
@@ -35,7 +37,11 @@ pub(crate) fn set_kept(kept: &mut Kept, node: u32, next: Option<&[u32]>)
     ensures nodes { nodes_in kept.new ≡ changed (nodes_in kept.old) node (option_copied next.entry) }
     ensures rooms { KeepsRoom kept.old kept.new (successors_of (option_copied next.entry)) (next_in (nodes_in kept.old) node) }
 {
+    let all = successors(next);
+    let is_active = next.is_none();
     unlink_all(&mut kept.next, &mut kept.before, node);
-    link_all(&mut kept.next, &mut kept.before, node, successors(next));
-    kept.active[node as usize] = next.is_none();
+    link_all(&mut kept.next, &mut kept.before, node, all);
+    recount(&mut kept.groups, &kept.active, node, is_active);
+    join_all(&mut kept.groups, node, all);
+    kept.active[node as usize] = is_active;
 }

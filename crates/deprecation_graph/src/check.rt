@@ -10,20 +10,46 @@ ghost use Rattle.deprecation_graph.specs.Indexed.{has_none};
 ghost use Rattle.deprecation_graph.specs.Kept.{marks_after, nodes_in, nodes_after, AreFew, IsKept};
 
 use crate::fault::GraphFault;
+use crate::groups::{are_small, find_group};
 use crate::kept::{Change, Kept, is_active_after, successors};
 use crate::limits::{MOST_ENDS, MOST_SUCCESSORS};
 use crate::search::find_all;
 use std::alloc::{AllocError, Global};
 
-// Whether nothing has the second node as a successor, or the first has none: no path with a step then leads from it to the
-// second.
-fn is_apart(kept: &Kept, from: u32, to: u32) -> bool
+// Whether nothing has the second node as a successor, or the first has none.
+fn has_no_step(kept: &Kept, from: u32, to: u32) -> bool
     requires kept { IsKept kept.now }
     requires from { from < length kept.now.active.items }
     requires to { to < length kept.now.active.items }
     ensures { result ≡ true → reaches (next_in (nodes_in kept.now)) (length (nodes_in kept.now)) from to ≡ (from == to) }
 {
     kept.before.is_empty(to as usize) || kept.next.is_empty(from as usize)
+}
+
+// Whether it is seen that the nodes are of different groups.
+fn is_elsewhere(kept: &Kept, from: u32, to: u32) -> bool
+    requires kept { IsKept kept.now }
+    requires from { from < length kept.now.active.items }
+    requires to { to < length kept.now.active.items }
+    ensures { result ≡ true → reaches (next_in (nodes_in kept.now)) (length (nodes_in kept.now)) from to ≡ (from == to) }
+{
+    let Some(from_group) = find_group(&kept.groups, from) else {
+        return false;
+    };
+    let Some(to_group) = find_group(&kept.groups, to) else {
+        return false;
+    };
+    from_group != to_group
+}
+
+// Whether it is seen without a search that no path with a step leads from the first node to the second.
+fn is_apart(kept: &Kept, from: u32, to: u32) -> bool
+    requires kept { IsKept kept.now }
+    requires from { from < length kept.now.active.items }
+    requires to { to < length kept.now.active.items }
+    ensures { result ≡ true → reaches (next_in (nodes_in kept.now)) (length (nodes_in kept.now)) from to ≡ (from == to) }
+{
+    has_no_step(kept, from, to) || is_elsewhere(kept, from, to)
 }
 
 /// Whether a path leads from the first node to the second.
@@ -136,6 +162,16 @@ fn is_narrow(alloc: Global, kept: &Kept, change: Change) -> Result<bool, AllocEr
     Ok(ends.len() <= 1)
 }
 
+// Whether it is seen from the groups that no node has too many ends after the change: the sources of the node have theirs in its
+// group and in those of its new successors.
+fn is_enclosed(alloc: Global, kept: &Kept, change: Change) -> Result<bool, AllocError>
+    requires kept { IsKept kept.now }
+    requires change { NamesNodes (nodes_in kept.now) change.node (option_copied change.next) }
+    ensures { IfOk result (λ enclosed. enclosed ≡ true → wide_in (changed (nodes_in kept.now) change.entry.node (option_copied change.entry.next)) ≡ None) }
+{
+    are_small(alloc, &kept.groups, change.node, successors(change.next))
+}
+
 // The first of these nodes that has too many ends after the change.
 fn find_wide_among(
     alloc: Global,
@@ -219,6 +255,9 @@ fn find_wide_root(alloc: Global, kept: &Kept, change: Change) -> Result<Option<u
     if are_few(kept, successors(change.next)) {
         return Ok(None);
     }
+    if is_enclosed(alloc, kept, change)? {
+        return Ok(None);
+    }
     find_wide_among(alloc, kept, change, &[change.node])
 }
 
@@ -231,6 +270,9 @@ fn find_wide(alloc: Global, kept: &Kept, change: Change) -> Result<Option<u32>, 
 {
     if kept.before.is_empty(change.node as usize) {
         return find_wide_root(alloc, kept, change);
+    }
+    if is_enclosed(alloc, kept, change)? {
+        return Ok(None);
     }
     if is_narrow(alloc, kept, change)? {
         return Ok(None);

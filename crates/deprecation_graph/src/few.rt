@@ -13,8 +13,8 @@ use std::alloc::{AllocError, Global};
 // The most nodes that a search scans.
 const FEW: usize = 16;
 
-// Puts a number last, unless it is there.
-fn add(found: &mut Vec<u32>, node: u32) -> Result<(), AllocError>
+/// Puts a number last, unless it is there.
+pub(crate) fn add(found: &mut Vec<u32>, node: u32) -> Result<(), AllocError>
     ensures { OnOk result (found.new.items ≡ with_one found.old.items node) }
 {
     if !found.contains(&node) {

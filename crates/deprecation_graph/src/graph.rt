@@ -5,6 +5,7 @@ ghost use Rattle.std.specs.Option.{option_copied};
 use crate::changes::{reserve_kept, set_kept};
 use crate::check::{check_change, find_chain, find_ends, find_sources, is_led_to};
 use crate::fault::{GraphFault, Memory};
+use crate::groups::Member;
 use crate::kept::{Change, Kept, successors};
 use crate::limits::{MOST_EDGES, MOST_NODES};
 use crate::lists::Lists;
@@ -45,6 +46,7 @@ impl DeprecationGraph {
                 active: Vec::new(alloc),
                 next: Lists::new(alloc),
                 before: Lists::new(alloc),
+                groups: Vec::new(alloc),
             },
             room_nodes: 0,
             room_edges: 0,
@@ -87,20 +89,23 @@ impl DeprecationGraph {
         self.kept.active.push_reserved(true);
         self.kept.next.add_list();
         self.kept.before.add_list();
+        self.kept.groups.push_reserved(Member::Head(1));
         self.room_nodes -= 1;
         number
     }
 
     /// Whether the node may get these successors and be inactive, or with `None` be active. The graph stays.
     ///
-    /// Where the node is a successor of none, it costs no search if it gets one successor, none, or active ones alone, and else
-    /// one of the chain that it would have.
+    /// Nodes between which an edge was ever made are of one group. No path leads to a node of another group, and where the group
+    /// of the node and those of its new successors have fewer active nodes together than [`MOST_ENDS`](crate::MOST_ENDS), no
+    /// node can get too wide: neither needs a search, unless the way to the name of one of the groups is long.
     ///
-    /// Where the node is a successor of another, the chain of each new successor that has some itself is searched, up to the
-    /// first from which a path leads to the node. Then, where the node is active, the chain that it would have is searched; has
-    /// that one end at most, no node can get too wide. Else the node's sources are searched, and the chain that each of them
-    /// would have which is a successor of none, up to the first that is too wide. Only where one is, the chain that each source
-    /// would have is searched, up to the least that is too wide.
+    /// Else, where the node is a successor of none, it costs no search if it gets one successor, none, or active ones alone, and
+    /// otherwise one of the chain that it would have. Where the node is a successor of another, the chain of each new successor
+    /// that has some itself is searched, up to the first from which a path leads to the node. Then, where the node is active,
+    /// the chain that it would have is searched; has that one end at most, no node can get too wide. Else the node's sources are
+    /// searched, and the chain that each of them would have which is a successor of none, up to the first that is too wide. Only
+    /// where one is, the chain that each source would have is searched, up to the least that is too wide.
     ///
     /// # Errors
     ///
@@ -117,8 +122,8 @@ impl DeprecationGraph {
     /// Makes a change that [`check`](Self::check) allows: the node has these successors and is inactive, or with `None` it has
     /// none and is active. All other nodes stay. It takes no memory.
     ///
-    /// Each new successor costs a constant, and each old one a walk along the nodes that it is a successor of, in the order in
-    /// which they came to be, as far as this node.
+    /// Each new successor costs a constant beside the ways to the names of two groups, which are halved for the next time, and
+    /// each old one a walk along the nodes that it is a successor of, in the order in which they came to be, as far as this node.
     pub fn set_edges(&mut self, node: u32, next: Option<&[u32]>)
         requires change { IsChange self.old.nodes node (option_copied next) }
         requires allowed { change_fault self.old.nodes node (option_copied next) ≡ None }

@@ -5,15 +5,17 @@ ghost use Rattle.deprecation_graph.specs.Graph.{successors as successors_of_chan
 ghost use Rattle.deprecation_graph.specs.Indexed.{list_of};
 ghost use Rattle.deprecation_graph.specs.Kept.{lists_after, marks_after};
 
+use crate::groups::Member;
 use crate::lists::Lists;
 use std::alloc::AllocError;
 
-/// Whether each node is active, its successors, and its predecessors.
+/// Whether each node is active, its successors, its predecessors, and its group.
 #[derive(Drop)]
 pub(crate) struct Kept {
     pub(crate) active: Vec<bool>,
     pub(crate) next: Lists,
     pub(crate) before: Lists,
+    pub(crate) groups: Vec<Member>,
 }
 
 /// A node, and the successors that it is to have; with none it is to be active.

@@ -6,7 +6,8 @@
 //! has it. There is never a cycle, and no node has more than [`MOST_ENDS`] ends: [`DeprecationGraph::check`] tells whether
 //! a change keeps it so, and [`DeprecationGraph::set_edges`] makes a change that is allowed, without memory.
 //!
-//! Edges are kept both ways. A search costs what it finds, and not the number of nodes.
+//! Edges are kept both ways. A search costs what it finds, and not the number of nodes. Nodes are also kept in groups that no edge
+//! leaves, each with the number of its active nodes: where these are few, a change needs no search.
 //!
 //! Laws are stated as functions that do nothing: [`chains_are_paths`], [`changes_are_local`], [`additions_are_local`].
 #![tactic(auto)]
@@ -16,6 +17,7 @@ mod check;
 mod fault;
 mod few;
 mod graph;
+mod groups;
 mod kept;
 mod laws;
 mod limits;
