@@ -4,7 +4,7 @@ use Rattle.std.specs.Prelude.{Result, Ok, Err}
 use Rattle.std.proofs.lemmas.Bool.{and_from}
 use Rattle.serde_json.specs.Data.{Data}
 use Rattle.serde_json.specs.Find.{get}
-use Rattle.cpe_rows.specs.Shape.{most_depth}
+use Rattle.cpe_rows.specs.declared.limits.TheConstants.{MOST_LEVELS}
 use Rattle.cpe_rows.specs.Valid.{is_logic, is_statement_test}
 use Rattle.cpe_rows.specs.declared.test.Operator.{Operator}
 use Rattle.cpe_rows.specs.declared.test.Test as test
@@ -85,17 +85,17 @@ both : (r : Result Draft RecordFault) → Yields formed r → Yields logic r →
 both (Ok d) f l = (f, l)
 both (Err e) f l = tt
 
-read_good : (d : Draft) → Good d → nat_le (draft_depth d) most_depth ≡ true → (r : Result (test.Test × ℕ) RecordFault) → Each (Agrees d) r → Each IsLogic r → Yields is_statement_test (r >>= λ x. Ok x.0)
+read_good : (d : Draft) → Good d → nat_le (draft_depth d) MOST_LEVELS ≡ true → (r : Result (test.Test × ℕ) RecordFault) → Each (Agrees d) r → Each IsLogic r → Yields is_statement_test (r >>= λ x. Ok x.0)
 read_good d g w (Err e) a l = tt
-read_good d g w (Ok x) a l = and_from _ _ (and_from _ _ l (ap (λ n. nat_le n most_depth) a.1 ∙ w)) (a.0 g.0)
+read_good d g w (Ok x) a l = and_from _ _ (and_from _ _ l (ap (λ n. nat_le n MOST_LEVELS) a.1 ∙ w)) (a.0 g.0)
 
-shallow_good : (d : Draft) → Good d → (b : Bool) → nat_le (draft_depth d) most_depth ≡ b → Yields is_statement_test ((if b then Ok d else Err fault.TooDeep) >>= λ s. names_from s 1 >>= λ x. Ok x.0)
+shallow_good : (d : Draft) → Good d → (b : Bool) → nat_le (draft_depth d) MOST_LEVELS ≡ b → Yields is_statement_test ((if b then Ok d else Err fault.TooDeep) >>= λ s. names_from s 1 >>= λ x. Ok x.0)
 shallow_good d g true w = read_good d g w (names_from d 1) (reads_as d 1) (stays_logic d 1 g.1)
 shallow_good d g false w = tt
 
 draft_good : (r : Result Draft RecordFault) → Each Good r → Yields is_statement_test (r >>= λ t. within_limit t >>= λ s. names_from s 1 >>= λ x. Ok x.0)
 draft_good (Err e) g = tt
-draft_good (Ok d) g = shallow_good d g (nat_le (draft_depth d) most_depth) refl
+draft_good (Ok d) g = shallow_good d g (nat_le (draft_depth d) MOST_LEVELS) refl
 
 op_there : (d : Data) (b : Bool) → is_some (get (codes "op") d) ≡ b
     → Yields is_statement_test ((if b then Ok d else Err (fault.Member part.Test)) >>= λ l. draft_of l >>= λ t. within_limit t >>= λ s. names_from s 1 >>= λ x. Ok x.0)

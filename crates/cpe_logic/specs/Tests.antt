@@ -4,7 +4,8 @@ use Rattle.std.specs.Ordering.{nat_cmp, match_ordering}
 use Rattle.std.specs.Cmp.Lexicographic.{slice_cmp}
 use Rattle.serde_json.specs.Data.{Data, null, boolean, number, string, array, object, Items, no_items, item, Members, no_members, member}
 use Rattle.serde_json.specs.Find.{get, as_str}
-use Rattle.cpe_rows.specs.Shape.{largest, most_depth}
+use Rattle.cpe_rows.specs.Shape.{largest}
+use Rattle.cpe_rows.specs.declared.limits.TheConstants.{MOST_LEVELS}
 use Rattle.cpe_rows.specs.declared.test.Operator.{Operator}
 use Rattle.cpe_rows.specs.declared.test.CheckKey.{CheckKey}
 use Rattle.cpe_rows.specs.declared.test.Test as test
@@ -109,7 +110,7 @@ draft_depth = fold-Draft ℕ depth_step
 
 -- not too deep
 abbrev pub within_limit : Draft → Result Draft RecordFault
-within_limit t = if nat_le (draft_depth t) most_depth then Ok t else Err fault.TooDeep
+within_limit t = if nat_le (draft_depth t) MOST_LEVELS then Ok t else Err fault.TooDeep
 
 -- ---- names
 

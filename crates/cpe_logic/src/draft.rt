@@ -1,5 +1,5 @@
 // The test of a statement, in three passes: its form at any depth, its depth, and its names in their order.
-ghost use Rattle.std.specs.Prelude.{◌≡◌, nat_le};
+ghost use Rattle.std.specs.Prelude.{◌≡◌, [], IfOk, nat_le};
 ghost use Rattle.serde_json.specs.View.{view};
 ghost use Rattle.cpe_members.specs.Gives.{Gives};
 ghost use Rattle.cpe_logic.specs.Tests.{operator_in, part_in, key_in, leaf_in, logic_in, draft_of, names_from, within_limit, test_in, test_at};
@@ -8,12 +8,10 @@ use cpe_members::{
     Member, NameSpot, RecordFault, array_in, count_on, flag_or_false, operator_of, read_name,
     text_in,
 };
-use cpe_rows::{CheckKey, List, Operator, Test, Text};
+use cpe_rows::{CheckKey, List, MOST_LEVELS, Operator, Test, Text};
+use cpe_values::Memory;
 use serde_json::Value;
 use std::alloc::Global;
-
-// No test has more levels.
-const MOST_LEVELS: u32 = 32;
 
 /// A test as it is written, before its names are read.
 #[derive(Debug, Drop)]
@@ -106,6 +104,16 @@ fn draft_of(alloc: Global, source: &Value) -> Result<Draft, RecordFault>
     logic_of(source, of)
 }
 
+// No tests, and room for so many. A list that grows takes room for four at least, and these are kept.
+fn room_for(alloc: Global, count: usize) -> Result<List<Test>, Memory>
+    ensures { IfOk result (λ tests. tests ≡ []) }
+{
+    match Vec::with_capacity(alloc, count) {
+        Ok(tests) => Ok(List::from_vec(tests)),
+        Err(_) => Err(Memory),
+    }
+}
+
 /// The test of a draft with its names read, and the number of the next fact.
 fn names_from(alloc: Global, draft: &Draft, fact: u32) -> Result<(Test, u32), RecordFault>
     ensures { Gives result (names_from draft.now fact) }
@@ -116,7 +124,7 @@ fn names_from(alloc: Global, draft: &Draft, fact: u32) -> Result<(Test, u32), Re
             negate,
             of,
         } => {
-            let mut tests = List::new(alloc);
+            let mut tests = room_for(alloc, of.len())?;
             let mut count = fact;
             for child in of.as_slice() {
                 match names_from(alloc, child, count) {
