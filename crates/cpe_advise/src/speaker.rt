@@ -16,7 +16,7 @@ use cpe_io::{Sink, SinkFault};
 use cpe_ranges::{
     Advice, AdviceEdit, AdviceFault, AdviceQuery, AdviceReadFault, Advisories, read_advice,
 };
-use cpe_session::{Page, Speaker};
+use cpe_session::{Line, Page, Speaker};
 use cpe_steps::Steps;
 use std::alloc::{AllocError, Global};
 use std::sync::ledger::Ledger;
@@ -41,12 +41,10 @@ impl Speaker for Advise {
         alloc: Global,
         state: &mut Advisories,
         page: &mut Page,
-        number: u64,
-        text: &[u8],
+        line: &Line<'_>,
         steps: &mut Steps<L>,
     ) -> Result<Option<AdviceReason>, AllocError> {
-        let _ = number;
-        match read_advice(alloc, text) {
+        match read_advice(alloc, line.text) {
             Ok(Advice::Edit(edit)) => make_edit(state, edit, steps),
             Ok(Advice::Query(query)) => say_answer(alloc, state, page, query, steps),
             Err(AdviceReadFault::Memory) => Err(AllocError),

@@ -1,9 +1,10 @@
 -- When a word is a count.
-use Rattle.std.proofs.Common.{◌≡◌, ℕ, ◌<◌, ◌^◌, Bool, true, false, ◌&&◌, if◌then◌else◌, nat_lt, List, [], ◌∷◌, length, get_or, Option, Some, None, Ok, Err, ◌≢◌, refl, sym, ap, ◌∙◌, arith}
+use Rattle.std.proofs.Common.{◌≡◌, ℕ, ◌<◌, Bool, true, false, ◌&&◌, if◌then◌else◌, nat_le, List, [], ◌∷◌, length, get_or, Option, Some, None, Ok, Err, ◌≢◌, refl, sym, ap, ◌∙◌, arith}
 use Rattle.std.specs.Str.{all_ascii_digits}
 use Rattle.std.specs.Str.Parse.{digits_value, ParsesUnsigned}
 use Rattle.std.proofs.lemmas.Str.Parse.{IsNumeralModel, numerals_by_value, tells_all_ascii_digits, parse_plain}
 use Rattle.std.proofs.lemmas.Bool.Decides.{nat_tests}
+use Rattle.cpe_drill.specs.declared.line.TheConstants.{MOST_LINES}
 use Rattle.cpe_command.specs.Command.{begins_count, count_of}
 
 abbrev pick : (begins digits below : Bool) → ℕ → Option ℕ
@@ -29,21 +30,21 @@ begins-digit (c ∷ cs) begins = (λ plus. grind (arith, nat_tests), omega arith
 -- one that doesn't begin so is none
 pub count_of-other : (word : List ℕ) → begins_count word ≡ false → None ≡ count_of word
 unfolding count_of
-count_of-other word none = sym (ap (λ b. pick b (all_ascii_digits word) (nat_lt (digits_value 10 word) (2 ^ 63)) (digits_value 10 word)) none)
+count_of-other word none = sym (ap (λ b. pick b (all_ascii_digits word) (nat_le (digits_value 10 word) MOST_LINES) (digits_value 10 word)) none)
 
 module _ (word : List ℕ) (begins : begins_count word ≡ true) where
   -- one that was read is that number, where it is below the bound
-  pub count_of-read : (n : ℕ) → ParsesUnsigned {E = ℕ} 64 10 word (Ok n) → (if nat_lt n (2 ^ 63) then Some n else None) ≡ count_of word
+  pub count_of-read : (n : ℕ) → ParsesUnsigned {E = ℕ} 32 10 word (Ok n) → (if nat_le n MOST_LINES then Some n else None) ≡ count_of word
   unfolding count_of
   count_of-read n read =
-      let plain = parse_plain numerals {E = ℕ} 64 word (Ok n) read (begins-digit word begins).0 in
-      ap (λ k. if nat_lt k (2 ^ 63) then Some k else None) plain.1
-      ∙ sym (pick-some (begins_count word) (all_ascii_digits word) (nat_lt (digits_value 10 word) (2 ^ 63)) (digits_value 10 word) begins plain.0.0)
+      let plain = parse_plain numerals {E = ℕ} 32 word (Ok n) read (begins-digit word begins).0 in
+      ap (λ k. if nat_le k MOST_LINES then Some k else None) plain.1
+      ∙ sym (pick-some (begins_count word) (all_ascii_digits word) (nat_le (digits_value 10 word) MOST_LINES) (digits_value 10 word) begins plain.0.0)
 
   -- and one that wasn't is none
-  pub count_of-unread : ParsesUnsigned {E = ℕ} 64 10 word (Err 0) → None ≡ count_of word
+  pub count_of-unread : ParsesUnsigned {E = ℕ} 32 10 word (Err 0) → None ≡ count_of word
   unfolding count_of
   count_of-unread read =
-      let plain = parse_plain numerals {E = ℕ} 64 word (Err 0) read (begins-digit word begins).0 in
-      sym (pick-none (begins_count word) (all_ascii_digits word) (nat_lt (digits_value 10 word) (2 ^ 63)) (digits_value 10 word)
+      let plain = parse_plain numerals {E = ℕ} 32 word (Err 0) read (begins-digit word begins).0 in
+      sym (pick-none (begins_count word) (all_ascii_digits word) (nat_le (digits_value 10 word) MOST_LINES) (digits_value 10 word)
       (λ digits below. plain (digits, (begins-digit word begins).1, grind (arith, nat_tests))))

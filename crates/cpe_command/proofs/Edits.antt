@@ -13,7 +13,8 @@ use Rattle.cpe_members.specs.declared.member.RecordFault.{RecordFault}
 use Rattle.cpe_command.specs.declared.records.RecordCommand.{RecordCommand}
 use Rattle.cpe_command.specs.declared.records.RecordCommand.TheVariants.{Resolve, Evaluate}
 use Rattle.cpe_records.specs.Edited.{stepped, edited, line_edited}
-use Rattle.cpe_drill.specs.Costs.{line_cost}
+use Rattle.cpe_records.specs.Asked.{line_asked}
+use Rattle.cpe_engine.specs.Looks.{looks}
 use Rattle.cpe_command.specs.Records.{edit_text, by_step, by_record, record_session}
 
 step_state : (rows : Rows) (text : Rows → List ℕ) (result : Result Rows EditFault) → state_of rows (by_step text result) ≡ stepped rows result
@@ -30,7 +31,7 @@ edits-lines command rows number None = refl
 edits-lines command rows number (Some []) = refl
 edits-lines command rows number (Some (x ∷ xs)) = record_state command number rows (record_of (x ∷ xs))
 
-pub costs-lines : (command : RecordCommand) → CostsBy (record_session command) line_cost
+pub costs-lines : (command : RecordCommand) → CostsBy (record_session command) (line_asked looks)
 costs-lines command s None = refl
 costs-lines command s (Some []) = refl
 costs-lines command s (Some (x ∷ xs)) = refl

@@ -5,10 +5,9 @@ ghost use Rattle.cpe_command.specs.Names.{as_line, other_form, name_reason_text}
 
 use cpe_fs::write_bound;
 use cpe_room::put_byte;
-use cpe_session::{Page, Reason, Stateless};
+use cpe_session::{Fill, Page, Reason, Stateless};
 use cpe_uri::{UNBOUND_FRAME, write_bound_uri, write_unbound_any};
 use std::alloc::{AllocError, Global};
-use std::mem::replace;
 
 /// What each line is written as, which is one name in some form.
 #[derive(Clone, Copy, Debug, PartialEq, Eq)]
@@ -47,45 +46,47 @@ impl Stateless for NameCommand {
 
     ghost says = { λ command text. as_line (other_form command text) };
 
-    // In one room.
     fn say(
         &self,
         alloc: Global,
         page: &mut Page,
         text: &[u8],
     ) -> Result<Option<NameReason>, AllocError> {
-        let most = text
-            .len()
-            .saturating_mul(3)
-            .saturating_add(UNBOUND_FRAME + 1);
-        let (mut room, used) = replace(page, Page::new(alloc)).into_room(most)?;
-        match write_line(*self, &mut room, used, text) {
-            Ok(end) => {
-                *page = Page::from_room(room, end);
-                Ok(None)
-            }
-            Err(reason) => {
-                *page = Page::from_room(room, used);
-                Ok(Some(reason))
-            }
-        }
+        let _ = alloc;
+        page.with_room(&OtherForm {
+            command: *self,
+            text,
+        })
     }
 }
 
-// Writes the other form and a newline into the room, from `at` on, and answers the place behind them.
-fn write_line(
+// The other form of the name that a text stands for, as a line.
+#[derive(Clone, Copy)]
+struct OtherForm<'t> {
     command: NameCommand,
-    room: &mut [u8],
-    at: usize,
-    text: &[u8],
-) -> Result<usize, NameReason>
-    requires { at + 3 * length text.now + UNBOUND_FRAME + 1 ≤ length room.old }
-    ensures line { MatchResult result (λ end. Puts (as_line (other_form command text.now)) (take at room.old) (take end room.new) None)
-        (λ reason. Puts (as_line (other_form command text.now)) (take at room.old) (take at room.new) (Some reason)) }
-    ensures within { IfOk result (λ end. end ≤ length room.old) }
-{
-    let end = write_form(command, room, at, text)?;
-    Ok(put_byte(room, end, b'\n'))
+    text: &'t [u8],
+}
+
+impl Fill for OtherForm<'_> {
+    ghost use Rattle.cpe_uri.specs.declared.TheConstants.{UNBOUND_FRAME};
+
+    type Reason = NameReason;
+
+    ghost text = { λ form. as_line (other_form form.command form.text.now) };
+
+    ghost need = { λ form. 3 * length form.text.now + (UNBOUND_FRAME + 1) };
+
+    fn most(&self) -> usize {
+        self.text
+            .len()
+            .saturating_mul(3)
+            .saturating_add(UNBOUND_FRAME + 1)
+    }
+
+    fn fill(&self, room: &mut [u8], at: usize) -> Result<usize, NameReason> {
+        let end = write_form(self.command, room, at, self.text)?;
+        Ok(put_byte(room, end, b'\n'))
+    }
 }
 
 // No form has more than three bytes for each of the text, and those of the frame.

@@ -13,10 +13,9 @@ use cpe_io::cut_in_halves;
 use cpe_name::{ATTRIBUTES, Attribute, NameRef, Wfn};
 use cpe_relation::{Relation, Relations, compare_lent};
 use cpe_room::{put, put_byte};
-use cpe_session::{Page, Reason, Stateless};
+use cpe_session::{Fill, Page, Reason, Stateless};
 use cpe_uri::{UriFault, lend_any, unbind_any};
 use std::alloc::{AllocError, Global};
-use std::mem::replace;
 
 // The bytes of the longest word that stands for a relation, and of the space before it.
 const WORD: usize = 10;
@@ -93,8 +92,8 @@ fn say_to_target(
     ensures { IfOk result (Puts (to_target (name_lent source.now) (read_any target.now)) page.old page.new) }
 {
     match lend_any(target) {
-        Ok(Some(target)) => push_relations(alloc, page, source, &target),
-        Ok(None) => push_relations(alloc, page, source, &make_name(alloc, target)?.as_ref()),
+        Ok(Some(target)) => push_relations(page, source, &target),
+        Ok(None) => push_relations(page, source, &make_name(alloc, target)?.as_ref()),
         Err(place) => Ok(Some(PairReason::Target(place))),
     }
 }
@@ -112,7 +111,6 @@ fn make_name(alloc: Global, text: &[u8]) -> Result<Wfn, AllocError>
 }
 
 fn push_relations(
-    alloc: Global,
     page: &mut Page,
     source: &NameRef,
     target: &NameRef,
@@ -120,24 +118,32 @@ fn push_relations(
     ensures { IfOk result (Puts (Ok (relation_line (name_lent source.now) (name_lent target.now))) page.old page.new) }
 {
     let (whole, each) = compare_lent(source, target);
-    push_line(alloc, page, whole, &each)?;
-    Ok(None)
+    page.with_room(&RelationLine { whole, each })
 }
 
-// Puts the relation of the names, and those of the attributes in order, behind what is gathered, in one room.
-fn push_line(
-    alloc: Global,
-    page: &mut Page,
+// The relation of two names, and those of their attributes in order.
+#[derive(Clone, Copy)]
+struct RelationLine {
     whole: Relation,
-    each: &Relations,
-) -> Result<(), AllocError>
-    ensures { OnOk result (page.new ≡ page.old ++ (relation_text whole ++ flat_map (λ w. 32 ∷ relation_text (relation_of each.now w)) attributes ++ codes "\n")) }
-{
-    let most = WORD * (ATTRIBUTES.len() + 1) + 1;
-    let (mut room, used) = replace(page, Page::new(alloc)).into_room(most)?;
-    let end = put_line(&mut room, used, whole, each);
-    *page = Page::from_room(room, end);
-    Ok(())
+    each: Relations,
+}
+
+impl Fill for RelationLine {
+    ghost use Rattle.cpe_command.specs.declared.pairs.TheConstants.{WORD};
+
+    type Reason = PairReason;
+
+    ghost text = { λ line. Ok (relation_text line.whole ++ flat_map (λ w. 32 ∷ relation_text (relation_of line.each w)) attributes ++ codes "\n") };
+
+    ghost need = { λ line. WORD * (length attributes + 1) + 1 };
+
+    fn most(&self) -> usize {
+        WORD * (ATTRIBUTES.len() + 1) + 1
+    }
+
+    fn fill(&self, room: &mut [u8], at: usize) -> Result<usize, PairReason> {
+        Ok(put_line(room, at, self.whole, &self.each))
+    }
 }
 
 fn put_line(room: &mut [u8], at: usize, whole: Relation, each: &Relations) -> usize

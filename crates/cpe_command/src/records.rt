@@ -19,7 +19,7 @@ use cpe_members::RecordFault;
 use cpe_records::{Record, read_record};
 use cpe_replies::{RecordReason, push_reply};
 use cpe_rows::{Edit, EditFault, Query};
-use cpe_session::{Page, Speaker};
+use cpe_session::{Line, Page, Speaker};
 use cpe_steps::Steps;
 use std::alloc::{AllocError, Global};
 use std::sync::ledger::Ledger;
@@ -51,12 +51,11 @@ impl Speaker for RecordCommand {
         alloc: Global,
         state: &mut Engine,
         page: &mut Page,
-        number: u64,
-        text: &[u8],
+        line: &Line<'_>,
         steps: &mut Steps<L>,
     ) -> Result<Option<RecordReason>, AllocError> {
-        match read_record(alloc, text) {
-            Ok(Record::Edit(edit)) => self.say_edit(alloc, state, page, number, edit, steps),
+        match read_record(alloc, line.text) {
+            Ok(Record::Edit(edit)) => self.say_edit(alloc, state, page, line.number, edit, steps),
             Ok(Record::Query(query)) => say_answer(alloc, state, page, query, steps),
             Err(RecordFault::Memory) => Err(AllocError),
             Err(fault) => Ok(Some(RecordReason::Unread(fault))),

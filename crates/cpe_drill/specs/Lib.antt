@@ -1,5 +1,4 @@
 pub mod Generated
 pub mod Outcome
-pub mod Costs
 pub mod Summary
 pub mod Drill

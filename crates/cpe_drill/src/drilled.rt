@@ -4,7 +4,7 @@ ghost use Rattle.cpe_steps.specs.Within.{StepsWithin};
 ghost use Rattle.cpe_rows.specs.Valid.{is_valid_edit, is_valid_query};
 ghost use Rattle.cpe_engine.specs.Looks.{looks};
 ghost use Rattle.cpe_records.specs.Reading.{record_of};
-ghost use Rattle.cpe_drill.specs.Costs.{record_cost};
+ghost use Rattle.cpe_records.specs.Asked.{asked};
 ghost use Rattle.cpe_drill.specs.Drill.{drilled};
 ghost use Rattle.cpe_drill.specs.Outcome.{found_by};
 
@@ -58,7 +58,7 @@ impl Drilled {
         steps: &mut Steps<L>,
     ) -> Result<(), AllocError>
         ensures outcome { OnOk result (self.new ≡ drilled self.old (record_of text.now)) }
-        ensures counts { StepsWithin steps.old steps.new (record_cost self.old.engine (record_of text.now)) }
+        ensures counts { StepsWithin steps.old steps.new (asked looks self.old.engine (record_of text.now)) }
     {
         match read_record(alloc, text) {
             Ok(Record::Edit(edit)) => self.edit(edit, steps),

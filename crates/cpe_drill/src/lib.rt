@@ -10,6 +10,6 @@ mod summary;
 mod tables;
 
 pub use drilled::Drilled;
-pub use line::generated;
+pub use line::{MOST_LINES, generated};
 pub use run::drill;
 pub use tables::GeneratedLines;

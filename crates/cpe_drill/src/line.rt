@@ -1,5 +1,5 @@
 // The lines by their numbers.
-ghost use Rattle.std.specs.Prelude.{◌≡◌, ◌++◌, IfOk, OnOk};
+ghost use Rattle.std.specs.Prelude.{◌≡◌, ◌<◌, ◌++◌, IfOk, OnOk};
 ghost use Rattle.cpe_drill.specs.Generated.{generated, product_line, line_at, last_line, result_word};
 
 use crate::record::{
@@ -11,16 +11,19 @@ use cpe_values::Memory;
 use itoa::Buffer;
 use std::alloc::{AllocError, Global};
 
+/// So many lines are made at most.
+pub const MOST_LINES: u32 = 800_000;
+
 // Lines for each product.
-const LINES: u64 = 8;
+const LINES: usize = 8;
 
 // So many vendors have all products.
-const VENDORS: u64 = 50;
+const VENDORS: usize = 50;
 
 // So many checks serve all statements.
-const CHECKS: u64 = 63;
+const CHECKS: usize = 63;
 
-/// The line of a number from 0, without a newline.
+/// Line `k` from 0, without a newline.
 ///
 /// Eight lines come for each product, in this order: its two versions as entries, the first of them as an item, a statement
 /// about the second, the result of a check, the deprecation of the first for the second, a search, and in turn the verdict of
@@ -28,23 +31,24 @@ const CHECKS: u64 = 63;
 ///
 /// # Errors
 /// Want of memory alone.
-pub fn generated(alloc: Global, number: u64) -> Result<Vec<u8>, Memory>
-    ensures { IfOk result (λ line. line.items ≡ generated number) }
+pub fn generated(alloc: Global, k: u32) -> Result<Vec<u8>, Memory>
+    requires { k < MOST_LINES }
+    ensures { IfOk result (λ line. line.items ≡ generated k) }
 {
     let mut page = Page::new(alloc);
-    push_generated(&mut page, number)?;
+    push_generated(&mut page, k as usize)?;
     Ok(page.into_bytes())
 }
 
-/// Puts the line of a number from 0 behind what is gathered.
+/// Puts line `k` from 0 behind what is gathered.
 #[tactic(auto, unfolding(crate::specs::Generated::generated))]
-pub fn push_generated(page: &mut Page, number: u64) -> Result<(), AllocError>
-    ensures { OnOk result (page.new ≡ page.old ++ generated number) }
+pub fn push_generated(page: &mut Page, k: usize) -> Result<(), AllocError>
+    ensures { OnOk result (page.new ≡ page.old ++ generated k) }
 {
-    push_of_product(page, number % LINES, number / LINES)
+    push_of_product(page, k % LINES, k / LINES)
 }
 
-fn push_of_product(page: &mut Page, place: u64, number: u64) -> Result<(), AllocError>
+fn push_of_product(page: &mut Page, place: usize, number: usize) -> Result<(), AllocError>
     ensures { OnOk result (page.new ≡ page.old ++ product_line place number) }
 {
     let mut vendor = Buffer::new();
@@ -62,8 +66,8 @@ fn push_of_product(page: &mut Page, place: u64, number: u64) -> Result<(), Alloc
 
 fn push_at(
     page: &mut Page,
-    place: u64,
-    number: u64,
+    place: usize,
+    number: usize,
     vendor: &[u8],
     product: &[u8],
     check: &[u8],
@@ -82,7 +86,12 @@ fn push_at(
     }
 }
 
-fn push_last(page: &mut Page, number: u64, vendor: &[u8], product: &[u8]) -> Result<(), AllocError>
+fn push_last(
+    page: &mut Page,
+    number: usize,
+    vendor: &[u8],
+    product: &[u8],
+) -> Result<(), AllocError>
     ensures { OnOk result (page.new ≡ page.old ++ last_line number vendor.now product.now) }
 {
     if number % 2 == 0 {
@@ -93,7 +102,7 @@ fn push_last(page: &mut Page, number: u64, vendor: &[u8], product: &[u8]) -> Res
 }
 
 #[tactic(auto, unfolding(crate::specs::Generated::result_word))]
-fn result_word(turn: u64) -> &'static [u8]
+fn result_word(turn: usize) -> &'static [u8]
     ensures { result.now ≡ result_word turn }
 {
     match turn {

@@ -1,12 +1,13 @@
 // The run over the generated records.
-ghost use Rattle.std.specs.Prelude.{◌≡◌, ◌⊎◌, ◌<◌, ◌^◌, ℕ, List};
+ghost use Rattle.std.specs.Prelude.{◌≡◌, ◌⊎◌, ℕ, List};
 ghost use Rattle.std.specs.declared.option.Option.{Option};
 ghost use Rattle.cpe_io.specs.Causes.{Rose};
 ghost use Rattle.cpe_session.specs.Ran.{Ran, Counted};
 ghost use Rattle.cpe_session.specs.Task.{Written};
 ghost use Rattle.cpe_rows.specs.Rows.{no_rows};
 ghost use Rattle.cpe_steps.specs.Within.{StepsWithin};
-ghost use Rattle.cpe_drill.specs.Costs.{record_cost};
+ghost use Rattle.cpe_engine.specs.Looks.{looks};
+ghost use Rattle.cpe_records.specs.Asked.{asked};
 ghost use Rattle.cpe_drill.specs.Outcome.{summed};
 ghost use Rattle.cpe_drill.specs.Drill.{undrilled, drill_session, drill_transcript, LeavesRows};
 
@@ -15,7 +16,7 @@ use crate::summary::push_summary;
 use crate::tables::GeneratedRecords;
 use cpe_engine::Engine;
 use cpe_io::{Sink, SinkFault};
-use cpe_session::{Page, Speaker, Status, TooLong, answer_made};
+use cpe_session::{Line, Page, Speaker, Status, TooLong, answer_made};
 use cpe_steps::Steps;
 use std::alloc::{AllocError, Global};
 use std::mem::replace;
@@ -24,7 +25,7 @@ use std::sync::ledger::Ledger;
 // The first generated records, so many. None is refused with a reason: refused ones are counted.
 #[derive(Clone, Copy)]
 struct Drilling {
-    count: usize,
+    count: u32,
 }
 
 impl Speaker for Drilling {
@@ -43,13 +44,11 @@ impl Speaker for Drilling {
         alloc: Global,
         state: &mut Drilled,
         page: &mut Page,
-        number: u64,
-        text: &[u8],
+        line: &Line<'_>,
         steps: &mut Steps<L>,
     ) -> Result<Option<TooLong>, AllocError> {
         let _ = page;
-        let _ = number;
-        state.read(alloc, text, steps)?;
+        state.read(alloc, line.text, steps)?;
         Ok(None)
     }
 
@@ -73,16 +72,15 @@ impl Speaker for Drilling {
 /// Makes the edits and answers the questions of the first generated records, so many, and writes twelve lines: what they came to.
 pub fn drill<K: Sink, L: Ledger>(
     alloc: Global,
-    count: usize,
+    count: u32,
     engine: &mut Engine,
     sink: &mut K,
     steps: &mut Steps<L>,
 ) -> Status
-    requires empty { engine.old ≡ no_rows }
-    requires few { count < 2 ^ 63 }
+    requires { engine.old ≡ no_rows }
     ensures ran { (left : Option (List ℕ)) → Ran left left (K.held sink.old) (K.held sink.new) (Written (drill_transcript count))
         (λ taken status. LeavesRows count engine.new status) result }
-    ensures steps { StepsWithin steps.old steps.new (summed record_cost count) }
+    ensures steps { StepsWithin steps.old steps.new (summed (asked looks) count) }
     ensures sink { Counted Status.WriteFault (K.faults sink.old) (K.faults sink.new) result }
     ensures read { ¬ (result ≡ Status.ReadFault) }
     ensures complete { ¬ Rose (K.faults sink.old) (K.faults sink.new) → (result ≡ Status.Done) ⊎ (result ≡ Status.Memory) }
@@ -101,16 +99,15 @@ fn put_back(engine: &mut Engine, kept: Engine)
 
 fn drill_records<K: Sink, L: Ledger>(
     alloc: Global,
-    count: usize,
+    count: u32,
     drilled: &mut Drilled,
     sink: &mut K,
     steps: &mut Steps<L>,
 ) -> Status
-    requires fresh { drilled.old ≡ undrilled }
-    requires few { count < 2 ^ 63 }
+    requires { drilled.old ≡ undrilled }
     ensures ran { (left : Option (List ℕ)) → Ran left left (K.held sink.old) (K.held sink.new) (Written (drill_transcript count))
         (λ taken status. LeavesRows count drilled.new.engine status) result }
-    ensures steps { StepsWithin steps.old steps.new (summed record_cost count) }
+    ensures steps { StepsWithin steps.old steps.new (summed (asked looks) count) }
     ensures sink { Counted Status.WriteFault (K.faults sink.old) (K.faults sink.new) result }
     ensures read { ¬ (result ≡ Status.ReadFault) }
     ensures complete { ¬ Rose (K.faults sink.old) (K.faults sink.new) → (result ≡ Status.Done) ⊎ (result ≡ Status.Memory) }

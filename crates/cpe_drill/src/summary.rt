@@ -23,7 +23,7 @@ struct Line(&'static [u8], u64);
 pub fn push_summary(
     alloc: Global,
     page: &mut Page,
-    count: usize,
+    count: u32,
     drilled: &Drilled,
 ) -> Result<(), AllocError>
     ensures { OnOk result (page.new ≡ page.old ++ summary count drilled.now.refused drilled.now.found drilled.now.engine) }
@@ -32,7 +32,7 @@ pub fn push_summary(
     let counts = drilled.engine.counts();
     push_numbers(
         page,
-        count as u64,
+        u64::from(count),
         drilled.refused,
         drilled.found,
         &counts,

@@ -9,7 +9,7 @@ use std::alloc::{AllocError, Global};
 #[derive(Clone, Copy, Debug)]
 pub struct GeneratedRecords {
     /// How many there are.
-    pub count: usize,
+    pub count: u32,
 }
 
 impl Table for GeneratedRecords {
@@ -18,12 +18,12 @@ impl Table for GeneratedRecords {
     ghost text = { λ _ k. generated k };
 
     fn len(&self) -> usize {
-        self.count
+        self.count as usize
     }
 
     fn put(&self, alloc: Global, k: usize, page: &mut Page) -> Result<(), AllocError> {
         let _ = alloc;
-        push_generated(page, k as u64)
+        push_generated(page, k)
     }
 }
 
@@ -31,7 +31,7 @@ impl Table for GeneratedRecords {
 #[derive(Clone, Copy, Debug)]
 pub struct GeneratedLines {
     /// How many there are.
-    pub count: usize,
+    pub count: u32,
 }
 
 impl Table for GeneratedLines {
@@ -40,12 +40,12 @@ impl Table for GeneratedLines {
     ghost text = { λ _ k. generated_line k };
 
     fn len(&self) -> usize {
-        self.count
+        self.count as usize
     }
 
     fn put(&self, alloc: Global, k: usize, page: &mut Page) -> Result<(), AllocError> {
         let _ = alloc;
-        push_generated(page, k as u64)?;
+        push_generated(page, k)?;
         page.push(b"\n")
     }
 }

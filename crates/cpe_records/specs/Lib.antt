@@ -3,3 +3,4 @@ pub mod Kinds
 pub mod Reading
 pub mod Taken
 pub mod Edited
+pub mod Asked

@@ -10,7 +10,6 @@ use cpe_name::Wfn;
 use cpe_rows::{Entry, Reply, State, Truth};
 use cpe_session::Page;
 use std::alloc::{AllocError, Global};
-use std::mem::replace;
 
 /// Puts the lines of an answer behind what is gathered.
 ///
@@ -113,14 +112,7 @@ fn push_shown(
 fn push_entry(alloc: Global, page: &mut Page, entry: &Entry) -> Result<(), AllocError>
     ensures { OnOk result (page.new ≡ page.old ++ entry_text entry.now) }
 {
-    let bytes = replace(page, Page::new(alloc)).into_bytes();
-    match append_entry(alloc, bytes, entry) {
-        Ok(bytes) => {
-            *page = Page::from_bytes(bytes);
-            Ok(())
-        }
-        Err(_) => Err(AllocError),
-    }
+    page.with_bytes(alloc, |bytes| append_entry(alloc, bytes, entry))
 }
 
 /// Puts the line of a verdict behind what is gathered: the id of the statement, and its truth or `absent`.

@@ -9,21 +9,13 @@ use cpe_name::Wfn;
 use cpe_rows::{Row, State};
 use cpe_session::Page;
 use std::alloc::{AllocError, Global};
-use std::mem::replace;
 
 /// Puts the formatted string of a name behind what is gathered.
 #[tactic(auto, unfolding(crate::specs::Replies::name_text))]
 pub(crate) fn push_name(alloc: Global, page: &mut Page, name: &Wfn) -> Result<(), AllocError>
     ensures { OnOk result (page.new ≡ page.old ++ name_text name.now) }
 {
-    let bytes = replace(page, Page::new(alloc)).into_bytes();
-    match append_fs(bytes, name) {
-        Ok(bytes) => {
-            *page = Page::from_bytes(bytes);
-            Ok(())
-        }
-        Err(_) => Err(AllocError),
-    }
+    page.with_bytes(alloc, |bytes| append_fs(bytes, name))
 }
 
 fn state_word(state: State) -> &'static str

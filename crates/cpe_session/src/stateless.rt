@@ -8,7 +8,7 @@ ghost use Rattle.cpe_session.specs.Pages.{Puts};
 
 use crate::page::Page;
 use crate::session::answer_lines;
-use crate::speaker::{Reason, Speaker};
+use crate::speaker::{Line, Reason, Speaker};
 use crate::status::Status;
 use cpe_io::{Sink, SinkFault, Source};
 use cpe_steps::Steps;
@@ -53,14 +53,12 @@ impl<T: Stateless> Speaker for Each<T> {
         alloc: Global,
         state: &mut (),
         page: &mut Page,
-        number: u64,
-        text: &[u8],
+        line: &Line<'_>,
         steps: &mut Steps<L>,
     ) -> Result<Option<T::Reason>, AllocError> {
         let _ = state;
-        let _ = number;
         let _ = steps;
-        self.0.say(alloc, page, text)
+        self.0.say(alloc, page, line.text)
     }
 
     fn say_end<K: Sink, L: Ledger>(

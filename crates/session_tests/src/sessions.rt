@@ -4,7 +4,7 @@ ghost use Rattle.cpe_session.specs.Table.{rows_text};
 
 use cpe_io::{MemSink, MemSource, Memory, Sink, SinkFault};
 use cpe_session::{
-    Page, Reason, Speaker, Status, Table, answer_lines, answer_made, pour_table, write_table,
+    Line, Page, Reason, Speaker, Status, Table, answer_lines, answer_made, pour_table, write_table,
     write_text,
 };
 use cpe_steps::Steps;
@@ -75,18 +75,16 @@ impl Speaker for Tally {
         alloc: Global,
         state: &mut usize,
         page: &mut Page,
-        number: u64,
-        text: &[u8],
+        line: &Line<'_>,
         steps: &mut Steps<L>,
     ) -> Result<Option<Full>, AllocError> {
         let _ = alloc;
-        let _ = number;
         steps.tick();
-        let sum = state.saturating_add(text.len());
+        let sum = state.saturating_add(line.text.len());
         if sum > 9 {
             return Ok(Some(Full));
         }
-        page.push(text)?;
+        page.push(line.text)?;
         page.push(b"\n")?;
         *state = sum;
         Ok(None)

@@ -16,7 +16,7 @@ returns-clause-ran g c = λ left.
     let lines = made_lines generated c.args.count in
     let ran = subst (λ (first : Drilled). Ran left left (g.K.Sink.held c.args.sink.now) (g.K.Sink.held c.answer_made.new.sink) (Written (spoken (speech (drill_session c.args.count) first) lines))
     (λ taken status. ReachedBy (drill_session c.args.count) first c.answer_made.new.state c.args.steps.now c.answer_made.new.steps lines lines status) c.answer_made.result)
-    c.requires.fresh (c.answer_made.ensures.ran left) in
+    c.requires (c.answer_made.ensures.ran left) in
     Ran-besides
     (subst (λ (all : Transcript). Ran left left (g.K.Sink.held c.args.sink.now) (g.K.Sink.held c.answer_made.new.sink) (Written all)
     (λ taken status. ReachedBy (drill_session c.args.count) undrilled c.answer_made.new.state c.args.steps.now c.answer_made.new.steps lines lines status) c.answer_made.result)
@@ -26,13 +26,13 @@ returns-clause-ran g c = λ left.
 pub returns-clause-steps : goal.returns-clause-steps
 returns-clause-steps g c =
     let reached = (c.answer_made.ensures.ran None).besides in
-    let cost = ap (λ (first : Drilled). total_cost (drill_session c.args.count) first (made_lines generated c.args.count)) c.requires.fresh in
+    let cost = ap (λ (first : Drilled). total_cost (drill_session c.args.count) first (made_lines generated c.args.count)) c.requires in
     (reached.later, omega (arith, reached.within, cost, drill_cost c.args.count))
 
 pub returns-clause-complete : goal.returns-clause-complete
 returns-clause-complete g c = λ none.
     let ended = c.answer_made.ensures.complete none in
     let status : (spoken (speech (drill_session c.args.count) c.args.drilled.now) (made_lines generated c.args.count)).status ≡ _ =
-    ap (λ (first : Drilled). (spoken (speech (drill_session c.args.count) first) (made_lines generated c.args.count)).status) c.requires.fresh
+    ap (λ (first : Drilled). (spoken (speech (drill_session c.args.count) first) (made_lines generated c.args.count)).status) c.requires
     ∙ ap (λ (all : Transcript). all.status) (drill_is_spoken c.args.count) in
     subst (λ st. (c.answer_made.result ≡ st) ⊎ (c.answer_made.result ≡ Memory)) status ended

@@ -5,7 +5,7 @@ use Rattle.cpe_session.proofs.session.answer_lines.Given as goal
 
 abbrev pub invariant-loop-fault : goal.invariant-loop-fault
 invariant-loop-fault g l = record {
-  going : Going (g.S.Source.left l.fn.source) (g.S.Source.left l.source) (g.K.Sink.held l.fn.sink) (g.K.Sink.held l.sink) (g.T.Speaker.session l.speaker) l.fn.state l.fn.steps l.steps l.reader l.page (stage_of l.progress l.state);
+  going : Going (g.S.Source.left l.fn.source) (g.S.Source.left l.source) (g.K.Sink.held l.fn.sink) (g.K.Sink.held l.sink) (g.T.Speaker.session l.speaker) l.fn.state l.fn.steps l.steps l.reader l.progress.page (stage_of l.progress l.state);
   source : g.S.Source.faults l.source ≡ g.S.Source.faults l.fn.source;
   sink : g.K.Sink.faults l.sink ≡ g.K.Sink.faults l.fn.sink;
 }

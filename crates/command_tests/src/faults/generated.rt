@@ -1,7 +1,9 @@
 // Commands that read nothing: no read is made, so none fails, and a write that fails leaves a front.
+ghost use Rattle.std.specs.Prelude.{◌<◌, ◌≤◌};
+
 use crate::faults::{ALL, Ends, front, goes_over};
 use crate::runs::words_of;
-use cpe_command::{Status, generated};
+use cpe_command::{MOST_LINES, Status, generated};
 use std::alloc::Global;
 
 // Whether a run ends and writes so, where the first read would fail, and so many bytes go at a time.
@@ -56,17 +58,21 @@ fn drill_stands_at_each_fault(rt: HostRuntime) {
     assert!(rt; stands(rt.alloc(), &["drill", "16"], DRILLED));
 }
 
-// Puts the line of this number behind others.
-fn push_line(alloc: Global, lines: &mut Vec<u8>, number: u64) -> bool {
-    match generated(alloc, number) {
+// Puts a line behind others.
+fn push_line(alloc: Global, lines: &mut Vec<u8>, k: u32) -> bool
+    requires { k < MOST_LINES }
+{
+    match generated(alloc, k) {
         Ok(line) => lines.extend_from_slice(&line).is_ok() && lines.push(b'\n').is_ok(),
         Err(_) => false,
     }
 }
 
-fn push_lines(alloc: Global, lines: &mut Vec<u8>, count: u64) -> bool {
-    for number in 0..count {
-        if !push_line(alloc, lines, number) {
+fn push_lines(alloc: Global, lines: &mut Vec<u8>, count: u32) -> bool
+    requires { count ≤ MOST_LINES }
+{
+    for k in 0..count {
+        if !push_line(alloc, lines, k) {
             return false;
         }
     }
@@ -80,8 +86,10 @@ fn make_stands_at_each_fault(rt: HostRuntime) {
     assert!(rt; stands(rt.alloc(), &["make", "9"], &lines));
 }
 
-fn is_generated(alloc: Global, number: u64, wanted: &[u8]) -> bool {
-    match generated(alloc, number) {
+fn is_generated(alloc: Global, k: u32, wanted: &[u8]) -> bool
+    requires { k < MOST_LINES }
+{
+    match generated(alloc, k) {
         Ok(line) => &line[..] == wanted,
         Err(_) => false,
     }

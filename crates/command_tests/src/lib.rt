@@ -1,0 +1,12 @@
+//! Tests of commands through their public calls, of what no contract says: runs in which a read or a write fails, for each kind of
+//! command at each call in turn, bytes in pieces, the limit of the weight, and records that are counted.
+#![tactic(auto)]
+
+#[cfg(test)]
+mod drilled;
+#[cfg(test)]
+mod faults;
+#[cfg(test)]
+mod limits;
+#[cfg(test)]
+mod runs;

@@ -1,0 +1,76 @@
+-- What the words of the command line mean: what a run of them reads, writes, keeps and costs.
+use Rattle.std.specs.Prelude.{◌≡◌, ℕ, Bool, true, false, List, Some, None}
+use Rattle.std.specs.declared.option.Option.{Option}
+use Rattle.cpe_io.specs.Lines.{lines}
+use Rattle.cpe_steps.specs.Within.{StepsWithin}
+use Rattle.cpe_session.specs.declared.status.Status.{Status}
+use Rattle.cpe_session.specs.declared.status.Status.TheVariants.{Done, Usage}
+use Rattle.cpe_session.specs.Table.{rows_text}
+use Rattle.cpe_session.specs.Task.{Task, Written, task}
+use Rattle.cpe_session.specs.Folding.{IsFolded, summed_by}
+use Rattle.cpe_rows.specs.Rows.{Rows, no_rows}
+use Rattle.cpe_records.specs.Edited.{line_edited}
+use Rattle.cpe_records.specs.Asked.{asked, line_asked}
+use Rattle.cpe_engine.specs.Looks.{looks as looks_of}
+use Rattle.cpe_drill.specs.Generated.{generated_line}
+use Rattle.cpe_drill.specs.Outcome.{summed}
+use Rattle.cpe_drill.specs.Drill.{drill_transcript, LeavesRows}
+use Rattle.cpe_ranges.specs.Rows.{no_rows as no_advice}
+use Rattle.cpe_advise.specs.Records.{advice_session, most_steps}
+use Rattle.cpe_command.specs.declared.command.Command.{Command}
+use Rattle.cpe_command.specs.declared.command.Command.TheVariants.{Name, Compare, Records, Advise, Make, Drill}
+use Rattle.cpe_command.specs.Command.{command_of, usage}
+use Rattle.cpe_command.specs.Names.{name_session}
+use Rattle.cpe_command.specs.Pairs.{pair_session}
+use Rattle.cpe_command.specs.Records.{record_session}
+
+-- What a command means, by the bytes that a run takes of its input, where it takes some.
+pub record Meaning : Type 1 where
+  -- whether it reads its input
+  pub reads : Bool
+  -- what is written for the input, and the status
+  pub task : Task
+  -- which rows an engine that began with none keeps at a status
+  pub keeps : Rows → List ℕ → Status → Type 0
+  -- the most looks at kept names
+  pub looks : List ℕ → ℕ
+
+-- what has no records leaves the engine without rows
+abbrev pub NoRows : Rows → List ℕ → Status → Type 0
+NoRows rows taken status = rows ≡ no_rows
+
+-- A command answers each line, or writes lines that are generated or what they come to. Records leave the rows that the lines of the
+-- taken bytes do, one after the other, or the generated ones; and look at kept names as often as the sum over these lines says, each in the
+-- rows that the lines before it leave. For words that name no command the usage line is written.
+abbrev pub meaning_of : Option Command → Meaning
+meaning_of (Some (Name command)) = record { reads = true; task = task (name_session command) tt; keeps = NoRows; looks = λ taken. 0 }
+meaning_of (Some Compare) = record { reads = true; task = task pair_session tt; keeps = NoRows; looks = λ taken. 0 }
+meaning_of (Some (Records command)) = record {
+  reads = true;
+  task = task (record_session command) no_rows;
+  keeps = IsFolded line_edited no_rows;
+  looks = λ taken. summed_by line_edited (line_asked looks_of) no_rows (lines taken);
+}
+meaning_of (Some Advise) = record { reads = true; task = task advice_session no_advice; keeps = NoRows; looks = most_steps }
+meaning_of (Some (Make count)) = record {
+  reads = false;
+  task = Written (record { text = rows_text generated_line count; status = Done });
+  keeps = NoRows;
+  looks = λ taken. 0;
+}
+meaning_of (Some (Drill count)) = record {
+  reads = false;
+  task = Written (drill_transcript count);
+  keeps = λ rows taken status. LeavesRows count rows status;
+  looks = λ taken. summed (asked looks_of) count;
+}
+meaning_of None = record { reads = false; task = Written (record { text = usage; status = Usage }); keeps = NoRows; looks = λ taken. 0 }
+
+-- what the words mean
+abbrev pub meaning : List (List ℕ) → Meaning
+meaning words = meaning_of (command_of words)
+
+-- what a run leaves beside what it writes: the rows that the engine keeps, and a count of steps that rose by no more than the looks
+pub record Leaves (meant : Meaning) (rows : Rows) (steps steps_now : ℕ) (taken : List ℕ) (status : Status) : Type 0 where
+  pub keeps : meant.keeps rows taken status
+  pub within : StepsWithin steps steps_now (meant.looks taken)
