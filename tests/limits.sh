@@ -1,6 +1,6 @@
 #!/bin/sh
 # Tries the limits that no other check comes to, on the built program: sh tests/limits.sh [PROGRAM]. PROGRAM is build/cpe if left
-# out. It takes minutes, and memory: where less than 4 GB is free all is SKIPPED, which is said, and counts as no pass. No
+# out. It takes minutes, and memory: where less than 6 GB is free all is SKIPPED, which is said, and counts as no pass. No
 # input is stored anywhere. The status is 0 where no check failed.
 set -u
 
@@ -13,8 +13,8 @@ for tool in awk cmp mkfifo; do
     command -v "$tool" > /dev/null || { echo "LIMITS SKIPPED, all of them: there is no $tool"; exit 0; }
 done
 free=$(awk '/^MemAvailable:/ { print int($2 / 1024) }' /proc/meminfo 2> /dev/null)
-if [ "${free:-0}" -lt 4096 ]; then
-    echo "LIMITS SKIPPED, all of them: they want 4096 MiB of free memory, and here are ${free:-no one tells how many}"
+if [ "${free:-0}" -lt 6144 ]; then
+    echo "LIMITS SKIPPED, all of them: they want 6144 MiB of free memory, and here are ${free:-no one tells how many}"
     exit 0
 fi
 
@@ -92,6 +92,34 @@ facts() {
             put("more", 3000)
             put("one", 1)
             answer("refused " number " full facts")
+        }' < /dev/null
+}
+
+# Statements of logical tests with one check each, which take the most memory for their weight, up to the full weight. A statement
+# weighs 64 and its id, and each of these logical tests 64.
+logical_tests() {
+    awk -v answers="$1" '
+        function record(text) { number++; if (!answers) print text }
+        function answer(text) { if (answers) print text }
+        function put(id, count,   all) {
+            for (; count > 0; count--)
+                all = all (all ? "," : "") "{\"op\":\"OR\",\"of\":[{\"check\":{\"system\":\"\",\"href\":\"\",\"id\":\"\"}}]}"
+            record("{\"do\":\"statement\",\"id\":\"" id "\",\"test\":{\"op\":\"OR\",\"of\":[" all "]}}")
+        }
+        BEGIN {
+            left = 536870912
+            each = 64 + 5 + 64 * 700
+            for (n = 10000; left >= each; n++) {
+                put(n, 700)
+                left -= each
+            }
+            put("more", 700)
+            answer("refused " number " full weight")
+            # what is dropped gives its room
+            record("{\"do\":\"drop-statement\",\"id\":\"10000\"}")
+            put(10000, 700)
+            put("more", 700)
+            answer("refused " number " full weight")
         }' < /dev/null
 }
 
@@ -281,12 +309,28 @@ advised_weight() {
         }' < /dev/null
 }
 
+# The most memory that the program has had, in MiB, as long as it runs.
+watches() {
+    while sleep 1; do
+        awk '/^VmHWM:/ { print int($2 / 1024) }' "/proc/$(cat "$room/process")/status" > "$room/look" 2> /dev/null || break
+        [ -s "$room/look" ] && cp "$room/look" "$room/most"
+    done
+}
+
 # tries WHAT WORD MAKER
 tries() {
-    rm -f "$room/wanted"
+    rm -f "$room/process" "$room/most" "$room/wanted"
     mkfifo "$room/wanted"
     "$3" 1 > "$room/wanted" &
-    "$3" '' | { "$program" "$2"; echo $? > "$room/status"; } | cmp - "$room/wanted" > "$room/difference" 2>&1
+    "$3" '' | {
+        # (what runs in the background has no standard input but one that is named)
+        exec 3<&0
+        "$program" "$2" <&3 3<&- &
+        echo $! > "$room/process"
+        watches > /dev/null 3<&- &
+        wait "$(cat "$room/process")"
+        echo $? > "$room/status"
+    } | cmp - "$room/wanted" > "$room/difference" 2>&1
     wait
     if [ "$(cat "$room/status")" != 1 ]; then
         failed=1
@@ -295,7 +339,7 @@ tries() {
         failed=1
         echo "FAILED: $1: $(cat "$room/difference")"
     else
-        echo "ok: $1"
+        echo "ok: $1, $(cat "$room/most" 2> /dev/null || echo 'few') MiB"
     fi
 }
 
@@ -303,6 +347,7 @@ tries '2,000,000 entries' resolve entries
 tries '1,000,000 items' resolve items
 tries '1,000,000 facts' resolve facts
 tries 'a weight of 536,870,912' resolve weight
+tries 'a weight of 536,870,912 of logical tests' resolve logical_tests
 tries '1,000,000 items: advise' advise advised_items
 tries '100,000 advisories' advise advisories
 tries 'a weight of 536,870,912: advise' advise advised_weight

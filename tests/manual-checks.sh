@@ -68,15 +68,12 @@ reasons_of_code() {
 
 # The limits, as a word and a number.
 limits_of_code() {
-    cat crates/cpe_rows/specs/Limits.antt crates/cpe_ranges/specs/Step.antt |
-        sed -n 's/^most limit\.\([A-Z][a-z]*\) = \([0-9]*\)$/\1 \2/p' | tr '[:upper:]' '[:lower:]'
-    sed -n 's/^most_\([a-z]*\) = \([0-9]*\)$/\1 \2/p' crates/cpe_rows/specs/Limits.antt
-    sed -n 's/^most_\(depth\) = \([0-9]*\)$/\1 \2/p' crates/cpe_rows/specs/Shape.antt
-    sed -n 's/^is_id .*nat_le (length id) \([0-9]*\).*/id \1/p' crates/cpe_rows/specs/Valid.antt
+    cat crates/cpe_rows/src/limits.rt crates/cpe_ranges/src/limits.rt |
+        sed -n 's/^pub const MOST_\([A-Z_]*\): u[a-z0-9]* = \([0-9_]*\);$/\1 \2/p' |
+        tr -d _ | sed 's/^LEVELS/depth/; s/^IDBYTES/id/' | tr '[:upper:]' '[:lower:]'
     sed -n 's/^pub const LONGEST: usize = \([0-9]*\);$/line \1/p' crates/cpe_io/src/line.rt
     sed -n 's/^const MOST_BYTES: u64 = 1 << \([0-9]*\);$/\1/p' crates/cpe_session/src/session.rt | awk '{ n = 1; for (k = 0; k < $1; k++) n *= 2; printf "input %.0f\n", n }'
-    # (the largest number below this one, which awk can not count to)
-    sed -n 's/.*nat_lt (digits_value 10 word) (2 ^ 63)).*/N 9223372036854775807/p' crates/cpe_command/specs/Command.antt
+    sed -n 's/^pub const MOST_LINES: u32 = \([0-9_]*\);$/N \1/p' crates/cpe_drill/src/line.rt | tr -d _
 }
 
 limits_of_page() {
@@ -196,8 +193,16 @@ examples() {
         }' "$page"
 }
 
+# What docs/ARCHITECTURE.md says of lemmas that are cited is what the sources say.
+tells_citations() {
+    needs 'the table of citations' python3 || return
+    python3 tests/citations.py > "$room/out" 2> "$room/error"
+    judge 'the table of citations' $? 0 /dev/null
+}
+
 renders_page
 installs_page
+tells_citations
 compares_lists
 examples > "$room/examples"
 answers_sessions 'the examples of the manual page' < "$room/examples"

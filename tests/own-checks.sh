@@ -1175,20 +1175,22 @@ drills_as_evaluated() {
     judge "$what" 0 0 "$room/wanted"
 }
 
-# makes_what_is_accepted: up to 800,000 lines each record is accepted; then the statements are there that may be kept.
+# makes_what_is_accepted: each record up to the last is accepted; then the statements are there that may be kept.
 makes_what_is_accepted() {
-    what='generated records are accepted up to 800,000: make'
-    needs "$what" awk || return
-    limited "$program" make 800020 | awk '!/"do":"(search|verdict)"/ { print; lines[++n] = NR } END { for (k in lines) print k, lines[k] > "'"$room/places"'" }' |
-        limited "$program" resolve > "$room/answers" 2> "$room/error"
-    awk 'NR == FNR { place[$1] = $2; next } { print place[$2], $3, $4 }' "$room/places" "$room/answers" > "$room/out"
-    printf '800004 full statements\n800012 full statements\n800020 full statements\n' > "$room/wanted"
-    judge "$what" 0 0 "$room/wanted"
+    what='generated records are accepted, and one more statement is not: make'
+    needs "$what" grep || return
+    {
+        limited "$program" make 800000 | grep -v '"do":"\(search\|verdict\)"'
+        echo '{"do":"statement","id":"s","mode":"plain","test":{"op":"OR","of":[{"fact":"cpe:/a"}]}}'
+    } | limited "$program" resolve > "$room/out" 2> "$room/error"
+    status=$?
+    echo 'refused 650001 full statements' > "$room/wanted"
+    judge "$what" "$status" 1 "$room/wanted"
 }
 
-# refuses_counts WORD: words that are no number, or none that is counted to.
+# refuses_counts WORD: words that are no number, or none of as many lines as are made.
 refuses_counts() {
-    for count in '' 0 00 007 -1 +1 ' 1' '1 ' 1.0 1e3 0x10 x '½' 9223372036854775808 18446744073709551616 \
+    for count in '' 0 00 007 -1 +1 ' 1' '1 ' 1.0 1e3 0x10 x '½' 800001 4294967297 18446744073709551616 \
         18446744073709551617 99999999999999999999999999999999; do
         answers "a number that is none: $1 '$count'" examples/names.txt "$room/usage.out" 2 "$1" "$count"
     done
@@ -1196,11 +1198,11 @@ refuses_counts() {
     answers "two numbers: $1" examples/names.txt "$room/usage.out" 2 "$1" 1 2
 }
 
-# makes_without_end: as many lines as a number can say, of which a reader takes the first few.
-makes_without_end() {
+# makes_for_few: as many lines as are made, of which a reader takes the first few.
+makes_for_few() {
     what='a reader that goes away ends the program with status 4: make'
     {
-        limited "$program" make 9223372036854775807 2> "$room/error"
+        limited "$program" make 800000 2> "$room/error"
         echo $? > "$room/status"
     } | head -n 8 > "$room/out"
     judge "$what" "$(cat "$room/status")" 4 tests/vectors/make/8.out
@@ -1227,7 +1229,7 @@ checks_of_generated() {
     drills_as_evaluated 5003
     refuses_counts make
     refuses_counts drill
-    makes_without_end
+    makes_for_few
     drills_in_little_memory
     fails_on_a_full_device /dev/null make 100
     fails_on_a_full_device /dev/null make 100000

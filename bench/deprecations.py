@@ -1,0 +1,176 @@
+#!/usr/bin/env python3
+"""Measures what an edit of a deprecation takes of `cpe resolve` where many entries hang together, by how many they are: in
+layers, in chains, and where many have one successor.
+
+Prints a table, and says of each shape whether its growth is within the target. README.md beside this file says how to read it.
+"""
+import argparse
+import os
+import pathlib
+import random
+import subprocess
+import sys
+
+sys.dont_write_bytecode = True
+import make_lines
+import run
+
+SIZES = (1_600, 3_200, 6_400, 12_800)
+# How many entries a layer has, each of which has all of the next layer as successors.
+WIDTH = 16
+# The target: what an edit takes among the most entries beside one among the fewest.
+MOST_GROWTH = 1.3
+DATE = b"2020-01-01"
+
+
+def name(number):
+    return make_lines.PREFIX + b"a:vendor:product:%d" % number + b":*" * 7
+
+
+def entries(count):
+    return [make_lines.record(b"entry", name(it)) for it in range(count)]
+
+
+def change(verb, number, successors):
+    named = b",".join(make_lines.spelled(name(it)) for it in successors)
+    more = b',"kind":"ADDITIONAL_INFORMATION","successors":[%s],"date":"%s"' % (named, DATE)
+    return make_lines.record(verb, name(number), more)
+
+
+def deprecate(number, *successors):
+    return change(b"deprecate", number, successors)
+
+
+def restore(number):
+    return make_lines.record(b"restore", name(number), b',"date":"%s"' % DATE)
+
+
+def shuffled(numbers):
+    return random.Random(1).sample(numbers, len(numbers))
+
+
+def layers(count):
+    """From the front: each entry of a layer gets all of the next layer as successors."""
+    firsts = [it - it % WIDTH + WIDTH for it in range(count - WIDTH)]
+    return [], [deprecate(number, *range(first, first + WIDTH)) for number, first in enumerate(firsts)]
+
+
+def layers_from_the_back(count):
+    none, edits = layers(count)
+    return none, edits[::-1]
+
+
+def chain(count):
+    """From the front: each entry gets the next one as its successor."""
+    return [], [deprecate(number, number + 1) for number in range(count - 1)]
+
+
+def side_end(count):
+    """The same, and each entry gets the last one too."""
+    return [], [deprecate(number, number + 1, count - 1) for number in range(count - 2)]
+
+
+def gathered(count):
+    """All entries have the last one as their successor, and are restored in the order in which they were deprecated."""
+    return [deprecate(number, count - 1) for number in range(count - 1)], [restore(number) for number in range(count - 1)]
+
+
+def gathered_from_the_back(count):
+    edits, restored = gathered(count)
+    return edits, restored[::-1]
+
+
+def gathered_at_random(count):
+    edits, restored = gathered(count)
+    return edits, shuffled(restored)
+
+
+SHAPES = {
+    "layers": layers,
+    "layers, from the back": layers_from_the_back,
+    "chain": chain,
+    "chain with a side end": side_end,
+    "restored in order": gathered,
+    "restored from the back": gathered_from_the_back,
+    "restored at random": gathered_at_random,
+}
+
+
+def written(path, lines):
+    path.write_bytes(b"".join(it + b"\n" for it in lines))
+    return path
+
+
+def inputs(shape, count):
+    """A file of what stands before the edits that are timed, and one of that and the edits; how many edits there are."""
+    before, edits = SHAPES[shape](count)
+    stem = f"deprecations-{shape.replace(', ', '-').replace(' ', '-')}-{count}"
+    lines = entries(count) + before
+    return written(run.BUILD / f"{stem}-before.txt", lines), written(run.BUILD / f"{stem}.txt", lines + edits), len(edits)
+
+
+def seconds(words, path):
+    """The processor time that the program takes over this input, its output dropped: what else runs here adds little to it."""
+    with open(path, "rb") as source:
+        child = subprocess.Popen(words, stdin=source, stdout=subprocess.DEVNULL)
+        _, status, used = os.wait4(child.pid, 0)
+        child.returncode = os.waitstatus_to_exitcode(status)
+    if child.returncode:
+        sys.exit(f"{words[0]} ended with status {child.returncode} on {path.name}")
+    return used.ru_utime + used.ru_stime
+
+
+def check(words, path):
+    """Each edit is to be accepted, which writes nothing."""
+    with open(path, "rb") as source:
+        done = subprocess.run(words, stdin=source, stdout=subprocess.PIPE, stderr=subprocess.PIPE)
+    if done.returncode or done.stdout or done.stderr:
+        sys.exit(f"{path.name}: an edit is refused: {(done.stdout + done.stderr)[:200]!r}, status {done.returncode}")
+
+
+def measure(words, shape, rounds):
+    """The microseconds of an edit among the most entries beside one among the fewest; short runs are made more often."""
+    each = []
+    for count in SIZES:
+        before, path, edits = inputs(shape, count)
+        check(words, path)
+        turns = [(seconds(words, before), seconds(words, path)) for _ in range(rounds * SIZES[-1] // count)]
+        without, took = [min(it) for it in zip(*turns, strict=True)]
+        each.append((took - without) / edits * 1e6)
+        growth = f"{each[-1] / each[-2]:>8.2f}" if len(each) > 1 else ""
+        print(f"{shape:<24}{count:>8,}{took:>10.3f}{each[-1]:>14.2f}{growth}", flush=True)
+        before.unlink()
+        path.unlink()
+    return each[-1] / each[0]
+
+
+def said():
+    parser = argparse.ArgumentParser(description=__doc__)
+    parser.add_argument("program", nargs="?", default=run.TOP / "build" / "cpe", type=pathlib.Path, help="the program cpe (build/cpe)")
+    parser.add_argument("--rounds", type=int, default=5, help="how often the longest run of a shape is timed (5)")
+    given = parser.parse_args()
+    if not os.access(given.program, os.X_OK) or not given.program.is_file():
+        parser.error(f"{given.program} is no program: run make build first")
+    if given.rounds < 1:
+        parser.error("it takes at least one round")
+    return given
+
+
+def main():
+    given = said()
+    words = [given.program.resolve(), "resolve"]
+    if not run.knows(words):
+        print(f"the program has no command {run.RESOLVE}: nothing is measured")
+        return
+    run.BUILD.mkdir(parents=True, exist_ok=True)
+    print(f"load before: {os.getloadavg()[0]:.1f} on {os.cpu_count()} processors")
+    print(f"\n{run.RESOLVE}, processor time, best of {given.rounds}; of an edit, what the run takes without the edits is taken off")
+    print(f"{'shape':<24}{'entries':>8}{'seconds':>10}{'us an edit':>14}{'growth':>8}")
+    found = {shape: measure(words, shape, given.rounds) for shape in SHAPES}
+    print(f"\n{'target: an edit among the most, by the fewest':<40}{'most':>6}{'measured':>10}")
+    for shape, growth in found.items():
+        print(f"{shape:<40}{MOST_GROWTH:>6}{growth:>10.2f}  {'met' if growth <= MOST_GROWTH else 'MISSED'}")
+
+
+if __name__ == "__main__":
+    main()
