@@ -19,7 +19,7 @@ import make_lines
 import run
 
 # The targets: of an entry where there are most, and of a search beside its answers.
-MOST_SECONDS, MOST_BYTES, MOST_MICROSECONDS, MOST_RATIO = 8, 1024, 20, 1.5
+MOST_SECONDS, MOST_BYTES, MOST_MICROSECONDS, MOST_RATIO = 8, 700, 20, 1.5
 # How many entries are beside the others for a form of search.
 BESIDE = 100
 # How many questions are timed alone behind the first.
