@@ -58,7 +58,7 @@ fn asked_at(alloc: Global, number: usize) -> Option<Value> {
 }
 
 // Adds a product that isn't there, and says whether it got the number.
-fn is_added(products: &mut Products, value: Value, number: usize) -> bool {
+pub(crate) fn is_added(products: &mut Products, value: Value, number: usize) -> bool {
     if !value.is_lower() {
         return false;
     }
@@ -83,7 +83,12 @@ fn are_added(alloc: Global, products: &mut Products) -> bool {
     true
 }
 
-fn are_near_marked(products: &Products, asked: &Value, side: Side, marks: &mut [bool]) -> bool {
+pub(crate) fn are_near_marked(
+    products: &Products,
+    asked: &Value,
+    side: Side,
+    marks: &mut [bool],
+) -> bool {
     if !asked.is_lower() {
         return false;
     }

@@ -14,4 +14,6 @@ mod names;
 #[cfg(test)]
 mod released;
 #[cfg(test)]
+mod removed;
+#[cfg(test)]
 mod shelf;
