@@ -6,7 +6,8 @@ use cpe_engine::Engine;
 use cpe_fs::unbind_fs;
 use cpe_name::{Attribute, Wfn};
 use cpe_rows::{
-    Counts, Edit, EditFault, Entry, List, Mode, Operator, Provenance, Statement, Test, Text, Which,
+    BoxedName, Counts, Edit, EditFault, Entry, List, Mode, Operator, Provenance, Statement, Test,
+    Text, Which,
 };
 use cpe_steps::Steps;
 use cpe_values::{Edge, Memory, Pattern, Value};
@@ -95,7 +96,7 @@ fn of_marks(alloc: Global, marks: u32) -> Wfn {
 
 fn test_of_marks(alloc: Global, marks: u32) -> Result<Test, Memory> {
     let mut of = List::new(alloc);
-    of.push(Test::Fact(of_marks(alloc, marks)))?;
+    of.push(Test::Fact(BoxedName::new(alloc, of_marks(alloc, marks))?))?;
     Ok(Test::Logic {
         operator: Operator::Or,
         negate: false,

@@ -6,7 +6,8 @@ use crate::{Outlook, Touched, find_changes, find_touched, items_touch, untouched
 use cpe_name::Wfn;
 use cpe_relation::covers;
 use cpe_rows::{
-    Changed, CheckKey, Facts, List, Mode, Operator, Statement, Test, Text, Truth, evaluate,
+    BoxedName, Changed, CheckKey, Facts, List, Mode, Operator, Statement, Test, Text, Truth,
+    evaluate,
 };
 use cpe_values::Memory;
 use std::alloc::Global;
@@ -131,11 +132,15 @@ fn a_statement(alloc: Global, mode: Mode, leaf: Test) -> Result<Statement, Memor
     })
 }
 
+fn a_fact(alloc: Global) -> Result<Test, Memory> {
+    Ok(Test::Fact(BoxedName::new(alloc, Wfn::any())?))
+}
+
 fn changes_of(alloc: Global) -> Result<List<Changed>, Memory> {
     let statements = [
         a_statement(alloc, Mode::Plain, a_check(alloc)?)?,
-        a_statement(alloc, Mode::Plain, Test::Fact(Wfn::any()))?,
-        a_statement(alloc, Mode::Follow, Test::Fact(Wfn::any()))?,
+        a_statement(alloc, Mode::Plain, a_fact(alloc)?)?,
+        a_statement(alloc, Mode::Follow, a_fact(alloc)?)?,
     ];
     find_changes(alloc, &statements, &mut FirstItem { item: &Wfn::any() })
 }

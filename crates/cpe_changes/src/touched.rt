@@ -61,7 +61,7 @@ fn find_in_test<T: Touched>(
             }
             Ok(false)
         }
-        Test::Fact(name) => touched.touches_fact(alloc, mode, name),
+        Test::Fact(name) => touched.touches_fact(alloc, mode, name.as_name()),
         Test::Check(key) => Ok(touched.touches_check(key)),
     }
 }

@@ -1,15 +1,15 @@
 // The test of a statement, in three passes: its form at any depth, its depth, and its names in their order.
-ghost use Rattle.std.specs.Prelude.{◌≡◌, [], IfOk, nat_le};
+ghost use Rattle.std.specs.Prelude.{◌≡◌, nat_le};
 ghost use Rattle.serde_json.specs.View.{view};
 ghost use Rattle.cpe_members.specs.Gives.{Gives};
+ghost use Rattle.cpe_members.specs.Names.{read_name};
 ghost use Rattle.cpe_logic.specs.Tests.{operator_in, part_in, key_in, leaf_in, logic_in, draft_of, names_from, within_limit, test_in, test_at};
 
 use cpe_members::{
     Member, NameSpot, RecordFault, array_in, count_on, flag_or_false, operator_of, read_name,
     text_in,
 };
-use cpe_rows::{CheckKey, List, MOST_LEVELS, Operator, Test, Text};
-use cpe_values::Memory;
+use cpe_rows::{BoxedName, CheckKey, List, MOST_LEVELS, Operator, Test, Text};
 use serde_json::Value;
 use std::alloc::Global;
 
@@ -94,7 +94,7 @@ fn draft_of(alloc: Global, source: &Value) -> Result<Draft, RecordFault>
     let Some(items) = array_in(source, "of") else {
         return Err(RecordFault::Member(Member::Test));
     };
-    let mut of = List::new(alloc);
+    let mut of = List::with_room(alloc, items.len())?;
     for item in items {
         match draft_of(alloc, item) {
             Ok(draft) => of.push(draft)?,
@@ -104,13 +104,13 @@ fn draft_of(alloc: Global, source: &Value) -> Result<Draft, RecordFault>
     logic_of(source, of)
 }
 
-// No tests, and room for so many. A list that grows takes room for four at least, and these are kept.
-fn room_for(alloc: Global, count: usize) -> Result<List<Test>, Memory>
-    ensures { IfOk result (λ tests. tests ≡ []) }
+// The name of a fact, in memory of its own.
+fn fact_of(alloc: Global, fact: u32, text: &str) -> Result<BoxedName, RecordFault>
+    ensures { Gives result (read_name (NameSpot.Fact fact) text.now) }
 {
-    match Vec::with_capacity(alloc, count) {
-        Ok(tests) => Ok(List::from_vec(tests)),
-        Err(_) => Err(Memory),
+    match read_name(alloc, NameSpot::Fact(fact), text) {
+        Ok(name) => Ok(BoxedName::new(alloc, name)?),
+        Err(fault) => Err(fault),
     }
 }
 
@@ -124,7 +124,7 @@ fn names_from(alloc: Global, draft: &Draft, fact: u32) -> Result<(Test, u32), Re
             negate,
             of,
         } => {
-            let mut tests = room_for(alloc, of.len())?;
+            let mut tests = List::with_room(alloc, of.len())?;
             let mut count = fact;
             for child in of.as_slice() {
                 match names_from(alloc, child, count) {
@@ -145,7 +145,7 @@ fn names_from(alloc: Global, draft: &Draft, fact: u32) -> Result<(Test, u32), Re
             ))
         }
         Draft::Fact(text) => {
-            let name = read_name(alloc, NameSpot::Fact(fact), text.as_str())?;
+            let name = fact_of(alloc, fact, text.as_str())?;
             Ok((Test::Fact(name), count_on(fact)?))
         }
         Draft::Check(key) => Ok((Test::Check(key.copy(alloc)?), fact)),

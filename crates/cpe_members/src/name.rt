@@ -61,7 +61,7 @@ pub fn name_at(alloc: Global, source: &Value) -> Result<Wfn, RecordFault>
 fn texts_in(alloc: Global, sources: &[Value]) -> Result<List<Text>, RecordFault>
     ensures { Gives result (all_from (λ k d. required Member.Successors (as_str d)) 1 (map view sources.now)) }
 {
-    let mut texts = List::new(alloc);
+    let mut texts = List::with_room(alloc, sources.len())?;
     for source in sources {
         match source.as_str() {
             Some(text) => texts.push(Text::new(alloc, text)?)?,
@@ -74,7 +74,7 @@ fn texts_in(alloc: Global, sources: &[Value]) -> Result<List<Text>, RecordFault>
 fn names_in(alloc: Global, texts: &[Text]) -> Result<List<Wfn>, RecordFault>
     ensures { Gives result (all_from (λ k text. read_name (NameSpot.Successor k) text) 1 texts.now) }
 {
-    let mut names = List::new(alloc);
+    let mut names = List::with_room(alloc, texts.len())?;
     let mut k = 1;
     for text in texts {
         match read_name(alloc, NameSpot::Successor(k), text.as_str()) {

@@ -37,7 +37,7 @@ fn note_in(alloc: Global, source: &Value) -> Result<Note, RecordFault>
 fn notes_in(alloc: Global, sources: &[Value]) -> Result<List<Note>, RecordFault>
     ensures { Gives result (all_from (λ n. note_in) 1 (map view sources.now)) }
 {
-    let mut notes = List::new(alloc);
+    let mut notes = List::with_room(alloc, sources.len())?;
     for source in sources {
         match note_in(alloc, source) {
             Ok(note) => notes.push(note)?,

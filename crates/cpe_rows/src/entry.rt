@@ -99,7 +99,7 @@ impl Deprecation {
     pub fn copy(&self, alloc: Global) -> Result<Deprecation, Memory>
         ensures { IfOk result (λ d. d ≡ self.now) }
     {
-        let mut successors = List::new(alloc);
+        let mut successors = List::with_room(alloc, self.successors.len())?;
         for name in self.successors.as_slice() {
             successors.push(name.copy(alloc)?)?;
         }
@@ -129,7 +129,7 @@ impl Provenance {
 fn copy_of_notes(alloc: Global, notes: &[Note]) -> Result<List<Note>, Memory>
     ensures { IfOk result (λ ns. ns ≡ notes.now) }
 {
-    let mut copies = List::new(alloc);
+    let mut copies = List::with_room(alloc, notes.len())?;
     for note in notes {
         copies.push(note.copy(alloc)?)?;
     }

@@ -42,7 +42,7 @@ pub fn evaluate<F: Facts>(test: &Test, facts: &F) -> Truth
             }
             if *negate { not_of(truth) } else { truth }
         }
-        Test::Fact(name) => facts.fact(name),
+        Test::Fact(name) => facts.fact(name.as_name()),
         Test::Check(key) => facts.check(key),
     }
 }
@@ -84,7 +84,7 @@ pub fn find_truth<F: FindFacts>(alloc: Global, test: &Test, facts: &F) -> Result
             }
             Ok(if *negate { not_of(truth) } else { truth })
         }
-        Test::Fact(name) => facts.find_fact(alloc, name),
+        Test::Fact(name) => facts.find_fact(alloc, name.as_name()),
         Test::Check(key) => Ok(facts.find_check(key)),
     }
 }

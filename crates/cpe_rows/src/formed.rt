@@ -33,7 +33,7 @@ fn are_facts(test: &Test)
                 are_facts(child);
             }
         }
-        Test::Fact(name) => name.lawful(),
+        Test::Fact(name) => name.as_name().lawful(),
         Test::Check(_) => {}
     }
 }

@@ -6,6 +6,7 @@
 //! An engine above keeps the rows.
 #![tactic(auto)]
 
+mod boxed;
 mod counts;
 mod date;
 mod edit;
@@ -24,6 +25,7 @@ mod test;
 mod text;
 mod truth;
 
+pub use boxed::BoxedName;
 pub use counts::Counts;
 pub use date::Date;
 pub use edit::{Edit, Query, is_id};

@@ -1,5 +1,5 @@
 // Lists that contracts see as such.
-ghost use Rattle.std.specs.Prelude.{◌≡◌, [], ◌∷◌, ◌++◌, length, slice_get, OnOk, OnErr};
+ghost use Rattle.std.specs.Prelude.{◌≡◌, [], ◌∷◌, ◌++◌, length, slice_get, IfOk, OnOk, OnErr};
 ghost use Rattle.std.specs.Option.{option_copied};
 
 use cpe_values::Memory;
@@ -30,6 +30,20 @@ impl<T> List<T> {
     {
         List {
             items: Vec::new(alloc),
+        }
+    }
+
+    /// The empty list, with room for so many items and no more. A list that grows by [`push`](List::push) takes room for four at
+    /// least, and lists are kept by the million.
+    ///
+    /// # Errors
+    /// Want of memory alone.
+    pub fn with_room(alloc: Global, count: usize) -> Result<List<T>, Memory>
+        ensures { IfOk result (λ items. items ≡ []) }
+    {
+        match Vec::with_capacity(alloc, count) {
+            Ok(items) => Ok(List { items }),
+            Err(_) => Err(Memory),
         }
     }
 
@@ -70,6 +84,20 @@ impl<T> List<T> {
     }
 }
 
+// Takes room for one more, and no more than that. A list of fewer than four items grows by it: so it has no room to spare, where
+// room for four at once is three places too many. From four on room doubles, or many items would be moved as often as there are items.
+fn grow_if_short<T>(items: &mut Vec<T>) -> Result<(), Memory>
+    ensures { items.new.items ≡ items.old.items }
+{
+    if items.len() >= 4 {
+        return Ok(());
+    }
+    match items.reserve_exact(1) {
+        Ok(()) => Ok(()),
+        Err(_) => Err(Memory),
+    }
+}
+
 impl<T: Drop> List<T> {
     /// Puts the item last.
     ///
@@ -82,6 +110,20 @@ impl<T: Drop> List<T> {
         match self.items.push(item) {
             Ok(()) => Ok(()),
             Err(_) => Err(Memory),
+        }
+    }
+    /// Puts the item last, as [`push`](List::push) does, with no room to spare in a list of up to four items: for lists that are kept
+    /// and mostly short. Of more items the room doubles.
+    ///
+    /// # Errors
+    /// Want of memory alone; the list is then as it was, and the item is dropped.
+    pub fn push_close(&mut self, item: T) -> Result<(), Memory>
+        ensures ok { OnOk result (self.new ≡ self.old ++ item ∷ []) }
+        ensures err { OnErr result (self.new ≡ self.old) }
+    {
+        match grow_if_short(&mut self.items) {
+            Ok(()) => self.push(item),
+            Err(fault) => Err(fault),
         }
     }
 }

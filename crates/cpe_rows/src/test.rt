@@ -2,8 +2,7 @@
 ghost use Rattle.std.specs.Prelude.{◌≡◌, ◌↔◌, IsTrue, IfOk, nat_le};
 ghost use Rattle.cpe_rows.specs.Shape.{depth_of, is_sound};
 
-use crate::{List, Text, is_lower};
-use cpe_name::Wfn;
+use crate::{BoxedName, List, Text, is_lower};
 use cpe_values::Memory;
 use std::alloc::Global;
 
@@ -40,7 +39,7 @@ pub enum Test {
         of: List<Test>,
     },
     /// A fact reference: whether the inventory has something that the name covers.
-    Fact(Wfn),
+    Fact(BoxedName),
     /// A check reference: the result that is kept for the key.
     Check(CheckKey),
 }
@@ -82,7 +81,7 @@ impl Test {
                 negate,
                 of,
             } => {
-                let mut copies = List::new(alloc);
+                let mut copies = List::with_room(alloc, of.len())?;
                 for child in of.as_slice() {
                     copies.push(child.copy(alloc)?)?;
                 }
@@ -128,7 +127,7 @@ impl Test {
                 }
                 sound
             }
-            Test::Fact(name) => is_lower(name),
+            Test::Fact(name) => is_lower(name.as_name()),
             Test::Check(_) => true,
         }
     }

@@ -6,8 +6,8 @@ use crate::{
 use cpe_fs::unbind_fs;
 use cpe_name::{Attribute, Wfn};
 use cpe_rows::{
-    CheckKey, Date, Deprecation, Entry, Kind, List, Mode, Note, NoteKind, Operator, Provenance,
-    Statement, Test, Text,
+    BoxedName, CheckKey, Date, Deprecation, Entry, Kind, List, Mode, Note, NoteKind, Operator,
+    Provenance, Statement, Test, Text,
 };
 use cpe_values::{Edge, Memory, Pattern, Value};
 use std::alloc::Global;
@@ -257,9 +257,13 @@ fn put(of: &mut List<Test>, test: Test) -> Result<(), Memory> {
     of.push(test)
 }
 
+fn a_fact(alloc: Global) -> Result<Test, Memory> {
+    Ok(Test::Fact(BoxedName::new(alloc, a_part(alloc)?)?))
+}
+
 fn of_fact(alloc: Global) -> Result<List<Test>, Memory> {
     let mut of = List::new(alloc);
-    put(&mut of, Test::Fact(a_part(alloc)?))?;
+    put(&mut of, a_fact(alloc)?)?;
     Ok(of)
 }
 

@@ -67,7 +67,7 @@ pub fn with_test(weight: u64, test: &Test) -> u64
             }
             sum
         }
-        Test::Fact(name) => with_name(weight, name),
+        Test::Fact(name) => with_name(weight, name.as_name()),
         Test::Check(key) => with_key(weight, key),
     }
 }

@@ -1,0 +1,58 @@
+// Names in memory of their own.
+ghost use Rattle.std.specs.Prelude.{◌≡◌, IfOk};
+
+use cpe_name::Wfn;
+use cpe_values::Memory;
+use std::alloc::Global;
+use std::marker::Model;
+
+/// A name in memory of its own, so that what holds a name or something smaller is small.
+///
+/// Contracts see it as they see the name.
+#[derive(Debug, Drop)]
+pub struct BoxedName {
+    name: Box<Wfn>,
+}
+
+impl Model for BoxedName {
+    ghost use Rattle.cpe_name.specs.declared.name.Values.{Values};
+
+    ghost Value = { Values };
+
+    ghost view = { λ b. b.name.value };
+}
+
+impl BoxedName {
+    /// The name, moved to memory of its own.
+    ///
+    /// # Errors
+    /// Want of memory alone; the name is then dropped.
+    pub fn new(alloc: Global, name: Wfn) -> Result<BoxedName, Memory>
+        ensures { IfOk result (λ b. b ≡ name) }
+    {
+        match Box::new(alloc, name) {
+            Ok(name) => Ok(BoxedName { name }),
+            Err(_) => Err(Memory),
+        }
+    }
+
+    /// The name. It takes no memory.
+    pub fn as_name(&self) -> &Wfn
+        ensures { result.now ≡ self.now }
+    {
+        &self.name
+    }
+
+    /// The same name again.
+    ///
+    /// # Errors
+    /// Want of memory alone.
+    pub fn copy(&self, alloc: Global) -> Result<BoxedName, Memory>
+        ensures { IfOk result (λ b. b ≡ self.now) }
+    {
+        match self.as_name().copy(alloc) {
+            Ok(name) => BoxedName::new(alloc, name),
+            Err(fault) => Err(fault),
+        }
+    }
+}
