@@ -34,7 +34,7 @@ map-alike : (f g : ListName → List ℕ) (heads : List ListName) → ((j : ℕ)
 map-alike f g [] same = refl
 map-alike f g (h ∷ hs) same = let first : g h ≡ f h = same 0 h refl in let rest = map-alike f g hs (λ j k e. same (suc j) k e) in cc
 
-list_of-map : (f : ListName → List ℕ) (heads : List ListName) (i : ℕ) (h : ListName) → slice_get heads i ≡ Some h → list_of (map f heads) i ≡ f h
+pub list_of-map : (f : ListName → List ℕ) (heads : List ListName) (i : ℕ) (h : ListName) → slice_get heads i ≡ Some h → list_of (map f heads) i ≡ f h
 list_of-map f [] i h e = absurd (none-some h e)
 list_of-map f (k ∷ ks) zero h e = ap f (same_Some k h e)
 list_of-map f (k ∷ ks) (suc i) h e = list_of-map f ks i h e

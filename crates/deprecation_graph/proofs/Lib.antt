@@ -8,6 +8,7 @@ pub mod ChangeLemmas
 pub mod LawLemmas
 pub mod HeadLemmas
 pub mod MirrorLemmas
+pub mod MateLemmas
 pub mod KeptLemmas
 pub mod RootLemmas
 pub mod StoredLemmas

@@ -6,7 +6,7 @@ use Rattle.std.proofs.lemmas.List.{get_or-set_same, get_or-set_other, length-set
 use Rattle.std.proofs.lemmas.Option.{same_Some}
 use Rattle.deprecation_graph.proofs.Rising.{Contains-cases, Contains-rest}
 use Rattle.deprecation_graph.specs.Indexed.{list_of, without}
-use Rattle.deprecation_graph.specs.Mirror.{times, IsMirror}
+use Rattle.deprecation_graph.specs.Mirror.{times, IsMirror, Loses}
 
 times-push : (v : ℕ) (xs : List ℕ) (y : ℕ) → times v (xs ++ y ∷ []) ≡ times v xs + cond (eqb y v) 1 0
 times-push v [] y = go (eqb y v)
@@ -37,7 +37,7 @@ Contains-times v (x ∷ xs) le = go (eqb x v) refl (Contains-times v xs) le
     go true e r l = (0, omega arith, eqb-true x v e)
     go false e r l = Contains-rest v x xs (r l)
 
-times-without : (v w : ℕ) (xs : List ℕ) → Contains xs v → times w (without v xs) + cond (eqb v w) 1 0 ≡ times w xs
+pub times-without : (v w : ℕ) (xs : List ℕ) → Contains xs v → times w (without v xs) + cond (eqb v w) 1 0 ≡ times w xs
 times-without v w [] c = absurd (omega (arith, c.1))
 times-without v w (x ∷ xs) c = go (eqb x v) refl (Contains-cases v x xs c) (times-without v w xs)
   where
@@ -93,34 +93,30 @@ mirror_other_side next before x y m c = Contains-times x (list_of before y) (ome
 pub mirror_this_side : (next before : List (List ℕ)) (x y : ℕ) → IsMirror next before → Contains (list_of before y) x → Contains (list_of next x) y
 mirror_this_side next before x y m c = Contains-times y (list_of next x) (omega (arith, m x y, times-Contains x (list_of before y) c))
 
-pub mirror_unlink : (next before : List (List ℕ)) (x y : ℕ) → IsMirror next before → x < length next → y < length before → Contains (list_of next x) y → IsMirror (slice_set next x (without y (list_of next x))) (slice_set before y (without x (list_of before y)))
-mirror_unlink next before x y m ltx lty c a b = go (cases_eq a x) (cases_eq b y)
+pub mirror_unlink : (next before before' : List (List ℕ)) (x y : ℕ) → IsMirror next before → x < length next → Contains (list_of next x) y → Loses before before' y x → IsMirror (slice_set next x (without y (list_of next x))) before'
+mirror_unlink next before before' x y m ltx c u a b = go (cases_eq a x) (cases_eq b y)
   where
-    d : Contains (list_of before y) x
-    d = mirror_other_side next before x y m c
-
-    go : (a ≡ x) ⊎ (a ≢ x) → (b ≡ y) ⊎ (b ≢ y) → times a (list_of (slice_set before y (without x (list_of before y))) b) ≡ times b (list_of (slice_set next x (without y (list_of next x))) a)
+    go : (a ≡ x) ⊎ (a ≢ x) → (b ≡ y) ⊎ (b ≢ y) → times a (list_of before' b) ≡ times b (list_of (slice_set next x (without y (list_of next x))) a)
     go (inl p) (inl q) =
-        let l : list_of (slice_set before y (without x (list_of before y))) b ≡ without x (list_of before y) = ap (list_of (slice_set before y (without x (list_of before y)))) q ∙ get_or-set_same before y (without x (list_of before y)) [] lty in
+        let l : times a (list_of before' b) ≡ times a (list_of before' y) = ap (λ (z : ℕ). times a (list_of before' z)) q in
         let r : list_of (slice_set next x (without y (list_of next x))) a ≡ without y (list_of next x) = ap (list_of (slice_set next x (without y (list_of next x)))) p ∙ get_or-set_same next x (without y (list_of next x)) [] ltx in
         let one : cond (eqb x a) 1 0 ≡ cond (eqb y b) 1 0 = ap {B = ℕ} (λ (t : Bool). cond t 1 0) (eq-eqb x a (sym p) ∙ sym (eq-eqb y b (sym q))) in
         let left : times a (list_of before y) ≡ times x (list_of before y) = ap (λ (z : ℕ). times z (list_of before y)) p in
         let right : times b (list_of next x) ≡ times y (list_of next x) = ap (λ (z : ℕ). times z (list_of next x)) q in
-        ap (times a) l ∙ omega (arith, one, left, right, m x y, times-without x a (list_of before y) d, times-without y b (list_of next x) c) ∙ sym (ap (times b) r)
+        l ∙ omega (arith, one, left, right, m x y, u.less a, times-without y b (list_of next x) c) ∙ sym (ap (times b) r)
     go (inl p) (inr q) =
-        let l : list_of (slice_set before y (without x (list_of before y))) b ≡ list_of before b = get_or-set_other before y b (without x (list_of before y)) [] q in
         let r : list_of (slice_set next x (without y (list_of next x))) a ≡ without y (list_of next x) = ap (list_of (slice_set next x (without y (list_of next x)))) p ∙ get_or-set_same next x (without y (list_of next x)) [] ltx in
         let none : cond (eqb y b) 1 0 ≡ 0 = ap {B = ℕ} (λ (t : Bool). cond t 1 0) (ne_eqb y b (λ e. q (sym e))) in
         let here : times b (list_of next a) ≡ times b (list_of next x) = ap (λ (z : ℕ). times b (list_of next z)) p in
-        ap (times a) l ∙ m a b ∙ omega (arith, none, here, times-without y b (list_of next x) c) ∙ sym (ap (times b) r)
+        ap (times a) (u.others b q) ∙ m a b ∙ omega (arith, none, here, times-without y b (list_of next x) c) ∙ sym (ap (times b) r)
     go (inr p) (inl q) =
-        let l : list_of (slice_set before y (without x (list_of before y))) b ≡ without x (list_of before y) = ap (list_of (slice_set before y (without x (list_of before y)))) q ∙ get_or-set_same before y (without x (list_of before y)) [] lty in
+        let l : times a (list_of before' b) ≡ times a (list_of before' y) = ap (λ (z : ℕ). times a (list_of before' z)) q in
         let r : list_of (slice_set next x (without y (list_of next x))) a ≡ list_of next a = get_or-set_other next x a (without y (list_of next x)) [] p in
         let none : cond (eqb x a) 1 0 ≡ 0 = ap {B = ℕ} (λ (t : Bool). cond t 1 0) (ne_eqb x a (λ e. p (sym e))) in
         let here : times a (list_of before b) ≡ times a (list_of before y) = ap (λ (z : ℕ). times a (list_of before z)) q in
-        ap (times a) l ∙ omega (arith, none, here, m a b, times-without x a (list_of before y) d) ∙ sym (ap (times b) r)
+        l ∙ omega (arith, none, here, m a b, u.less a) ∙ sym (ap (times b) r)
     go (inr p) (inr q) =
-        ap (times a) (get_or-set_other before y b (without x (list_of before y)) [] q) ∙ m a b ∙ sym (ap (times b) (get_or-set_other next x a (without y (list_of next x)) [] p))
+        ap (times a) (u.others b q) ∙ m a b ∙ sym (ap (times b) (get_or-set_other next x a (without y (list_of next x)) [] p))
 
 pub mirror_moved : (next before next' before' : List (List ℕ)) → next' ≡ next → before' ≡ before → IsMirror next before → IsMirror next' before'
 mirror_moved next before next' before' e f m = subst (λ (ls : List (List ℕ)). IsMirror ls before') (sym e) (subst (IsMirror next) (sym f) m)
@@ -178,3 +174,15 @@ length-without v (x ∷ xs) c = go (eqb x v) refl (Contains-cases v x xs c) (len
     go true e d r = omega arith
     go false e (inl same) r = absurd (both_ways (eqb x v) e (eq-eqb x v (sym same)))
     go false e (inr d) r = omega (arith, r d)
+
+-- ---- one list that loses a number
+
+pub loses_set : (old new : List (List ℕ)) (i value : ℕ) (ys : List ℕ) → new ≡ slice_set old i ys → i < length old → ((v : ℕ) → times v ys + cond (eqb value v) 1 0 ≡ times v (list_of old i)) → Loses old new i value
+loses_set old new i value ys e lt less = record {
+  count = ap length e ∙ length-set old i ys;
+  others = λ j ne. ap (λ (ls : List (List ℕ)). list_of ls j) e ∙ get_or-set_other old i j ys [] ne;
+  less = λ v. ap (λ (ls : List (List ℕ)). times v (list_of ls i) + cond (eqb value v) 1 0) e ∙ ap (λ (xs : List ℕ). times v xs + cond (eqb value v) 1 0) (list_of-set old i ys lt) ∙ less v;
+}
+
+pub loses_first : (old new : List (List ℕ)) (i value : ℕ) → new ≡ slice_set old i (without value (list_of old i)) → i < length old → Contains (list_of old i) value → Loses old new i value
+loses_first old new i value e lt c = loses_set old new i value (without value (list_of old i)) e lt (λ v. times-without value v (list_of old i) c)

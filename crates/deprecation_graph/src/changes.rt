@@ -23,6 +23,10 @@ pub(crate) fn reserve_kept(kept: &mut Kept, nodes: usize, edges: usize) -> Resul
     kept.next.reserve(nodes, nodes + edges)?;
     kept.before.reserve(nodes, nodes + edges)?;
     kept.groups.reserve(nodes)?;
+    let cells = kept.next.most_cells();
+    if kept.mates.len() < cells {
+        kept.mates.resize(cells, 0)?;
+    }
     Ok(())
 }
 
@@ -39,8 +43,8 @@ pub(crate) fn set_kept(kept: &mut Kept, node: u32, next: Option<&[u32]>)
 {
     let all = successors(next);
     let is_active = next.is_none();
-    unlink_all(&mut kept.next, &mut kept.before, node);
-    link_all(&mut kept.next, &mut kept.before, node, all);
+    unlink_all(&mut kept.next, &mut kept.before, &mut kept.mates, node);
+    link_all(&mut kept.next, &mut kept.before, &mut kept.mates, node, all);
     recount(&mut kept.groups, &kept.active, node, is_active);
     join_all(&mut kept.groups, node, all);
     kept.active[node as usize] = is_active;

@@ -46,6 +46,7 @@ impl DeprecationGraph {
                 active: Vec::new(alloc),
                 next: Lists::new(alloc),
                 before: Lists::new(alloc),
+                mates: Vec::new(alloc),
                 groups: Vec::new(alloc),
             },
             room_nodes: 0,
@@ -123,7 +124,7 @@ impl DeprecationGraph {
     /// none and is active. All other nodes stay. It takes no memory.
     ///
     /// Each new successor costs a constant beside the ways to the names of two groups, which are halved for the next time, and
-    /// each old one a walk along the nodes that it is a successor of, in the order in which they came to be, as far as this node.
+    /// each old one a constant, however many nodes it is a successor of.
     pub fn set_edges(&mut self, node: u32, next: Option<&[u32]>)
         requires change { IsChange self.old.nodes node (option_copied next) }
         requires allowed { change_fault self.old.nodes node (option_copied next) ≡ None }

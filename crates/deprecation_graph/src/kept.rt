@@ -15,6 +15,8 @@ pub(crate) struct Kept {
     pub(crate) active: Vec<bool>,
     pub(crate) next: Lists,
     pub(crate) before: Lists,
+    // The cell of each edge in `before`, by its cell in `next`: where to look for it first.
+    pub(crate) mates: Vec<u32>,
     pub(crate) groups: Vec<Member>,
 }
 

@@ -4,7 +4,7 @@ ghost use Rattle.std.specs.List.{Contains};
 ghost use Rattle.list_pool.specs.Pool.{IsLive};
 ghost use Rattle.deprecation_graph.specs.Heads.{values};
 
-use list_pool::{ListName, MOST_SLOTS, Pool};
+use list_pool::{CellName, ListName, MOST_SLOTS, Pool};
 use std::alloc::{AllocError, Global};
 use std::marker::Model;
 
@@ -30,6 +30,7 @@ impl Model for Lists {
 
 impl Lists {
     ghost use Rattle.deprecation_graph.specs.Indexed.{list_of, has_none, without, size_of};
+    ghost use Rattle.deprecation_graph.specs.Mirror.{Loses};
 
     /// No lists.
     pub(crate) fn new(alloc: Global) -> Lists
@@ -96,6 +97,53 @@ impl Lists {
         if !self.pool.remove_value(head, value) {
             unreachable!()
         }
+    }
+
+    /// Takes out one of these numbers, which is there. Where this cell of the list has it, that takes a constant time: the first
+    /// number of the list takes its place, and is answered. Else the list is walked.
+    pub(crate) fn remove_at(&mut self, list: usize, value: u32, cell: CellName) -> Option<u32>
+        requires list { list < length self.old.lists }
+        requires there { Contains (list_of self.old.lists list) value }
+        ensures lists { Loses self.old.lists self.new.lists list value }
+        ensures spare { self.new.spare ≡ self.old.spare + 1 }
+        ensures room { self.new.room ≡ self.old.room }
+    {
+        let head = self.heads[list];
+        if self.pool.holds(head, cell) {
+            if self.pool.value(cell) == value {
+                return Some(self.pool.remove_cell(head, cell));
+            }
+        }
+        self.remove(list, value);
+        None
+    }
+
+    /// The first cell of a list.
+    pub(crate) fn first_cell(&self, list: usize) -> Option<CellName>
+        requires { list < length self.now.lists }
+    {
+        self.pool.first(self.heads[list])
+    }
+
+    /// The last cell of a list.
+    pub(crate) fn last_cell(&self, list: usize) -> Option<CellName>
+        requires { list < length self.now.lists }
+    {
+        self.pool.last(self.heads[list])
+    }
+
+    /// The first cell of a list that has this number.
+    pub(crate) fn cell_of(&self, list: usize, value: u32) -> Option<CellName> {
+        match self.heads.get(list) {
+            Some(head) => self.pool.find(*head, value),
+            None => None,
+        }
+    }
+
+    /// Below which the numbers of all cells are that are there or may be put in.
+    pub(crate) fn most_cells(&self) -> usize {
+        self.pool.lawful();
+        self.pool.size() + self.pool.spare()
     }
 
     /// The first number of a list.

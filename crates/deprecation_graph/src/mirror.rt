@@ -5,9 +5,38 @@ ghost use Rattle.deprecation_graph.specs.Indexed.{list_of, without};
 ghost use Rattle.deprecation_graph.specs.Mirror.{IsMirror};
 
 use crate::lists::Lists;
+use list_pool::CellName;
+
+// The cell that is noted for another. Any answer will do where none is, as no proof rests on what is noted.
+fn mate(mates: &[u32], cell: Option<CellName>) -> CellName {
+    match cell {
+        Some(cell) => match mates.get(cell.0 as usize) {
+            Some(mate) => CellName(*mate),
+            None => cell,
+        },
+        None => CellName(0),
+    }
+}
+
+// Notes a cell for another.
+fn set_mate(mates: &mut [u32], cell: Option<CellName>, mate: Option<CellName>) {
+    let (Some(cell), Some(mate)) = (cell, mate) else {
+        return;
+    };
+    if (cell.0 as usize) < mates.len() {
+        mates[cell.0 as usize] = mate.0;
+    }
+}
+
+// Notes the cell for the edge that moved into it, if one did. Its node has few others.
+fn move_mate(next: &Lists, mates: &mut [u32], moved: Option<u32>, to: u32, cell: CellName) {
+    if let Some(from) = moved {
+        set_mate(mates, next.cell_of(from as usize, to), Some(cell));
+    }
+}
 
 // Adds an edge.
-fn link(next: &mut Lists, before: &mut Lists, from: u32, to: u32)
+fn link(next: &mut Lists, before: &mut Lists, mates: &mut [u32], from: u32, to: u32)
     requires from { from < length next.old.lists }
     requires to { to < length before.old.lists }
     requires next_spare { 1 ≤ next.old.spare }
@@ -23,28 +52,35 @@ fn link(next: &mut Lists, before: &mut Lists, from: u32, to: u32)
 {
     next.push(from as usize, to);
     before.push(to as usize, from);
+    set_mate(
+        mates,
+        next.last_cell(from as usize),
+        before.last_cell(to as usize),
+    );
 }
 
-// Takes out an edge.
-fn unlink(next: &mut Lists, before: &mut Lists, from: u32, to: u32)
+// Takes out an edge. Where it is the first of its node, its mate is noted.
+fn unlink(next: &mut Lists, before: &mut Lists, mates: &mut [u32], from: u32, to: u32)
     requires from { from < length next.old.lists }
     requires to { to < length before.old.lists }
     requires there { Contains (list_of next.old.lists from) to }
     requires mirror { IsMirror next.old.lists before.old.lists }
     ensures next { next.new.lists ≡ slice_set next.old.lists from (without to (list_of next.old.lists from)) }
-    ensures before { before.new.lists ≡ slice_set before.old.lists to (without from (list_of before.old.lists to)) }
+    ensures before { length before.new.lists ≡ length before.old.lists }
     ensures mirror { IsMirror next.new.lists before.new.lists }
     ensures next_spare { next.new.spare ≡ next.old.spare + 1 }
     ensures before_spare { before.new.spare ≡ before.old.spare + 1 }
     ensures next_room { next.new.room ≡ next.old.room }
     ensures before_room { before.new.room ≡ before.old.room }
 {
+    let cell = mate(mates, next.first_cell(from as usize));
     next.remove(from as usize, to);
-    before.remove(to as usize, from);
+    let moved = before.remove_at(to as usize, from, cell);
+    move_mate(next, mates, moved, to, cell);
 }
 
 /// Takes out all edges from a number.
-pub(crate) fn unlink_all(next: &mut Lists, before: &mut Lists, from: u32)
+pub(crate) fn unlink_all(next: &mut Lists, before: &mut Lists, mates: &mut [u32], from: u32)
     requires from { from < length next.old.lists }
     requires closed { All (λ to. to < length before.old.lists) (list_of next.old.lists from) }
     requires mirror { IsMirror next.old.lists before.old.lists }
@@ -57,12 +93,18 @@ pub(crate) fn unlink_all(next: &mut Lists, before: &mut Lists, from: u32)
     ensures before_room { before.new.room ≡ before.old.room }
 {
     while let Some(to) = next.first(from as usize) {
-        unlink(next, before, from, to);
+        unlink(next, before, mates, from, to);
     }
 }
 
 /// Adds edges from a number to these.
-pub(crate) fn link_all(next: &mut Lists, before: &mut Lists, from: u32, all: &[u32])
+pub(crate) fn link_all(
+    next: &mut Lists,
+    before: &mut Lists,
+    mates: &mut [u32],
+    from: u32,
+    all: &[u32],
+)
     requires from { from < length next.old.lists }
     requires closed { All (λ to. to < length before.old.lists) all.now }
     requires mirror { IsMirror next.old.lists before.old.lists }
@@ -77,6 +119,6 @@ pub(crate) fn link_all(next: &mut Lists, before: &mut Lists, from: u32, all: &[u
     ensures before_room { before.new.room ≡ before.old.room }
 {
     for to in all {
-        link(next, before, from, *to);
+        link(next, before, mates, from, *to);
     }
 }

@@ -2,7 +2,7 @@
 ghost use Rattle.std.specs.Prelude.{◌≤◌, IfOk, IfSome};
 ghost use Rattle.list_pool.specs.Pool.{IsLive};
 
-use list_pool::{ListName, Memory, Pool};
+use list_pool::{CellName, ListName, Memory, Pool};
 use std::alloc::Global;
 
 // A pool with room for three.
@@ -50,6 +50,33 @@ fn slots_are_used_again(alloc: Global) -> bool {
     pool.remove_value(list, 9) && is_alone(&pool, list, 11)
 }
 
+// Whether the cell is on this list alone, and has this value.
+fn is_there(pool: &Pool, list: ListName, cell: CellName, value: u32) -> bool
+    requires { IsLive pool.now.lists list.0 }
+{
+    pool.holds(list, cell) && pool.find(list, value) == Some(cell) && pool.value(cell) == value
+}
+
+// A list of 7 and 9 loses the 9 by its cell: the 7 takes it.
+fn the_first_takes_the_place(alloc: Global) -> bool {
+    let Ok(mut pool) = three(alloc) else {
+        return false;
+    };
+    let Some(list) = seven_and_nine(&mut pool) else {
+        return false;
+    };
+    let Some(last) = pool.last(list) else {
+        return false;
+    };
+    if !pool.holds(list, last) || pool.holds(ListName(last.0), last) {
+        return false;
+    }
+    pool.remove_cell(list, last) == 7
+        && pool.live(list)
+        && is_alone(&pool, list, 7)
+        && is_there(&pool, list, last, 7)
+}
+
 fn a_dropped_list_is_not_live(alloc: Global) -> bool {
     let Ok(mut pool) = three(alloc) else {
         return false;
@@ -65,4 +92,9 @@ fn a_dropped_list_is_not_live(alloc: Global) -> bool {
 fn a_value_is_taken_out_and_room_comes_back(rt: HostRuntime) {
     assert!(rt; slots_are_used_again(rt.alloc()));
     assert!(rt; a_dropped_list_is_not_live(rt.alloc()));
+}
+
+#[test]
+fn a_cell_is_taken_out_and_the_first_takes_its_place(rt: HostRuntime) {
+    assert!(rt; the_first_takes_the_place(rt.alloc()));
 }

@@ -5,3 +5,5 @@ pub mod SlotCells
 pub mod SlotRemoves
 pub mod SlotUnlinks
 pub mod SlotsApart
+pub mod SlotsPlaced
+pub mod SlotWrites

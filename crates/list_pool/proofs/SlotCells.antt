@@ -11,9 +11,10 @@ use Rattle.list_pool.specs.declared.store.Cell.{Cell as CellRow}
 use Rattle.list_pool.specs.declared.store.Store.{Store}
 use Rattle.list_pool.specs.declared.store.TheConstants.{END}
 use Rattle.list_pool.specs.Pool.{Row, Updates, slots_of, live_count, find_list, list_at, rows_or_none, cell_at, value_at}
-use Rattle.list_pool.specs.Store.{walk, lists_of, next_in, value_in, Linked, EndsAt, IsUsed, Takes, AreLists, IsStore, IsPool, Rewrites, ListIs}
+use Rattle.list_pool.specs.Store.{walk, lists_of, next_in, value_in, Linked, EndsAt, IsUsed, Takes, AreLists, IsStore, IsPool, KeepsCells, Rewrites, ListIs}
 use Rattle.std.proofs.lemmas.List.{length_push}
 use Rattle.list_pool.proofs.SlotChanges.{Rewrites-then, Rewrites-set, Rewrites-takes, lists_updated, IsPool-changed}
+use Rattle.list_pool.proofs.SlotsPlaced.{head_is_no_cell, keeps_takes, keeps_head, keeps_cell, stands_pushed, stands_nowhere}
 use Rattle.list_pool.proofs.SlotWalks.{found, find-lists_of, length-walk, cell_of, list_at_head}
 
 -- what stands behind a cell
@@ -136,7 +137,7 @@ Linked-push s u l at last v0 new w (x ∷ (y ∷ ys)) few h e lt b a n k =
     (h.0, h.1, k at x.1 h.0 ne h.2 ∙ h.2, Linked-push s u l h.0 last v0 new w (y ∷ ys) few h.3 e (omega arith) b a n k)
 
 pub PushesIn : List Slot → List Slot → ℕ → ℕ → ℕ → HeadRow → Type 0
-PushesIn s u l at v h = Rewrites s u l × ListIs u l (Some (walk s h.first h.len ++ (at, v) ∷ []))
+PushesIn s u l at v h = Rewrites s u l × ListIs u l (Some (walk s h.first h.len ++ (at, v) ∷ [])) × KeepsCells s u at
 
 -- a list without cells gets its first
 pub push_first : (s t : List Slot) (l at v : ℕ) (h : HeadRow) → slice_get s l ≡ Some (Head h) → h.len ≡ 0 → Takes s t at (cell_of l v END) → PushesIn s (set t l (Head (record { first = at; last = at; len = 1 }))) l at v h
@@ -151,6 +152,7 @@ push_first s t l at v h e z k =
       Rewrites-then s t _ l (Rewrites-takes s t l at _ k refl) (Rewrites-set t l l (Head h) hd tl refl refl),
       subst (λ (xs : List Row). ListIs (set t l hd) l (Some (xs ++ (at, v) ∷ []))) (sym none)
           (record { first = at; last = at; len = 1 }, here, (END, refl, there, refl), refl, refl),
+      keeps_head s t at l (Head h) _ (keeps_takes s t at _ k) tl,
     )
 
 -- a list with cells gets one more
@@ -181,6 +183,7 @@ push_more s t l at v h c few ls e ne k r =
     slice_get-set_other t1 l i hd (λ q. head_not_cell _ _ (sym e ∙ ap (slice_get s) (sym q) ∙ f)) ∙ slice_get-set_other t h.last i x ni ∙ kept_by_take s t at i _ (cell_of l val nx) k tt f ∙ sym f in (
       Rewrites-then s t _ l (Rewrites-takes s t l at _ k refl) (Rewrites-then t t1 u l (Rewrites-set t l h.last (Cell c) x r cl cl) (Rewrites-set t1 l l (Head h) hd t1l refl refl)),
       (record { first = h.first; last = at; len = h.len + 1 }, here, Linked-push s u l h.first h.last lc.0 at v w few is.linked is.ends (omega arith) lc.1 last new others, EndsAt-push w at v, length_push w (at, v) ∙ ap (λ (m : ℕ). m + 1) n),
+      keeps_head s t1 at l (Head h) _ (keeps_cell s t at h.last c.value at c (keeps_takes s t at _ k) r) t1l,
     )
   where
     list_in_cell : Option Slot → ℕ
@@ -211,7 +214,9 @@ push_lists s u l at v h ls e p =
 pub push_pool : (s t : Store) (l at v : ℕ) (h : HeadRow) → IsPool s → IsStore t → slice_get s.items.items l ≡ Some (Head h) → PushesIn s.items.items t.items.items l at v h → length t.items.items + s.free_len ≡ length s.items.items + t.free_len + 1 → IsPool t
 unfolding PushesIn
 push_pool s t l at v h p st e q n =
-    IsPool-changed s t l (Some (walk s.items.items h.first h.len ++ (at, v) ∷ [])) p st q.0 q.1 (omega (arith, n, slots_of_head s.items.items l h e, pushes_size s.items.items h at v))
+    IsPool-changed s t l (Some (walk s.items.items h.first h.len ++ (at, v) ∷ [])) p st q.0 q.1
+    (stands_pushed s.items.items t.items.items l at v (walk s.items.items h.first h.len) p.placed (ap rows_or_none (list_at_head s.items.items l h e)) q.2)
+    (omega (arith, n, slots_of_head s.items.items l h e, pushes_size s.items.items h at v))
 
 -- a list's length fits
 pub head_fits : (s : Store) (l : ℕ) (h : HeadRow) → IsPool s → slice_get s.items.items l ≡ Some (Head h) → s.free_len + h.len + 1 ≤ length s.items.items
@@ -234,7 +239,10 @@ fresh_name s t at x k = find-lists_of s at ∙ go (slice_get s at) refl
 pub make_pool : (s t : Store) (at : ℕ) → IsPool s → IsStore t → Takes s.items.items t.items.items at (Head (record { first = END; last = END; len = 0 })) → length t.items.items + s.free_len ≡ length s.items.items + t.free_len + 1 → IsPool t
 make_pool s t at p st k n =
     let q = make_is s.items.items t.items.items at k in
-    IsPool-changed s t at (Some []) p st q.0 q.1 (omega (arith, n, ap slots_of (fresh_name s.items.items t.items.items at _ k)))
+    IsPool-changed s t at (Some []) p st q.0 q.1
+    (stands_nowhere s.items.items t.items.items at p.placed (ap rows_or_none (fresh_name s.items.items t.items.items at _ k))
+    (record { kept = keeps_takes s.items.items t.items.items at _ k; gone = λ c f. head_is_no_cell _ c (same_Some _ _ (sym k.here ∙ f)) }))
+    (omega (arith, n, ap slots_of (fresh_name s.items.items t.items.items at _ k)))
 
 pub make_lists : (s t : List Slot) (at : ℕ) → AreLists s → Takes s t at (Head (record { first = END; last = END; len = 0 })) → Updates (lists_of s) (lists_of t) at (Some [])
 make_lists s t at ls k = let q = make_is s t at k in lists_updated s t at _ ls q.0 q.1

@@ -11,7 +11,7 @@ use Rattle.list_pool.specs.Store.{walk, lists_of, Linked, AreLists}
 use Rattle.list_pool.proofs.SlotWalks.{found, find-lists_of, list_at_head, Linked-one_length}
 use Rattle.list_pool.proofs.SlotCells.{cell_lies}
 
-Linked-drop : (s : List Slot) (l at : ℕ) (xs : List Row) (k : ℕ) (x : Row) → Linked s l at xs → slice_get xs k ≡ Some x → (rest : List Row) × Linked s l x.0 rest × (length rest + k ≡ length xs)
+pub Linked-drop : (s : List Slot) (l at : ℕ) (xs : List Row) (k : ℕ) (x : Row) → Linked s l at xs → slice_get xs k ≡ Some x → (rest : List Row) × Linked s l x.0 rest × (length rest + k ≡ length xs)
 Linked-drop s l at [] k x h e = absurd cc
 Linked-drop s l at (y ∷ ys) zero x h e = (y ∷ ys, subst (λ (z : ℕ). Linked s l z (y ∷ ys)) (h.1 ∙ ap (λ (r : Row). r.0) (same_Some y x e)) h, omega arith)
 Linked-drop s l at (y ∷ ys) (suc k) x h e = let r = Linked-drop s l h.0 ys k x h.3 e in (r.0, r.1, omega (arith, r.2))

@@ -1,5 +1,5 @@
 -- What a contract sees of a `Pool`.
-use Rattle.std.specs.Prelude.{◌≡◌, ◌≢◌, ℕ, ◌+◌, ◌==◌, List, length, [], ◌∷◌, ◌++◌, Option, Some, None, is_some, IsSome, Bool, true, false, cond, count_by, slice_get, slice_index_or}
+use Rattle.std.specs.Prelude.{◌≡◌, ◌≢◌, ℕ, ◌+◌, ◌==◌, List, length, [], ◌∷◌, ◌++◌, Option, Some, None, is_some, IsSome, Bool, true, false, cond, count_by, slice_get, slice_index_or, slice_set, zero, suc, ◌-◌}
 use Rattle.std.specs.List.{sum_by}
 use Rattle.std.specs.Option.{option_map}
 
@@ -61,6 +61,14 @@ Pushes old new name value =
 abbrev pub IsCell : List (Option (List Row)) → ℕ → Type 0
 IsCell ls cell = (name : ℕ) × (k : ℕ) × (cell_at ls name k ≡ Some cell)
 
+-- the cell stands at a position of this list
+abbrev pub IsOn : List (Option (List Row)) → ℕ → ℕ → Type 0
+IsOn ls name cell = (k : ℕ) × (cell_at ls name k ≡ Some cell)
+
+-- the cell of the last position
+abbrev pub last_cell_of : List (Option (List Row)) → ℕ → Option ℕ
+last_cell_of ls name = cell_at ls name (length (list_at ls name) - 1)
+
 -- what stands behind the cell, wherever it stands
 abbrev pub NextIs : List (Option (List Row)) → ℕ → Option ℕ → Type 0
 NextIs ls cell next = (name k : ℕ) → cell_at ls name k ≡ Some cell → next ≡ cell_at ls name (k + 1)
@@ -73,10 +81,31 @@ abbrev pub has_value : ℕ → List Row → Bool
 has_value value [] = false
 has_value value (x ∷ xs) = cond (x.1 == value) true (has_value value xs)
 
+-- the first cell of this value
+abbrev pub cell_with : ℕ → List Row → Option ℕ
+cell_with value [] = None
+cell_with value (x ∷ xs) = cond (x.1 == value) (Some x.0) (cell_with value xs)
+
 -- the list without its first cell of this value
 abbrev pub without_first : ℕ → List Row → List Row
 without_first value [] = []
 without_first value (x ∷ xs) = cond (x.1 == value) xs (x ∷ without_first value xs)
+
+-- the list without the value at a position, whose cell the first value takes
+abbrev pub without_at : ℕ → ℕ → List Row → List Row
+without_at cell k [] = []
+without_at cell zero (x ∷ xs) = xs
+without_at cell (suc k) (x ∷ xs) = slice_set xs k (cell, x.1)
+
+-- the cell has this value afterwards, and all else stays
+abbrev pub Writes : List (Option (List Row)) → List (Option (List Row)) → ℕ → ℕ → Type 0
+Writes old new cell value =
+    (name k : ℕ) → cell_at old name k ≡ Some cell → Updates old new name (Some (slice_set (list_at old name) k (cell, value)))
+
+-- the value at the cell's position goes
+abbrev pub TakesOut : List (Option (List Row)) → List (Option (List Row)) → ℕ → ℕ → Type 0
+TakesOut old new name cell =
+    (k : ℕ) → cell_at old name k ≡ Some cell → Updates old new name (Some (without_at cell k (list_at old name)))
 
 -- no cell stands at two positions, of one list or of two
 abbrev pub AreApart : List (Option (List Row)) → Type 0

@@ -2,7 +2,7 @@
 ghost use Rattle.std.specs.Prelude.{◌≡◌, ◌+◌, ◌≤◌, ◌↔◌, [], length, IsNone, IsSome, IsTrue, IsOk, OnOk, OnErr, IfSome, None, Some};
 ghost use Rattle.std.specs.Option.{option_map};
 ghost use Rattle.std.specs.Bool.{OnTrue, OnFalse};
-ghost use Rattle.list_pool.specs.Pool.{list_at, IsLive, pool_size, live_count, Updates, Pushes, find_list, cell_at, IsCell, AreApart, NextIs, ValueIs, has_value, without_first};
+ghost use Rattle.list_pool.specs.Pool.{list_at, IsLive, pool_size, live_count, Updates, Pushes, find_list, cell_at, IsCell, AreApart, NextIs, ValueIs, IsOn, Writes, TakesOut, last_cell_of, cell_with, value_at, has_value, without_first};
 
 use crate::memory::Memory;
 use crate::store::{Cell, END, Head, Slot, Store};
@@ -180,6 +180,39 @@ impl Pool {
         }
     }
 
+    /// The cell of the last position; `None` exactly where the list is empty. A constant time.
+    pub fn last(&self, list: ListName) -> Option<CellName>
+        requires { IsLive self.now.lists list.0 }
+        ensures { option_map (λ c. c.0) result ≡ last_cell_of self.now.lists list.0 }
+    {
+        let head = self.store.head(list.0);
+        if head.len == 0 {
+            None
+        } else {
+            Some(CellName(head.last))
+        }
+    }
+
+    /// The cell of the first position with this value; `None` exactly where no position has it. It walks the list as far as that
+    /// position.
+    pub fn find(&self, list: ListName, value: u32) -> Option<CellName>
+        requires { IsLive self.now.lists list.0 }
+        ensures { option_map (λ c. c.0) result ≡ cell_with value (list_at self.now.lists list.0) }
+    {
+        let head = self.store.head(list.0);
+        match self.store.find(list.0, head, value) {
+            Some(place) => Some(CellName(place.at)),
+            None => None,
+        }
+    }
+
+    /// Whether the cell stands on the list. A constant time.
+    pub fn holds(&self, list: ListName, cell: CellName) -> bool
+        ensures { IsTrue result ↔ IsOn self.now.lists list.0 cell.0 }
+    {
+        self.store.has_cell(cell.0, list.0)
+    }
+
     /// The cell of the position behind the cell's own; `None` exactly where that is the last. A constant time.
     pub fn next(&self, cell: CellName) -> Option<CellName>
         requires { IsCell self.now.lists cell.0 }
@@ -219,6 +252,40 @@ impl Pool {
             }
             None => false,
         }
+    }
+
+    /// Takes out the value at the cell's position in a constant time: the first value takes its place, the first cell goes, and
+    /// `spare` rises by one. Answers the value that went from the first position.
+    pub fn remove_cell(&mut self, list: ListName, cell: CellName) -> u32
+        requires { IsOn self.old.lists list.0 cell.0 }
+        ensures removed { TakesOut self.old.lists self.new.lists list.0 cell.0 }
+        ensures moved { value_at self.old.lists list.0 0 ≡ Some result }
+        ensures spare { self.new.spare ≡ self.old.spare + 1 }
+    {
+        let Some(first) = self.first(list) else {
+            unreachable!()
+        };
+        let value = self.value(first);
+        self.set_value(cell, value);
+        self.remove_value(list, value);
+        value
+    }
+
+    // Overwrites the value at the cell's position.
+    fn set_value(&mut self, cell: CellName, value: u32)
+        requires { IsCell self.old.lists cell.0 }
+        ensures written { Writes self.old.lists self.new.lists cell.0 value }
+        ensures spare { self.new.spare ≡ self.old.spare }
+    {
+        let row = self.store.cell(cell.0);
+        self.store.put(
+            cell.0,
+            Slot::Cell(Cell {
+                list: row.list,
+                value,
+                next: row.next,
+            }),
+        );
     }
 
     /// Takes the list away: it isn't live any more, and `spare` rises by one and by its length. It walks the list.

@@ -1,5 +1,4 @@
 use Rattle.std.proofs.Common.{◌∙◌, ap, sym, length, arith, slice_set}
-use Rattle.std.proofs.lemmas.List.{length-set}
 use Rattle.deprecation_graph.specs.Indexed.{list_of}
 use Rattle.deprecation_graph.proofs.MirrorLemmas.{unlink_step, nil_from_first, All-rest}
 use Rattle.deprecation_graph.proofs.mirror.unlink_all.Goals as goal
@@ -14,7 +13,7 @@ loop-to-preserved c =
     let step = unlink_step c.args.next.now.lists c.loop-to.next.lists c.unlink.new.next.lists c.args.from c.in-Some.to c.requires.from (sym c.in-Some.ensures) c.loop-to.invariant.next c.unlink.ensures.next in
     record {
       next = step.0;
-      before = ap length c.unlink.ensures.before ∙ length-set c.loop-to.before.lists _ _ ∙ c.loop-to.invariant.before;
+      before = c.unlink.ensures.before ∙ c.loop-to.invariant.before;
       closed = All-rest (length c.args.before.now.lists) c.in-Some.to (list_of c.loop-to.next.lists c.args.from) (list_of c.unlink.new.next.lists c.args.from) step.1 c.loop-to.invariant.closed;
       mirror = c.unlink.ensures.mirror;
       next_spare = omega (arith, ap length step.1);

@@ -12,7 +12,7 @@ find-requires c = c.self.invariant.lists c.args.list.0 c.head-head.result c.head
 
 pub invariant_of-self : goal.invariant_of-self
 invariant_of-self c =
-    remove_pool c.self.inside.store c.unlink.new.self c.args.list.0 c.args.value c.head-head.result (c.in-Some.place.before, c.in-Some.place.at) c.self.invariant c.unlink.ensures.store c.unlink.ensures.rewrites c.head-head.ensures (sym c.in-Some.ensures) (c.unlink.ensures.list c.head-head.result c.head-head.ensures) c.unlink.ensures.len c.unlink.ensures.free_len
+    remove_pool c.self.inside.store c.unlink.new.self c.args.list.0 c.args.value c.head-head.result (c.in-Some.place.before, c.in-Some.place.at) c.self.invariant c.unlink.ensures.store c.unlink.ensures.rewrites c.head-head.ensures (sym c.in-Some.ensures) (c.unlink.ensures.list c.head-head.result c.head-head.ensures) c.unlink.ensures.cells c.unlink.ensures.len c.unlink.ensures.free_len
 
 pub returns-in-Some-clause-found : goal.returns-in-Some-clause-found
 returns-in-Some-clause-found c =
