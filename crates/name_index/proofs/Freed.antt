@@ -300,6 +300,7 @@ gone names rows numbers products n last a l is_last few new_names new_rows new_n
 pub are_names : (names : List Values) (rows : List Row) (numbers : List ℕ) (products : Listed) → AreRows names rows numbers products → ((m n : ℕ) (v : Value) → product_at products m ≡ Some v → product_at products n ≡ Some v → m ≡ n) → AreNames (names_of names rows)
 are_names names rows numbers products a one = record {
   lower = λ id k h. let t = kept_there names rows id k h in subst (λ (x : Kept). IsLower x.name) t.is (All-get_or IsLower names (row_at rows id).place any_values (inside id t.known t.held) a.lower);
+  held = λ id k h. let t = kept_there names rows id k h in subst (λ (x : Kept). 0 < x.holds) t.is (ltb-true 0 (row_at rows id).holds t.held);
   different = λ id other k l h j e.
       let t = kept_there names rows id k h in
       let u = kept_there names rows other l j in

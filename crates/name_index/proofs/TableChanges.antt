@@ -343,42 +343,22 @@ same_rows names new_names rows new_rows numbers new_numbers products new_product
 pub same_view : (names new_names : List Values) (rows new_rows : List Row) (view : Names) → new_names ≡ names → new_rows ≡ rows → names_of names rows ≡ view → names_of new_names new_rows ≡ view
 same_view names new_names rows new_rows view e f h = ap (λ (ws : List Values). names_of ws new_rows) e ∙ ap (names_of names) f ∙ h
 
--- ---- a name that is there is held once more
+-- ---- a name that has a number is held once more
 
-module _ (names : List Values) (rows : List Row) (numbers : List ℕ) (products : Listed) (name : Values) (place n : ℕ) (a : AreRows names rows numbers products) (f : FoundAt names name place) (e : n ≡ number_at numbers place) where
-  place_known : place < length rows
-  place_known = omega (arith, f.inside, a.within)
+module _ (names : List Values) (rows : List Row) (numbers : List ℕ) (products : Listed) (n : ℕ) (a : AreRows names rows numbers products) (known : n < length rows) (held : ltb 0 (row_at rows n).holds ≡ true) where
+  its_name : (kept_at (names_of names rows) n).name ≡ name_at names (row_at rows n).place
+  its_name = ap (λ (o : Option Kept). (kept_or o).name) (find_at names rows n known ∙ kept_of_read names (row_at rows n) held)
 
-  pub n_known : n < length rows
-  n_known = omega (arith, e, a.numbered place place_known)
-
-  its_place : (row_at rows n).place ≡ place
-  its_place = ap (λ (k : ℕ). (row_at rows k).place) e ∙ a.there place place_known
-
-  pub is_held : ltb 0 (row_at rows n).holds ≡ true
-  is_held = a.live n n_known ∙ ap (λ (k : ℕ). ltb k (length names)) its_place ∙ lt-ltb place (length names) f.inside
-
-  its_kept : find_kept (names_of names rows) n ≡ Some (kept (name_at names (row_at rows n).place) (row_at rows n).holds (row_at rows n).product)
-  its_kept = find_at names rows n n_known ∙ kept_of_read names (row_at rows n) is_held
-
-  its_name : name_at names (row_at rows n).place ≡ name
-  its_name = ap (name_at names) its_place ∙ f.is
-
-  pub few_holds : (m : ℕ) → ((id : ℕ) → HasName (names_of names rows) id name → (kept_at (names_of names rows) id).holds < m) → (row_at rows n).holds < m
-  few_holds m few = subst (λ (o : Option Kept). (kept_or o).holds < m) its_kept (few n (kept (name_at names (row_at rows n).place) (row_at rows n).holds (row_at rows n).product, its_kept, its_name))
-
-  pub raised_rows : (row_at rows n).holds < 4294967295 → AreRows names (set rows n (row_with (row_at rows n).place ((row_at rows n).holds + 1) (row_at rows n).product)) numbers products
-  raised_rows few = with_holds names rows numbers products n ((row_at rows n).holds + 1) a n_known (lt-ltb 0 ((row_at rows n).holds + 1) (omega arith) ∙ sym is_held) (omega (arith, few))
-
-  pub raised_holds : Holds (names_of names rows) (names_of names (set rows n (row_with (row_at rows n).place ((row_at rows n).holds + 1) (row_at rows n).product))) n name
-  raised_holds = raised names rows numbers products name n a n_known is_held its_name (λ other h. only other h)
+  pub raised_live : Holds (names_of names rows) (names_of names (set rows n (row_with (row_at rows n).place ((row_at rows n).holds + 1) (row_at rows n).product))) n (kept_at (names_of names rows) n).name
+  raised_live = raised names rows numbers products (kept_at (names_of names rows) n).name n a known held (sym its_name) (λ other h. only other h)
     where
-      only : (other : ℕ) → HasName (names_of names rows) other name → other ≡ n
+      only : (other : ℕ) → HasName (names_of names rows) other (kept_at (names_of names rows) n).name → other ≡ n
       only other h =
           let t = kept_there names rows other h.0 h.1 in
-          let at : name_at names (row_at rows other).place ≡ name = ap (λ (k : Kept). k.name) t.is ∙ h.2 in
-          let same : (row_at rows other).place ≡ place = one_place names (row_at rows other).place place a.different (place_inside names rows numbers products a other t.known t.held) f.inside (at ∙ sym f.is) in
-          sym (a.back other t.known) ∙ ap (number_at numbers) same ∙ sym e
+          let at : name_at names (row_at rows other).place ≡ name_at names (row_at rows n).place = ap (λ (k : Kept). k.name) t.is ∙ h.2 ∙ its_name in
+          let same : (row_at rows other).place ≡ (row_at rows n).place =
+          one_place names (row_at rows other).place (row_at rows n).place a.different (place_inside names rows numbers products a other t.known t.held) (place_inside names rows numbers products a n known held) at in
+          sym (a.back other t.known) ∙ ap (number_at numbers) same ∙ a.back n known
 
 -- ---- a free number, and then the name
 

@@ -1,5 +1,5 @@
 -- A table of names as contracts see it: what is kept of each number.
-use Rattle.std.specs.Prelude.{◌≡◌, ◌≢◌, ℕ, ◌+◌, ◌-◌, nat_lt, cond, List, Option, Some, None, IsSome}
+use Rattle.std.specs.Prelude.{◌≡◌, ◌≢◌, ℕ, ◌+◌, ◌-◌, ◌<◌, nat_lt, cond, List, Option, Some, None, IsSome}
 use Rattle.std.specs.List.{slice_index_or}
 use Rattle.cpe_name.specs.declared.name.Values.{Values}
 use Rattle.cpe_name.specs.Lower.{IsLower}
@@ -59,6 +59,7 @@ pub record Releases (old new : Names) (id : ℕ) : Type 0 where
 -- what holds of every table
 pub record AreNames (names : Names) : Type 0 where
   pub lower : (id : ℕ) (k : Kept) → find_kept names id ≡ Some k → IsLower k.name
+  pub held : (id : ℕ) (k : Kept) → find_kept names id ≡ Some k → 0 < k.holds
   pub different : (id other : ℕ) (k l : Kept) → find_kept names id ≡ Some k → find_kept names other ≡ Some l → k.name ≡ l.name → id ≡ other
   pub same_product : (id other : ℕ) (k l : Kept) → find_kept names id ≡ Some k → find_kept names other ≡ Some l → k.product ≡ l.product → k.name.product ≡ l.name.product
   pub one_number : (id other : ℕ) (k l : Kept) → find_kept names id ≡ Some k → find_kept names other ≡ Some l → k.name.product ≡ l.name.product → k.product ≡ l.product

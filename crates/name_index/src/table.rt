@@ -1,7 +1,8 @@
 // Names by number.
-ghost use Rattle.std.specs.Prelude.{◌≡◌, ◌≢◌, ℕ, ◌+◌, ◌-◌, ◌<◌, ◌≤◌, false, [], ◌∷◌, ◌++◌, length, set, Some, IsNone, IsSome, IfSome, IfOk, OnOk, OnErr};
+ghost use Rattle.std.specs.Prelude.{◌≡◌, ◌≢◌, ℕ, ◌+◌, ◌-◌, ◌<◌, ◌≤◌, false, [], ◌∷◌, ◌++◌, length, set, cond, nat_lt, option_map, slice_get, None, Some, IsNone, IsSome, IfSome, IfOk, OnOk, OnErr};
 ghost use Rattle.std.specs.Prelude.{vec_len, vec_capacity};
 ghost use Rattle.std.specs.List.{IsDistinct, list_any, swap_remove};
+ghost use Rattle.std.specs.Option.{option_copied};
 ghost use Rattle.indexmap.specs.IndexSet.{spare};
 ghost use Rattle.cpe_name.specs.Equal.{same_name};
 ghost use Rattle.cpe_values.specs.declared.value.Value.{Value};
@@ -314,6 +315,17 @@ fn free_row(rows: &mut Vec<Row>, numbers: &mut Vec<u32>, number: u32, last: usiz
     );
 }
 
+// The name of a row, if it is held.
+fn name_of<'a>(names: &'a IndexSet<Wfn>, row: &Row) -> Option<&'a Wfn>
+    ensures { option_copied result ≡ cond (nat_lt 0 row.now.holds) (slice_get names.now.keys row.now.place) None }
+{
+    if row.holds > 0 {
+        names.get_index(row.place as usize)
+    } else {
+        None
+    }
+}
+
 impl NameTable {
     /// A table without names. It takes no memory.
     pub fn new(alloc: Global) -> NameTable
@@ -340,7 +352,7 @@ impl NameTable {
         }
     }
 
-    /// The number of a name, with one hold more: its own, where it has one, and else one that no name has.
+    /// The number of a name, with one hold more: its own, where it has one, and else one that no name has. It is copied then.
     ///
     /// # Errors
     /// Want of memory, or of a number below 2^32 - 1; the table is then as it was.
@@ -350,13 +362,39 @@ impl NameTable {
         ensures held { IfOk result (λ id. Holds self.old self.new id.0 name.now) }
         ensures err { OnErr result (self.new ≡ self.old) }
     {
-        if let Some(place) = self.names.get_index_of(name) {
-            let number = number_of(&self.numbers, place);
-            raise(&mut self.rows, number);
-            return Ok(NameId(number));
+        if let Some(id) = self.find(name) {
+            self.hold_again(id);
+            return Ok(id);
         }
         let copied = name.copy(self.alloc)?;
         self.hold_new(copied)
+    }
+
+    /// The same by moving the name: it isn't copied, and goes where it had a number.
+    ///
+    /// # Errors
+    /// Want of memory, or of a number below 2^32 - 1; the table is then as it was, and the name is gone.
+    pub fn hold_moved(&mut self, name: Wfn) -> Result<NameId, Memory>
+        requires lower { IsLower name }
+        requires few { (id : ℕ) → HasName self.old id name → (kept_at self.old id).holds < 4294967295 }
+        ensures held { IfOk result (λ id. Holds self.old self.new id.0 name) }
+        ensures err { OnErr result (self.new ≡ self.old) }
+    {
+        if let Some(id) = self.find(&name) {
+            self.hold_again(id);
+            drop(name);
+            return Ok(id);
+        }
+        self.hold_new(name)
+    }
+
+    /// One hold more of a name that has this number. It takes no memory.
+    pub fn hold_again(&mut self, id: NameId)
+        requires live { IsLive self.old id.0 }
+        requires few { (kept_at self.old id.0).holds < 4294967295 }
+        ensures { Holds self.old self.new id.0 (kept_at self.old id.0).name }
+    {
+        raise(&mut self.rows, id.0);
     }
 
     /// The number of a name that no live number has, with one hold. The name is moved, not copied.
@@ -447,6 +485,16 @@ impl NameTable {
         match self.names.get_index(row.place as usize) {
             Some(name) => name,
             None => unreachable!(),
+        }
+    }
+
+    /// The name of a number, or none exactly where it isn't live. It is no step.
+    pub fn get(&self, id: NameId) -> Option<&Wfn>
+        ensures { option_copied result ≡ option_map (λ k. k.name) (find_kept self.now id.0) }
+    {
+        match self.rows.get(id.0 as usize) {
+            Some(row) => name_of(&self.names, row),
+            None => None,
         }
     }
 
