@@ -1,6 +1,0 @@
-pub mod Changes
-pub mod Rising
-pub mod Places
-pub mod Rows
-pub mod Same
-pub mod OrderLemmas

@@ -1,9 +1,0 @@
-use Rattle.std.proofs.Common.{List, subst}
-use Rattle.std.specs.List.{IsDistinct}
-use Rattle.name_index.specs.declared.table.NameId.{NameId}
-use Rattle.names_by_product.specs.InOrder.{same_id}
-use Rattle.names_by_product.proofs.OrderLemmas.{distinct}
-use Rattle.names_by_product.proofs.numbers.NumbersInOrder.lawful.Goals as goal
-
-pub returns : goal.returns
-returns c = subst (λ (ns : List NameId). IsDistinct same_id ns) c.self.view_is (distinct c.self.inside.numbers.items c.self.inside.places.items c.self.invariant)

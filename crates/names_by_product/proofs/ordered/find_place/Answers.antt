@@ -1,6 +1,0 @@
-use Rattle.std.proofs.Common.{refl, sym}
-use Rattle.names_by_product.proofs.OrderLemmas.{name_nowhere}
-use Rattle.names_by_product.proofs.ordered.find_place.Goals as goal
-
-pub returns-in-None : goal.returns-in-None
-returns-in-None c = sym (name_nowhere c.args.table.now c.args.numbers.now c.args.name.now c.requires (c.in-None.ensures.none refl))

@@ -1,0 +1,19 @@
+-- The names of the numbers that an index holds, and where they stand in a list.
+use Rattle.std.specs.Prelude.{ℕ, List, [], map, position}
+use Rattle.std.specs.List.{cons_option}
+use Rattle.cpe_name.specs.declared.name.Values.{Values}
+use Rattle.cpe_name.specs.Equal.{same_name}
+use Rattle.name_index.specs.declared.table.NameId.{NameId}
+use Rattle.name_index.specs.Table.{Names, kept_at}
+
+-- the names of the held numbers
+abbrev pub names_held : Names → List (ℕ × ℕ) → List Values
+names_held names held = map (λ (x : ℕ × ℕ). (kept_at names x.0).name) held
+
+-- the place of a name, if it has one
+abbrev pub place_list : List Values → Values → List ℕ
+place_list names name = cons_option (position (same_name name) names) []
+
+-- of a number's name
+abbrev pub placed : List Values → Names → NameId → List ℕ
+placed names table id = place_list names (kept_at table id.0).name

@@ -1,0 +1,45 @@
+-- Names in an order: their numbers in a table, the place of each number, and an index that holds the numbers.
+use Rattle.std.specs.Prelude.{◌≡◌, ◌≢◌, ◌⊎◌, ℕ, Bool, nat_eq, cond, List, map, Option, Some, None, slice_get}
+use Rattle.cpe_name.specs.declared.name.Values.{Values}
+use Rattle.product_orders.specs.Elements.{SameElements}
+use Rattle.name_index.specs.declared.table.NameId.{NameId}
+use Rattle.name_index.specs.Table.{Names, find_kept, kept_at, IsLive}
+use Rattle.name_index.specs.Index.{Fits, ids, name_id}
+
+-- numbers in an order, and what an index holds of them: each, with the number of its product
+pub record Roll : Type 0 where
+  pub held : List (ℕ × ℕ)
+  pub numbers : List NameId
+
+abbrev pub same_id : NameId → NameId → Bool
+same_id a b = nat_eq a.0 b.0
+
+-- the place, where the number that stands there is this one
+abbrev pub place_found : Option NameId → ℕ → NameId → Option ℕ
+place_found None place id = None
+place_found (Some other) place id = cond (same_id other id) (Some place) None
+
+-- the names of these numbers
+abbrev pub names_numbered : Names → List NameId → List Values
+names_numbered table numbers = map (λ (id : NameId). (kept_at table id.0).name) numbers
+
+-- each of these numbers has its place, so no number stands twice; what is kept of another number says nothing
+abbrev pub ArePlaced : List NameId → List ℕ → Type 0
+ArePlaced numbers places = (k : ℕ) (id : NameId) → slice_get numbers k ≡ Some id → slice_get places id.0 ≡ Some k
+
+abbrev pub AreLive : Names → List NameId → Type 0
+AreLive table numbers = (k : ℕ) (id : NameId) → slice_get numbers k ≡ Some id → IsLive table id.0
+
+-- these numbers are live, and the index holds them and no other
+pub record AreInOrder (table : Names) (held : List (ℕ × ℕ)) (numbers : List NameId) : Type 0 where
+  pub fits : Fits held table
+  pub same : SameElements (ids held) numbers
+  pub live : AreLive table numbers
+
+-- each number keeps what it has
+abbrev pub KeepsAll : Names → Names → Type 0
+KeepsAll old new = (id : ℕ) → find_kept new id ≡ find_kept old id
+
+-- the number is none of these, or is live
+abbrev pub IsSafe : Names → List NameId → ℕ → Type 0
+IsSafe table numbers id = IsLive table id ⊎ ((k : ℕ) → slice_get numbers k ≢ Some (name_id id))

@@ -1,0 +1,225 @@
+// Names in an order, of which any may go, by product.
+ghost use Rattle.std.specs.Prelude.{◌≡◌, ◌≢◌, ◌≤◌, ◌+◌, ◌++◌, ◌∷◌, [], ℕ, IfOk, IfSome, OnOk, OnErr, cond, filter, is_some, length, slice_get, None, Some, false, true};
+ghost use Rattle.std.specs.List.{IsDistinct, list_any};
+ghost use Rattle.cpe_name.specs.Equal.{same_name};
+ghost use Rattle.cpe_name.specs.Lower.{IsLower};
+ghost use Rattle.cpe_relation.specs.NameRelation.{covers};
+ghost use Rattle.cpe_steps.specs.Within.{StepsWithin};
+ghost use Rattle.name_index.specs.Index.{is_covered};
+ghost use Rattle.name_index.specs.Table.{HasName, IsLive, kept_at};
+ghost use Rattle.names_in_order.specs.InOrder.{AreInOrder, AreLive, names_numbered, same_id};
+ghost use Rattle.names_in_order.specs.Marked.{numbers_in, without_first};
+ghost use Rattle.names_in_order.specs.Places.{near_count};
+
+use crate::marked::MarkedNumbers;
+use cpe_name::Wfn;
+use cpe_steps::Steps;
+use cpe_values::Memory;
+use name_index::{NameId, NameIndex, NameTable, fitting_laws};
+use std::alloc::Global;
+use std::marker::Model;
+use std::sync::ledger::Ledger;
+
+/// Different names in the order in which they came, by their numbers in a table that others use, too. Any of them may go. Contracts see
+/// what its index holds, and the numbers.
+///
+/// One that goes leaves a mark in its place; marks are no more than numbers. A name takes some 34 bytes here; the name itself is the
+/// table's.
+#[derive(Drop)]
+pub struct ChangingNames {
+    index: NameIndex,
+    numbers: MarkedNumbers,
+}
+
+impl Model for ChangingNames {
+    ghost use Rattle.names_in_order.specs.InOrder.{Roll};
+
+    ghost Value = { Roll };
+
+    ghost view = { λ n. record { held = n.index.held; numbers = n.numbers } };
+}
+
+// Puts a live number last whose name isn't there, in both.
+fn add_number(
+    table: &NameTable,
+    index: &mut NameIndex,
+    numbers: &mut MarkedNumbers,
+    id: NameId,
+) -> Result<(), Memory>
+    requires order { AreInOrder table.now index.old.held numbers.old }
+    requires live { IsLive table.now id.0 }
+    requires fresh { list_any (same_name (kept_at table.now id.0).name) (names_numbered table.now numbers.old) ≡ false }
+    ensures order { AreInOrder table.now index.new.held numbers.new }
+    ensures ok { OnOk result (numbers.new ≡ numbers.old ++ id ∷ []) }
+    ensures held { OnErr result (index.new.held ≡ index.old.held) }
+    ensures err { OnErr result (numbers.new ≡ numbers.old) }
+{
+    fitting_laws();
+    index.reserve(table, 1)?;
+    numbers.push(id)?;
+    index.add(table, id);
+    Ok(())
+}
+
+// Takes out a number that is one of these, from both.
+fn remove_number(table: &NameTable, index: &mut NameIndex, numbers: &mut MarkedNumbers, id: NameId)
+    requires order { AreInOrder table.now index.old.held numbers.old }
+    requires has { list_any (same_id id) numbers.old ≡ true }
+    ensures order { AreInOrder table.now index.new.held numbers.new }
+    ensures numbers { numbers.new ≡ without_first (same_id id) numbers.old }
+    ensures gone { (k : ℕ) → slice_get numbers.new k ≢ Some id }
+{
+    fitting_laws();
+    numbers.lawful();
+    index.drop_name(table, id);
+    numbers.remove(id);
+}
+
+// The number, if it is one of these.
+fn if_has(numbers: &MarkedNumbers, id: NameId) -> Option<NameId>
+    ensures { result ≡ cond (list_any (same_id id) numbers.now) (Some id) None }
+{
+    if numbers.has(id) {
+        return Some(id);
+    }
+    None
+}
+
+// The number of a name, if it is one of these.
+fn find_number(table: &NameTable, numbers: &MarkedNumbers, name: &Wfn) -> Option<NameId>
+    requires { AreLive table.now numbers.now }
+    ensures found { IfSome result (λ id. HasName table.now id.0 name.now) }
+    ensures has { IfSome result (λ id. list_any (same_id id) numbers.now ≡ true) }
+    ensures any { is_some result ≡ list_any (same_name name.now) (names_numbered table.now numbers.now) }
+{
+    table.lawful();
+    match table.find(name) {
+        Some(id) => if_has(numbers, id),
+        None => None,
+    }
+}
+
+// Those whose names the name covers, in their order.
+fn find_covered<L: Ledger>(
+    alloc: Global,
+    table: &NameTable,
+    index: &NameIndex,
+    numbers: &MarkedNumbers,
+    name: &Wfn,
+    steps: &mut Steps<L>,
+) -> Result<Vec<NameId>, Memory>
+    requires order { AreInOrder table.now index.now.held numbers.now }
+    requires lower { IsLower name.now }
+    ensures covered { IfOk result (λ v. v.items ≡ filter (is_covered table.now name.now) numbers.now) }
+    ensures steps { StepsWithin steps.old steps.new (near_count name.now (names_numbered table.now numbers.now)) }
+{
+    let found = index.covered_by(alloc, table, name, steps)?;
+    numbers.in_order(alloc, &found)
+}
+
+impl ChangingNames {
+    /// No names. It takes no memory.
+    pub fn new(alloc: Global) -> ChangingNames
+        ensures { result ≡ record { held = []; numbers = [] } }
+    {
+        ChangingNames {
+            index: NameIndex::new(alloc),
+            numbers: MarkedNumbers::new(alloc),
+        }
+    }
+
+    /// How many there are.
+    pub fn len(&self) -> usize
+        ensures { result ≡ length self.now.numbers }
+    {
+        self.numbers.len()
+    }
+
+    /// Whether a number is one of these. It looks at one place alone.
+    pub fn has(&self, id: NameId) -> bool
+        ensures { result ≡ list_any (same_id id) self.now.numbers }
+    {
+        self.numbers.has(id)
+    }
+
+    /// The number of a name, if it is one of these. It is found by its hash.
+    pub fn find(&self, table: &NameTable, name: &Wfn) -> Option<NameId>
+        requires { AreInOrder table.now self.now.held self.now.numbers }
+        ensures found { IfSome result (λ id. HasName table.now id.0 name.now) }
+        ensures has { IfSome result (λ id. list_any (same_id id) self.now.numbers ≡ true) }
+        ensures any { is_some result ≡ list_any (same_name name.now) (names_numbered table.now self.now.numbers) }
+    {
+        find_number(table, &self.numbers, name)
+    }
+
+    /// The numbers by place, with marks among them: no more than there are numbers.
+    pub fn slots(&self) -> &[Option<NameId>]
+        ensures numbers { numbers_in result.now ≡ self.now.numbers }
+        ensures dense { length result.now ≤ length self.now.numbers + length self.now.numbers }
+    {
+        self.numbers.slots()
+    }
+
+    /// The slots before that of a number and those behind it; all, and none, where it isn't there.
+    pub fn around(&self, id: NameId) -> (&[Option<NameId>], &[Option<NameId>])
+        ensures { numbers_in result.0.now ++ numbers_in result.1.now ≡ without_first (same_id id) self.now.numbers }
+    {
+        self.numbers.around(id)
+    }
+
+    /// Puts a number of the table last whose name isn't there. It costs the same whatever their number, but for the place of a
+    /// product that is new.
+    ///
+    /// # Errors
+    /// Want of memory alone; the numbers are then as they were.
+    pub fn push(&mut self, table: &NameTable, id: NameId) -> Result<(), Memory>
+        requires order { AreInOrder table.now self.old.held self.old.numbers }
+        requires live { IsLive table.now id.0 }
+        requires fresh { list_any (same_name (kept_at table.now id.0).name) (names_numbered table.now self.old.numbers) ≡ false }
+        ensures order { AreInOrder table.now self.new.held self.new.numbers }
+        ensures ok { OnOk result (self.new.numbers ≡ self.old.numbers ++ id ∷ []) }
+        ensures err { OnErr result (self.new ≡ self.old) }
+    {
+        add_number(table, &mut self.index, &mut self.numbers, id)
+    }
+
+    /// Takes out a number that is one of these; the others stay in their order. It takes no memory, and costs the same in the mean,
+    /// whatever their number, but for the walk to it in the list of its product.
+    pub fn remove(&mut self, table: &NameTable, id: NameId)
+        requires order { AreInOrder table.now self.old.held self.old.numbers }
+        requires has { list_any (same_id id) self.old.numbers ≡ true }
+        ensures order { AreInOrder table.now self.new.held self.new.numbers }
+        ensures numbers { self.new.numbers ≡ without_first (same_id id) self.old.numbers }
+        ensures gone { (k : ℕ) → slice_get self.new.numbers k ≢ Some id }
+    {
+        remove_number(table, &mut self.index, &mut self.numbers, id);
+    }
+
+    /// Those whose names a name in lower case covers, in their order. A step is a look at a name: it looks at most once at each to
+    /// whose product that of the name is near, and at no other.
+    ///
+    /// # Errors
+    /// Want of memory alone. The bound on steps holds then, too.
+    pub fn covered<L: Ledger>(
+        &self,
+        alloc: Global,
+        table: &NameTable,
+        name: &Wfn,
+        steps: &mut Steps<L>,
+    ) -> Result<Vec<NameId>, Memory>
+        requires order { AreInOrder table.now self.now.held self.now.numbers }
+        requires lower { IsLower name.now }
+        ensures live { IfOk result (λ v. AreLive table.now v.items) }
+        ensures covered { IfOk result (λ v. names_numbered table.now v.items ≡ filter (covers name.now) (names_numbered table.now self.now.numbers)) }
+        ensures steps { StepsWithin steps.old steps.new (near_count name.now (names_numbered table.now self.now.numbers)) }
+    {
+        find_covered(alloc, table, &self.index, &self.numbers, name, steps)
+    }
+
+    /// No number stands twice. It does nothing, and tells a proof so.
+    pub fn lawful(&self)
+        ensures { IsDistinct same_id self.now.numbers }
+    {
+        self.numbers.lawful();
+    }
+}

@@ -1,0 +1,18 @@
+//! Names in an order, by their numbers in one table that others use, too; and by product, so that a search for those that a name covers
+//! looks at few of them.
+//!
+//! A [`GrowingNames`] keeps the numbers of names in the order in which they came, and none of them goes. Beside its table
+//! ([`GrowingNames::with`]) it is a list of names, each found by its hash, by its place and by its product. Of a [`ChangingNames`] any
+//! may go. What is so of a list stays so where others hold and release names of the table: [`orders_stay`]. What a list is without a
+//! number that has gone, [`orders_without`] says.
+#![tactic(auto)]
+
+mod changing;
+mod growing;
+mod laws;
+mod marked;
+mod numbers;
+
+pub use changing::ChangingNames;
+pub use growing::{GrowingNames, NamesInOrder};
+pub use laws::{orders_stay, orders_without};
