@@ -1,17 +1,11 @@
 -- What a map or a set keeps by hashes, as a list that is gone over.
 use Rattle.std.proofs.Common.{◌≡◌, ℕ, suc, nat_le, nat_lt, arith, ◌+◌, length, List, [], ◌∷◌, find}
-use Rattle.std.proofs.Common.{Bool, true, false, cond, ◌||◌, is_some, refl, sym, ap, ◌∙◌}
+use Rattle.std.proofs.Common.{Bool, true, false, cond, ◌||◌, is_some, refl, ap, ◌∙◌}
 use Rattle.std.specs.Prelude.{Option, Some, None, option_map}
 use Rattle.std.specs.Option.{option_map_or}
 use Rattle.std.proofs.lemmas.Bool.Decides.{nat_tests}
-use Rattle.std.specs.List.{list_any, sum_by}
-use Rattle.std.proofs.lemmas.List.Sums.{sum_by-cons}
+use Rattle.std.specs.List.{list_any}
 use Rattle.std.specs.Map.{lookup, remove_entry}
-use Rattle.std.specs.Set.{remove_key}
-use Rattle.cpe_name.specs.declared.name.Values.{Values}
-use Rattle.cpe_name.specs.Equal.{same_name, same_name-Decides}
-use Rattle.product_orders.specs.Elements.{SameElements}
-use Rattle.cpe_rows.specs.Names.{is_same}
 use Rattle.cpe_rows.specs.Rows.{same_key, has_key}
 use Rattle.cpe_rows.specs.After.{without_first, with_check}
 use Rattle.cpe_rows.specs.declared.test.CheckKey.{CheckKey}
@@ -42,34 +36,6 @@ module _ {K X : Type 0} (test : K → Bool) where
   pub removed_by_key : (es : List (K × X)) → remove_entry test es ≡ without_first (λ e. test e.0) es
   removed_by_key [] = refl
   removed_by_key (e ∷ es) = λ i. cond (test e.0) es (e ∷ removed_by_key es i)
-
-removed_if : {A : Type 0} (test : A → Bool) (xs : List A) → remove_key test xs ≡ without_first test xs
-removed_if test [] = refl
-removed_if test (x ∷ xs) = λ i. cond (test x) xs (x ∷ removed_if test xs i)
-
--- ---- items
-
-pub there_by_name : (n : Values) (ns : List Values) → list_any (same_name n) ns ≡ list_any (is_same n) ns
-unfolding is_same
-there_by_name n ns = refl
-
-pub removed_by_name : (n : Values) (ns : List Values) → remove_key (same_name n) ns ≡ without_first (is_same n) ns
-unfolding is_same
-removed_by_name n ns = removed_if (same_name n) ns
-
--- all but the first of a name
-pub removed_same : (n : Values) (ns : List Values) → list_any (same_name n) ns ≡ true → SameElements ns (n ∷ without_first (is_same n) ns)
-unfolding is_same
-removed_same n [] h f = absurd cc
-removed_same n (m ∷ ns) h f = by (same_name n m) refl (λ more. removed_same n ns more f)
-  where
-    by : (b : Bool) → same_name n m ≡ b → (list_any (same_name n) ns ≡ true → sum_by f ns ≡ sum_by f (n ∷ without_first (is_same n) ns)) → sum_by f (m ∷ ns) ≡ sum_by f (n ∷ without_first (is_same n) (m ∷ ns))
-    by true e more =
-        omega (arith, sum_by-cons f m ns, sum_by-cons f n ns, ap f ((same_name-Decides n m).0 e))
-        ∙ ap (λ (b : Bool). sum_by f (n ∷ cond b ns (m ∷ without_first (same_name n) ns))) (sym e)
-    by false e more =
-        omega (arith, sum_by-cons f m ns, sum_by-cons f n (m ∷ without_first (same_name n) ns), sum_by-cons f m (without_first (same_name n) ns), sum_by-cons f n (without_first (same_name n) ns), more (sym (ap (λ (b : Bool). b || list_any (same_name n) ns) e) ∙ h))
-        ∙ ap (λ (b : Bool). sum_by f (n ∷ cond b ns (m ∷ without_first (same_name n) ns))) (sym e)
 
 -- ---- check results
 

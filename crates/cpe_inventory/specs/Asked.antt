@@ -1,6 +1,7 @@
 -- Names and check results as they are kept or as an edit would leave them, and verdicts by them.
-use Rattle.std.specs.Prelude.{◌≡◌, ◌++◌, List, if◌then◌else◌}
-use Rattle.std.specs.Option.{option_map_or}
+use Rattle.std.specs.Prelude.{◌≡◌, ◌++◌, [], List, if◌then◌else◌}
+use Rattle.std.specs.List.{cons_option}
+use Rattle.std.specs.Option.{option_copied, option_map_or}
 use Rattle.cpe_name.specs.declared.name.Values.{Values}
 use Rattle.cpe_rows.specs.Rows.{Rows, same_key}
 use Rattle.cpe_rows.specs.Verdict.{check_truth, verdict}
@@ -9,12 +10,13 @@ use Rattle.cpe_rows.specs.declared.statement.Statement.{Statement}
 use Rattle.cpe_rows.specs.declared.test.CheckKey.{CheckKey}
 use Rattle.cpe_rows.specs.declared.truth.Truth.{Truth}
 use Rattle.cpe_inventory.specs.Kept.{kept_truth}
+use Rattle.cpe_inventory.specs.Slots.{slot_names}
 use Rattle.cpe_inventory.specs.declared.names.Names.{Names}
 use Rattle.cpe_inventory.specs.declared.results.Results.{Results}
 
--- those in front, and then those behind
+-- those in front, those behind, and then the last
 abbrev pub all_names : Names → List Values
-all_names n = n.front.now ++ n.back.now
+all_names n = slot_names n.table.now n.front.now ++ (slot_names n.table.now n.back.now ++ cons_option (option_copied n.last) [])
 
 -- the truth that an edit gives this key, and else the kept one
 abbrev pub given_truth : List (CheckKey × Truth) → CheckKey → Truth → CheckKey → Truth

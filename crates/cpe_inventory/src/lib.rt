@@ -1,9 +1,9 @@
 //! What an inventory keeps beside a dictionary: its items, applicability statements (NIST IR 7698), and the results of checks.
 //!
 //! Each keeps its rows in the order in which they came, and finds them by their hashes: the cost of putting and of finding a
-//! row is the same whatever the number of rows, but for the place of an item's product that is new. Taking a row out closes up those
-//! behind it, and costs as much as they are many, for an item also as much as those of its product are. Items stand by product a
-//! second time, so that a search looks at few of them.
+//! row is the same whatever the number of rows. Taking a statement or a result out closes up those behind it, and costs as much as they
+//! are many. Items are numbers of a table of names that others use, too: [`Items`] is a view of both, and one that goes costs the same
+//! in the mean, whatever their number.
 #![tactic(auto)]
 
 mod checks;
@@ -11,6 +11,7 @@ mod count;
 mod facts;
 mod faults;
 mod items;
+mod laws;
 mod names;
 mod results;
 mod statements;
@@ -19,6 +20,7 @@ pub use checks::Checks;
 pub use facts::{PlainFacts, plain_verdict};
 pub use faults::{check_fault, item_fault, statement_fault};
 pub use items::Items;
-pub use names::Names;
+pub use laws::item_laws;
+pub use names::{Names, name_of_slot};
 pub use results::{Given, Results};
 pub use statements::Statements;

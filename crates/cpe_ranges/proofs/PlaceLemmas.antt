@@ -15,8 +15,8 @@ use Rattle.cpe_values.specs.Equal.{same_value-Decides}
 use Rattle.cpe_values.specs.Same.{same_value}
 use Rattle.cpe_name.specs.declared.name.Values.{Values}
 use Rattle.cpe_advisories.specs.declared.advisory.Advisory.{Advisory}
-use Rattle.names_by_product.specs.Places.{rows_at}
-use Rattle.names_by_product.proofs.Rows.{rows_from}
+use Rattle.names_in_order.specs.Places.{rows_at}
+use Rattle.names_in_order.proofs.Rows.{rows_from}
 use Rattle.product_orders.specs.Elements.{SameElements}
 use Rattle.product_orders.proofs.Sums.{if_passes, sum_filter}
 use Rattle.cpe_ranges.specs.Answers.{ids_affecting}

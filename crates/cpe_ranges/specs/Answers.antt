@@ -2,7 +2,7 @@
 use Rattle.std.specs.Prelude.{ℕ, List, map, filter, option_map}
 use Rattle.std.specs.Option.{option_map_or}
 use Rattle.cpe_name.specs.declared.name.Values.{Values}
-use Rattle.names_by_product.specs.Places.{near_count}
+use Rattle.names_in_order.specs.Places.{near_count}
 use Rattle.cpe_ranges.specs.Affected.{affects}
 use Rattle.cpe_ranges.specs.Rows.{AdviceRows, advisory_of}
 use Rattle.cpe_advisories.specs.declared.advisory.Advisory.{Advisory}

@@ -8,7 +8,7 @@ ghost use Rattle.cpe_rows.specs.Step.{first_some};
 ghost use Rattle.cpe_steps.specs.Within.{StepsWithin};
 ghost use Rattle.cpe_weight.specs.Capped.{capped};
 ghost use Rattle.cpe_weight.specs.Gain.{weight_of_first};
-ghost use Rattle.names_by_product.specs.Places.{near_count};
+ghost use Rattle.names_in_order.specs.Places.{near_count};
 ghost use Rattle.cpe_ranges.specs.Affected.{affects, is_in_range};
 ghost use Rattle.cpe_ranges.specs.Answers.{answer, looks};
 ghost use Rattle.cpe_ranges.specs.Kept.{advisory_from, IsWeight, rows_in};
@@ -19,11 +19,11 @@ ghost use Rattle.cpe_ranges.specs.Weight.{advisory_weight, bound_bytes, weight a
 
 use crate::MOST_ADVISORIES;
 use crate::advised::{Advised, Terms};
+use crate::items::Items;
 use crate::range::is_in_range;
 use cpe_advisories::{
     AdviceEdit, AdviceFault, AdviceQuery, AdviceReply, AdviceWhich, Advisory, Bound,
 };
-use cpe_inventory::Items;
 use cpe_name::{Attribute, Wfn};
 use cpe_rows::{List, MOST_ITEMS, MOST_WEIGHT, Text, has_wildcards, names_are_equal};
 use cpe_steps::Steps;
@@ -294,8 +294,8 @@ impl Advisories {
         Ok(())
     }
 
-    /// Makes an edit, which is in order. What it brings is moved in; an item's name is copied once besides, and of an advisory its id,
-    /// and its product where it is the first of it. It takes no step.
+    /// Makes an edit, which is in order. What it brings is moved in; of an advisory its id is copied once besides, and its product where
+    /// it is the first of it. It takes no step.
     ///
     /// # Errors
     /// The first fault of the edit in the order of [`AdviceFault`], or want of memory. After either the rows are as they were.

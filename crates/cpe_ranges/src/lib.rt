@@ -4,6 +4,7 @@
 mod advised;
 mod advisories;
 mod groups;
+mod items;
 mod laws;
 mod limits;
 mod range;

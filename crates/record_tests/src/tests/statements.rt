@@ -1,10 +1,13 @@
 // Statements that are read and copied, and their truths: over facts of a type of our own, and over the names and results that an
 // inventory lends.
+ghost use Rattle.std.specs.Prelude.{◌≡◌, []};
+
 use super::reading::read;
 use cpe_inventory::{Checks, Names, Results, plain_verdict};
 use cpe_name::Wfn;
 use cpe_records::Record;
 use cpe_rows::{CheckKey, Edit, Facts, List, Mode, Operator, Statement, Test, Truth, evaluate};
+use name_index::{NameId, NameTable};
 use std::alloc::Global;
 use std::slice::from_ref;
 
@@ -115,21 +118,56 @@ fn verdict(names: &Names, results: &Results, statement: &Statement) -> Truth {
     plain_verdict(names, results, statement)
 }
 
-fn verdict_of(alloc: Global, names: &[Wfn], statement: &Statement) -> Truth {
+fn verdict_by(alloc: Global, names: &Names, statement: &Statement) -> Truth {
     let checks = Checks::new(alloc);
+    verdict(names, &checks.results(), statement)
+}
+
+// Over the names of these slots.
+fn verdict_of<'n>(
+    alloc: Global,
+    table: &'n NameTable,
+    slots: &'n [Option<NameId>],
+    statement: &Statement,
+) -> Truth {
     let names = Names {
-        front: names,
+        table,
+        front: slots,
         back: &[],
+        last: None,
     };
-    verdict(&names, &checks.results(), statement)
+    verdict_by(alloc, &names, statement)
+}
+
+// A slot without a number has no name.
+fn verdict_of_none(alloc: Global, statement: &Statement) -> Truth {
+    let table = NameTable::new(alloc);
+    let truth = verdict_of(alloc, &table, &[None], statement);
+    drop(table);
+    truth
+}
+
+// The number of the name that covers any.
+fn hold_any(table: &mut NameTable) -> Option<NameId>
+    requires { table.old ≡ [] }
+{
+    table.hold_new(Wfn::any()).ok()
+}
+
+fn verdict_of_any(alloc: Global, statement: &Statement) -> Truth {
+    let mut table = NameTable::new(alloc);
+    let slot = hold_any(&mut table);
+    let truth = verdict_of(alloc, &table, from_ref(&slot), statement);
+    drop(table);
+    truth
 }
 
 // Whether the statement says that not both are so, a fact that any name is and a check.
 fn denies_both(alloc: Global, statement: &Statement) -> bool {
     truth_of(statement, Truth::True) == Truth::False
         && truth_of(statement, Truth::Error) == Truth::Error
-        && verdict_of(alloc, &[], statement) == Truth::True
-        && verdict_of(alloc, from_ref(&Wfn::any()), statement) == Truth::Unknown
+        && verdict_of_none(alloc, statement) == Truth::True
+        && verdict_of_any(alloc, statement) == Truth::Unknown
 }
 
 fn is_denial(alloc: Global, line: &str) -> bool {

@@ -3,7 +3,7 @@ use Rattle.std.specs.List.{flat_map}
 use Rattle.std.specs.Map.{keys_of}
 use Rattle.cpe_values.specs.declared.value.Value.TheVariants as value
 use Rattle.product_orders.specs.Elements.{SameElements}
-use Rattle.names_by_product.proofs.Rising.{sorted_filter}
+use Rattle.names_in_order.proofs.Rising.{sorted_filter}
 use Rattle.cpe_ranges.specs.Found.{is_beside, own_group, passes_at, place_in, places_where}
 use Rattle.cpe_ranges.specs.Groups.{group}
 use Rattle.cpe_ranges.proofs.PlaceLemmas.{found_beside}

@@ -1,15 +1,24 @@
-use Rattle.std.proofs.Common.{◌≡◌, IfOk, List, ℕ, ap, subst, ◌∙◌}
+use Rattle.std.proofs.Common.{◌≡◌, List, ap, ◌∙◌}
+use Rattle.std.specs.List.{filter}
+use Rattle.std.proofs.lemmas.Result.{IfOk-weaker}
 use Rattle.cpe_name.specs.declared.name.Values.{Values}
-use Rattle.names_by_product.specs.Places.{places_covered, rows_at}
-use Rattle.names_by_product.proofs.Rows.{covered_names}
+use Rattle.cpe_relation.specs.NameRelation.{covers}
+use Rattle.name_index.specs.declared.table.NameId.{NameId}
+use Rattle.cpe_inventory.specs.Slots.{names_kept}
+use Rattle.cpe_inventory.proofs.SlotLemmas.{kept_numbered}
 use Rattle.cpe_inventory.proofs.items.Items.covered.Goals as goal
 
 pub returns-clause-found : goal.returns-clause-found
 returns-clause-found g c =
+    let table = c.self.inside.table.now in
     let name = c.args.name.now in
-    let ns = c.args.self.now in
-    subst (λ (xs : List Values). IfOk c.names_at.result (λ (found : List Values). found ≡ xs))
-    (ap (λ (ks : List ℕ). rows_at c.as_slice.result.now ks) (c.deref.ensures.value ∙ c.in_ok-places.ensures.covered)
-    ∙ ap (λ (ms : List Values). rows_at ms (places_covered name ns)) c.as_slice.ensures
-    ∙ covered_names name ns)
-    c.names_at.ensures
+    IfOk-weaker c.names_of.result
+    (λ (found : List Values). found ≡ names_kept table c.deref.result.now)
+    (λ (found : List Values). found ≡ filter (covers name) c.args.self.now)
+    (λ (found : List Values) is.
+    is
+    ∙ ap (λ (ids : List NameId). names_kept table ids) c.deref.ensures.value
+    ∙ kept_numbered table c.in_ok-ids.ids.items c.in_ok-ids.ensures.live
+    ∙ c.in_ok-ids.ensures.covered
+    ∙ ap (filter (covers name)) c.self.view_is)
+    c.names_of.ensures

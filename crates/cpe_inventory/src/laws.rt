@@ -1,0 +1,22 @@
+// Laws of the numbers of items and their names. The function does nothing: its clauses are the laws.
+ghost use Rattle.std.specs.Prelude.{◌≡◌, List, true};
+ghost use Rattle.std.specs.List.{list_any};
+ghost use Rattle.cpe_name.specs.Equal.{same_name};
+ghost use Rattle.cpe_name.specs.declared.name.Values.{Values};
+ghost use Rattle.cpe_rows.specs.Names.{is_same};
+ghost use Rattle.cpe_rows.specs.Prelude.{without_first};
+ghost use Rattle.name_index.specs.Table.{AreNames, Names, kept_at};
+ghost use Rattle.name_index.specs.declared.table.NameId.{NameId};
+ghost use Rattle.names_in_order.specs.InOrder.{AreLive, names_numbered, same_id};
+ghost use Rattle.names_in_order.specs.Marked.{without_first as without_number};
+
+use names_in_order::orders_without;
+
+/// Names are the same to rows exactly where they are to the table, and what a list is without a number of an item is to rows the list
+/// without its name.
+pub fn item_laws()
+    ensures same { (name : Values) (names : List Values) → list_any (is_same name) names ≡ list_any (same_name name) names }
+    ensures dropped { (table : Names) (numbers : List NameId) (id : NameId) → AreNames table → AreLive table numbers → list_any (same_id id) numbers ≡ true → names_numbered table (without_number (same_id id) numbers) ≡ without_first (is_same (kept_at table id.0).name) (names_numbered table numbers) }
+{
+    orders_without();
+}

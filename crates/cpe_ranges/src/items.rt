@@ -1,0 +1,177 @@
+// Items that an owner keeps with a table of their own.
+ghost use Rattle.std.specs.Prelude.{◌≡◌, ◌∷◌, ◌++◌, [], IfOk, OnOk, OnErr, false, filter, length, true};
+ghost use Rattle.std.specs.Bool.{OnFalse};
+ghost use Rattle.std.specs.List.{list_any};
+ghost use Rattle.cpe_name.specs.Lower.{IsLower};
+ghost use Rattle.cpe_relation.specs.NameRelation.{covers};
+ghost use Rattle.cpe_rows.specs.Names.{is_same};
+ghost use Rattle.cpe_rows.specs.Prelude.{without_first};
+ghost use Rattle.cpe_steps.specs.Within.{StepsWithin};
+ghost use Rattle.name_index.specs.Table.{kept_at};
+ghost use Rattle.names_in_order.specs.InOrder.{names_numbered, same_id};
+ghost use Rattle.names_in_order.specs.Places.{near_count};
+ghost use Rattle.cpe_ranges.specs.Owned.{AreOwn, IsNew};
+
+use cpe_inventory::{Items as View, item_laws};
+use cpe_name::Wfn;
+use cpe_rows::List;
+use cpe_steps::Steps;
+use cpe_values::Memory;
+use name_index::{NameId, NameTable, fitting_laws};
+use names_in_order::{ChangingNames, orders_stay};
+use std::alloc::Global;
+use std::marker::Model;
+use std::sync::ledger::Ledger;
+
+/// Names in lower case in the order in which they came, in a table that nothing else uses. Contracts see them as the list of these
+/// names.
+#[derive(Drop)]
+pub(crate) struct Items {
+    table: NameTable,
+    names: ChangingNames,
+}
+
+impl Model for Items {
+    ghost use Rattle.std.specs.Prelude.{List};
+    ghost use Rattle.cpe_name.specs.declared.name.Values.{Values};
+    ghost use Rattle.names_in_order.specs.InOrder.{names_numbered};
+    ghost use Rattle.cpe_ranges.specs.Owned.{AreOwn};
+
+    ghost Value = { List Values };
+
+    ghost view = { λ i. names_numbered i.table i.names.numbers };
+
+    ghost invariant = { λ i. AreOwn i.table i.names.held i.names.numbers };
+}
+
+// Puts a held number last, or lets its name go where memory is wanting.
+fn put_last(table: &mut NameTable, names: &mut ChangingNames, id: NameId) -> Result<(), Memory>
+    requires own { IsNew table.old names.old.held names.old.numbers id }
+    ensures own { AreOwn table.new names.new.held names.new.numbers }
+    ensures ok { OnOk result (names_numbered table.new names.new.numbers ≡ names_numbered table.old names.old.numbers ++ (kept_at table.old id.0).name ∷ []) }
+    ensures err { OnErr result (names_numbered table.new names.new.numbers ≡ names_numbered table.old names.old.numbers) }
+{
+    orders_stay();
+    match names.push(table, id) {
+        Ok(()) => Ok(()),
+        Err(memory) => {
+            table.release(id);
+            Err(memory)
+        }
+    }
+}
+
+// Puts a name last that is new.
+fn add_name(table: &mut NameTable, names: &mut ChangingNames, name: Wfn) -> Result<(), Memory>
+    requires own { AreOwn table.old names.old.held names.old.numbers }
+    requires lower { IsLower name }
+    requires fresh { list_any (is_same name) (names_numbered table.old names.old.numbers) ≡ false }
+    ensures own { AreOwn table.new names.new.held names.new.numbers }
+    ensures ok { OnOk result (names_numbered table.new names.new.numbers ≡ names_numbered table.old names.old.numbers ++ name ∷ []) }
+    ensures err { OnErr result (names_numbered table.new names.new.numbers ≡ names_numbered table.old names.old.numbers) }
+{
+    fitting_laws();
+    item_laws();
+    orders_stay();
+    let id = table.hold_new(name)?;
+    put_last(table, names, id)
+}
+
+// Takes a number out, and lets its name go.
+fn remove_number(table: &mut NameTable, names: &mut ChangingNames, id: NameId)
+    requires own { AreOwn table.old names.old.held names.old.numbers }
+    requires has { list_any (same_id id) names.old.numbers ≡ true }
+    ensures own { AreOwn table.new names.new.held names.new.numbers }
+    ensures names { names_numbered table.new names.new.numbers ≡ without_first (is_same (kept_at table.old id.0).name) (names_numbered table.old names.old.numbers) }
+{
+    item_laws();
+    orders_stay();
+    table.lawful();
+    names.remove(table, id);
+    table.release(id);
+}
+
+// Takes a name out, if it is there, and tells whether it was.
+fn remove_name(table: &mut NameTable, names: &mut ChangingNames, name: &Wfn) -> bool
+    requires own { AreOwn table.old names.old.held names.old.numbers }
+    ensures own { AreOwn table.new names.new.held names.new.numbers }
+    ensures found { result ≡ list_any (is_same name.now) (names_numbered table.old names.old.numbers) }
+    ensures names { names_numbered table.new names.new.numbers ≡ without_first (is_same name.now) (names_numbered table.old names.old.numbers) }
+    ensures unchanged { OnFalse result (names_numbered table.new names.new.numbers ≡ names_numbered table.old names.old.numbers) }
+{
+    item_laws();
+    match names.find(table, name) {
+        Some(id) => {
+            remove_number(table, names, id);
+            true
+        }
+        None => false,
+    }
+}
+
+impl Items {
+    /// No items. It takes no memory.
+    pub(crate) fn new(alloc: Global) -> Items
+        ensures { result ≡ [] }
+    {
+        orders_stay();
+        Items {
+            table: NameTable::new(alloc),
+            names: ChangingNames::new(alloc),
+        }
+    }
+
+    /// How many items there are.
+    pub(crate) fn len(&self) -> usize
+        ensures { result ≡ length self.now }
+    {
+        self.names.len()
+    }
+
+    /// Whether an item has this name.
+    pub(crate) fn has(&self, name: &Wfn) -> bool
+        ensures { result ≡ list_any (is_same name.now) self.now }
+    {
+        View::new(&self.table, &self.names).has(name)
+    }
+
+    /// Puts an item of a new name last, which is in lower case. The name is moved.
+    ///
+    /// # Errors
+    /// Want of memory alone; the items are then as they were.
+    pub(crate) fn add(&mut self, name: Wfn) -> Result<(), Memory>
+        requires lower { IsLower name }
+        requires fresh { list_any (is_same name) self.old ≡ false }
+        ensures ok { OnOk result (self.new ≡ self.old ++ name ∷ []) }
+        ensures err { OnErr result (self.new ≡ self.old) }
+    {
+        add_name(&mut self.table, &mut self.names, name)
+    }
+
+    /// Takes the item of this name out, and tells whether there was one; the others stay in their order.
+    pub(crate) fn remove(&mut self, name: &Wfn) -> bool
+        ensures found { result ≡ list_any (is_same name.now) self.old }
+        ensures items { self.new ≡ without_first (is_same name.now) self.old }
+        ensures unchanged { OnFalse result (self.new ≡ self.old) }
+    {
+        remove_name(&mut self.table, &mut self.names, name)
+    }
+
+    /// The items that a name in lower case covers (NIST IR 7696), in their order. A step is a look at an item: it looks at most once
+    /// at each to whose product that of the name is near, and at no other.
+    ///
+    /// # Errors
+    /// Want of memory alone. The bound on steps holds then, too.
+    pub(crate) fn covered<L: Ledger>(
+        &self,
+        alloc: Global,
+        name: &Wfn,
+        steps: &mut Steps<L>,
+    ) -> Result<List<Wfn>, Memory>
+        requires { IsLower name.now }
+        ensures found { IfOk result (λ found. found ≡ filter (covers name.now) self.now) }
+        ensures steps { StepsWithin steps.old steps.new (near_count name.now self.now) }
+    {
+        View::new(&self.table, &self.names).covered(alloc, name, steps)
+    }
+}
