@@ -6,7 +6,7 @@ use Rattle.cpe_name.specs.declared.name.Values.{Values}
 use Rattle.cpe_rows.specs.Chains.{is_active}
 use Rattle.cpe_rows.specs.declared.entry.Entry.{Entry}
 use Rattle.cpe_rows.specs.declared.entry.Deprecation.{Deprecation}
-use Rattle.numbered_entries.specs.Numbers.{entries_at}
+use Rattle.cpe_dictionary.specs.Numbers.{entries_at}
 
 -- ---- numbers one after the other
 

@@ -21,10 +21,10 @@ use Rattle.deprecation_graph.specs.Chains.{ends_of}
 use Rattle.deprecation_graph.specs.Faults.{first_fault, change_fault, cycle_in, is_wide, wide_in}
 use Rattle.deprecation_graph.specs.Graph.{IsChange, Node, active_in, chain_in, ends_in, next_in, successors, changed as changed_nodes}
 use Rattle.deprecation_graph.specs.declared.fault.GraphFault.TheVariants as graph
-use Rattle.numbered_entries.specs.Answers.{ChainsOfNodes, EndsOfNodes}
-use Rattle.numbered_entries.specs.Faults.{AreDifferent, WritesByNumber}
-use Rattle.numbered_entries.specs.Numbers.{entries_at, node_of_entry, nodes_of_entries, ChangesByNumber, EndsByNumber, NodesAreMarked, NodesAreNumbered}
-use Rattle.numbered_entries.proofs.Numbering.{entry_at}
+use Rattle.cpe_dictionary.specs.Answers.{ChainsOfNodes, EndsOfNodes}
+use Rattle.cpe_dictionary.specs.Faults.{AreDifferent, WritesByNumber}
+use Rattle.cpe_dictionary.specs.Numbers.{entries_at, node_of_entry, nodes_of_entries, ChangesByNumber, EndsByNumber, NodesAreMarked, NodesAreNumbered}
+use Rattle.cpe_dictionary.proofs.Numbering.{entry_at}
 use Rattle.cpe_dictionary.specs.Kept.{IsKept, names_at, rewritten, written}
 use Rattle.cpe_dictionary.specs.Plans.{numbered}
 use Rattle.cpe_dictionary.proofs.AtNumbers.{active_names}

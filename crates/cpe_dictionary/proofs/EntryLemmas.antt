@@ -16,7 +16,7 @@ use Rattle.cpe_rows.specs.Rows.{is_named}
 use Rattle.cpe_rows.specs.declared.entry.Deprecation.{Deprecation}
 use Rattle.cpe_rows.specs.declared.entry.Entry.{Entry}
 use Rattle.cpe_rows.specs.declared.entry.Note.{Note}
-use Rattle.names_by_product.proofs.OrderLemmas.{same_position}
+use Rattle.names_in_order.proofs.OrderLemmas.{same_position}
 use Rattle.cpe_dictionary.specs.declared.kept.Details.{Details}
 use Rattle.cpe_dictionary.specs.Kept.{entry_from, entries_of, names_of, rewritten, rewritten_details, details_written, written}
 use Rattle.cpe_dictionary.proofs.KeptLemmas.{any_named}

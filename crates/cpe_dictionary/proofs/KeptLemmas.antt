@@ -9,8 +9,8 @@ use Rattle.cpe_rows.specs.Answers.{rows_found, row_of}
 use Rattle.cpe_rows.specs.declared.entry.Entry.{Entry}
 use Rattle.cpe_rows.specs.declared.reply.Row.{Row}
 use Rattle.cpe_relation.specs.NameRelation.{covers}
-use Rattle.names_by_product.specs.Places.{places_covered, rows_at}
-use Rattle.names_by_product.proofs.Rows.{covered_rows}
+use Rattle.names_in_order.specs.Places.{places_covered, rows_at}
+use Rattle.names_in_order.proofs.Rows.{covered_rows}
 use Rattle.cpe_dictionary.specs.Kept.{is_wanted, names_of}
 
 pub any_named : (n : Values) (es : List Entry) → list_any (same_name n) (names_of es) ≡ list_any (is_named n) es

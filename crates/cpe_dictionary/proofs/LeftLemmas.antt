@@ -14,10 +14,10 @@ use Rattle.cpe_rows.specs.declared.entry.Entry.{Entry}
 use Rattle.cpe_rows.specs.declared.entry.Deprecation.{Deprecation}
 use Rattle.cpe_rows.specs.declared.entry.Note.{Note}
 use Rattle.deprecation_graph.specs.Graph.{Node, changed, ends_in}
-use Rattle.numbered_entries.specs.Edits.{NamesStayDifferent}
-use Rattle.numbered_entries.specs.Faults.{AreDifferent}
-use Rattle.numbered_entries.specs.Numbers.{entries_at, node_of_entry, nodes_of_entries, ChangesByNumber, EndsByNumber, NodesAreMarked, NodesAreNumbered}
-use Rattle.numbered_entries.proofs.Numbering.{entry_at}
+use Rattle.cpe_dictionary.specs.Edits.{NamesStayDifferent}
+use Rattle.cpe_dictionary.specs.Faults.{AreDifferent}
+use Rattle.cpe_dictionary.specs.Numbers.{entries_at, node_of_entry, nodes_of_entries, ChangesByNumber, EndsByNumber, NodesAreMarked, NodesAreNumbered}
+use Rattle.cpe_dictionary.proofs.Numbering.{entry_at}
 use Rattle.cpe_dictionary.specs.Kept.{names_at, rewritten}
 use Rattle.cpe_dictionary.specs.Plans.{PlansLead, ends_at}
 use Rattle.cpe_dictionary.specs.declared.plans.Plan.{Plan}

@@ -1,3 +1,11 @@
+pub mod Numbering
+pub mod Fitting
+pub mod Moving
+pub mod Places
+pub mod Edited
+pub mod Faulted
+pub mod Answered
+pub mod Asked
 pub mod KeptLemmas
 pub mod AtNumbers
 pub mod SeenLemmas

@@ -11,8 +11,8 @@ use Rattle.cpe_name.specs.declared.name.Values.{Values}
 use Rattle.cpe_rows.specs.Faults.{place_of, repeated_from}
 use Rattle.cpe_rows.specs.Rows.{is_named}
 use Rattle.cpe_rows.specs.declared.entry.Entry.{Entry}
-use Rattle.numbered_entries.specs.Numbers.{numbers_of}
-use Rattle.names_by_product.proofs.Rows.{item_first}
+use Rattle.cpe_dictionary.specs.Numbers.{numbers_of}
+use Rattle.names_in_order.proofs.Rows.{item_first}
 
 -- ---- numbers that were seen
 

@@ -17,9 +17,9 @@ use Rattle.deprecation_graph.specs.Chains.{AreSources, sources_of}
 use Rattle.deprecation_graph.specs.Graph.{next_in, sources_in}
 use Rattle.deprecation_graph.specs.Laws.{ChainsArePaths}
 use Rattle.deprecation_graph.specs.Paths.{Leads}
-use Rattle.numbered_entries.specs.Faults.{AreDifferent}
-use Rattle.numbered_entries.specs.Numbers.{node_of_entry, nodes_of_entries, NodesAreNumbered, PathsByNumber}
-use Rattle.numbered_entries.proofs.Numbering.{both, entry_at}
+use Rattle.cpe_dictionary.specs.Faults.{AreDifferent}
+use Rattle.cpe_dictionary.specs.Numbers.{node_of_entry, nodes_of_entries, NodesAreNumbered, PathsByNumber}
+use Rattle.cpe_dictionary.proofs.Numbering.{both, entry_at}
 use Rattle.cpe_dictionary.specs.Sources.{AreSourcesOf, IsSource}
 use Rattle.cpe_dictionary.proofs.Translating.{StandsAt, stands_at}
 

@@ -15,9 +15,9 @@ use Rattle.cpe_rows.specs.declared.fault.EditFault.{EditFault}
 use Rattle.cpe_rows.specs.declared.fault.EditFault.TheVariants as fault
 use Rattle.deprecation_graph.specs.Graph.{IsChange, changed as changed_nodes}
 use Rattle.deprecation_graph.specs.Faults.{cycle_in, wide_in, first_fault, change_fault}
-use Rattle.numbered_entries.specs.Numbers.{numbers_of, nodes_of_entries}
-use Rattle.numbered_entries.specs.Faults.{AreDifferent, AreEntries, WritesByNumber, CyclesByNumber, RepeatsByNumber}
-use Rattle.numbered_entries.specs.Edits.{EditsAreChanges, KnownAreEntries, WidthAfterByNumber}
+use Rattle.cpe_dictionary.specs.Numbers.{numbers_of, nodes_of_entries}
+use Rattle.cpe_dictionary.specs.Faults.{AreDifferent, AreEntries, WritesByNumber, CyclesByNumber, RepeatsByNumber}
+use Rattle.cpe_dictionary.specs.Edits.{EditsAreChanges, KnownAreEntries, WidthAfterByNumber}
 use Rattle.cpe_dictionary.specs.Kept.{rows_of}
 use Rattle.cpe_dictionary.specs.Causes.{named_fault, width_cause, deprecation_causes}
 use Rattle.cpe_dictionary.specs.Plans.{AreAsked}

@@ -17,9 +17,9 @@ use Rattle.cpe_rows.specs.declared.fault.EditFault.{EditFault}
 use Rattle.cpe_rows.specs.declared.fault.EditFault.TheVariants as fault
 use Rattle.deprecation_graph.specs.Graph.{node_of, changed as changed_nodes}
 use Rattle.deprecation_graph.specs.Faults.{wide_in}
-use Rattle.numbered_entries.specs.Numbers.{node_of_entry, nodes_of_entries, ChangesByNumber}
-use Rattle.numbered_entries.specs.Edits.{WidthAfterByNumber}
-use Rattle.numbered_entries.specs.Faults.{AreDifferent, WritesByNumber}
+use Rattle.cpe_dictionary.specs.Numbers.{node_of_entry, nodes_of_entries, ChangesByNumber}
+use Rattle.cpe_dictionary.specs.Edits.{WidthAfterByNumber}
+use Rattle.cpe_dictionary.specs.Faults.{AreDifferent, WritesByNumber}
 use Rattle.cpe_dictionary.specs.Kept.{rows_of, rewritten, written}
 use Rattle.cpe_dictionary.specs.Causes.{width_cause}
 use Rattle.cpe_dictionary.specs.Plans.{numbered}

@@ -1,5 +1,5 @@
 -- Entries as a dictionary keeps them: their names, and beside each what its entry has; and their deprecations by numbers.
-use Rattle.std.specs.Prelude.{◌≡◌, ◌≤◌, ◌++◌, ◌∷◌, ◌||◌, not, Bool, ℕ, List, [], length, map, Option, slice_get, slice_set}
+use Rattle.std.specs.Prelude.{◌≡◌, ◌≤◌, ◌++◌, ◌∷◌, ◌||◌, not, Bool, ℕ, List, [], length, map, None, Option, slice_get, slice_set}
 use Rattle.std.specs.Option.{option_map_or}
 use Rattle.cpe_name.specs.declared.name.Values.{Values}
 use Rattle.cpe_rows.specs.Rows.{Rows, no_rows}
@@ -9,9 +9,12 @@ use Rattle.cpe_rows.specs.Limits.{most}
 use Rattle.cpe_rows.specs.declared.entry.Entry.{Entry}
 use Rattle.cpe_rows.specs.declared.entry.Deprecation.{Deprecation}
 use Rattle.cpe_rows.specs.declared.entry.Note.{Note}
+use Rattle.cpe_rows.specs.declared.entry.Provenance.{Provenance}
 use Rattle.cpe_rows.specs.declared.fault.Which.TheVariants as limit
 use Rattle.deprecation_graph.specs.Graph.{Node}
-use Rattle.numbered_entries.specs.Numbers.{entries_at, nodes_of_entries}
+use Rattle.cpe_dictionary.specs.Numbers.{entries_at, nodes_of_entries}
+use Rattle.name_index.specs.Table.{Names}
+use Rattle.names_in_order.specs.InOrder.{AreInOrder, Roll, names_numbered}
 use Rattle.cpe_dictionary.specs.declared.kept.Details.{Details}
 
 abbrev pub entry_from : (Values × Details) → Entry
@@ -31,6 +34,27 @@ pub record IsKept (entries : List Entry) (nodes : List Node) : Type 0 where
   pub lawful : IsDictionary entries
   pub few : length entries ≤ most limit.Entries
   pub numbered : nodes ≡ nodes_of_entries entries
+
+-- a dictionary as it is kept beside a table of names: the numbers of its entries' names, what stands beside each, and the nodes of
+-- its graph
+pub record Stored : Type 0 where
+  pub names : Roll
+  pub details : List Details
+  pub nodes : List Node
+
+-- its entries, by the names of the table
+abbrev pub entries_in : Names → Stored → List Entry
+entries_in table s = entries_of (names_numbered table s.names.numbers) s.details
+
+-- it fits the table: its numbers are those of names there, and each of its entries has one
+pub record FitsTable (table : Names) (s : Stored) : Type 0 where
+  pub order : AreInOrder table s.names.held s.names.numbers
+  pub even : length s.names.numbers ≡ length s.details
+  pub kept : IsKept (entries_in table s) s.nodes
+
+-- an active entry
+abbrev pub new_entry : Values → List ℕ → Provenance → Entry
+new_entry name title provenance = record { name = name; title = title; provenance = provenance; deprecation = None }
 
 -- these entries in the place of those of the rows
 abbrev pub with_entries : Rows → List Entry → Rows

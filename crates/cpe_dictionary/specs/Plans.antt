@@ -12,8 +12,8 @@ use Rattle.cpe_rows.specs.declared.entry.Deprecation.{Deprecation}
 use Rattle.cpe_rows.specs.declared.entry.Note.{Note}
 use Rattle.deprecation_graph.specs.Faults.{change_fault}
 use Rattle.deprecation_graph.specs.Graph.{IsChange, changed, ends_in}
-use Rattle.numbered_entries.specs.Faults.{AreDifferent, AreEntries}
-use Rattle.numbered_entries.specs.Numbers.{nodes_of_entries, numbers_of}
+use Rattle.cpe_dictionary.specs.Faults.{AreDifferent, AreEntries}
+use Rattle.cpe_dictionary.specs.Numbers.{nodes_of_entries, numbers_of}
 use Rattle.cpe_dictionary.specs.Kept.{names_at, rewritten, written}
 use Rattle.cpe_dictionary.specs.declared.plans.Plan.{Plan}
 

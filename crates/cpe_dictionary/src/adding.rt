@@ -6,7 +6,7 @@ ghost use Rattle.cpe_rows.specs.Prelude.{first_some};
 use crate::dictionary::Dictionary;
 use cpe_rows::{EditFault, Entry, Which, has_wildcards, is_identifier};
 
-impl Dictionary {
+impl Dictionary<'_> {
     /// The first fault of an entry that is to be added, but for the weight. It takes no memory.
     pub fn entry_fault(&self, entry: &Entry) -> Option<EditFault>
         ensures { result ≡ first_some (entry_causes self.now entry.now) }

@@ -1,7 +1,7 @@
 // The entries of a chain, by their numbers.
 ghost use Rattle.std.specs.Prelude.{◌≡◌, IfOk, filter, map};
 ghost use Rattle.cpe_rows.specs.Prelude.{is_active, row_of};
-ghost use Rattle.numbered_entries.specs.Numbers.{entries_at};
+ghost use Rattle.cpe_dictionary.specs.Numbers.{entries_at};
 
 use crate::entries::Entries;
 use crate::kept::row_of;

@@ -1,22 +1,21 @@
 // The entries of a dictionary.
-ghost use Rattle.std.specs.Prelude.{◌≡◌, ◌+◌, ◌++◌, ◌∷◌, [], ◌<◌, ◌≤◌, IfOk, IfErr, OnOk, OnErr, None, Some, filter, find, length, map, nat_lt, not, option_and_then, option_map, position, slice_get, true, false};
+ghost use Rattle.std.specs.Prelude.{◌≡◌, ◌+◌, ◌∷◌, [], ◌<◌, ◌≤◌, IfOk, IfErr, OnOk, None, Some, filter, find, length, map, nat_lt, not, option_and_then, option_map, position, slice_get, true, false};
 ghost use Rattle.std.specs.List.{list_any};
 ghost use Rattle.std.specs.Option.{option_copied};
 ghost use Rattle.cpe_rows.specs.Prelude.{chain as chain_of, ends, is_active, is_named, IsCause, IsDictionary, most, row_of, rows_found as found, state_of};
 ghost use Rattle.deprecation_graph.specs.Faults.{change_fault};
 ghost use Rattle.deprecation_graph.specs.Graph.{IsChange};
-ghost use Rattle.numbered_entries.specs.Numbers.{nodes_of_entries};
+ghost use Rattle.cpe_dictionary.specs.Numbers.{nodes_of_entries};
 ghost use Rattle.cpe_dictionary.specs.Causes.{named_fault};
 ghost use Rattle.cpe_name.specs.Lower.{IsLower};
 ghost use Rattle.cpe_steps.specs.Within.{StepsWithin};
-ghost use Rattle.names_by_product.specs.Places.{near_count};
-ghost use Rattle.cpe_dictionary.specs.Kept.{names_of, rewritten, written};
-ghost use Rattle.cpe_dictionary.specs.Plans.{IsAllowed, numbered};
+ghost use Rattle.names_in_order.specs.Places.{near_count};
+ghost use Rattle.cpe_dictionary.specs.Kept.{IsKept, names_of};
 
+use crate::by_number::answers_by_number;
 use crate::chain::{active_names_at, rows_at};
 use crate::entries::Entries;
 use crate::kept::{entry_of, state_of};
-use crate::plans::Plan;
 use crate::search::wanted_at;
 use cpe_name::Wfn;
 use cpe_rows::{
@@ -26,23 +25,23 @@ use cpe_rows::{
 use cpe_steps::Steps;
 use cpe_values::Memory;
 use deprecation_graph::{DeprecationGraph, GraphFault};
-use numbered_entries::{answers_by_number, changes_by_number, edits_by_number};
 use std::alloc::Global;
 use std::marker::Model;
 use std::sync::ledger::Ledger;
 
-/// The entries of a dictionary. Contracts see them as the list of the entries in their order.
+/// The entries of a dictionary, beside the table of their names: [`KeptDictionary::with`] lends them. Contracts see them as the list of
+/// the entries in their order.
 ///
-/// They are found by the hashes of their names, by their numbers and by their products; a name is kept once. Their deprecations are
-/// kept a second time by numbers: node k of the graph is entry k.
+/// They are found by the hashes of their names, by their numbers and by their products. Their deprecations are kept a second time by
+/// numbers: node k of the graph is entry k.
 #[derive(Drop)]
-pub struct Dictionary {
+pub struct Dictionary<'t> {
     alloc: Global,
-    pub(crate) entries: Entries,
-    pub(crate) graph: DeprecationGraph,
+    pub(crate) entries: Entries<'t>,
+    pub(crate) graph: &'t DeprecationGraph,
 }
 
-impl Model for Dictionary {
+impl<'t> Model for Dictionary<'t> {
     ghost use Rattle.std.specs.Prelude.{List};
     ghost use Rattle.cpe_rows.specs.declared.entry.Entry.{Entry};
     ghost use Rattle.cpe_dictionary.specs.Kept.{IsKept};
@@ -51,21 +50,28 @@ impl Model for Dictionary {
 
     ghost view = { λ d. d.entries };
 
-    ghost invariant = { λ d. IsKept d.entries d.graph.nodes };
+    ghost invariant = { λ d. IsKept d.entries d.graph.now.nodes };
 }
 
-impl Dictionary {
-    /// The dictionary without entries. It takes no memory.
-    pub fn new(alloc: Global) -> Dictionary
-        ensures { result ≡ [] }
+impl<'t> Dictionary<'t> {
+    /// These entries, of which node k of the graph is entry k.
+    pub(crate) fn new(
+        alloc: Global,
+        entries: Entries<'t>,
+        graph: &'t DeprecationGraph,
+    ) -> Dictionary<'t>
+        requires { IsKept entries graph.now.nodes }
+        ensures { result ≡ entries.entry }
     {
         Dictionary {
             alloc,
-            entries: Entries::new(alloc),
-            graph: DeprecationGraph::new(alloc),
+            entries,
+            graph,
         }
     }
+}
 
+impl Dictionary<'_> {
     /// Where its memory comes from.
     pub(crate) fn memory(&self) -> Global {
         self.alloc
@@ -227,29 +233,6 @@ impl Dictionary {
         }
     }
 
-    /// Puts an active entry of a new name last, which is in lower case. It is moved, its name too.
-    ///
-    /// # Errors
-    /// Want of memory alone; the entries are then as they were.
-    pub fn add(&mut self, entry: Entry) -> Result<(), Memory>
-        requires lower { IsLower entry.name }
-        requires absent { list_any (is_named entry.name) self.old ≡ false }
-        requires active { is_active entry ≡ true }
-        requires few { length self.old + 1 ≤ most Which.Entries }
-        requires lawful { IsDictionary (self.old ++ entry ∷ []) }
-        ensures ok { OnOk result (self.new ≡ self.old ++ entry ∷ []) }
-        ensures err { OnErr result (self.new ≡ self.old) }
-    {
-        edits_by_number();
-        changes_by_number();
-        if self.graph.reserve(1, 0).is_err() {
-            return Err(let_go(entry, Memory));
-        }
-        self.entries.push(entry)?;
-        self.graph.add_node();
-        Ok(())
-    }
-
     /// Whether the entry of a number may be deprecated, with successors of these numbers, or with none of them be active.
     ///
     /// # Errors
@@ -280,42 +263,6 @@ impl Dictionary {
             None => unreachable!(),
         }
     }
-
-    /// Makes a planned change: the entry gets this deprecation, or none, and a note that goes last.
-    ///
-    /// # Errors
-    /// Want of memory alone; the entries are then as they were.
-    pub fn commit(
-        &mut self,
-        plan: &Plan,
-        deprecation: Option<Deprecation>,
-        note: Note,
-    ) -> Result<(), Memory>
-        requires numbers { plan.now.next ≡ numbered self.old deprecation }
-        requires allowed { IsAllowed self.old plan.now.number plan.now.next }
-        requires lawful { IsDictionary (written (rewritten deprecation note) plan.now.number self.old) }
-        ensures ok { OnOk result (self.new ≡ written (rewritten deprecation note) plan.now.number self.old) }
-        ensures err { OnErr result (self.new ≡ self.old) }
-    {
-        edits_by_number();
-        changes_by_number();
-        let edges = match plan.next() {
-            Some(next) => next.len() as u32,
-            None => 0,
-        };
-        if self.graph.reserve(0, edges).is_err() {
-            return Err(Memory);
-        }
-        self.entries.rewrite(plan.number, deprecation, note)?;
-        self.graph.set_edges(plan.number, plan.next());
-        Ok(())
-    }
-}
-
-// Lets an entry go that memory was wanting for.
-fn let_go(entry: Entry, memory: Memory) -> Memory {
-    drop(entry);
-    memory
 }
 
 // A name that is no entry has no chain, and is its own end.

@@ -4,14 +4,14 @@ ghost use Rattle.cpe_rows.specs.Prelude.{ends, is_named};
 ghost use Rattle.cpe_dictionary.specs.Kept.{names_at};
 ghost use Rattle.cpe_dictionary.specs.Plans.{IsAllowed, ends_by};
 
+use crate::by_number::{chains_by_number, entries_are_numbered};
 use crate::dictionary::Dictionary;
 use crate::plans::Plan;
 use cpe_name::Wfn;
 use cpe_values::Memory;
-use numbered_entries::{chains_by_number, entries_are_numbered};
 use std::alloc::Global;
 
-impl Dictionary {
+impl Dictionary<'_> {
     /// The numbers of the ends of an entry. It searches the entry's chain.
     ///
     /// # Errors

@@ -1,56 +1,42 @@
 // Entries in their order: their names, and beside each what its entry has.
-ghost use Rattle.std.specs.Prelude.{◌≡◌, ◌++◌, ◌∷◌, [], IfOk, OnOk, OnErr, filter, find, length, not, option_map, position, slice_get, false};
+ghost use Rattle.std.specs.Prelude.{◌≡◌, IfOk, filter, find, length, not, option_map, position, slice_get};
 ghost use Rattle.std.specs.List.{list_any};
 ghost use Rattle.std.specs.Option.{option_copied};
 ghost use Rattle.cpe_name.specs.Lower.{IsLower};
 ghost use Rattle.cpe_rows.specs.Prelude.{is_active, is_named};
 ghost use Rattle.cpe_steps.specs.Within.{StepsWithin};
-ghost use Rattle.names_by_product.specs.Places.{near_count, places_covered};
-ghost use Rattle.cpe_dictionary.specs.Kept.{details_written, entries_of, entry_from, names_of, rewritten, written};
+ghost use Rattle.names_in_order.specs.Places.{near_count, places_covered};
+ghost use Rattle.cpe_dictionary.specs.Kept.{entries_of, entry_from, names_of};
 
-use crate::kept::{Details, rewrite};
+use crate::kept::Details;
 use cpe_name::Wfn;
-use cpe_rows::{Deprecation, Entry, Note};
 use cpe_steps::Steps;
 use cpe_values::Memory;
-use names_by_product::NamesInOrder;
+use names_in_order::NamesInOrder;
 use std::alloc::Global;
 use std::marker::Model;
 use std::sync::ledger::Ledger;
 
-/// Entries of different names in lower case, in the order in which they came. Contracts see them as their list.
+/// Entries in the order in which they came: their names, and beside each what its entry has. Contracts see them as their list.
 ///
-/// A name is kept once: it is found by its hash, by its place and by its product.
+/// An entry is found by the hash of its name, by its place and by its product.
 #[derive(Drop)]
-pub(crate) struct Entries {
-    names: NamesInOrder,
+pub(crate) struct Entries<'t> {
+    names: NamesInOrder<'t>,
     // By place.
-    details: Vec<Details>,
+    details: &'t [Details],
 }
 
-impl Model for Entries {
+impl<'t> Model for Entries<'t> {
     ghost use Rattle.std.specs.Prelude.{◌≡◌, List, length};
     ghost use Rattle.cpe_rows.specs.declared.entry.Entry.{Entry};
     ghost use Rattle.cpe_dictionary.specs.Kept.{entries_of};
 
     ghost Value = { List Entry };
 
-    ghost view = { λ e. entries_of e.names e.details.items };
+    ghost view = { λ e. entries_of e.names e.details.now };
 
-    ghost invariant = { λ e. length e.names ≡ length e.details.items };
-}
-
-// Lets a name and what stands beside it go that memory was wanting for.
-fn let_go(name: Wfn, details: Details) -> Memory {
-    drop(name);
-    drop(details);
-    Memory
-}
-
-// Lets go what stands beside a name that memory was wanting for.
-fn without(details: Details, memory: Memory) -> Memory {
-    drop(details);
-    memory
+    ghost invariant = { λ e. length e.names ≡ length e.details.now };
 }
 
 fn details_at(all: &[Details], place: usize) -> Option<&Details>
@@ -69,65 +55,17 @@ fn beside<'e>(name: &'e Wfn, details: Option<&'e Details>) -> Option<(&'e Wfn, &
     }
 }
 
-// Puts an entry of a new name last.
-fn put_last(names: &mut NamesInOrder, all: &mut Vec<Details>, entry: Entry) -> Result<(), Memory>
-    requires even { length names.old ≡ length all.old.items }
-    requires lower { IsLower entry.name }
-    requires fresh { list_any (is_named entry.name) (entries_of names.old all.old.items) ≡ false }
-    ensures even { length names.new ≡ length all.new.items }
-    ensures ok { OnOk result (entries_of names.new all.new.items ≡ entries_of names.old all.old.items ++ entry ∷ []) }
-    ensures err { OnErr result (entries_of names.new all.new.items ≡ entries_of names.old all.old.items) }
-{
-    let Entry {
-        name,
-        title,
-        provenance,
-        deprecation,
-    } = entry;
-    let details = Details {
-        title,
-        provenance,
-        deprecation,
-    };
-    if all.reserve(1).is_err() {
-        return Err(let_go(name, details));
-    }
-    match names.push(name) {
-        Ok(()) => {
-            all.push_reserved(details);
-            Ok(())
-        }
-        Err(memory) => Err(without(details, memory)),
-    }
-}
-
-// Rewrites what stands at a place, if there is anything.
-fn rewrite_at(
-    all: &mut Vec<Details>,
-    place: usize,
-    deprecation: Option<Deprecation>,
-    note: Note,
-) -> Result<(), Memory>
-    ensures ok { OnOk result (all.new.items ≡ details_written deprecation note place all.old.items) }
-    ensures err { OnErr result (all.new.items ≡ all.old.items) }
-{
-    if place < all.len() {
-        rewrite(&mut all[place], deprecation, note)?;
-    }
-    Ok(())
-}
-
-impl Entries {
-    /// No entries. It takes no memory.
-    pub(crate) fn new(alloc: Global) -> Entries
-        ensures { result ≡ [] }
+impl<'t> Entries<'t> {
+    /// These names, and what stands beside each.
+    pub(crate) fn new(names: NamesInOrder<'t>, details: &'t [Details]) -> Entries<'t>
+        requires { length names ≡ length details.now }
+        ensures { result ≡ entries_of names.entry details.now }
     {
-        Entries {
-            names: NamesInOrder::new(alloc),
-            details: Vec::new(alloc),
-        }
+        Entries { names, details }
     }
+}
 
+impl Entries<'_> {
     /// How many there are.
     pub(crate) fn len(&self) -> usize
         ensures { result ≡ length self.now }
@@ -140,7 +78,7 @@ impl Entries {
         ensures { result ≡ length (filter (λ e. not (is_active e)) self.now) }
     {
         let mut count = 0;
-        for details in self.details.as_slice() {
+        for details in self.details {
             if details.deprecation.is_some() {
                 count += 1;
             }
@@ -167,7 +105,7 @@ impl Entries {
         ensures { option_map (λ d. entry_from (name.now, d.now)) result ≡ find (is_named name.now) self.now }
     {
         match self.names.find(name) {
-            Some(place) => details_at(&self.details, place),
+            Some(place) => details_at(self.details, place),
             None => None,
         }
     }
@@ -177,7 +115,7 @@ impl Entries {
         ensures entry { option_map (λ e. entry_from (e.0.now, e.1.now)) result ≡ slice_get self.now place }
     {
         match self.names.name_at(place) {
-            Some(name) => beside(name, details_at(&self.details, place)),
+            Some(name) => beside(name, details_at(self.details, place)),
             None => None,
         }
     }
@@ -197,35 +135,5 @@ impl Entries {
         ensures steps { StepsWithin steps.old steps.new (near_count asked.now (names_of self.now)) }
     {
         self.names.covered_places(alloc, asked, steps)
-    }
-
-    /// Puts an entry of a new name last, which is in lower case. The entry is moved, not copied.
-    ///
-    /// # Errors
-    /// Want of memory alone; the entries are then as they were.
-    pub(crate) fn push(&mut self, entry: Entry) -> Result<(), Memory>
-        requires lower { IsLower entry.name }
-        requires fresh { list_any (is_named entry.name) self.old ≡ false }
-        ensures ok { OnOk result (self.new ≡ self.old ++ entry ∷ []) }
-        ensures err { OnErr result (self.new ≡ self.old) }
-    {
-        put_last(&mut self.names, &mut self.details, entry)
-    }
-
-    /// Gives the entry of a number this deprecation, or none, and a note that goes last.
-    ///
-    /// # Errors
-    /// Want of memory alone; the entries are then as they were.
-    pub(crate) fn rewrite(
-        &mut self,
-        number: u32,
-        deprecation: Option<Deprecation>,
-        note: Note,
-    ) -> Result<(), Memory>
-        ensures ok { OnOk result (self.new ≡ written (rewritten deprecation note) number self.old) }
-        ensures err { OnErr result (self.new ≡ self.old) }
-    {
-        rewrite_at(&mut self.details, number as usize, deprecation, note)?;
-        Ok(())
     }
 }

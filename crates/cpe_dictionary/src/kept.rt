@@ -62,7 +62,7 @@ pub(crate) fn rewrite(
     ensures ok { OnOk result (details.new ≡ rewritten_details deprecation note details.old) }
     ensures err { OnErr result (details.new ≡ details.old) }
 {
-    details.provenance.notes.push(note)?;
+    details.provenance.notes.push_close(note)?;
     details.deprecation = deprecation;
     Ok(())
 }

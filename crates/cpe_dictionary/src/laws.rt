@@ -1,7 +1,7 @@
 // Laws of planned changes. These functions do nothing: their clauses are the laws.
 ghost use Rattle.cpe_dictionary.specs.Plans.{PlansLead};
 
-use numbered_entries::{
+use crate::by_number::{
     chains_by_number, changes_by_number, edits_are_changes, entries_are_numbered,
 };
 

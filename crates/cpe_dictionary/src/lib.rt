@@ -1,14 +1,20 @@
 //! A dictionary of products (NIST IR 7697): entries by their names, and where their deprecations lead.
 //!
-//! Entries are kept in the order in which they came, each name once, and are found by the hashes of their names: what is added,
-//! looked up or shown costs the same whatever their number, but for the place of a product that is new. A change of a deprecation
+//! A [`KeptDictionary`] keeps numbers of its entries' names, in a table of names that others use, too; beside the table it is a
+//! [`Dictionary`] ([`KeptDictionary::with`]), which has all that is asked. Entries are kept in the order in which they came, and are
+//! found by the hashes of their names: what is added, looked up or shown costs the same whatever their number, but for the place of a
+//! product that is new. A change of a deprecation
 //! is planned first, which tells its fault or that it is allowed, and leaves all as it is; which names lead to its entry may be
 //! asked, and the ends of names as the planned change would leave them; then it is made, and nothing but want of memory can refuse
 //! it. A plan costs the entries that lead to the one that it is of and those to which it leads, and a chain what it has. A search
 //! looks at the entries to whose product that of the asked name is near, and at no other: it counts a step for each look.
+//!
+//! Deprecations are kept a second time by numbers: node k of a graph is entry k. The laws of [`chains_by_number`] and those beside it say
+//! that both have one notion of a path, what a change of one is to the other, and when the graph may be asked for it.
 #![tactic(auto)]
 
 mod adding;
+mod by_number;
 mod chain;
 mod dictionary;
 mod ends;
@@ -18,9 +24,15 @@ mod laws;
 mod plans;
 mod search;
 mod sources;
+mod store;
 mod successors;
 
+pub use by_number::{
+    answers_by_number, chains_by_number, changes_by_number, edits_are_changes, edits_by_number,
+    entries_are_numbered, faults_by_number,
+};
 pub use dictionary::Dictionary;
 pub use laws::plans_lead;
 pub use plans::Plan;
 pub use sources::Sources;
+pub use store::KeptDictionary;

@@ -7,11 +7,11 @@ ghost use Rattle.cpe_dictionary.specs.Causes.{deprecation_causes, state_causes};
 ghost use Rattle.cpe_dictionary.specs.Kept.{rows_of};
 ghost use Rattle.cpe_dictionary.specs.Plans.{IsPlan};
 
+use crate::by_number::{edits_are_changes, edits_by_number};
 use crate::dictionary::Dictionary;
 use crate::successors::find_successors;
 use cpe_name::Wfn;
 use cpe_rows::{Deprecation, Edit, EditFault, List};
-use numbered_entries::{edits_are_changes, edits_by_number};
 
 /// A change of an entry's deprecation that its dictionary allows, by numbers. It is made by
 /// [`Dictionary::commit`](Dictionary::commit).
@@ -35,7 +35,7 @@ impl Plan {
     }
 }
 
-impl Dictionary {
+impl Dictionary<'_> {
     /// Plans to deprecate the active entry of this name.
     ///
     /// # Errors

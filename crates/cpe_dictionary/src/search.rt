@@ -1,7 +1,7 @@
 // The entries that are found, by their places.
 ghost use Rattle.std.specs.Prelude.{◌≡◌, ◌||◌, IfOk, filter, is_none, map, not};
 ghost use Rattle.cpe_rows.specs.Prelude.{row_of};
-ghost use Rattle.names_by_product.specs.Places.{rows_at};
+ghost use Rattle.names_in_order.specs.Places.{rows_at};
 ghost use Rattle.cpe_dictionary.specs.Kept.{is_wanted};
 
 use crate::entries::Entries;

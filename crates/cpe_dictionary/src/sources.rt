@@ -5,12 +5,12 @@ ghost use Rattle.std.specs.List.Sorted.{IsStrictlyIncreasing};
 ghost use Rattle.cpe_rows.specs.Prelude.{is_named, leads_to};
 ghost use Rattle.cpe_dictionary.specs.Sources.{AreSourcesOf};
 
+use crate::by_number::{chains_by_number, entries_are_numbered};
 use crate::dictionary::Dictionary;
 use cpe_name::Wfn;
 use cpe_rows::absent_names_stand_alone;
 use cpe_values::Memory;
 use deprecation_graph::chains_are_paths;
-use numbered_entries::{chains_by_number, entries_are_numbered};
 use std::alloc::Global;
 use std::marker::Model;
 
@@ -18,7 +18,7 @@ use std::marker::Model;
 /// dictionary and the name of that one.
 #[derive(Drop)]
 pub struct Sources<'d> {
-    dictionary: &'d Dictionary,
+    dictionary: Dictionary<'d>,
     entry: &'d Wfn,
     numbers: Vec<u32>,
 }
@@ -31,9 +31,9 @@ impl<'d> Model for Sources<'d> {
 
     ghost Value = { List Entry × Values };
 
-    ghost view = { λ s. (s.dictionary.now, s.entry.now) };
+    ghost view = { λ s. (s.dictionary, s.entry.now) };
 
-    ghost invariant = { λ s. AreSourcesOf s.dictionary.now s.entry.now s.numbers.items };
+    ghost invariant = { λ s. AreSourcesOf s.dictionary s.entry.now s.numbers.items };
 }
 
 // Whether a number is one of these, which rise.
@@ -47,20 +47,15 @@ fn has_number(numbers: &[u32], number: u32) -> bool
     }
 }
 
-impl Dictionary {
+impl<'d> Dictionary<'d> {
     /// The entries from which deprecations lead to the one of this name and number. It searches the graph backwards, and costs these
     /// entries and the edges that lead to them.
     ///
     /// # Errors
     /// Want of memory alone.
-    pub fn sources<'d>(
-        &'d self,
-        alloc: Global,
-        entry: &'d Wfn,
-        number: u32,
-    ) -> Result<Sources<'d>, Memory>
-        requires { position (is_named entry.now) self.now ≡ Some number }
-        ensures { IfOk result (λ s. s ≡ (self.now, entry.now)) }
+    pub fn sources(self, alloc: Global, entry: &'d Wfn, number: u32) -> Result<Sources<'d>, Memory>
+        requires { position (is_named entry.now) self ≡ Some number }
+        ensures { IfOk result (λ s. s ≡ (self.entry, entry.now)) }
     {
         chains_by_number();
         entries_are_numbered();

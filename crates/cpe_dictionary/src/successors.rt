@@ -6,15 +6,15 @@ ghost use Rattle.cpe_rows.specs.Prelude.{first_some, is_named, IsCause};
 ghost use Rattle.cpe_rows.specs.declared.limits.TheConstants.{MOST_SUCCESSORS};
 ghost use Rattle.cpe_rows.specs.declared.entry.Note.{Note};
 ghost use Rattle.cpe_rows.specs.declared.fault.EditFault.TheVariants as fault;
-ghost use Rattle.numbered_entries.specs.Numbers.{numbers_of};
+ghost use Rattle.cpe_dictionary.specs.Numbers.{numbers_of};
 ghost use Rattle.cpe_dictionary.specs.Causes.{deprecation_causes};
 ghost use Rattle.cpe_dictionary.specs.Plans.{AreAsked, IsAllowed};
 ghost use Rattle.cpe_name.specs.declared.name.Values.{Values};
 
+use crate::by_number::{edits_are_changes, edits_by_number, faults_by_number};
 use crate::dictionary::Dictionary;
 use cpe_name::Wfn;
 use cpe_rows::{Deprecation, EditFault, Kind, List, MOST_SUCCESSORS};
-use numbered_entries::{edits_are_changes, edits_by_number, faults_by_number};
 use std::alloc::Global;
 
 // Whether a deprecation of this kind may have so many successors.

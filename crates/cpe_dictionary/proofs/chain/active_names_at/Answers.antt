@@ -1,8 +1,8 @@
 use Rattle.std.proofs.Common.{◌≡◌, ◌++◌, ◌∷◌, [], List, ◌+◌, drop, get_or, refl, sym, ap, subst, ◌∙◌}
 use Rattle.std.proofs.lemmas.List.{append-nil}
 use Rattle.cpe_name.specs.declared.name.Values.{Values}
-use Rattle.numbered_entries.specs.Numbers.{entries_at}
-use Rattle.names_by_product.proofs.Rows.{item_first}
+use Rattle.cpe_dictionary.specs.Numbers.{entries_at}
+use Rattle.names_in_order.proofs.Rows.{item_first}
 use Rattle.cpe_dictionary.specs.Kept.{entry_from}
 use Rattle.cpe_dictionary.proofs.AtNumbers.{next_found, next_absent, active_name, active_names, active_names-cons, active_where, of_active, of_inactive}
 use Rattle.cpe_dictionary.proofs.chain.active_names_at.Goals.{in-Some+then-is_none+in_ok-copy+in_ok-push, in-Some+else-is_none, in_default}

@@ -1,6 +1,6 @@
 use Rattle.std.proofs.Common.{◌≡◌, ◌++◌, map, filter, drop}
 use Rattle.cpe_rows.specs.Chains.{is_active}
-use Rattle.numbered_entries.specs.Numbers.{entries_at}
+use Rattle.cpe_dictionary.specs.Numbers.{entries_at}
 use Rattle.cpe_dictionary.proofs.chain.active_names_at.Given as goal
 
 abbrev pub invariant-loop-number : goal.invariant-loop-number

@@ -2,8 +2,8 @@ use Rattle.std.proofs.Common.{◌≡◌, ◌++◌, ◌∷◌, [], List, ◌+◌,
 use Rattle.cpe_rows.specs.Answers.{row_of}
 use Rattle.cpe_rows.specs.declared.entry.Entry.{Entry}
 use Rattle.cpe_rows.specs.declared.reply.Row.{Row}
-use Rattle.numbered_entries.specs.Numbers.{entries_at}
-use Rattle.names_by_product.proofs.Rows.{item_first}
+use Rattle.cpe_dictionary.specs.Numbers.{entries_at}
+use Rattle.names_in_order.proofs.Rows.{item_first}
 use Rattle.cpe_dictionary.specs.Kept.{entry_from}
 use Rattle.cpe_dictionary.proofs.AtNumbers.{next_found, next_absent}
 use Rattle.cpe_dictionary.proofs.chain.rows_at.Goals.{in-Some+in_ok-row_of+in_ok-push, in_default}

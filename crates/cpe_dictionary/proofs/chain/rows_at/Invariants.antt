@@ -1,6 +1,6 @@
 use Rattle.std.proofs.Common.{◌≡◌, ◌++◌, map, drop}
 use Rattle.cpe_rows.specs.Answers.{row_of}
-use Rattle.numbered_entries.specs.Numbers.{entries_at}
+use Rattle.cpe_dictionary.specs.Numbers.{entries_at}
 use Rattle.cpe_dictionary.proofs.chain.rows_at.Given as goal
 
 abbrev pub invariant-loop-number : goal.invariant-loop-number

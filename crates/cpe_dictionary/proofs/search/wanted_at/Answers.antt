@@ -3,8 +3,8 @@ use Rattle.std.proofs.lemmas.List.{append-nil}
 use Rattle.cpe_rows.specs.Answers.{row_of}
 use Rattle.cpe_rows.specs.declared.entry.Entry.{Entry}
 use Rattle.cpe_rows.specs.declared.reply.Row.{Row}
-use Rattle.names_by_product.specs.Places.{rows_at}
-use Rattle.names_by_product.proofs.Rows.{item_first, next_there, next_missing}
+use Rattle.names_in_order.specs.Places.{rows_at}
+use Rattle.names_in_order.proofs.Rows.{item_first, next_there, next_missing}
 use Rattle.cpe_dictionary.specs.Kept.{entry_from}
 use Rattle.cpe_dictionary.proofs.KeptLemmas.{wanted_rows, wanted_rows-cons}
 use Rattle.cpe_dictionary.proofs.search.wanted_at.Goals.{in-Some+then-is_wanted+in_ok-row_of+in_ok-push, in-Some+else-is_wanted, in_default}

@@ -1,6 +1,6 @@
 use Rattle.std.proofs.Common.{◌≡◌, ◌++◌, map, filter, drop}
 use Rattle.cpe_rows.specs.Answers.{row_of}
-use Rattle.names_by_product.specs.Places.{rows_at}
+use Rattle.names_in_order.specs.Places.{rows_at}
 use Rattle.cpe_dictionary.specs.Kept.{is_wanted}
 use Rattle.cpe_dictionary.proofs.search.wanted_at.Given as goal
 

@@ -2,8 +2,8 @@ use Rattle.std.proofs.Common.{◌+◌, ◌++◌, ◌∷◌, ℕ, List, drop, ref
 use Rattle.std.specs.Prelude.{option_map}
 use Rattle.cpe_name.specs.declared.name.Values.{Values}
 use Rattle.cpe_rows.specs.declared.fault.EditFault.TheVariants as fault
-use Rattle.numbered_entries.specs.Numbers.{numbers_of}
-use Rattle.names_by_product.proofs.Rows.{item_first}
+use Rattle.cpe_dictionary.specs.Numbers.{numbers_of}
+use Rattle.names_in_order.proofs.Rows.{item_first}
 use Rattle.cpe_dictionary.proofs.SeenLemmas.{place_from_start, unknown_here, known_here, number_more}
 use Rattle.cpe_dictionary.proofs.successors.find_numbers.Goals as goal
 

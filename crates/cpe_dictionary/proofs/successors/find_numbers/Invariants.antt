@@ -3,7 +3,7 @@ use Rattle.std.specs.List.{list_any, position_from}
 use Rattle.std.specs.Option.{option_map}
 use Rattle.cpe_rows.specs.Rows.{is_named}
 use Rattle.cpe_rows.specs.Faults.{place_of}
-use Rattle.numbered_entries.specs.Numbers.{numbers_of}
+use Rattle.cpe_dictionary.specs.Numbers.{numbers_of}
 use Rattle.cpe_dictionary.proofs.successors.find_numbers.Given as goal
 
 abbrev pub invariant-loop-name : goal.invariant-loop-name

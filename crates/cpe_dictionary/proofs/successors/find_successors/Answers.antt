@@ -5,7 +5,7 @@ use Rattle.cpe_rows.specs.Step.{first_some}
 use Rattle.cpe_rows.specs.declared.entry.Note.{Note}
 use Rattle.deprecation_graph.specs.Faults.{change_fault}
 use Rattle.deprecation_graph.specs.Graph.{IsChange}
-use Rattle.numbered_entries.specs.Numbers.{nodes_of_entries}
+use Rattle.cpe_dictionary.specs.Numbers.{nodes_of_entries}
 use Rattle.cpe_rows.specs.Causes.{IsCause}
 use Rattle.cpe_dictionary.specs.Causes.{named_fault, deprecation_causes}
 use Rattle.cpe_rows.proofs.CauseLemmas.{cause_moves}

@@ -7,7 +7,7 @@ use Rattle.cpe_dictionary.proofs.dictionary.Dictionary.check.Goals as goal
 
 pub too_wide-requires : goal.too_wide-requires
 too_wide-requires c =
-    let nodes = c.self.inside.graph.nodes in
+    let nodes = c.self.inside.graph.now.nodes in
     let k = c.args.number in
     let next = option_copied c.args.next in
     let fault = subst (λ f. IsVerdict (Err f) (change_fault nodes k next)) c.in-Err-TooWide.field-0-is c.in-Err-TooWide.ensures in

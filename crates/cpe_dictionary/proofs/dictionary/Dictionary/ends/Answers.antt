@@ -1,8 +1,8 @@
 use Rattle.std.proofs.Common.{List, ap, subst, ◌∙◌}
 use Rattle.cpe_rows.specs.declared.entry.Entry.{Entry}
 use Rattle.deprecation_graph.specs.Graph.{Node, ends_in}
-use Rattle.numbered_entries.specs.Faults.{AreDifferent}
-use Rattle.numbered_entries.specs.Numbers.{nodes_of_entries}
+use Rattle.cpe_dictionary.specs.Faults.{AreDifferent}
+use Rattle.cpe_dictionary.specs.Numbers.{nodes_of_entries}
 use Rattle.cpe_dictionary.specs.Kept.{names_at}
 use Rattle.cpe_dictionary.proofs.DictionaryLemmas.{ends_named}
 use Rattle.cpe_dictionary.proofs.dictionary.Dictionary.ends.Goals as goal

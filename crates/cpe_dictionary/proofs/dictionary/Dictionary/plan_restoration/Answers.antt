@@ -8,7 +8,7 @@ use Rattle.cpe_rows.specs.declared.entry.Note.{Note}
 use Rattle.cpe_rows.specs.declared.entry.NoteKind.TheVariants as note
 use Rattle.cpe_rows.proofs.CauseLemmas.{cause_moves}
 use Rattle.deprecation_graph.specs.Faults.{change_fault}
-use Rattle.numbered_entries.specs.Numbers.{nodes_of_entries}
+use Rattle.cpe_dictionary.specs.Numbers.{nodes_of_entries}
 use Rattle.cpe_dictionary.specs.Causes.{named_fault, state_causes, width_cause}
 use Rattle.cpe_dictionary.specs.Kept.{rows_of}
 use Rattle.cpe_dictionary.proofs.DictionaryLemmas.{asks_none, at_error}

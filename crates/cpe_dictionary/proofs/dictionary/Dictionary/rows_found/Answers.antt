@@ -1,7 +1,7 @@
 use Rattle.std.proofs.Common.{◌≡◌, IfOk, List, ℕ, ap, subst, ◌∙◌}
 use Rattle.cpe_rows.specs.declared.entry.Entry.{Entry}
 use Rattle.cpe_rows.specs.declared.reply.Row.{Row}
-use Rattle.names_by_product.specs.Places.{places_covered, rows_at}
+use Rattle.names_in_order.specs.Places.{places_covered, rows_at}
 use Rattle.cpe_dictionary.specs.Kept.{names_of}
 use Rattle.cpe_dictionary.proofs.KeptLemmas.{found_at, wanted_rows}
 use Rattle.cpe_dictionary.proofs.dictionary.Dictionary.rows_found.Goals as goal

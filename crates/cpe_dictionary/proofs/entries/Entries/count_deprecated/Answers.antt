@@ -8,13 +8,12 @@ use Rattle.cpe_dictionary.proofs.entries.Entries.count_deprecated.Goals as goal
 
 pub returns : goal.returns
 returns c =
-    let items = c.as_slice-details-items.result.now in
+    let items = c.self.inside.details.now in
     let kept = λ (d : Details). is_some d.deprecation in
     let past = c.loop-details-test.false in
     let none = drop_all c.loop-details.details-index items (omega (arith, past)) in
     sym (add-zero c.loop-details.count)
     ∙ ap (λ (xs : List Details). c.loop-details.count + length (filter kept xs)) (sym none)
     ∙ c.loop-details.invariant.1
-    ∙ ap (λ (xs : List Details). length (filter kept xs)) c.as_slice-details-items.ensures.value
-    ∙ count_deprecated c.self.inside.names c.self.inside.details.items c.self.invariant
+    ∙ count_deprecated c.self.inside.names c.self.inside.details.now c.self.invariant
     ∙ ap (λ (es : List Entry). length (filter (λ e. not (is_active e)) es)) c.self.view_is

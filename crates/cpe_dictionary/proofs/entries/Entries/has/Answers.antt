@@ -10,6 +10,6 @@ returns c =
     let n = c.args.name.now in
     let i = c.self.inside in
     c.is_some.ensures
-    ∙ ap is_some (c.find.ensures ∙ place_by_name n i.names i.details.items c.self.invariant)
-    ∙ there_by_name n (entries_of i.names i.details.items)
+    ∙ ap is_some (c.find.ensures ∙ place_by_name n i.names i.details.now c.self.invariant)
+    ∙ there_by_name n (entries_of i.names i.details.now)
     ∙ ap (list_any (is_named n)) c.self.view_is

@@ -10,7 +10,7 @@ use Rattle.cpe_dictionary.proofs.sources.Sources.has.Goals as goal
 
 pub returns-in-Some : goal.returns-in-Some
 returns-in-Some c =
-    let es = c.self.inside.dictionary.now in
+    let es = c.self.inside.dictionary in
     let n = c.args.name.now in
     let to = c.self.inside.entry.now in
     let among = subst (λ (ks : List ℕ). IsTrue c.has_number.result ↔ Contains ks c.in-Some.number) c.deref.ensures.value c.has_number.ensures in
@@ -19,7 +19,7 @@ returns-in-Some c =
 
 pub returns-in-None : goal.returns-in-None
 returns-in-None c =
-    let es = c.self.inside.dictionary.now in
+    let es = c.self.inside.dictionary in
     let n = c.args.name.now in
     let to = c.self.inside.entry.now in
     sym (leads_nowhere es n to (c.absent_names_stand_alone.ensures.chains es n (no_entry es n (sym c.in-None.ensures))))

@@ -1,0 +1,188 @@
+// A dictionary as it is kept beside a table of names.
+ghost use Rattle.std.specs.Prelude.{◌≡◌, ◌+◌, ◌++◌, ◌∷◌, [], ◌≤◌, OnOk, OnErr, length, false};
+ghost use Rattle.std.specs.List.{list_any};
+ghost use Rattle.cpe_name.specs.Equal.{same_name};
+ghost use Rattle.cpe_rows.specs.Prelude.{is_named, IsDictionary, most};
+ghost use Rattle.name_index.specs.Table.{IsLive, kept_at};
+ghost use Rattle.names_in_order.specs.InOrder.{AreInOrder, names_numbered};
+ghost use Rattle.cpe_rows.specs.declared.fault.Which.TheVariants as Which;
+ghost use Rattle.cpe_dictionary.specs.Kept.{details_written, entries_in, entries_of, entry_from, FitsTable, new_entry, rewritten, written};
+ghost use Rattle.cpe_dictionary.specs.Plans.{IsAllowed, numbered};
+
+use crate::by_number::{changes_by_number, edits_by_number};
+use crate::dictionary::Dictionary;
+use crate::entries::Entries;
+use crate::kept::{Details, rewrite};
+use crate::plans::Plan;
+use cpe_rows::{Deprecation, Note, Provenance, Text};
+use cpe_values::Memory;
+use deprecation_graph::DeprecationGraph;
+use name_index::{NameId, NameTable};
+use names_in_order::{GrowingNames, orders_stay};
+use std::alloc::Global;
+use std::marker::Model;
+
+/// A dictionary as it is kept: the numbers of its entries' names in a table that others use, too, and beside each what its entry has.
+/// Its entries are those of [`with`](KeptDictionary::with).
+#[derive(Drop)]
+pub struct KeptDictionary {
+    alloc: Global,
+    names: GrowingNames,
+    // By place.
+    details: Vec<Details>,
+    graph: DeprecationGraph,
+}
+
+impl Model for KeptDictionary {
+    ghost use Rattle.cpe_rows.specs.declared.fault.Which.TheVariants as Which;
+    ghost use Rattle.cpe_dictionary.specs.Kept.{Stored};
+
+    ghost Value = { Stored };
+
+    ghost view = { λ d. record { names = d.names; details = d.details.items; nodes = d.graph.nodes } };
+}
+
+// Lets go what stands beside a name that memory was wanting for.
+fn let_go(details: Details, memory: Memory) -> Memory {
+    drop(details);
+    memory
+}
+
+// Puts an entry last whose name has this number.
+fn put_last(
+    table: &NameTable,
+    names: &mut GrowingNames,
+    all: &mut Vec<Details>,
+    id: NameId,
+    details: Details,
+) -> Result<(), Memory>
+    requires order { AreInOrder table.now names.old.held names.old.numbers }
+    requires even { length names.old.numbers ≡ length all.old.items }
+    requires live { IsLive table.now id.0 }
+    requires fresh { list_any (same_name (kept_at table.now id.0).name) (names_numbered table.now names.old.numbers) ≡ false }
+    ensures order { AreInOrder table.now names.new.held names.new.numbers }
+    ensures even { length names.new.numbers ≡ length all.new.items }
+    ensures ok { OnOk result (entries_of (names_numbered table.now names.new.numbers) all.new.items ≡ entries_of (names_numbered table.now names.old.numbers) all.old.items ++ entry_from ((kept_at table.now id.0).name, details) ∷ []) }
+    ensures names { OnErr result (names.new ≡ names.old) }
+    ensures err { OnErr result (all.new.items ≡ all.old.items) }
+{
+    orders_stay();
+    if all.reserve(1).is_err() {
+        return Err(let_go(details, Memory));
+    }
+    match names.push(table, id) {
+        Ok(()) => {
+            all.push_reserved(details);
+            Ok(())
+        }
+        Err(memory) => Err(let_go(details, memory)),
+    }
+}
+
+// Rewrites what stands at a place, if there is anything.
+fn rewrite_at(
+    all: &mut Vec<Details>,
+    place: usize,
+    deprecation: Option<Deprecation>,
+    note: Note,
+) -> Result<(), Memory>
+    ensures ok { OnOk result (all.new.items ≡ details_written deprecation note place all.old.items) }
+    ensures err { OnErr result (all.new.items ≡ all.old.items) }
+{
+    if place < all.len() {
+        rewrite(&mut all[place], deprecation, note)?;
+    }
+    Ok(())
+}
+
+impl KeptDictionary {
+    /// The dictionary without entries. It takes no memory.
+    pub fn new(alloc: Global) -> KeptDictionary
+        ensures { result ≡ record { names = record { held = []; numbers = [] }; details = []; nodes = [] } }
+    {
+        KeptDictionary {
+            alloc,
+            names: GrowingNames::new(alloc),
+            details: Vec::new(alloc),
+            graph: DeprecationGraph::new(alloc),
+        }
+    }
+
+    /// The entries, beside the table of their names.
+    pub fn with<'t>(&'t self, table: &'t NameTable) -> Dictionary<'t>
+        requires { FitsTable table.now self.now }
+        ensures { result ≡ entries_in table.now self.now }
+    {
+        let entries = Entries::new(self.names.with(table), self.details.as_slice());
+        Dictionary::new(self.alloc, entries, &self.graph)
+    }
+
+    /// Puts an active entry last whose name has this number in the table, and which no entry has. What it brings is moved.
+    ///
+    /// # Errors
+    /// Want of memory alone; the dictionary is then as it was.
+    pub fn add(
+        &mut self,
+        table: &NameTable,
+        id: NameId,
+        title: Text,
+        provenance: Provenance,
+    ) -> Result<(), Memory>
+        requires fits { FitsTable table.now self.old }
+        requires live { IsLive table.now id.0 }
+        requires absent { list_any (is_named (kept_at table.now id.0).name) (entries_in table.now self.old) ≡ false }
+        requires few { length (entries_in table.now self.old) + 1 ≤ most Which.Entries }
+        requires lawful { IsDictionary (entries_in table.now self.old ++ new_entry (kept_at table.now id.0).name title provenance ∷ []) }
+        ensures fits { FitsTable table.now self.new }
+        ensures ok { OnOk result (entries_in table.now self.new ≡ entries_in table.now self.old ++ new_entry (kept_at table.now id.0).name title provenance ∷ []) }
+        ensures err { OnErr result (self.new ≡ self.old) }
+    {
+        edits_by_number();
+        changes_by_number();
+        let details = Details {
+            title,
+            provenance,
+            deprecation: None,
+        };
+        if self.graph.reserve(1, 0).is_err() {
+            return Err(let_go(details, Memory));
+        }
+        put_last(table, &mut self.names, &mut self.details, id, details)?;
+        self.graph.add_node();
+        Ok(())
+    }
+
+    /// Makes a planned change: the entry gets this deprecation, or none, and a note that goes last.
+    ///
+    /// # Errors
+    /// Want of memory alone; the dictionary is then as it was.
+    pub fn commit(
+        &mut self,
+        table: &NameTable,
+        plan: &Plan,
+        deprecation: Option<Deprecation>,
+        note: Note,
+    ) -> Result<(), Memory>
+        requires fits { FitsTable table.now self.old }
+        requires numbers { plan.now.next ≡ numbered (entries_in table.now self.old) deprecation }
+        requires allowed { IsAllowed (entries_in table.now self.old) plan.now.number plan.now.next }
+        requires lawful { IsDictionary (written (rewritten deprecation note) plan.now.number (entries_in table.now self.old)) }
+        ensures fits { FitsTable table.now self.new }
+        ensures ok { OnOk result (entries_in table.now self.new ≡ written (rewritten deprecation note) plan.now.number (entries_in table.now self.old)) }
+        ensures err { OnErr result (self.new ≡ self.old) }
+    {
+        let _ = table;
+        edits_by_number();
+        changes_by_number();
+        let edges = match plan.next() {
+            Some(next) => next.len() as u32,
+            None => 0,
+        };
+        if self.graph.reserve(0, edges).is_err() {
+            return Err(Memory);
+        }
+        rewrite_at(&mut self.details, plan.number as usize, deprecation, note)?;
+        self.graph.set_edges(plan.number, plan.next());
+        Ok(())
+    }
+}

@@ -1,8 +1,0 @@
-use Rattle.numbered_entries.proofs.Moving.{changes_law, additions_law}
-use Rattle.numbered_entries.proofs.laws.changes_by_number.Goals as goal
-
-pub returns-clause-changes : goal.returns-clause-changes
-returns-clause-changes c = changes_law
-
-pub returns-clause-additions : goal.returns-clause-additions
-returns-clause-additions c = additions_law

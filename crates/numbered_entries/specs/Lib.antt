@@ -1,4 +1,0 @@
-pub mod Numbers
-pub mod Faults
-pub mod Answers
-pub mod Edits
