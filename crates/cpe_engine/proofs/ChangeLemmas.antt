@@ -28,7 +28,7 @@ use Rattle.cpe_rows.specs.declared.statement.Mode.TheVariants.{Plain, Follow}
 use Rattle.cpe_rows.specs.declared.test.CheckKey.{CheckKey}
 use Rattle.cpe_rows.specs.declared.truth.Truth.{Truth}
 use Rattle.cpe_rows.specs.declared.truth.Truth.TheVariants.{Unknown}
-use Rattle.numbered_entries.specs.Faults.{WritesByNumber}
+use Rattle.cpe_dictionary.specs.Faults.{WritesByNumber}
 use Rattle.cpe_engine.specs.Changing.{check_given, item_moved}
 use Rattle.cpe_engine.specs.Followed.{ends_led}
 use Rattle.cpe_engine.specs.Planned.{IsPlanned}

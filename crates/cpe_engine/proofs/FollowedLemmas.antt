@@ -3,6 +3,7 @@ use Rattle.std.proofs.Common.{◌≡◌, ℕ, Bool, true, false, ◌||◌, List,
 use Rattle.std.specs.Prelude.{Option, Some, None, option_map}
 use Rattle.std.specs.List.{list_any, flat_map, cons_option}
 use Rattle.std.specs.Option.{option_map_or}
+use Rattle.std.proofs.lemmas.List.{append-nil}
 use Rattle.std.proofs.lemmas.List.Folds.{list_any-append}
 use Rattle.cpe_name.specs.declared.name.Values.{Values}
 use Rattle.cpe_relation.specs.NameRelation.{covers}
@@ -15,7 +16,7 @@ use Rattle.cpe_rows.specs.declared.entry.Entry.{Entry}
 use Rattle.cpe_rows.specs.declared.statement.Mode.{Mode}
 use Rattle.cpe_rows.specs.declared.statement.Mode.TheVariants.{Plain, Follow}
 use Rattle.cpe_rows.specs.declared.statement.Statement.{Statement}
-use Rattle.numbered_entries.specs.Numbers.{entries_at}
+use Rattle.cpe_dictionary.specs.Numbers.{entries_at}
 use Rattle.cpe_dictionary.specs.Kept.{names_at}
 use Rattle.cpe_dictionary.specs.Plans.{ends_at, ends_by}
 use Rattle.cpe_dictionary.specs.declared.plans.Plan.{Plan}
@@ -39,6 +40,11 @@ pub name_more : (es : List Entry) (found all : List Values) (k : ℕ) (ks : List
 name_more es found all k ks h =
     append_assoc found (cons_option (option_map (λ (e : Entry). e.name) (slice_get es k)) []) (names_at es ks)
     ∙ ap (λ (xs : List Values). found ++ xs) (sym (names_at-first es k ks)) ∙ h
+
+-- what is found of a name, if there is one, and then of others
+pub first_flat : {A B : Type 0} (f : A → List B) (o : Option A) (xs : List A) → flat_map f (cons_option o []) ++ flat_map f xs ≡ flat_map f (cons_option o xs)
+first_flat f None xs = refl
+first_flat f (Some x) xs = ap (λ (ys : List _). ys ++ flat_map f xs) (append-nil (f x))
 
 -- ---- tests of ends
 

@@ -18,7 +18,7 @@ use Rattle.cpe_rows.specs.declared.fault.EditFault.TheVariants as fault
 use Rattle.cpe_rows.specs.declared.fault.Which.TheVariants as limit
 use Rattle.cpe_rows.proofs.Limited.{each_within}
 use Rattle.cpe_weight.specs.Capped.{capped}
-use Rattle.cpe_engine.specs.Parts.{AreKept, rows_in}
+use Rattle.cpe_engine.specs.Parts.{AreKept, AreStored, rows_in}
 use Rattle.cpe_engine.specs.declared.parts.Parts.{Parts}
 
 -- where there is no cause, this isn't one, and there is none behind it
@@ -71,8 +71,9 @@ is_light next n counted below =
     }
 
 -- lawful rows, and the weight that they were found to have
-pub stay_kept : (made : Parts) (rows : Rows) (n : ℕ) → IsLawful rows → rows_in made ≡ rows → made.weight ≡ n → n ≡ weight rows → AreKept made
-stay_kept made rows n lawful same counted weighs = record {
+pub stay_kept : (made : Parts) (rows : Rows) (n : ℕ) → IsLawful rows → rows_in made ≡ rows → made.weight ≡ n → n ≡ weight rows → AreStored made → AreKept made
+stay_kept made rows n lawful same weighed weighs stored = record {
   lawful = subst IsLawful (sym same) lawful;
-  weight = counted ∙ weighs ∙ ap weight (sym same);
+  weight = weighed ∙ weighs ∙ ap weight (sym same);
+  stored = stored;
 }

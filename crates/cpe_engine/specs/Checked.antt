@@ -15,5 +15,5 @@ use Rattle.cpe_engine.specs.declared.checked.Checked.{Checked}
 pub record IsChecked (p : Parts) (e : Edit) (c : Checked) : Type 0 where
   pub accepted : IsAccepted (rows_in p) e (after (rows_in p) e)
   pub none : first_some (causes (rows_in p) e) ≡ None
-  pub planned : IsPlanned p.dictionary e c.plan
+  pub planned : IsPlanned (rows_in p).entries e c.plan
   pub weight : c.weight ≡ weight (after (rows_in p) e)

@@ -1,6 +1,6 @@
 -- How many looks at names through an index an answer may take.
 use Rattle.std.specs.Prelude.{ℕ, map}
-use Rattle.names_by_product.specs.Places.{near_count}
+use Rattle.names_in_order.specs.Places.{near_count}
 use Rattle.cpe_rows.specs.Rows.{Rows}
 use Rattle.cpe_rows.specs.declared.entry.Entry.{Entry}
 use Rattle.cpe_rows.specs.declared.edit.Query.{Query}

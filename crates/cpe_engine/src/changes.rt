@@ -5,8 +5,11 @@ ghost use Rattle.cpe_inventory.specs.Asked.{all_names, result_truth};
 ghost use Rattle.cpe_rows.specs.Prelude.{after, change, changes, check_truth, IsAccepted, most, verdict};
 ghost use Rattle.cpe_rows.specs.declared.fault.Which.TheVariants as limit;
 ghost use Rattle.cpe_engine.specs.Changing.{check_given, item_moved};
+ghost use Rattle.std.specs.List.{cons_option};
+ghost use Rattle.std.specs.Option.{option_copied};
+ghost use Rattle.cpe_inventory.specs.Slots.{slot_names};
 ghost use Rattle.cpe_engine.specs.Followed.{ends_if_led, ends_led};
-ghost use Rattle.cpe_engine.specs.Parts.{rows_in};
+ghost use Rattle.cpe_engine.specs.Parts.{AreStored, rows_in};
 ghost use Rattle.cpe_engine.specs.Planned.{IsPlanned};
 ghost use Rattle.cpe_engine.specs.Scenes.{Shows};
 
@@ -18,15 +21,15 @@ use crate::trails::Trails;
 use cpe_changes::{
     checks_touch, deprecations_touch, entries_change_nothing, find_changes, items_touch,
 };
-use cpe_dictionary::{Plan, Sources, plans_lead};
-use cpe_inventory::Names;
+use cpe_dictionary::{Plan, Sources, edits_by_number, plans_lead};
+use cpe_inventory::{Names, name_of_slot};
 use cpe_name::Wfn;
 use cpe_rows::{
     Changed, CheckKey, Edit, List, Statement, Text, Truth, checks_after_edits,
     statements_stand_alone,
 };
 use cpe_values::Memory;
-use numbered_entries::edits_by_number;
+use name_index::{NameId, NameTable};
 use std::alloc::Global;
 
 impl Parts {
@@ -40,16 +43,18 @@ impl Parts {
         edit: &Edit,
         plan: &Option<Plan>,
     ) -> Result<List<Changed>, Memory>
+        requires stored { AreStored self.now }
         requires accepted { IsAccepted (rows_in self.now) edit.now (after (rows_in self.now) edit.now) }
-        requires planned { IsPlanned self.now.dictionary edit.now plan.now }
+        requires planned { IsPlanned (rows_in self.now).entries edit.now plan.now }
         ensures { IfOk result (λ cs. cs ≡ changes (rows_in self.now) edit.now) }
     {
         entries_change_nothing();
+        let items = self.items();
         match edit {
             Edit::Entry(_) => Ok(List::new(alloc)),
-            Edit::Item(name) => self.item_changes(alloc, edit, name, self.items.names_with(name)),
+            Edit::Item(name) => self.item_changes(alloc, edit, name, items.names_with(name)),
             Edit::DropItem(name) => {
-                self.item_changes(alloc, edit, name, self.items.names_without(name))
+                self.item_changes(alloc, edit, name, items.names_without(name))
             }
             Edit::Deprecate { name, .. } | Edit::Amend { name, .. } | Edit::Restore { name, .. } =>
                 { self.plan_changes(alloc, edit, name, plan) }
@@ -62,21 +67,23 @@ impl Parts {
 
     /// Where names lead as the deprecations are.
     pub(crate) fn trails(&self) -> Trails<'_>
-        ensures { result ≡ (self.now.dictionary, None) }
+        requires { AreStored self.now }
+        ensures { result ≡ ((rows_in self.now).entries, None) }
     {
-        Trails::now(&self.dictionary)
+        Trails::now(self.dictionary())
     }
 
     /// The rows as they are, but that names lead by these trails.
     pub(crate) fn scene<'e>(&'e self, trails: &'e Trails<'e>) -> Scene<'e>
-        ensures shows { trails.now ≡ (self.now.dictionary, None) → Shows result (rows_in self.now) }
+        requires { AreStored self.now }
+        ensures shows { trails.now ≡ ((rows_in self.now).entries, None) → Shows result (rows_in self.now) }
         ensures trails { result.trails.now ≡ trails.now }
-        ensures items { all_names result.items ≡ self.now.items }
+        ensures items { all_names result.items ≡ (rows_in self.now).items }
         ensures results { (k : CheckKey) → result_truth result.results k ≡ check_truth (rows_in self.now) k }
     {
         Scene {
             trails,
-            items: self.items.names(),
+            items: self.items().names(),
             results: self.checks.results(),
         }
     }
@@ -86,6 +93,7 @@ impl Parts {
     /// # Errors
     /// Want of memory alone.
     pub(crate) fn verdict(&self, alloc: Global, statement: &Statement) -> Result<Truth, Memory>
+        requires { AreStored self.now }
         ensures { IfOk result (λ truth. truth ≡ verdict (rows_in self.now) statement.now) }
     {
         let trails = self.trails();
@@ -100,6 +108,7 @@ impl Parts {
         item: &Wfn,
         names: Names,
     ) -> Result<List<Changed>, Memory>
+        requires stored { AreStored self.now }
         requires accepted { IsAccepted (rows_in self.now) edit.now (after (rows_in self.now) edit.now) }
         requires moved { item_moved edit.now ≡ Some item.now }
         requires names { all_names names ≡ (after (rows_in self.now) edit.now).items }
@@ -131,6 +140,7 @@ impl Parts {
         key: &CheckKey,
         truth: Truth,
     ) -> Result<List<Changed>, Memory>
+        requires stored { AreStored self.now }
         requires accepted { IsAccepted (rows_in self.now) edit.now (after (rows_in self.now) edit.now) }
         requires given { check_given edit.now ≡ Some (key.now, truth) }
         ensures { IfOk result (λ cs. cs ≡ changes (rows_in self.now) edit.now) }
@@ -155,8 +165,9 @@ impl Parts {
         name: &'e Wfn,
         plan: &'e Option<Plan>,
     ) -> Result<List<Changed>, Memory>
+        requires stored { AreStored self.now }
         requires accepted { IsAccepted (rows_in self.now) edit.now (after (rows_in self.now) edit.now) }
-        requires planned { IsPlanned self.now.dictionary edit.now plan.now }
+        requires planned { IsPlanned (rows_in self.now).entries edit.now plan.now }
         requires changed { deprecation_changed edit.now ≡ Some name.now }
         ensures { IfOk result (λ cs. cs ≡ changes (rows_in self.now) edit.now) }
     {
@@ -168,9 +179,9 @@ impl Parts {
         };
         let trails = self.trails();
         let before = self.scene(&trails);
-        let trails_after = Trails::after(&self.dictionary, plan);
+        let trails_after = Trails::after(self.dictionary(), plan);
         let after = self.scene(&trails_after);
-        let sources = self.dictionary.sources(alloc, name, plan.number)?;
+        let sources = self.dictionary().sources(alloc, name, plan.number)?;
         let touch = Touch::Deprecation {
             trails: &trails,
             sources: &sources,
@@ -188,21 +199,20 @@ impl Parts {
         later: &Trails,
         sources: &Sources,
     ) -> Result<List<Wfn>, Memory>
-        requires trails { trails.now.0 ≡ self.now.dictionary }
-        requires later { later.now.0 ≡ self.now.dictionary }
-        requires sources { sources.now.0 ≡ self.now.dictionary }
-        ensures { IfOk result (λ ends. ends ≡ ends_led self.now.dictionary trails.now.1 later.now.1 self.now.items sources.now.1) }
+        requires stored { AreStored self.now }
+        requires trails { trails.now.0 ≡ (rows_in self.now).entries }
+        requires later { later.now.0 ≡ (rows_in self.now).entries }
+        requires sources { sources.now.0 ≡ (rows_in self.now).entries }
+        ensures { IfOk result (λ ends. ends ≡ ends_led (rows_in self.now).entries trails.now.1 later.now.1 (rows_in self.now).items sources.now.1) }
     {
-        let mut ends = List::new(alloc);
-        for item in self.items.as_slice() {
-            push_if_led(alloc, trails, later, sources, item, &mut ends)?;
-        }
-        Ok(ends)
+        let slots = self.items.slots();
+        find_ends_led(alloc, &self.table, slots, trails, later, sources)
     }
 
     // Of a statement that is put: it alone, without a verdict before.
     fn put_change(&self, alloc: Global, statement: &Statement) -> Result<List<Changed>, Memory>
-        requires { length self.now.statements ≤ most limit.Statements }
+        requires stored { AreStored self.now }
+        requires few { length self.now.statements ≤ most limit.Statements }
         ensures { IfOk result (λ cs. cs ≡ changes (rows_in self.now) (Edit.PutStatement statement.now)) }
     {
         statements_stand_alone();
@@ -212,7 +222,8 @@ impl Parts {
 
     // Of a statement that is dropped: it alone, without a verdict after.
     fn dropped_change(&self, alloc: Global, id: &Text) -> Result<List<Changed>, Memory>
-        requires { length self.now.statements ≤ most limit.Statements }
+        requires stored { AreStored self.now }
+        requires few { length self.now.statements ≤ most limit.Statements }
         ensures { IfOk result (λ cs. cs ≡ changes (rows_in self.now) (Edit.DropStatement id.now)) }
     {
         statements_stand_alone();
@@ -226,6 +237,46 @@ impl Parts {
             }
             None => Ok(List::new(alloc)),
         }
+    }
+}
+
+// The ends, by both trails, of those of the names of these slots that lead to an entry.
+fn find_ends_led(
+    alloc: Global,
+    table: &NameTable,
+    slots: &[Option<NameId>],
+    trails: &Trails,
+    later: &Trails,
+    sources: &Sources,
+) -> Result<List<Wfn>, Memory>
+    requires trails { trails.now.0 ≡ sources.now.0 }
+    requires later { later.now.0 ≡ sources.now.0 }
+    ensures { IfOk result (λ ends. ends ≡ ends_led sources.now.0 trails.now.1 later.now.1 (slot_names table.now slots.now) sources.now.1) }
+{
+    let mut ends = List::new(alloc);
+    for slot in slots {
+        let name = name_of_slot(table, *slot);
+        push_one_if_led(alloc, trails, later, sources, name, &mut ends)?;
+    }
+    Ok(ends)
+}
+
+// Puts the ends of one item last, if there is one and it leads there.
+fn push_one_if_led(
+    alloc: Global,
+    trails: &Trails,
+    later: &Trails,
+    sources: &Sources,
+    item: Option<&Wfn>,
+    ends: &mut List<Wfn>,
+) -> Result<(), Memory>
+    requires trails { trails.now.0 ≡ sources.now.0 }
+    requires later { later.now.0 ≡ sources.now.0 }
+    ensures { OnOk result (ends.new ≡ ends.old ++ ends_led sources.now.0 trails.now.1 later.now.1 (cons_option (option_copied item.entry) []) sources.now.1) }
+{
+    match item {
+        Some(item) => push_if_led(alloc, trails, later, sources, item, ends),
+        None => Ok(()),
     }
 }
 

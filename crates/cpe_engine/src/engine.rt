@@ -65,8 +65,8 @@ impl Engine {
         ensures { result ≡ counts_of self.now }
     {
         Counts {
-            entries: self.parts.dictionary.len() as u64,
-            deprecated: self.parts.dictionary.count_deprecated() as u64,
+            entries: self.parts.dictionary().len() as u64,
+            deprecated: self.parts.dictionary().count_deprecated() as u64,
             items: self.parts.items.len() as u64,
             statements: self.parts.statements.len() as u64,
             facts: self.parts.statements.facts() as u64,
@@ -162,14 +162,14 @@ impl Engine {
     fn lookup(&self, name: Wfn) -> Reply
         ensures { result ≡ answer self.now (Query.Lookup name) }
     {
-        let state = self.parts.dictionary.state_of(&name);
+        let state = self.parts.dictionary().state_of(&name);
         Reply::Lookup { name, state }
     }
 
     fn show(&self, alloc: Global, name: Wfn) -> Result<Reply, Memory>
         ensures { IfOk result (λ r. r ≡ answer self.now (Query.Show name)) }
     {
-        match self.parts.dictionary.entry_of(alloc, &name) {
+        match self.parts.dictionary().entry_of(alloc, &name) {
             Ok(entry) => Ok(Reply::Show { name, entry }),
             Err(memory) => Err(let_go(name, memory)),
         }
@@ -187,11 +187,8 @@ impl Engine {
         ensures steps { StepsWithin steps.old steps.new (looks self.now (Query.Search name active_only)) }
     {
         names_are_equal();
-        match self
-            .parts
-            .dictionary
-            .rows_found(alloc, &name, active_only, steps)
-        {
+        let dictionary = self.parts.dictionary();
+        match dictionary.rows_found(alloc, &name, active_only, steps) {
             Ok(rows) => Ok(Reply::Search { name, rows }),
             Err(memory) => Err(let_go(name, memory)),
         }
@@ -208,7 +205,7 @@ impl Engine {
         ensures steps { StepsWithin steps.old steps.new (looks self.now (Query.Items name)) }
     {
         names_are_equal();
-        match self.parts.items.covered(alloc, &name, steps) {
+        match self.parts.items().covered(alloc, &name, steps) {
             Ok(rows) => Ok(Reply::Items { name, rows }),
             Err(memory) => Err(let_go(name, memory)),
         }
@@ -217,7 +214,7 @@ impl Engine {
     fn chain(&self, alloc: Global, name: Wfn) -> Result<Reply, Memory>
         ensures { IfOk result (λ r. r ≡ answer self.now (Query.Chain name)) }
     {
-        match self.parts.dictionary.chain(alloc, &name) {
+        match self.parts.dictionary().chain(alloc, &name) {
             Ok((links, ends)) => Ok(Reply::Chain { name, links, ends }),
             Err(memory) => Err(let_go(name, memory)),
         }

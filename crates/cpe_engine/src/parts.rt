@@ -1,27 +1,27 @@
 // The parts of an engine: the lists of rows that it keeps.
 ghost use Rattle.std.specs.Prelude.{◌≡◌, ◌∷◌, [], IfOk, IfErr, None, OnOk, OnErr, not, true};
-ghost use Rattle.cpe_rows.specs.Prelude.{after, causes, changed, first_some, is_valid_edit, IsCause, IsDictionary, IsLawful, no_rows, when};
-ghost use Rattle.cpe_dictionary.specs.Kept.{rewritten};
+ghost use Rattle.cpe_rows.specs.Prelude.{after, causes, first_some, is_valid_edit, IsCause, IsLawful, no_rows, when};
 ghost use Rattle.cpe_engine.specs.Checked.{IsChecked};
-ghost use Rattle.cpe_engine.specs.Parts.{rows_in};
-ghost use Rattle.cpe_engine.specs.Planned.{HasPlan, IsPlanned};
+ghost use Rattle.cpe_engine.specs.Parts.{AreStored, rows_in};
+ghost use Rattle.cpe_engine.specs.Planned.{IsPlanned};
 
 use crate::checked::Checked;
-use cpe_dictionary::{Dictionary, Plan};
+use cpe_dictionary::{Dictionary, KeptDictionary, Plan};
 use cpe_inventory::{Checks, Items, Statements, check_fault, item_fault, statement_fault};
-use cpe_name::Wfn;
-use cpe_rows::{
-    Date, Deprecation, Edit, EditFault, Note, NoteKind, Text, names_are_equal, rows_stay_lawful,
-};
+use cpe_rows::{Date, Edit, EditFault, Note, NoteKind, Text, names_are_equal, rows_stay_lawful};
 use cpe_values::Memory;
-use numbered_entries::edits_by_number;
+use name_index::NameTable;
+use names_in_order::{ChangingNames, orders_stay};
+use numbered_names::lists_are_shown;
 use std::alloc::Global;
 
-/// The lists of rows that an engine keeps.
+/// The lists of rows that an engine keeps, beside one table of names.
 #[derive(Drop)]
 pub(crate) struct Parts {
-    pub(crate) dictionary: Dictionary,
-    pub(crate) items: Items,
+    /// The names of entries and items, each once.
+    pub(crate) table: NameTable,
+    pub(crate) dictionary: KeptDictionary,
+    pub(crate) items: ChangingNames,
     pub(crate) statements: Statements,
     pub(crate) checks: Checks,
     /// The weight of all of them.
@@ -32,14 +32,35 @@ impl Parts {
     pub(crate) fn new(alloc: Global) -> Parts
         ensures rows { rows_in result ≡ no_rows }
         ensures weight { result.weight ≡ 0 }
+        ensures stored { AreStored result }
     {
+        lists_are_shown();
+        orders_stay();
+        rows_stay_lawful();
         Parts {
-            dictionary: Dictionary::new(alloc),
-            items: Items::new(alloc),
+            table: NameTable::new(alloc),
+            dictionary: KeptDictionary::new(alloc),
+            items: ChangingNames::new(alloc),
             statements: Statements::new(alloc),
             checks: Checks::new(alloc),
             weight: 0,
         }
+    }
+
+    /// The entries, beside the table of their names.
+    pub(crate) fn dictionary(&self) -> Dictionary<'_>
+        requires { AreStored self.now }
+        ensures { result ≡ (rows_in self.now).entries }
+    {
+        self.dictionary.with(&self.table)
+    }
+
+    /// The items, beside the table of their names.
+    pub(crate) fn items(&self) -> Items<'_>
+        requires { AreStored self.now }
+        ensures { result ≡ (rows_in self.now).items }
+    {
+        Items::new(&self.table, &self.items)
     }
 
     /// Looks at an edit before it is made; a change of a deprecation gets its plan.
@@ -47,25 +68,28 @@ impl Parts {
     /// # Errors
     /// The first fault of the edit but for the weight, or want of memory.
     pub(crate) fn plan(&self, edit: &Edit) -> Result<Option<Plan>, EditFault>
-        ensures planned { IfOk result (λ p. IsPlanned self.now.dictionary edit.now p) }
+        requires { AreStored self.now }
+        ensures planned { IfOk result (λ p. IsPlanned (rows_in self.now).entries edit.now p) }
         ensures ok { IfOk result (λ p. first_some (causes (rows_in self.now) edit.now) ≡ None) }
         ensures err { IfErr result (λ f. IsCause f (first_some (causes (rows_in self.now) edit.now))) }
     {
+        let dictionary = self.dictionary();
+        let items = self.items();
         match edit {
-            Edit::Entry(entry) => unplanned(self.dictionary.entry_fault(entry)),
-            Edit::Item(name) => unplanned(item_fault(&self.items, name)),
-            Edit::DropItem(name) => known(self.items.has(name)),
+            Edit::Entry(entry) => unplanned(dictionary.entry_fault(entry)),
+            Edit::Item(name) => unplanned(item_fault(&items, name)),
+            Edit::DropItem(name) => known(items.has(name)),
             Edit::Deprecate {
                 name,
                 deprecation,
                 ..
-            } => Ok(Some(self.dictionary.plan_deprecation(name, deprecation)?)),
+            } => Ok(Some(dictionary.plan_deprecation(name, deprecation)?)),
             Edit::Amend {
                 name,
                 deprecation,
                 ..
-            } => Ok(Some(self.dictionary.plan_amendment(name, deprecation)?)),
-            Edit::Restore { name, .. } => Ok(Some(self.dictionary.plan_restoration(name)?)),
+            } => Ok(Some(dictionary.plan_amendment(name, deprecation)?)),
+            Edit::Restore { name, .. } => Ok(Some(dictionary.plan_restoration(name)?)),
             Edit::PutStatement(statement) => {
                 unplanned(statement_fault(&self.statements, statement))
             }
@@ -85,10 +109,13 @@ impl Parts {
         edit: Edit,
         checked: Checked,
     ) -> Result<(), Memory>
-        requires { IsChecked self.old edit checked }
+        requires checked { IsChecked self.old edit checked }
+        requires stored { AreStored self.old }
+        ensures stored { AreStored self.new }
         ensures ok { OnOk result (rows_in self.new ≡ after (rows_in self.old) edit) }
         ensures weight { OnOk result (self.new.weight ≡ checked.weight) }
-        ensures err { OnErr result (self.new ≡ self.old) }
+        ensures err { OnErr result (rows_in self.new ≡ rows_in self.old) }
+        ensures same { OnErr result (self.new.weight ≡ self.old.weight) }
     {
         rows_stay_lawful();
         self.make(alloc, edit, &checked.plan)?;
@@ -98,21 +125,22 @@ impl Parts {
 
     // Makes the edit, and leaves the weight.
     fn make(&mut self, alloc: Global, edit: Edit, plan: &Option<Plan>) -> Result<(), Memory>
+        requires stored { AreStored self.old }
         requires valid { is_valid_edit edit ≡ true }
         requires none { first_some (causes (rows_in self.old) edit) ≡ None }
         requires lawful { IsLawful (after (rows_in self.old) edit) }
-        requires planned { IsPlanned self.old.dictionary edit plan.now }
+        requires planned { IsPlanned (rows_in self.old).entries edit plan.now }
+        ensures stored { AreStored self.new }
         ensures ok { OnOk result (rows_in self.new ≡ after (rows_in self.old) edit) }
         ensures weight { self.new.weight ≡ self.old.weight }
-        ensures err { OnErr result (self.new ≡ self.old) }
+        ensures err { OnErr result (rows_in self.new ≡ rows_in self.old) }
     {
         names_are_equal();
         match edit {
-            Edit::Entry(entry) => self.dictionary.add(entry),
-            Edit::Item(name) => self.items.add(name),
+            Edit::Entry(entry) => self.add_entry(entry),
+            Edit::Item(name) => self.add_item(name),
             Edit::DropItem(name) => {
-                self.items.remove(&name);
-                drop(name);
+                self.drop_item(name);
                 Ok(())
             }
             Edit::Deprecate {
@@ -122,7 +150,7 @@ impl Parts {
                 comment,
             } => {
                 let note = note_of(NoteKind::Deprecation, date, comment);
-                rewrite(&mut self.dictionary, plan, name, Some(deprecation), note)
+                self.rewrite(plan, name, Some(deprecation), note)
             }
             Edit::Amend {
                 name,
@@ -131,7 +159,7 @@ impl Parts {
                 comment,
             } => {
                 let note = note_of(NoteKind::DeprecationModification, date, comment);
-                rewrite(&mut self.dictionary, plan, name, Some(deprecation), note)
+                self.rewrite(plan, name, Some(deprecation), note)
             }
             Edit::Restore {
                 name,
@@ -139,7 +167,7 @@ impl Parts {
                 comment,
             } => {
                 let note = note_of(NoteKind::DeprecationModification, date, comment);
-                rewrite(&mut self.dictionary, plan, name, None, note)
+                self.rewrite(plan, name, None, note)
             }
             Edit::PutStatement(statement) => self.statements.put(alloc, statement),
             Edit::DropStatement(id) => {
@@ -152,27 +180,6 @@ impl Parts {
                 Ok(())
             }
         }
-    }
-}
-
-// Makes the planned change of the deprecation of the entry of this name, which is let go.
-fn rewrite(
-    dictionary: &mut Dictionary,
-    plan: &Option<Plan>,
-    name: Wfn,
-    deprecation: Option<Deprecation>,
-    note: Note,
-) -> Result<(), Memory>
-    requires planned { HasPlan dictionary.old name deprecation plan.now }
-    requires lawful { IsDictionary (changed (rewritten deprecation note) name dictionary.old) }
-    ensures ok { OnOk result (dictionary.new ≡ changed (rewritten deprecation note) name dictionary.old) }
-    ensures err { OnErr result (dictionary.new ≡ dictionary.old) }
-{
-    edits_by_number();
-    drop(name);
-    match plan {
-        Some(plan) => dictionary.commit(plan, deprecation, note),
-        None => unreachable!(),
     }
 }
 

@@ -30,10 +30,7 @@ impl Scene<'_> {
         ensures { IfOk result (λ found. found ≡ item_ends self.now.trails.now.0 self.now.trails.now.1 (all_names self.now.items)) }
     {
         let mut found = List::new(alloc);
-        self.trails
-            .push_all_ends(alloc, self.items.front, &mut found)?;
-        self.trails
-            .push_all_ends(alloc, self.items.back, &mut found)?;
+        self.trails.push_all_ends(alloc, &self.items, &mut found)?;
         Ok(found)
     }
 

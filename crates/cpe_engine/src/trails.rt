@@ -1,25 +1,29 @@
 // Where names lead: to their ends, by the deprecations (NIST IR 7697).
 ghost use Rattle.std.specs.Prelude.{◌≡◌, ◌++◌, [], IfOk, List, OnOk, None, Some, false, option_map, position, slice_get};
 ghost use Rattle.std.specs.List.{cons_option, list_any};
-ghost use Rattle.std.specs.Option.{option_map_or};
+ghost use Rattle.std.specs.Option.{option_copied, option_map_or};
 ghost use Rattle.cpe_relation.specs.NameRelation.{covers};
+ghost use Rattle.cpe_inventory.specs.Asked.{all_names};
+ghost use Rattle.cpe_inventory.specs.Slots.{slot_names};
 ghost use Rattle.cpe_rows.specs.Prelude.{is_named};
 ghost use Rattle.cpe_dictionary.specs.Kept.{names_at};
 ghost use Rattle.cpe_dictionary.specs.Plans.{IsAllowed, ends_by};
 ghost use Rattle.cpe_engine.specs.Followed.{is_covering, item_ends};
 
 use cpe_dictionary::{Dictionary, Plan};
+use cpe_inventory::{Names, name_of_slot};
 use cpe_name::Wfn;
 use cpe_relation::covers;
 use cpe_rows::{List, absent_names_stand_alone};
 use cpe_values::Memory;
+use name_index::{NameId, NameTable};
 use std::alloc::Global;
 use std::marker::Model;
 
 /// The entries to which names lead, as they are, or as a planned change would leave them.
 #[derive(Drop)]
 pub(crate) struct Trails<'e> {
-    dictionary: &'e Dictionary,
+    dictionary: Dictionary<'e>,
     plan: Option<&'e Plan>,
 }
 
@@ -32,15 +36,15 @@ impl<'e> Model for Trails<'e> {
 
     ghost Value = { List Entry × Option Plan };
 
-    ghost view = { λ t. (t.dictionary.now, option_copied t.plan) };
+    ghost view = { λ t. (t.dictionary, option_copied t.plan) };
 
-    ghost invariant = { λ t. IfSome (option_copied t.plan) (λ p. IsAllowed t.dictionary.now p.number p.next) };
+    ghost invariant = { λ t. IfSome (option_copied t.plan) (λ p. IsAllowed t.dictionary p.number p.next) };
 }
 
 impl<'e> Trails<'e> {
     /// By the deprecations as they are.
-    pub(crate) fn now(dictionary: &'e Dictionary) -> Trails<'e>
-        ensures { result ≡ (dictionary.now, None) }
+    pub(crate) fn now(dictionary: Dictionary<'e>) -> Trails<'e>
+        ensures { result ≡ (dictionary.entry, None) }
     {
         Trails {
             dictionary,
@@ -49,9 +53,9 @@ impl<'e> Trails<'e> {
     }
 
     /// By the deprecations as the planned change would leave them.
-    pub(crate) fn after(dictionary: &'e Dictionary, plan: &'e Plan) -> Trails<'e>
-        requires { IsAllowed dictionary.now plan.now.number plan.now.next }
-        ensures { result ≡ (dictionary.now, Some plan.now) }
+    pub(crate) fn after(dictionary: Dictionary<'e>, plan: &'e Plan) -> Trails<'e>
+        requires { IsAllowed dictionary plan.now.number plan.now.next }
+        ensures { result ≡ (dictionary.entry, Some plan.now) }
     {
         Trails {
             dictionary,
@@ -78,15 +82,45 @@ impl<'e> Trails<'e> {
     pub(crate) fn push_all_ends(
         &self,
         alloc: Global,
-        names: &[Wfn],
+        names: &Names,
         found: &mut List<Wfn>,
     ) -> Result<(), Memory>
-        ensures { OnOk result (found.new ≡ found.old ++ item_ends self.now.0 self.now.1 names.now) }
+        ensures { OnOk result (found.new ≡ found.old ++ item_ends self.now.0 self.now.1 (all_names names.now)) }
     {
-        for name in names {
-            self.push_ends(alloc, name, found)?;
+        self.push_ends_of_slots(alloc, names.table, names.front, found)?;
+        self.push_ends_of_slots(alloc, names.table, names.back, found)?;
+        self.push_ends_of_one(alloc, names.last, found)
+    }
+
+    // Puts the ends of the names of these slots last.
+    fn push_ends_of_slots(
+        &self,
+        alloc: Global,
+        table: &NameTable,
+        slots: &[Option<NameId>],
+        found: &mut List<Wfn>,
+    ) -> Result<(), Memory>
+        ensures { OnOk result (found.new ≡ found.old ++ item_ends self.now.0 self.now.1 (slot_names table.now slots.now)) }
+    {
+        for slot in slots {
+            self.push_ends_of_one(alloc, name_of_slot(table, *slot), found)?;
         }
         Ok(())
+    }
+
+    // Puts the ends of a name last, if there is one.
+    fn push_ends_of_one(
+        &self,
+        alloc: Global,
+        name: Option<&Wfn>,
+        found: &mut List<Wfn>,
+    ) -> Result<(), Memory>
+        ensures { OnOk result (found.new ≡ found.old ++ item_ends self.now.0 self.now.1 (cons_option (option_copied name.entry) [])) }
+    {
+        match name {
+            Some(name) => self.push_ends(alloc, name, found),
+            None => Ok(()),
+        }
     }
 
     /// Puts the ends of a name last.

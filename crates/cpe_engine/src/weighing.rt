@@ -5,7 +5,7 @@ ghost use Rattle.cpe_rows.specs.Weight.{statement_weight, weight as weight_of};
 ghost use Rattle.cpe_rows.specs.declared.fault.Which.TheVariants as limit;
 ghost use Rattle.cpe_weight.specs.Gain.{deprecated_weight, gain, loss, weight_of_first};
 ghost use Rattle.cpe_weight.specs.Capped.{capped};
-ghost use Rattle.cpe_engine.specs.Parts.{rows_in};
+ghost use Rattle.cpe_engine.specs.Parts.{AreStored, rows_in};
 
 use crate::parts::Parts;
 use cpe_name::Wfn;
@@ -18,6 +18,7 @@ use cpe_weight::{
 impl Parts {
     /// The weight of all rows behind an edit that has no other fault, or the largest number where it is more.
     pub(crate) fn weight_after(&self, edit: &Edit) -> u64
+        requires stored { AreStored self.now }
         requires weight { self.now.weight ≡ weight_of (rows_in self.now) }
         requires within { weight_of (rows_in self.now) ≤ most limit.Weight }
         requires none { first_some (causes (rows_in self.now) edit.now) ≡ None }
@@ -29,6 +30,7 @@ impl Parts {
 
     // What the edit takes from the weight.
     fn loss(&self, edit: &Edit) -> u64
+        requires stored { AreStored self.now }
         requires within { weight_of (rows_in self.now) ≤ most limit.Weight }
         requires none { first_some (causes (rows_in self.now) edit.now) ≡ None }
         ensures { result ≡ loss (rows_in self.now) edit.now }
@@ -87,10 +89,12 @@ impl Parts {
 
     // The weight of the deprecation of the entry of this name, if there is one.
     fn deprecation_weight(&self, name: &Wfn) -> u64
-        requires { weight_of_first deprecated_weight (is_named name.now) self.now.dictionary ≤ most limit.Weight }
-        ensures { result ≡ weight_of_first deprecated_weight (is_named name.now) self.now.dictionary }
+        requires stored { AreStored self.now }
+        requires few { weight_of_first deprecated_weight (is_named name.now) (rows_in self.now).entries ≤ most limit.Weight }
+        ensures { result ≡ weight_of_first deprecated_weight (is_named name.now) (rows_in self.now).entries }
     {
-        match self.dictionary.deprecation_of(name) {
+        let dictionary = self.dictionary();
+        match dictionary.deprecation_of(name) {
             Some(deprecation) => with_deprecation(0, deprecation),
             None => 0,
         }

@@ -11,5 +11,5 @@ pub returns : goal.returns
 returns c =
     let st = c.args.statement.now in
     let s = c.scene.result in
-    let are = c.requires ∙ ap (λ (r : Rows). item_ends r.entries None r.items) (sym c.self.view_is) ∙ sym (ends_shown s c.self.inside.parts.dictionary c.self.inside.parts.items (c.scene.ensures.trails ∙ c.trails-trails.ensures) c.scene.ensures.items) in
+    let are = c.requires ∙ ap (λ (r : Rows). item_ends r.entries None r.items) (sym c.self.view_is) ∙ sym (ends_shown s (rows_in c.self.inside.parts).entries (rows_in c.self.inside.parts).items (c.scene.ensures.trails ∙ c.trails-trails.ensures) c.scene.ensures.items) in
     IfOk-weaker c.verdict.result _ _ (λ t h. h ∙ shows_verdict s (rows_in c.self.inside.parts) c.args.ends.now st (c.scene.ensures.shows c.trails-trails.ensures) (λ f. are) ∙ ap (λ (r : Rows). verdict r st) c.self.view_is) c.verdict.ensures

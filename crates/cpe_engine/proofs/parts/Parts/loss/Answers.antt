@@ -18,8 +18,8 @@ statement_weight-requires c =
     let within = c.requires.within in
     omega (arith, small, within)
 
-pub deprecation_weight-requires : goal.deprecation_weight-requires
-deprecation_weight-requires c =
+pub deprecation_weight-requires-clause-few : goal.deprecation_weight-requires-clause-few
+deprecation_weight-requires-clause-few c =
     let small = c.edits_weigh.ensures.loss (rows_in c.args.self.now) (edit.Restore c.in-Deprecate.name [] []) in
     let within = c.requires.within in
     omega (arith, small, within)

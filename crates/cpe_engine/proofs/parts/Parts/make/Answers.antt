@@ -18,7 +18,7 @@ pub returns-in-Deprecate-clause-ok : goal.returns-in-Deprecate-clause-ok
 returns-in-Deprecate-clause-ok c =
     let rows = rows_in c.args.self.now in
     let noted = ap (λ (x : Note). changed (rewritten (Some c.in-Deprecate.deprecation) x) c.in-Deprecate.name rows.entries) c.note_of-note.ensures in
-    on_ok c.rewrite.result (λ h. ap (with_entries rows) (h ∙ noted) ∙ ap (after rows) (sym c.in-Deprecate.is)) c.rewrite.ensures.ok
+    on_ok c.rewrite.result (λ h. h ∙ ap (with_entries rows) noted ∙ ap (after rows) (sym c.in-Deprecate.is)) c.rewrite.ensures.ok
 
 pub rewrite-requires-in-Amend-clause-lawful : goal.rewrite-requires-in-Amend-clause-lawful
 rewrite-requires-in-Amend-clause-lawful c =
@@ -30,7 +30,7 @@ pub returns-in-Amend-clause-ok : goal.returns-in-Amend-clause-ok
 returns-in-Amend-clause-ok c =
     let rows = rows_in c.args.self.now in
     let noted = ap (λ (x : Note). changed (rewritten (Some c.in-Amend.deprecation) x) c.in-Amend.name rows.entries) c.note_of-note-in-Amend.ensures in
-    on_ok c.rewrite-in-Amend.result (λ h. ap (with_entries rows) (h ∙ noted) ∙ ap (after rows) (sym c.in-Amend.is)) c.rewrite-in-Amend.ensures.ok
+    on_ok c.rewrite-in-Amend.result (λ h. h ∙ ap (with_entries rows) noted ∙ ap (after rows) (sym c.in-Amend.is)) c.rewrite-in-Amend.ensures.ok
 
 pub rewrite-requires-in-Restore-clause-lawful : goal.rewrite-requires-in-Restore-clause-lawful
 rewrite-requires-in-Restore-clause-lawful c =
@@ -42,4 +42,4 @@ pub returns-in-Restore-clause-ok : goal.returns-in-Restore-clause-ok
 returns-in-Restore-clause-ok c =
     let rows = rows_in c.args.self.now in
     let noted = ap (λ (x : Note). changed (rewritten None x) c.in-Restore.name rows.entries) c.note_of-note-in-Restore.ensures in
-    on_ok c.rewrite-in-Restore.result (λ h. ap (with_entries rows) (h ∙ noted) ∙ ap (after rows) (sym c.in-Restore.is)) c.rewrite-in-Restore.ensures.ok
+    on_ok c.rewrite-in-Restore.result (λ h. h ∙ ap (with_entries rows) noted ∙ ap (after rows) (sym c.in-Restore.is)) c.rewrite-in-Restore.ensures.ok

@@ -1,7 +1,7 @@
 use Rattle.std.proofs.Common.{◌≡◌, ◌+◌, ◌++◌, ℕ, List, drop, get_or, ap, subst, ◌∙◌}
 use Rattle.cpe_name.specs.declared.name.Values.{Values}
 use Rattle.cpe_dictionary.specs.Kept.{names_at}
-use Rattle.names_by_product.proofs.Rows.{item_first}
+use Rattle.names_in_order.proofs.Rows.{item_first}
 use Rattle.cpe_engine.proofs.FollowedLemmas.{name_more}
 use Rattle.cpe_engine.proofs.trails.Trails.push_names.Goals as goal
 
