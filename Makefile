@@ -49,7 +49,9 @@ test: need_rt
 limits: build
 	sh tests/limits.sh build/cpe
 	@if command -v python3 > /dev/null; then \
-	for it in memory deprecations drops; do echo "python3 bench/$$it.py build/cpe"; python3 bench/$$it.py build/cpe || exit 1; done; \
+	for it in 'memory.py build/cpe --most 3' 'deprecations.py build/cpe' 'drops.py build/cpe'; do \
+		echo "python3 bench/$$it"; python3 bench/$$it || exit 1; \
+	done; \
 	else echo 'SKIPPED: what rows take of memory, and how what edits cost grows: there is no python3'; fi
 
 install: build

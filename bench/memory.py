@@ -119,6 +119,7 @@ def statements(child, weighs, each):
 
 
 CHECK = {"check": {"system": "", "href": "", "id": ""}}
+SHORT_CHECK = {"check": {"system": "s", "href": "h", "id": "i"}}
 FACT = {"fact": "cpe:/"}
 
 # what, the rows of a number of records, that number, and the greatest number of rows if there is one
@@ -129,12 +130,16 @@ KINDS = [
     ("results of checks", results, 50_000, 100_000),
     ("statements, one check each", statements(CHECK, 32, 1), 40_000, 100_000),
     ("statements, 1,000 checks each", statements(CHECK, 32, 1_000), 300, None),
+    ("statements, 1,000 checks of three bytes each", statements(SHORT_CHECK, 35, 1_000), 300, None),
     ("statements, 500 logical tests of one check each", statements({"op": "OR", "of": [CHECK]}, 64, 500), 300, None),
     ("statements, 1,000 facts each", statements(FACT, 61, 1_000), 100, 1_000),
     ("statements, 500 logical tests of one fact each", statements({"op": "OR", "of": [FACT]}, 93, 500), 200, 2_000),
     ("entries, one note each", notes(1), 50_000, 2_000_000),
     ("entries, 500 notes each", notes(500), 300, None),
+    ("entries, one successor each", successors(1), 50_000, 2_000_000),
     ("entries, two successors each", successors(2), 50_000, 2_000_000),
+    ("entries, three successors each", successors(3), 50_000, 2_000_000),
+    ("entries, five successors each", successors(5), 20_000, 2_000_000),
     ("entries, 16 successors each", successors(16), 10_000, 2_000_000),
 ]
 

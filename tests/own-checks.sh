@@ -1074,7 +1074,7 @@ checks_of_watch() {
     watches_vectors
     answers_at_once tests/vectors/watch/changes-alone.in tests/vectors/watch/changes-alone.out 0 watch
     answers_made '3,000 statements, and edits that change a tenth of them or nearly all' 65536 watch watched 3000
-    fails_for_want_of_memory watch watched 10000
+    fails_for_want_of_memory watch watched 20000
     fails_on_a_full_device examples/watch.jsonl watch
     fails_in_mid_write_as_made watch watched 1500
     fails_in_mid_read_as_made watch watched 1000 '{"do":"drop-statement","id":"s0"}'
