@@ -73,7 +73,7 @@ fn add_name(table: &mut NameTable, names: &mut ChangingNames, name: Wfn) -> Resu
     fitting_laws();
     item_laws();
     orders_stay();
-    let id = table.hold_new(name)?;
+    let id = table.hold_moved(name)?;
     put_last(table, names, id)
 }
 

@@ -1,4 +1,4 @@
-//! Tests alone: products in their orders, a table of names and an index of them, through their public calls.
+//! Tests alone: products in their orders, a table of names, an index of them and lists of them, through their public calls.
 #![tactic(auto)]
 
 #[cfg(test)]
@@ -6,9 +6,15 @@ mod blocks;
 #[cfg(test)]
 mod filters;
 #[cfg(test)]
+mod held;
+#[cfg(test)]
+mod lists;
+#[cfg(test)]
 mod looks;
 #[cfg(test)]
 mod marks;
+#[cfg(test)]
+mod moved;
 #[cfg(test)]
 mod names;
 #[cfg(test)]

@@ -57,3 +57,21 @@ pub(crate) fn name_of(alloc: Global, product: Value, version: Value) -> Option<W
     let vendor = text(alloc, Edge::None, b"v", Edge::None)?;
     checked(values_of(product, version, part, vendor))
 }
+
+fn push_plain(alloc: Global, names: &mut Vec<Wfn>, product: &[u8]) -> Option<()> {
+    let product = text(alloc, Edge::None, product, Edge::None)?;
+    let name = name_of(alloc, product, Value::Any)?;
+    if names.push(name).is_err() {
+        return None;
+    }
+    Some(())
+}
+
+// Three names of plain products, `foo`, `bar` and `mail`.
+pub(crate) fn three_names(alloc: Global) -> Option<Vec<Wfn>> {
+    let mut names = Vec::new(alloc);
+    push_plain(alloc, &mut names, b"foo")?;
+    push_plain(alloc, &mut names, b"bar")?;
+    push_plain(alloc, &mut names, b"mail")?;
+    Some(names)
+}

@@ -83,6 +83,14 @@ same_names rows new_rows products counts same a = record {
   named = λ p h. omega (arith, a.named p h, same p);
 }
 
+-- other counts that say the same
+pub same_counts : (rows new_rows : List Row) (products new_products : Listed) (counts new_counts : List ℕ) → new_rows ≡ rows → new_products ≡ products → ((p : ℕ) → count_at new_counts p ≡ count_at counts p) → AreCounted rows products counts → AreCounted new_rows new_products new_counts
+same_counts rows new_rows products new_products counts new_counts e f same a =
+    subst (λ (rs : List Row). AreCounted rs new_products new_counts) (sym e) (subst (λ (ps : Listed). AreCounted rows ps new_counts) (sym f) (record {
+      counted = λ p. same p ∙ a.counted p;
+      named = a.named;
+    }))
+
 -- one name more with a product number
 pub one_more_name : (rows new_rows : List Row) (old new : Listed) (counts more_counts new_counts : List ℕ) (product : ℕ) (v : Value) → AreCounted rows old counts → ((p : ℕ) → names_with new_rows p ≡ names_with rows p + cond (nat_eq product p) 1 0)
     → IsGiven old new product v → ((p : ℕ) → count_at more_counts p ≡ count_at counts p) → product < length more_counts → new_counts ≡ set more_counts product (count_at more_counts product + 1) → AreCounted new_rows new new_counts

@@ -151,3 +151,19 @@ pair_stands id product (x ∷ xs) h = by (nat_eq product x.1) (nat_eq id x.0) re
 
 pub pair_moves : (held more : List (ℕ × ℕ)) (id product : ℕ) → SameElements held more → Contains held (id, product) → Contains more (id, product)
 pair_moves held more id product same has = pair_stands id product more (omega (arith, same (is_pair id product), pair_counts id product held has))
+
+-- ---- a number that is held
+
+pub held_live : (old new : Names) (id : ℕ) (name : Values) → Holds old new id name → IsLive new id
+held_live old new id name h = by (find_kept old id) h.held
+  where
+    by : (o : Option Kept) → Holding o name (find_kept new id) → IsLive new id
+    by None held = subst IsSome (sym held.1) refl
+    by (Some k) held = subst IsSome (sym held.1) refl
+
+pub held_name : (old new : Names) (id : ℕ) (name : Values) → Holds old new id name → (kept_at new id).name ≡ name
+held_name old new id name h = by (find_kept old id) h.held
+  where
+    by : (o : Option Kept) → Holding o name (find_kept new id) → (kept_at new id).name ≡ name
+    by None held = ap (λ (o : Option Kept). (kept_or o).name) held.1
+    by (Some k) held = ap (λ (o : Option Kept). (kept_or o).name) held.1 ∙ held.0

@@ -1,4 +1,5 @@
 pub mod Names
+pub mod Inserted
 pub mod TableChanges
 pub mod Freed
 pub mod Counts

@@ -1,7 +1,7 @@
 -- A table's rows: what is kept of a number, and where a name is found.
 use Rattle.std.proofs.Common.{◌≡◌, ◌⊎◌, ℕ, zero, suc, ◌<◌, ◌≤◌, Bool, true, false, cond, ltb, List, [], ◌∷◌, length, Some, None, refl, sym, ap, ◌∙◌, inl, inr, arith}
 use Rattle.std.specs.List.{list_any, position}
-use Rattle.std.proofs.lemmas.Bool.{ltb-true, lt-ltb, both_ways, false_from_ne_true, or_cases, or_left, or_right}
+use Rattle.std.proofs.lemmas.Bool.{ltb-true, lt-ltb, both_ways, or_cases, or_left, or_right}
 use Rattle.std.proofs.lemmas.Option.{cond_some, none-some}
 use Rattle.std.proofs.lemmas.List.{get_or-map, get_or_past, length-map}
 use Rattle.std.proofs.lemmas.List.Quantifiers.{position-Some}
@@ -65,7 +65,7 @@ found_at names name p h =
     let f = position-Some (same_name name) names p any_values h in
     record { inside = f.0; is = sym ((same_name-Decides name (name_at names p)).0 f.1) }
 
-any_found : (names : List Values) (name : Values) → list_any (same_name name) names ≡ true → (p : ℕ) × FoundAt names name p
+pub any_found : (names : List Values) (name : Values) → list_any (same_name name) names ≡ true → (p : ℕ) × FoundAt names name p
 any_found [] name h = absurd cc
 any_found (w ∷ names) name h = elim (or_cases (same_name name w) (list_any (same_name name) names) h) [
   | inl here ↦ (0, record { inside = omega arith; is = sym ((same_name-Decides name w).0 here) })
@@ -96,7 +96,3 @@ module _ (names : List Values) (rows : List Row) (numbers : List ℕ) (products 
   name_found id name h =
       let t = kept_there names rows id h.0 h.1 in
       any_at names name (row_at rows id).place (place_inside id t.known t.held) (ap (λ (k : Kept). k.name) t.is ∙ h.2)
-
-  -- a name that no number has is none of the names
-  pub none_there : (name : Values) → ((id : ℕ) → HasName (names_of names rows) id name → ⊥) → list_any (same_name name) names ≡ false
-  none_there name new = false_from_ne_true _ (λ h. let f = any_found names name h in new (number_at numbers f.0) (has_name name f.0 f.1))

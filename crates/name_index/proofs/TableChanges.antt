@@ -13,7 +13,7 @@ use Rattle.product_orders.specs.Listed.{Listed, product_at}
 use Rattle.name_index.specs.declared.table.Row.{Row}
 use Rattle.name_index.specs.Table.{Kept, kept, kept_or, kept_at, Names, find_kept, HasName, Holding, Holds}
 use Rattle.name_index.specs.Rows.{row_with, row_at, number_at, name_at, kept_of, names_of, AreRows, Grows}
-use Rattle.name_index.proofs.Names.{find_at, find_past, kept_there, FoundAt, place_inside}
+use Rattle.name_index.proofs.Names.{find_at, find_past, kept_there, place_inside}
 
 pub same_or : (a b : ℕ) → (a ≡ b) ⊎ (a ≢ b)
 same_or a b = elim (cases_Bool (eqb a b)) [ inl h ↦ inl (eqb-true a b h) | inr h ↦ inr (λ e. both_ways _ h (eq-eqb a b e)) ]

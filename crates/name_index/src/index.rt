@@ -1,10 +1,9 @@
 // The held names by product.
-ghost use Rattle.std.specs.Prelude.{◌≡◌, ℕ, ◌+◌, ◌-◌, ◌<◌, ◌≤◌, [], ◌∷◌, length, filter, Some, OnOk, OnErr, vec_capacity, slice_get};
+ghost use Rattle.std.specs.Prelude.{◌≡◌, ℕ, ◌+◌, ◌-◌, ◌<◌, ◌≤◌, [], ◌∷◌, length, Some, OnOk, OnErr, vec_capacity, slice_get};
 ghost use Rattle.std.specs.List.{Contains};
-ghost use Rattle.cpe_name.specs.Lower.{IsLower};
 ghost use Rattle.product_orders.specs.Elements.{SameElements};
 ghost use Rattle.name_index.specs.Table.{Kept, find_kept, IsLive, kept_at};
-ghost use Rattle.name_index.specs.Index.{ids, times_held, Fits, is_near, is_covered, pairs, IsIndex};
+ghost use Rattle.name_index.specs.Index.{times_held, pairs, IsIndex};
 
 use crate::{NameId, NameTable};
 use cpe_values::Memory;

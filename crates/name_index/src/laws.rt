@@ -7,7 +7,7 @@ ghost use Rattle.name_index.specs.Index.{Fits, times_held};
 
 /// When held numbers fit a table: they do after a name is held, after a number that isn't held is released, and after one is
 /// added or let go. A number that isn't live isn't held, what is held stands in each list with the same elements, and a name that
-/// no live number had gets a number that wasn't live.
+/// no live number had gets a number that wasn't live. A number is live after it is held, and has the name.
 pub fn fitting_laws()
     ensures held { (old new : Names) (id : ℕ) (name : Values) (held : List (ℕ × ℕ)) → Holds old new id name → Fits held old → Fits held new }
     ensures released { (old new : Names) (id : ℕ) (held : List (ℕ × ℕ)) → Releases old new id → times_held held id ≡ 0 → Fits held old → Fits held new }
@@ -16,4 +16,6 @@ pub fn fitting_laws()
     ensures fresh { (names : Names) (id : ℕ) (held : List (ℕ × ℕ)) → Fits held names → find_kept names id ≡ None → times_held held id ≡ 0 }
     ensures stands { (held more : List (ℕ × ℕ)) (id product : ℕ) → SameElements held more → Contains held (id, product) → Contains more (id, product) }
     ensures number { (old new : Names) (id : ℕ) (name : Values) → Holds old new id name → ((other : ℕ) → HasName old other name → ⊥) → find_kept old id ≡ None }
+    ensures live { (old new : Names) (id : ℕ) (name : Values) → Holds old new id name → IsLive new id }
+    ensures named { (old new : Names) (id : ℕ) (name : Values) → Holds old new id name → (kept_at new id).name ≡ name }
 {}

@@ -5,7 +5,8 @@
 //! and [`NameIndex::covered_by`] gives those that a name covers, with at most one look at each name to which it is near.
 //!
 //! A look is a call of [`NameTable::look`], which counts a step: what a search compares is looked at so. To find a name by its
-//! hash, to look a product up, and to tell the name of a number that is known ([`NameTable::name`]) is no look.
+//! hash, to look a product up, and to tell the name of a number that is known ([`NameTable::name`], [`NameTable::get`]) is no
+//! look.
 //!
 //! An index fits a table where each number that it holds is live there, with the product number that is kept for it.
 //! [`fitting_laws`] says which changes leave it so: a number is let go before its name is released for the last time.

@@ -2,7 +2,6 @@
 ghost use Rattle.std.specs.Prelude.{◌≡◌, map, filter, slice_get, count_by, IfOk};
 ghost use Rattle.std.specs.List.Sorted.{IsStrictlyIncreasing};
 ghost use Rattle.std.specs.Iterator.{YieldsFirst, item_count};
-ghost use Rattle.cpe_values.specs.Lower.{lower_value};
 ghost use Rattle.cpe_name.specs.Lower.{IsLower};
 ghost use Rattle.product_orders.specs.Elements.{SameElements};
 ghost use Rattle.cpe_relation.specs.NameRelation.{covers};

@@ -1,9 +1,9 @@
 // Names by number.
-ghost use Rattle.std.specs.Prelude.{◌≡◌, ◌≢◌, ℕ, ◌+◌, ◌-◌, ◌<◌, ◌≤◌, false, [], ◌∷◌, ◌++◌, length, set, cond, nat_lt, option_map, slice_get, None, Some, IsNone, IsSome, IfSome, IfOk, OnOk, OnErr};
+ghost use Rattle.std.specs.Prelude.{◌≡◌, ℕ, ◌+◌, ◌-◌, ◌<◌, ◌≤◌, false, not, [], length, set, cond, nat_lt, option_map, slice_get, None, Some, IsNone, IsSome, IfSome, IfOk, OnOk, OnErr};
 ghost use Rattle.std.specs.Prelude.{vec_len, vec_capacity};
-ghost use Rattle.std.specs.List.{IsDistinct, list_any, swap_remove};
+ghost use Rattle.std.specs.List.{IsDistinct, list_any, position_or_len, swap_remove};
 ghost use Rattle.std.specs.Option.{option_copied};
-ghost use Rattle.indexmap.specs.IndexSet.{spare};
+ghost use Rattle.indexmap.specs.IndexSet.{insert_key};
 ghost use Rattle.cpe_name.specs.Equal.{same_name};
 ghost use Rattle.cpe_values.specs.declared.value.Value.{Value};
 ghost use Rattle.cpe_values.specs.Lower.{lower_value};
@@ -179,33 +179,41 @@ fn reserve_number(numbers: &mut Vec<u32>, rows: &mut Vec<Row>, place: usize) -> 
     Ok(())
 }
 
-// Makes room for one more name, and gives the number of its product. No name changes.
+// The product of the name at a place.
+fn product_of(names: &IndexSet<Wfn>, place: usize) -> &Value
+    requires { place < length names.now.keys }
+    ensures { result.now ≡ (name_at names.now.keys place).product }
+{
+    match names.get_index(place) {
+        Some(name) => name.get(Attribute::Product),
+        None => unreachable!(),
+    }
+}
+
+// Makes room for a number of the name at a place, and gives the number of its product.
 fn make_room(
     alloc: Global,
-    names: &mut IndexSet<Wfn>,
+    names: &IndexSet<Wfn>,
+    place: usize,
     numbers: &mut Vec<u32>,
     rows: &mut Vec<Row>,
     products: &mut Products,
     counts: &mut Vec<u32>,
-    product: &Value,
 ) -> Result<u32, Memory>
-    requires { lower_value product.now ≡ product.now }
+    requires place { place < length names.now.keys }
+    requires lower { IsLower (name_at names.now.keys place) }
     ensures same { (p : ℕ) → count_at counts.new.items p ≡ count_at counts.old.items p }
     ensures room { IfOk result (λ number. number < length counts.new.items) }
-    ensures product { IfOk result (λ number. IsGiven products.old products.new number product.now) }
+    ensures product { IfOk result (λ number. IsGiven products.old products.new number (name_at names.now.keys place).product) }
     ensures err { OnErr result (products.new ≡ products.old) }
-    ensures names { names.new.keys ≡ names.old.keys }
-    ensures unique { IsDistinct same_name names.new.keys }
     ensures numbers { numbers.new.items ≡ numbers.old.items }
     ensures rows { rows.new.items ≡ rows.old.items }
-    ensures spare { OnOk result (0 < spare names.new) }
-    ensures few { OnOk result (length rows.old.items ≤ length names.old.keys → length names.old.keys < 4294967295) }
-    ensures numbers_room { OnOk result (length rows.old.items ≤ length names.old.keys → vec_len numbers.new < vec_capacity numbers.new) }
-    ensures rows_room { OnOk result (length rows.old.items ≤ length names.old.keys → vec_len rows.new < vec_capacity rows.new) }
+    ensures few { OnOk result (length rows.old.items ≤ place → place < 4294967295) }
+    ensures numbers_room { OnOk result (length rows.old.items ≤ place → vec_len numbers.new < vec_capacity numbers.new) }
+    ensures rows_room { OnOk result (length rows.old.items ≤ place → vec_len rows.new < vec_capacity rows.new) }
 {
-    names.reserve(1)?;
-    reserve_number(numbers, rows, names.len())?;
-    product_number(alloc, products, counts, product)
+    reserve_number(numbers, rows, place)?;
+    product_number(alloc, products, counts, product_of(names, place))
 }
 
 // The number of the first place behind the names; a new one where none is free.
@@ -253,15 +261,18 @@ fn set_row(rows: &mut Vec<Row>, number: u32, row: Row)
     rows[number as usize] = row;
 }
 
-// Puts a name last that isn't there. It takes no memory.
-fn put_name(names: &mut IndexSet<Wfn>, name: Wfn)
-    requires fresh { list_any (same_name name) names.old.keys ≡ false }
-    requires room { 0 < spare names.old }
-    ensures keys { names.new.keys ≡ names.old.keys ++ name ∷ [] }
+// Puts a name last, if it isn't there; gives its place, and tells whether it is new.
+fn insert_name(names: &mut IndexSet<Wfn>, name: Wfn) -> Result<(usize, bool), Memory>
+    ensures place { IfOk result (λ put. put.0 ≡ position_or_len (same_name name) names.old.keys) }
+    ensures new { IfOk result (λ put. put.1 ≡ not (list_any (same_name name) names.old.keys)) }
+    ensures keys { OnOk result (names.new.keys ≡ insert_key same_name names.old.keys name) }
+    ensures err { OnErr result (names.new.keys ≡ names.old.keys) }
+    ensures absent { OnErr result (list_any (same_name name) names.old.keys ≡ false) }
     ensures unique { IsDistinct same_name names.new.keys }
 {
-    if names.insert(name).is_err() {
-        unreachable!();
+    match names.insert_full(name) {
+        Ok(put) => Ok(put),
+        Err(refused) => Err(let_name_go(refused.value, Memory)),
     }
 }
 
@@ -360,6 +371,7 @@ impl NameTable {
         requires lower { IsLower name.now }
         requires few { (id : ℕ) → HasName self.old id name.now → (kept_at self.old id).holds < 4294967295 }
         ensures held { IfOk result (λ id. Holds self.old self.new id.0 name.now) }
+        ensures new { OnErr result ((id : ℕ) → HasName self.old id name.now → ⊥) }
         ensures err { OnErr result (self.new ≡ self.old) }
     {
         if let Some(id) = self.find(name) {
@@ -367,10 +379,10 @@ impl NameTable {
             return Ok(id);
         }
         let copied = name.copy(self.alloc)?;
-        self.hold_new(copied)
+        self.hold_moved(copied)
     }
 
-    /// The same by moving the name: it isn't copied, and goes where it had a number.
+    /// The same by moving the name: it isn't copied, and goes where it had a number. It is hashed once, new or not.
     ///
     /// # Errors
     /// Want of memory, or of a number below 2^32 - 1; the table is then as it was, and the name is gone.
@@ -378,14 +390,40 @@ impl NameTable {
         requires lower { IsLower name }
         requires few { (id : ℕ) → HasName self.old id name → (kept_at self.old id).holds < 4294967295 }
         ensures held { IfOk result (λ id. Holds self.old self.new id.0 name) }
+        ensures new { OnErr result ((id : ℕ) → HasName self.old id name → ⊥) }
         ensures err { OnErr result (self.new ≡ self.old) }
     {
-        if let Some(id) = self.find(&name) {
+        let (place, is_new) = insert_name(&mut self.names, name)?;
+        if !is_new {
+            let id = NameId(number_of(&self.numbers, place));
             self.hold_again(id);
-            drop(name);
             return Ok(id);
         }
-        self.hold_new(name)
+        let given = make_room(
+            self.alloc,
+            &self.names,
+            place,
+            &mut self.numbers,
+            &mut self.rows,
+            &mut self.products,
+            &mut self.counts,
+        );
+        let product = match given {
+            Ok(product) => product,
+            Err(memory) => {
+                self.names.truncate(place);
+                return Err(memory);
+            }
+        };
+        let number = free_number(&mut self.numbers, &mut self.rows, place);
+        let row = Row {
+            place: place as u32,
+            holds: 1,
+            product,
+        };
+        set_row(&mut self.rows, number, row);
+        raise_count(&mut self.counts, product);
+        Ok(NameId(number))
     }
 
     /// One hold more of a name that has this number. It takes no memory.
@@ -395,42 +433,6 @@ impl NameTable {
         ensures { Holds self.old self.new id.0 (kept_at self.old id.0).name }
     {
         raise(&mut self.rows, id.0);
-    }
-
-    /// The number of a name that no live number has, with one hold. The name is moved, not copied.
-    ///
-    /// # Errors
-    /// Want of memory, or of a number below 2^32 - 1; the table is then as it was, and the name is gone.
-    pub fn hold_new(&mut self, name: Wfn) -> Result<NameId, Memory>
-        requires lower { IsLower name }
-        requires fresh { (id : ℕ) → HasName self.old id name → ⊥ }
-        ensures held { IfOk result (λ id. Holds self.old self.new id.0 name) }
-        ensures err { OnErr result (self.new ≡ self.old) }
-    {
-        let given = make_room(
-            self.alloc,
-            &mut self.names,
-            &mut self.numbers,
-            &mut self.rows,
-            &mut self.products,
-            &mut self.counts,
-            name.get(Attribute::Product),
-        );
-        let product = match given {
-            Ok(product) => product,
-            Err(memory) => return Err(let_name_go(name, memory)),
-        };
-        let place = self.names.len();
-        let number = free_number(&mut self.numbers, &mut self.rows, place);
-        put_name(&mut self.names, name);
-        let row = Row {
-            place: place as u32,
-            holds: 1,
-            product,
-        };
-        set_row(&mut self.rows, number, row);
-        raise_count(&mut self.counts, product);
-        Ok(NameId(number))
     }
 
     /// One hold less. After the last the number isn't live any more, and the name's memory is given back, and with the

@@ -11,6 +11,7 @@ ghost use Rattle.names_in_order.specs.InOrder.{AreInOrder, AreLive, names_number
 ghost use Rattle.names_in_order.specs.Marked.{numbers_in, without_first};
 ghost use Rattle.names_in_order.specs.Places.{near_count};
 
+use crate::added::add_number;
 use crate::marked::MarkedNumbers;
 use cpe_name::Wfn;
 use cpe_steps::Steps;
@@ -37,28 +38,6 @@ impl Model for ChangingNames {
     ghost Value = { Roll };
 
     ghost view = { λ n. record { held = n.index.held; numbers = n.numbers } };
-}
-
-// Puts a live number last whose name isn't there, in both.
-fn add_number(
-    table: &NameTable,
-    index: &mut NameIndex,
-    numbers: &mut MarkedNumbers,
-    id: NameId,
-) -> Result<(), Memory>
-    requires order { AreInOrder table.now index.old.held numbers.old }
-    requires live { IsLive table.now id.0 }
-    requires fresh { list_any (same_name (kept_at table.now id.0).name) (names_numbered table.now numbers.old) ≡ false }
-    ensures order { AreInOrder table.now index.new.held numbers.new }
-    ensures ok { OnOk result (numbers.new ≡ numbers.old ++ id ∷ []) }
-    ensures held { OnErr result (index.new.held ≡ index.old.held) }
-    ensures err { OnErr result (numbers.new ≡ numbers.old) }
-{
-    fitting_laws();
-    index.reserve(table, 1)?;
-    numbers.push(id)?;
-    index.add(table, id);
-    Ok(())
 }
 
 // Takes out a number that is one of these, from both.

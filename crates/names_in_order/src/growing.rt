@@ -1,5 +1,5 @@
 // Names in the order in which they came, by product.
-ghost use Rattle.std.specs.Prelude.{◌≡◌, ◌≢◌, ◌+◌, ◌++◌, ◌∷◌, [], ℕ, IfOk, OnOk, OnErr, cond, filter, length, position, slice_get, Some, false};
+ghost use Rattle.std.specs.Prelude.{◌≡◌, ◌+◌, ◌++◌, ◌∷◌, [], IfOk, OnOk, OnErr, cond, length, position, slice_get, Some, false};
 ghost use Rattle.std.specs.List.{list_any, IsDistinct};
 ghost use Rattle.std.specs.Option.{option_copied};
 ghost use Rattle.cpe_name.specs.Equal.{same_name};
@@ -13,12 +13,13 @@ ghost use Rattle.names_in_order.specs.Held.{placed};
 ghost use Rattle.names_in_order.specs.InOrder.{AreInOrder, AreLive, names_numbered, same_id};
 ghost use Rattle.names_in_order.specs.Places.{near_count, places_covered};
 
+use crate::added::add_number;
 use crate::numbers::NumbersInOrder;
 use cpe_name::{Attribute, Wfn};
 use cpe_relation::{cover_laws, covers_in_order, deciding_order};
 use cpe_steps::Steps;
 use cpe_values::Memory;
-use name_index::{NameId, NameIndex, NameTable, Side, fitting_laws};
+use name_index::{NameId, NameIndex, NameTable, Side};
 use std::alloc::Global;
 use std::marker::Model;
 use std::sync::ledger::Ledger;
@@ -81,28 +82,6 @@ fn find_place(table: &NameTable, numbers: &NumbersInOrder, name: &Wfn) -> Option
         Some(id) => place_of(table, numbers, id),
         None => None,
     }
-}
-
-// Puts a live number last that isn't one of these, in both.
-fn add_number(
-    table: &NameTable,
-    index: &mut NameIndex,
-    numbers: &mut NumbersInOrder,
-    id: NameId,
-) -> Result<(), Memory>
-    requires order { AreInOrder table.now index.old.held numbers.old }
-    requires live { IsLive table.now id.0 }
-    requires fresh { (k : ℕ) → slice_get numbers.old k ≢ Some id }
-    ensures order { AreInOrder table.now index.new.held numbers.new }
-    ensures ok { OnOk result (numbers.new ≡ numbers.old ++ id ∷ []) }
-    ensures held { OnErr result (index.new.held ≡ index.old.held) }
-    ensures err { OnErr result (numbers.new ≡ numbers.old) }
-{
-    fitting_laws();
-    index.reserve(table, 1)?;
-    numbers.push(id)?;
-    index.add(table, id);
-    Ok(())
 }
 
 // Puts the place of a live number last, if it is one of these.
@@ -188,11 +167,13 @@ impl GrowingNames {
         self.numbers.len()
     }
 
-    /// The place of a number, from 0, if it is one of these. It looks at one place alone.
-    pub fn place_of(&self, id: NameId) -> Option<usize>
-        ensures { result ≡ position (same_id id) self.now.numbers }
+    /// The place, from 0, of the name of a live number of the table, if it is one of these. It looks at one place alone.
+    pub fn place_of(&self, table: &NameTable, id: NameId) -> Option<usize>
+        requires order { AreInOrder table.now self.now.held self.now.numbers }
+        requires live { IsLive table.now id.0 }
+        ensures { result ≡ position (same_name (kept_at table.now id.0).name) (names_numbered table.now self.now.numbers) }
     {
-        self.numbers.place_of(id)
+        place_of(table, &self.numbers, id)
     }
 
     /// The number at a place.

@@ -7,6 +7,7 @@
 //! number that has gone, [`orders_without`] says.
 #![tactic(auto)]
 
+mod added;
 mod changing;
 mod growing;
 mod laws;

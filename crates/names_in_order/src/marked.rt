@@ -4,6 +4,7 @@ ghost use Rattle.std.specs.List.{IsDistinct, list_any};
 ghost use Rattle.names_in_order.specs.InOrder.{same_id};
 ghost use Rattle.names_in_order.specs.Marked.{AreClosing, AreMarked, HavePlaces, PutsInOrder, closing_numbers, found_place, is_slot_of, numbers_in, places_of, slots_before, slots_behind, standing_at, without_first};
 
+use crate::added::PushNumber;
 use cpe_values::Memory;
 use name_index::NameId;
 use std::alloc::Global;
@@ -312,20 +313,6 @@ impl MarkedNumbers {
         &self.slots
     }
 
-    /// Puts a number last that isn't there.
-    ///
-    /// # Errors
-    /// Want of memory, or of places below 2^32; the numbers are then as they were.
-    pub(crate) fn push(&mut self, id: NameId) -> Result<(), Memory>
-        requires { list_any (same_id id) self.old ≡ false }
-        ensures ok { OnOk result (self.new ≡ self.old ++ id ∷ []) }
-        ensures err { OnErr result (self.new ≡ self.old) }
-    {
-        put_last(&mut self.slots, &mut self.places, self.len, id)?;
-        self.len += 1;
-        Ok(())
-    }
-
     /// Takes a number out, if it is one of these; the others stay in their order. It takes no memory, and costs the same in the mean,
     /// whatever their number.
     pub(crate) fn remove(&mut self, id: NameId)
@@ -359,5 +346,15 @@ impl MarkedNumbers {
         ensures { IsDistinct same_id self.now }
     {
         let _slots = &self.slots;
+    }
+}
+
+impl PushNumber for MarkedNumbers {
+    ghost numbers = { λ n. n };
+
+    fn push(&mut self, id: NameId) -> Result<(), Memory> {
+        put_last(&mut self.slots, &mut self.places, self.len, id)?;
+        self.len += 1;
+        Ok(())
     }
 }

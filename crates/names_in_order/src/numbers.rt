@@ -1,9 +1,9 @@
 // The numbers of names in an order, and the place of each number.
-ghost use Rattle.std.specs.Prelude.{◌≡◌, ◌≢◌, ◌++◌, ◌∷◌, [], ℕ, ◌<◌, length, position, slice_get, OnOk, OnErr, Some};
+ghost use Rattle.std.specs.Prelude.{◌≡◌, [], ◌<◌, length, position, slice_get, OnOk, Some};
 ghost use Rattle.std.specs.List.{IsDistinct};
-ghost use Rattle.std.specs.Option.{option_copied};
 ghost use Rattle.names_in_order.specs.InOrder.{same_id, place_found, ArePlaced};
 
+use crate::added::PushNumber;
 use cpe_values::Memory;
 use name_index::NameId;
 use std::alloc::Global;
@@ -104,15 +104,18 @@ impl NumbersInOrder {
         }
     }
 
-    /// Puts a number last that isn't there.
-    ///
-    /// # Errors
-    /// Want of memory, or of places below 2^32; the numbers are then as they were.
-    pub(crate) fn push(&mut self, id: NameId) -> Result<(), Memory>
-        requires { (k : ℕ) → slice_get self.old k ≢ Some id }
-        ensures ok { OnOk result (self.new ≡ self.old ++ id ∷ []) }
-        ensures err { OnErr result (self.new ≡ self.old) }
+    /// No number stands twice. It does nothing, and tells a proof so.
+    pub(crate) fn lawful(&self)
+        ensures { IsDistinct same_id self.now }
     {
+        let _numbers = &self.numbers;
+    }
+}
+
+impl PushNumber for NumbersInOrder {
+    ghost numbers = { λ n. n };
+
+    fn push(&mut self, id: NameId) -> Result<(), Memory> {
         let place = self.numbers.len();
         if place > u32::MAX as usize {
             return Err(Memory);
@@ -121,12 +124,5 @@ impl NumbersInOrder {
         self.numbers.push(id)?;
         self.places[id.0 as usize] = place as u32;
         Ok(())
-    }
-
-    /// No number stands twice. It does nothing, and tells a proof so.
-    pub(crate) fn lawful(&self)
-        ensures { IsDistinct same_id self.now }
-    {
-        let _numbers = &self.numbers;
     }
 }

@@ -151,7 +151,7 @@ fn verdict_of_none(alloc: Global, statement: &Statement) -> Truth {
 fn hold_any(table: &mut NameTable) -> Option<NameId>
     requires { table.old ≡ [] }
 {
-    table.hold_new(Wfn::any()).ok()
+    table.hold_moved(Wfn::any()).ok()
 }
 
 fn verdict_of_any(alloc: Global, statement: &Statement) -> Truth {

@@ -5,15 +5,15 @@ use Rattle.names_in_order.specs.InOrder.{names_numbered}
 use Rattle.cpe_ranges.proofs.OwnLemmas.{held_new, name_free, new_name}
 use Rattle.cpe_ranges.proofs.items.add_name.Goals as goal
 
-pub hold_new-requires-clause-fresh : goal.hold_new-requires-clause-fresh
-hold_new-requires-clause-fresh c =
+pub hold_moved-requires-clause-few : goal.hold_moved-requires-clause-few
+hold_moved-requires-clause-few c id has =
     let names = c.args.names.now in
-    name_free c.args.table.now names.held names.numbers c.args.name c.requires.own (sym (c.item_laws.ensures.same c.args.name (names_numbered c.args.table.now names.numbers)) ∙ c.requires.fresh)
+    absurd (name_free c.args.table.now names.held names.numbers c.args.name c.requires.own (sym (c.item_laws.ensures.same c.args.name (names_numbered c.args.table.now names.numbers)) ∙ c.requires.fresh) id has)
 
 pub put_last-requires : goal.put_last-requires
 put_last-requires c =
     let old = c.args.table.now in
-    let mid = c.hold_new.new.self in
+    let mid = c.hold_moved.new.self in
     let names = c.args.names.now in
     let name = c.args.name in
     let id = c.in_ok-id.id in
@@ -30,7 +30,7 @@ put_last-requires c =
 pub returns-clause-ok : goal.returns-clause-ok
 returns-clause-ok c =
     let old = c.args.table.now in
-    let mid = c.hold_new.new.self in
+    let mid = c.hold_moved.new.self in
     let names = c.args.names.now in
     let name = c.args.name in
     let id = c.in_ok-id.id in
@@ -44,5 +44,5 @@ returns-clause-ok c =
 pub returns-clause-err : goal.returns-clause-err
 returns-clause-err c =
     let names = c.args.names.now in
-    let same = c.orders_stay.ensures.held_names c.args.table.now c.hold_new.new.self c.in_ok-id.id.0 c.args.name names.held names.numbers c.in_ok-id.ensures.held c.requires.own.order in
+    let same = c.orders_stay.ensures.held_names c.args.table.now c.hold_moved.new.self c.in_ok-id.id.0 c.args.name names.held names.numbers c.in_ok-id.ensures.held c.requires.own.order in
     on_err_weaker c.put_last.result (λ e. e ∙ same) c.put_last.ensures.err

@@ -1,4 +1,4 @@
-use Rattle.name_index.proofs.Fitting.{held_fits, released_fits, added_fits, dropped_fits, fresh_held, number_fresh, pair_moves}
+use Rattle.name_index.proofs.Fitting.{held_fits, released_fits, added_fits, dropped_fits, fresh_held, number_fresh, pair_moves, held_live, held_name}
 use Rattle.name_index.proofs.laws.fitting_laws.Goals as goal
 
 pub returns-clause-held : goal.returns-clause-held
@@ -21,3 +21,9 @@ returns-clause-number c = number_fresh
 
 pub returns-clause-stands : goal.returns-clause-stands
 returns-clause-stands c = pair_moves
+
+pub returns-clause-live : goal.returns-clause-live
+returns-clause-live c = held_live
+
+pub returns-clause-named : goal.returns-clause-named
+returns-clause-named c = held_name

@@ -1,8 +1,8 @@
-use Rattle.std.proofs.Common.{arith, ◌+◌, ◌<◌, set, List, refl, sym, subst, ap, ◌∙◌}
+use Rattle.std.proofs.Common.{arith, ◌+◌, ◌<◌, set, List, sym, subst, ap, ◌∙◌}
 use Rattle.std.proofs.lemmas.Bool.{lt-ltb}
 use Rattle.name_index.specs.declared.table.Row.{Row}
 use Rattle.name_index.specs.Table.{Names, Kept, IsLive, Holds, kept_at, kept_or}
-use Rattle.name_index.specs.Rows.{row_with, row_at, name_at, names_of, AreRows, AreCounted}
+use Rattle.name_index.specs.Rows.{row_with, row_at, names_of, AreRows, AreCounted}
 use Rattle.name_index.proofs.TableChanges.{with_holds, raised_live}
 use Rattle.name_index.proofs.Freed.{live_there}
 use Rattle.name_index.proofs.Counts.{other_holds, same_names}

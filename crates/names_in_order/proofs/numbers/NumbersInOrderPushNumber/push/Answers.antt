@@ -2,7 +2,7 @@ use Rattle.std.proofs.Common.{◌≢◌, ◌∷◌, ◌++◌, [], List, ℕ, len
 use Rattle.name_index.specs.declared.table.NameId.{NameId}
 use Rattle.names_in_order.specs.InOrder.{ArePlaced}
 use Rattle.names_in_order.proofs.OrderLemmas.{put_last}
-use Rattle.names_in_order.proofs.numbers.NumbersInOrder.push.Goals as goal
+use Rattle.names_in_order.proofs.numbers.NumbersInOrderPushNumber.push.Goals as goal
 
 pub invariant_of-self-2 : goal.invariant_of-self-2
 invariant_of-self-2 c =

@@ -1,0 +1,50 @@
+// A number is put last, in the list of numbers and in the index by product.
+ghost use Rattle.std.specs.Prelude.{◌≡◌, ◌≢◌, ◌++◌, ◌∷◌, [], ℕ, List, OnOk, OnErr, Some, false, slice_get};
+ghost use Rattle.std.specs.List.{list_any};
+ghost use Rattle.cpe_name.specs.Equal.{same_name};
+ghost use Rattle.name_index.specs.Table.{IsLive, kept_at};
+ghost use Rattle.name_index.specs.declared.table.NameId.{NameId};
+ghost use Rattle.names_in_order.specs.InOrder.{AreInOrder, names_numbered};
+
+use cpe_values::Memory;
+use name_index::{NameId, NameIndex, NameTable, fitting_laws};
+
+/// Different numbers in an order, behind which one more may be put.
+pub(crate) trait PushNumber {
+    /// The numbers, in their order.
+    ghost numbers: { Self → List NameId };
+
+    /// Puts a number last that isn't there.
+    ///
+    /// # Errors
+    /// Want of memory, or of places below 2^32; the numbers are then as they were.
+    fn push(&mut self, id: NameId) -> Result<(), Memory>
+        requires { (k : ℕ) → slice_get (numbers self.old) k ≢ Some id }
+        ensures ok { OnOk result (numbers self.new ≡ numbers self.old ++ id ∷ []) }
+        ensures err { OnErr result (numbers self.new ≡ numbers self.old) };
+}
+
+/// Puts a live number last whose name isn't there, in both.
+///
+/// # Errors
+/// Want of memory alone; what both hold is then as it was.
+pub(crate) fn add_number<N: PushNumber>(
+    table: &NameTable,
+    index: &mut NameIndex,
+    numbers: &mut N,
+    id: NameId,
+) -> Result<(), Memory>
+    requires order { AreInOrder table.now index.old.held (N.numbers numbers.old) }
+    requires live { IsLive table.now id.0 }
+    requires fresh { list_any (same_name (kept_at table.now id.0).name) (names_numbered table.now (N.numbers numbers.old)) ≡ false }
+    ensures order { AreInOrder table.now index.new.held (N.numbers numbers.new) }
+    ensures ok { OnOk result (N.numbers numbers.new ≡ N.numbers numbers.old ++ id ∷ []) }
+    ensures held { OnErr result (index.new.held ≡ index.old.held) }
+    ensures err { OnErr result (N.numbers numbers.new ≡ N.numbers numbers.old) }
+{
+    fitting_laws();
+    index.reserve(table, 1)?;
+    numbers.push(id)?;
+    index.add(table, id);
+    Ok(())
+}
