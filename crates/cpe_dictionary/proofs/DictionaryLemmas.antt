@@ -103,7 +103,7 @@ length_entries [] k x = refl
 length_entries (e ∷ es) zero x = refl
 length_entries (e ∷ es) (suc k) x = ap suc (length_entries es k x)
 
-pub kept_change : (es new : List Entry) (nodes next_nodes : List Node) (k : ℕ) (d : Option Deprecation) (note : Note) (next : Option (List ℕ)) → ChangesByNumber → IsKept es nodes → k < length (nodes_of_entries es)
+pub kept_change : (es new : List Entry) (nodes next_nodes : List Node) (k : ℕ) (d : Option Deprecation) (note : Option Note) (next : Option (List ℕ)) → ChangesByNumber → IsKept es nodes → k < length (nodes_of_entries es)
     → next ≡ numbered es d → IsDictionary (written (rewritten d note) k es) → new ≡ written (rewritten d note) k es → next_nodes ≡ changed_nodes nodes k next → IsKept new next_nodes
 kept_change es new nodes next_nodes k d note next changes kept within same lawful is nodes_are =
     let at = entry_at es k (subst (λ (n : ℕ). k < n) (length-map es (node_of_entry es)) within) in
@@ -115,7 +115,7 @@ kept_change es new nodes next_nodes k d note next changes kept within same lawfu
     }
 
 -- what is written at the number of a name is what is changed of the name
-pub written_changed : (es : List Entry) (n : Values) (k : ℕ) (d : Option Deprecation) (note : Note) → WritesByNumber → position (is_named n) es ≡ Some k → written (rewritten d note) k es ≡ changed (rewritten d note) n es
+pub written_changed : (es : List Entry) (n : Values) (k : ℕ) (d : Option Deprecation) (note : Option Note) → WritesByNumber → position (is_named n) es ≡ Some k → written (rewritten d note) k es ≡ changed (rewritten d note) n es
 written_changed es n k d note writes place =
     let at = stands_at es n k place in
     written_set es k d note at.entry at.here ∙ sym (writes es (rewritten d note) n k at.entry place at.here)

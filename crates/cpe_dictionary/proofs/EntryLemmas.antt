@@ -80,7 +80,7 @@ pub behind_reference : {R : Type 0} (now : R → Details) (n : Values) (o : Opti
 behind_reference now n None = refl
 behind_reference now n (Some d) = refl
 
-not_found : (p : Entry → Bool) (es : List Entry) → list_any p es ≡ false → find p es ≡ None
+pub not_found : (p : Entry → Bool) (es : List Entry) → list_any p es ≡ false → find p es ≡ None
 not_found p [] h = refl
 not_found p (e ∷ es) h = by (p e) refl (not_found p es)
   where
@@ -119,7 +119,7 @@ one_more [] (x ∷ ds) n d h = absurd (omega (arith, h))
 one_more (m ∷ ns) [] n d h = absurd (omega (arith, h))
 one_more (m ∷ ns) (x ∷ ds) n d h = ap (λ (es : List Entry). entry_from (m, x) ∷ es) (one_more ns ds n d (omega (arith, h)))
 
-module _ (deprecation : Option Deprecation) (note : Note) where
+module _ (deprecation : Option Deprecation) (note : Option Note) where
   further : (x : Entry) (k : ℕ) (es : List Entry) → x ∷ written (rewritten deprecation note) k es ≡ written (rewritten deprecation note) (suc k) (x ∷ es)
   further x k es = go (slice_get es k)
     where

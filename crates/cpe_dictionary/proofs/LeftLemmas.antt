@@ -24,7 +24,7 @@ use Rattle.cpe_dictionary.specs.declared.plans.Plan.{Plan}
 use Rattle.cpe_dictionary.proofs.DictionaryLemmas.{ends_named, no_entry}
 use Rattle.cpe_dictionary.proofs.Translating.{nodes_rewritten, written_set}
 
-module _ (d : Option Deprecation) (note : Note) where
+module _ (d : Option Deprecation) (note : Option Note) where
   -- names stand where they stood
   place_set : (p : Values → Bool) (i : ℕ) (es : List Entry) (k : ℕ) (e : Entry) → slice_get es k ≡ Some e
       → position_from (λ (x : Entry). p x.name) i (slice_set es k (rewritten d note e)) ≡ position_from (λ (x : Entry). p x.name) i es

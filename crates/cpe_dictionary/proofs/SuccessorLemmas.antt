@@ -49,7 +49,7 @@ earlier_causes es d =
     ∷ option_map fault.UnknownSuccessor (place_of (λ s. not (is_entry (rows_of es) s)) d.successors)
     ∷ option_map fault.RepeatedSuccessor (repeated_from is_same [] 1 d.successors) ∷ []
 
-module _ (es : List Entry) (n : Values) (k : ℕ) (place : position (is_named n) es ≡ Some k) (different : AreDifferent es) (writes : WritesByNumber) (width : WidthAfterByNumber) (note : Note) where
+module _ (es : List Entry) (n : Values) (k : ℕ) (place : position (is_named n) es ≡ Some k) (different : AreDifferent es) (writes : WritesByNumber) (width : WidthAfterByNumber) (note : Option Note) where
   -- of an entry that is restored
   pub width_named : option_and_then (named_fault es) (change_fault (nodes_of_entries es) k None) ≡ width_cause es n None note
   width_named =

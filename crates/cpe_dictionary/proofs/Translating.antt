@@ -63,11 +63,11 @@ stands_at es n k h =
 abbrev pub wide_fault : List Entry → Option ℕ → Option EditFault
 wide_fault es o = option_map (λ (y : Entry). fault.TooWide y.name) (option_and_then (slice_get es) o)
 
-node_rewritten : (es : List Entry) (d : Option Deprecation) (note : Note) (e : Entry) → node_of_entry es (rewritten d note e) ≡ node_of (numbered es d)
-node_rewritten es None note e = refl
-node_rewritten es (Some d) note e = refl
+node_rewritten : (es : List Entry) (d : Option Deprecation) (note : Option Note) (e : Entry) → node_of_entry es (rewritten d note e) ≡ node_of (numbered es d)
+node_rewritten es None noted e = refl
+node_rewritten es (Some d) noted e = refl
 
-module _ (es : List Entry) (k : ℕ) (d : Option Deprecation) (note : Note) (e : Entry) (at : slice_get es k ≡ Some e) where
+module _ (es : List Entry) (k : ℕ) (d : Option Deprecation) (note : Option Note) (e : Entry) (at : slice_get es k ≡ Some e) where
   pub nodes_rewritten : ChangesByNumber → nodes_of_entries (slice_set es k (rewritten d note e)) ≡ changed_nodes (nodes_of_entries es) k (numbered es d)
   nodes_rewritten changes = changes es k e (rewritten d note e) at refl ∙ ap (slice_set (nodes_of_entries es) k) (node_rewritten es d note e)
 

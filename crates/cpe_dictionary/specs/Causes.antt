@@ -1,5 +1,5 @@
 -- Why a deprecation is refused, part by part.
-use Rattle.std.specs.Prelude.{◌++◌, ◌∷◌, List, [], Bool, if◌then◌else◌, Option, Some, option_map, slice_get, not}
+use Rattle.std.specs.Prelude.{◌++◌, ◌∷◌, List, [], Bool, if◌then◌else◌, Option, None, Some, option_map, slice_get, not}
 use Rattle.cpe_name.specs.declared.name.Values.{Values}
 use Rattle.cpe_rows.specs.After.{changed}
 use Rattle.cpe_rows.specs.Faults.{when, is_deprecated, successor_faults, too_wide}
@@ -26,9 +26,14 @@ state_causes es n active =
     ∷ (if active then when (is_deprecated (rows_of es) n) fault.AlreadyDeprecated else when (not (is_deprecated (rows_of es) n)) fault.NotDeprecated) ∷ []
 
 -- that an entry would have too many ends, once the entry of this name has the deprecation, or none
-abbrev pub width_cause : List Entry → Values → Option Deprecation → Note → Option EditFault
+abbrev pub width_cause : List Entry → Values → Option Deprecation → Option Note → Option EditFault
 width_cause es n d note = too_wide (rows_of (changed (rewritten d note) n es))
 
 -- why the entry of this name can't have the deprecation, whether it has one or not
-abbrev pub deprecation_causes : List Entry → Values → Deprecation → Note → List (Option EditFault)
+abbrev pub deprecation_causes : List Entry → Values → Deprecation → Option Note → List (Option EditFault)
 deprecation_causes es n d note = successor_faults (rows_of es) n d ++ width_cause es n (Some d) note ∷ []
+
+-- why the entry of this name, which has to be active or deprecated, can't have the deprecation, or none
+abbrev pub change_causes : List Entry → Values → Bool → Option Deprecation → Option Note → List (Option EditFault)
+change_causes es n active None note = state_causes es n active ++ width_cause es n None note ∷ []
+change_causes es n active (Some d) note = state_causes es n active ++ deprecation_causes es n d note

@@ -1,5 +1,6 @@
 -- Entries as a dictionary keeps them: their names, and beside each what its entry has; and their deprecations by numbers.
 use Rattle.std.specs.Prelude.{◌≡◌, ◌≤◌, ◌++◌, ◌∷◌, ◌||◌, not, Bool, ℕ, List, [], length, map, None, Option, slice_get, slice_set}
+use Rattle.std.specs.List.{cons_option}
 use Rattle.std.specs.Option.{option_map_or}
 use Rattle.cpe_name.specs.declared.name.Values.{Values}
 use Rattle.cpe_rows.specs.Rows.{Rows, no_rows}
@@ -64,17 +65,17 @@ with_entries rows es = record rows { entries = es }
 abbrev pub rows_of : List Entry → Rows
 rows_of es = with_entries no_rows es
 
--- what an entry has beside its name, with another deprecation or none, and a note that goes last
-abbrev pub rewritten_details : Option Deprecation → Note → Details → Details
-rewritten_details d note x = record x { deprecation = d; provenance = record x.provenance { notes = x.provenance.notes ++ note ∷ [] } }
+-- what an entry has beside its name, with another deprecation or none, and a note, if there is one, that goes last
+abbrev pub rewritten_details : Option Deprecation → Option Note → Details → Details
+rewritten_details d note x = record x { deprecation = d; provenance = record x.provenance { notes = x.provenance.notes ++ cons_option note [] } }
 
 -- at a place
-abbrev pub details_written : Option Deprecation → Note → ℕ → List Details → List Details
+abbrev pub details_written : Option Deprecation → Option Note → ℕ → List Details → List Details
 details_written d note k xs = option_map_or (λ x. slice_set xs k (rewritten_details d note x)) (slice_get xs k) xs
 
--- another deprecation or none, and a note that goes last
-abbrev pub rewritten : Option Deprecation → Note → Entry → Entry
-rewritten d note e = record e { deprecation = d; provenance = record e.provenance { notes = e.provenance.notes ++ note ∷ [] } }
+-- another deprecation or none, and a note, if there is one, that goes last
+abbrev pub rewritten : Option Deprecation → Option Note → Entry → Entry
+rewritten d note e = record e { deprecation = d; provenance = record e.provenance { notes = e.provenance.notes ++ cons_option note [] } }
 
 -- the entry of a number changed
 abbrev pub written : (Entry → Entry) → ℕ → List Entry → List Entry

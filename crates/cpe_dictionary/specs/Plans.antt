@@ -40,10 +40,10 @@ pub record IsPlan (es : List Entry) (n : Values) (d : Option Deprecation) (p : P
   pub next : p.next ≡ numbered es d
   pub allowed : IsAllowed es p.number p.next
 
--- entries that the planned change leaves, by the deprecation and the note that it is made with
+-- entries that the planned change leaves, by the deprecation and the note, or none, that it is made with
 pub record AreLeftBy (es : List Entry) (p : Plan) (left : List Entry) : Type 0 where
   pub deprecation : Option Deprecation
-  pub note : Note
+  pub note : Option Note
   pub next : p.next ≡ numbered es deprecation
   pub written : left ≡ written (rewritten deprecation note) p.number es
 

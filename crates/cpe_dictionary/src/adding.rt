@@ -1,23 +1,27 @@
 // Why an entry can't be added.
-ghost use Rattle.std.specs.Prelude.{◌≡◌};
+ghost use Rattle.std.specs.Prelude.{◌≡◌, position};
 ghost use Rattle.cpe_rows.specs.Causes.{entry_causes};
-ghost use Rattle.cpe_rows.specs.Prelude.{first_some};
+ghost use Rattle.cpe_rows.specs.Prelude.{first_some, is_named};
+ghost use Rattle.cpe_rows.specs.declared.entry.Entry.{Entry};
 
 use crate::dictionary::Dictionary;
-use cpe_rows::{EditFault, Entry, Which, has_wildcards, is_identifier};
+use cpe_name::Wfn;
+use cpe_rows::{EditFault, Which, has_wildcards, is_identifier};
 
 impl Dictionary<'_> {
-    /// The first fault of an entry that is to be added, but for the weight. It takes no memory.
-    pub fn entry_fault(&self, entry: &Entry) -> Option<EditFault>
-        ensures { result ≡ first_some (entry_causes self.now entry.now) }
+    /// The first fault of an entry of this name that is to be added, but for the weight; the number is that of the entry that has the
+    /// name already, if there is one. It takes no memory.
+    pub fn entry_fault(&self, name: &Wfn, number: Option<u32>) -> Option<EditFault>
+        requires { number ≡ position (is_named name.now) self.now }
+        ensures { (entry : Entry) → entry.name ≡ name.now → result ≡ first_some (entry_causes self.now entry) }
     {
-        if !is_identifier(&entry.name) {
+        if !is_identifier(name) {
             return Some(EditFault::NotIdentifier);
         }
-        if has_wildcards(&entry.name) {
+        if has_wildcards(name) {
             return Some(EditFault::Wildcards);
         }
-        if self.has(&entry.name) {
+        if number.is_some() {
             return Some(EditFault::Exists);
         }
         if self.is_full() {

@@ -130,12 +130,12 @@ impl Dictionary<'_> {
         }
     }
 
-    /// The deprecation of the entry of this name, if it has one.
-    pub fn deprecation_of(&self, name: &Wfn) -> Option<&Deprecation>
-        ensures { option_copied result ≡ option_and_then (λ e. e.deprecation) (find (is_named name.now) self.now) }
+    /// The deprecation of the entry of a number, if it has one.
+    pub fn deprecation_at(&self, number: u32) -> Option<&Deprecation>
+        ensures { option_copied result ≡ option_and_then (λ e. e.deprecation) (slice_get self.now number) }
     {
-        match self.entries.find(name) {
-            Some(details) => details.deprecation.as_ref(),
+        match self.entries.get_index(number as usize) {
+            Some((_, details)) => details.deprecation.as_ref(),
             None => None,
         }
     }

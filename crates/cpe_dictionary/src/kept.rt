@@ -1,12 +1,13 @@
 // What an entry has beside its name.
-ghost use Rattle.std.specs.Prelude.{◌≡◌, IfOk, OnOk, OnErr};
+ghost use Rattle.std.specs.Prelude.{◌≡◌, ◌++◌, [], IfOk, OnOk, OnErr};
+ghost use Rattle.std.specs.List.{cons_option};
 ghost use Rattle.std.specs.Option.{option_map_or};
 ghost use Rattle.cpe_rows.specs.Prelude.{row_of, state_of};
 ghost use Rattle.cpe_dictionary.specs.Kept.{entry_from, rewritten_details};
 ghost use Rattle.cpe_rows.specs.declared.entry.Deprecation.{Deprecation};
 
 use cpe_name::Wfn;
-use cpe_rows::{Deprecation, Entry, Note, Provenance, Row, State, Text, copy_of_deprecation};
+use cpe_rows::{Deprecation, Entry, List, Note, Provenance, Row, State, Text, copy_of_deprecation};
 use cpe_values::Memory;
 use std::alloc::Global;
 
@@ -50,19 +51,30 @@ pub(crate) fn row_of(alloc: Global, name: &Wfn, details: &Details) -> Result<Row
     })
 }
 
-/// Gives an entry this deprecation, or none, and a note that goes last.
+// Puts a note last, if there is one.
+fn push_note(notes: &mut List<Note>, note: Option<Note>) -> Result<(), Memory>
+    ensures ok { OnOk result (notes.new ≡ notes.old ++ cons_option note []) }
+    ensures err { OnErr result (notes.new ≡ notes.old) }
+{
+    match note {
+        Some(note) => notes.push_close(note),
+        None => Ok(()),
+    }
+}
+
+/// Gives an entry this deprecation, or none, and a note, if there is one, that goes last.
 ///
 /// # Errors
 /// Want of memory alone; the entry is then as it was.
 pub(crate) fn rewrite(
     details: &mut Details,
     deprecation: Option<Deprecation>,
-    note: Note,
+    note: Option<Note>,
 ) -> Result<(), Memory>
     ensures ok { OnOk result (details.new ≡ rewritten_details deprecation note details.old) }
     ensures err { OnErr result (details.new ≡ details.old) }
 {
-    details.provenance.notes.push_close(note)?;
+    push_note(&mut details.provenance.notes, note)?;
     details.deprecation = deprecation;
     Ok(())
 }

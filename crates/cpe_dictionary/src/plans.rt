@@ -1,17 +1,16 @@
 // Changes of an entry's deprecation, which are planned before they are made.
-ghost use Rattle.std.specs.Prelude.{◌≡◌, ◌++◌, ◌∷◌, [], ℕ, IfOk, IfErr, List, None, Some, if◌then◌else◌, not, position};
+ghost use Rattle.std.specs.Prelude.{◌≡◌, IfOk, IfErr, None, Option, Some, if◌then◌else◌, not, position};
 ghost use Rattle.std.specs.Option.{option_copied};
-ghost use Rattle.cpe_rows.specs.Prelude.{causes, first_some, is_named, IsCause, when};
+ghost use Rattle.cpe_rows.specs.Prelude.{first_some, is_named, IsCause, when};
 ghost use Rattle.cpe_rows.specs.declared.entry.Note.{Note};
-ghost use Rattle.cpe_dictionary.specs.Causes.{deprecation_causes, state_causes};
-ghost use Rattle.cpe_dictionary.specs.Kept.{rows_of};
+ghost use Rattle.cpe_dictionary.specs.Causes.{change_causes, deprecation_causes, state_causes, width_cause};
 ghost use Rattle.cpe_dictionary.specs.Plans.{IsPlan};
 
 use crate::by_number::{edits_are_changes, edits_by_number};
 use crate::dictionary::Dictionary;
 use crate::successors::find_successors;
 use cpe_name::Wfn;
-use cpe_rows::{Deprecation, Edit, EditFault, List};
+use cpe_rows::{Deprecation, EditFault, List};
 
 /// A change of an entry's deprecation that its dictionary allows, by numbers. It is made by
 /// [`Dictionary::commit`](Dictionary::commit).
@@ -36,68 +35,72 @@ impl Plan {
 }
 
 impl Dictionary<'_> {
-    /// Plans to deprecate the active entry of this name.
+    /// Plans to give the entry of this name a deprecation, or none; the number is that of this entry, if there is one. It has to be
+    /// active before, or deprecated.
     ///
     /// # Errors
-    /// The first fault of the edit but for the weight, or want of memory.
-    pub fn plan_deprecation(&self, name: &Wfn, deprecation: &Deprecation) -> Result<Plan, EditFault>
-        ensures plan { IfOk result (λ p. IsPlan self.now name.now (Some deprecation.now) p) }
-        ensures ok { IfOk result (λ p. (date comment : List ℕ) → first_some (causes (rows_of self.now) (Edit.Deprecate name.now deprecation.now date comment)) ≡ None) }
-        ensures err { IfErr result (λ f. (date comment : List ℕ) → IsCause f (first_some (causes (rows_of self.now) (Edit.Deprecate name.now deprecation.now date comment)))) }
+    /// The first fault of such a change but for the weight, or want of memory.
+    pub fn plan(
+        &self,
+        name: &Wfn,
+        number: Option<u32>,
+        active: bool,
+        deprecation: Option<&Deprecation>,
+    ) -> Result<Plan, EditFault>
+        requires { number ≡ position (is_named name.now) self.now }
+        ensures plan { IfOk result (λ p. IsPlan self.now name.now (option_copied deprecation.entry) p) }
+        ensures ok { IfOk result (λ p. (note : Option Note) → first_some (change_causes self.now name.now active (option_copied deprecation.entry) note) ≡ None) }
+        ensures err { IfErr result (λ f. (note : Option Note) → IsCause f (first_some (change_causes self.now name.now active (option_copied deprecation.entry) note))) }
     {
-        self.plan(name, true, deprecation)
+        let number = self.find_in_state(name, number, active)?;
+        match deprecation {
+            Some(deprecation) => self.plan_deprecation(name, number, deprecation),
+            None => self.plan_restoration(name, number),
+        }
     }
 
-    /// Plans to replace the deprecation of the entry of this name.
-    ///
-    /// # Errors
-    /// The first fault of the edit but for the weight, or want of memory.
-    pub fn plan_amendment(&self, name: &Wfn, deprecation: &Deprecation) -> Result<Plan, EditFault>
+    // Plans to give the entry of this name and number a deprecation.
+    fn plan_deprecation(
+        &self,
+        name: &Wfn,
+        number: u32,
+        deprecation: &Deprecation,
+    ) -> Result<Plan, EditFault>
+        requires { position (is_named name.now) self.now ≡ Some number }
         ensures plan { IfOk result (λ p. IsPlan self.now name.now (Some deprecation.now) p) }
-        ensures ok { IfOk result (λ p. (date comment : List ℕ) → first_some (causes (rows_of self.now) (Edit.Amend name.now deprecation.now date comment)) ≡ None) }
-        ensures err { IfErr result (λ f. (date comment : List ℕ) → IsCause f (first_some (causes (rows_of self.now) (Edit.Amend name.now deprecation.now date comment)))) }
+        ensures ok { IfOk result (λ p. (note : Option Note) → first_some (deprecation_causes self.now name.now deprecation.now note) ≡ None) }
+        ensures err { IfErr result (λ f. (note : Option Note) → IsCause f (first_some (deprecation_causes self.now name.now deprecation.now note))) }
     {
-        self.plan(name, false, deprecation)
+        let next = find_successors(self.memory(), self, name, number, deprecation)?;
+        Ok(Plan {
+            number,
+            next: Some(next),
+        })
     }
 
-    /// Plans to take the deprecation of the entry of this name away.
-    ///
-    /// # Errors
-    /// The first fault of the edit but for the weight, or want of memory.
-    pub fn plan_restoration(&self, name: &Wfn) -> Result<Plan, EditFault>
+    // Plans to take the deprecation of the entry of this name and number away.
+    fn plan_restoration(&self, name: &Wfn, number: u32) -> Result<Plan, EditFault>
+        requires { position (is_named name.now) self.now ≡ Some number }
         ensures plan { IfOk result (λ p. IsPlan self.now name.now None p) }
-        ensures ok { IfOk result (λ p. (date comment : List ℕ) → first_some (causes (rows_of self.now) (Edit.Restore name.now date comment)) ≡ None) }
-        ensures err { IfErr result (λ f. (date comment : List ℕ) → IsCause f (first_some (causes (rows_of self.now) (Edit.Restore name.now date comment)))) }
+        ensures ok { IfOk result (λ p. (note : Option Note) → width_cause self.now name.now None note ≡ None) }
+        ensures err { IfErr result (λ f. (note : Option Note) → IsCause f (width_cause self.now name.now None note)) }
     {
         edits_by_number();
         edits_are_changes();
         self.lawful();
-        let number = self.find_in_state(name, false)?;
         self.check(number, None)?;
         Ok(Plan { number, next: None })
     }
 
-    // Plans to give the entry of this name a deprecation. It has to be active, or deprecated already.
-    fn plan(&self, name: &Wfn, active: bool, deprecation: &Deprecation) -> Result<Plan, EditFault>
-        ensures plan { IfOk result (λ p. IsPlan self.now name.now (Some deprecation.now) p) }
-        ensures ok { IfOk result (λ p. (note : Note) → first_some (state_causes self.now name.now active ++ deprecation_causes self.now name.now deprecation.now note) ≡ None) }
-        ensures err { IfErr result (λ f. (note : Note) → IsCause f (first_some (state_causes self.now name.now active ++ deprecation_causes self.now name.now deprecation.now note))) }
-    {
-        let number = self.find_in_state(name, active)?;
-        let numbers = find_successors(self.memory(), self, name, number, deprecation)?;
-        Ok(Plan {
-            number,
-            next: Some(numbers),
-        })
-    }
-
     // The number of the entry of this name, which has to be active, or deprecated.
-    fn find_in_state(&self, name: &Wfn, active: bool) -> Result<u32, EditFault>
+    fn find_in_state(&self, name: &Wfn, number: Option<u32>, active: bool) -> Result<u32, EditFault>
+        requires { number ≡ position (is_named name.now) self.now }
         ensures place { IfOk result (λ k. position (is_named name.now) self.now ≡ Some k) }
         ensures ok { IfOk result (λ k. first_some (state_causes self.now name.now active) ≡ None) }
         ensures err { IfErr result (λ f. IsCause f (first_some (state_causes self.now name.now active))) }
     {
-        let Some(number) = self.number_of(name) else {
+        let _ = name;
+        let Some(number) = number else {
             return Err(EditFault::Unknown);
         };
         match state_fault(self.is_active(number), active) {

@@ -1,5 +1,5 @@
 // A dictionary as it is kept beside a table of names.
-ghost use Rattle.std.specs.Prelude.{◌≡◌, ◌+◌, ◌++◌, ◌∷◌, [], ◌≤◌, OnOk, OnErr, length, false};
+ghost use Rattle.std.specs.Prelude.{◌≡◌, ◌+◌, ◌++◌, ◌∷◌, [], ◌≤◌, OnOk, OnErr, length, position, false};
 ghost use Rattle.std.specs.List.{list_any};
 ghost use Rattle.cpe_name.specs.Equal.{same_name};
 ghost use Rattle.cpe_rows.specs.Prelude.{is_named, IsDictionary, most};
@@ -84,7 +84,7 @@ fn rewrite_at(
     all: &mut Vec<Details>,
     place: usize,
     deprecation: Option<Deprecation>,
-    note: Note,
+    note: Option<Note>,
 ) -> Result<(), Memory>
     ensures ok { OnOk result (all.new.items ≡ details_written deprecation note place all.old.items) }
     ensures err { OnErr result (all.new.items ≡ all.old.items) }
@@ -115,6 +115,18 @@ impl KeptDictionary {
     {
         let entries = Entries::new(self.names.with(table), self.details.as_slice());
         Dictionary::new(self.alloc, entries, &self.graph)
+    }
+
+    /// The number of the entry whose name has this number in the table, if there is one. It looks at one place alone.
+    pub fn number_of(&self, table: &NameTable, id: NameId) -> Option<u32>
+        requires fits { FitsTable table.now self.now }
+        requires live { IsLive table.now id.0 }
+        ensures { result ≡ position (is_named (kept_at table.now id.0).name) (entries_in table.now self.now) }
+    {
+        match self.names.place_of(table, id) {
+            Some(place) => Some(place as u32),
+            None => None,
+        }
     }
 
     /// Puts an active entry last whose name has this number in the table, and which no entry has. What it brings is moved.
@@ -152,7 +164,7 @@ impl KeptDictionary {
         Ok(())
     }
 
-    /// Makes a planned change: the entry gets this deprecation, or none, and a note that goes last.
+    /// Makes a planned change: the entry gets this deprecation, or none, and a note, if there is one, that goes last.
     ///
     /// # Errors
     /// Want of memory alone; the dictionary is then as it was.
@@ -161,7 +173,7 @@ impl KeptDictionary {
         table: &NameTable,
         plan: &Plan,
         deprecation: Option<Deprecation>,
-        note: Note,
+        note: Option<Note>,
     ) -> Result<(), Memory>
         requires fits { FitsTable table.now self.old }
         requires numbers { plan.now.next ≡ numbered (entries_in table.now self.old) deprecation }

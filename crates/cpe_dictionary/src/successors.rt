@@ -1,5 +1,5 @@
 // The successors of a deprecation, by the numbers of their entries.
-ghost use Rattle.std.specs.Prelude.{◌≡◌, ◌∷◌, [], ◌≤◌, IfOk, IfErr, None, Some, length, nat_eq, not, option_map, position};
+ghost use Rattle.std.specs.Prelude.{◌≡◌, ◌∷◌, [], ◌≤◌, IfOk, IfErr, None, Option, Some, length, nat_eq, not, option_map, position};
 ghost use Rattle.std.specs.List.{list_any};
 ghost use Rattle.cpe_rows.specs.Faults.{is_count, place_of, repeated_from, successor_faults};
 ghost use Rattle.cpe_rows.specs.Prelude.{first_some, is_named, IsCause};
@@ -75,7 +75,7 @@ fn find_different(
     deprecation: &Deprecation,
 ) -> Result<List<u32>, EditFault>
     ensures ok { IfOk result (λ ks. AreAsked dictionary.now deprecation.now ks) }
-    ensures err { IfErr result (λ f. (n : Values) (note : Note) → IsCause f (first_some (deprecation_causes dictionary.now n deprecation.now note))) }
+    ensures err { IfErr result (λ f. (n : Values) (note : Option Note) → IsCause f (first_some (deprecation_causes dictionary.now n deprecation.now note))) }
 {
     edits_by_number();
     edits_are_changes();
@@ -105,8 +105,8 @@ pub(crate) fn find_successors(
     requires { position (is_named name.now) dictionary.now ≡ Some number }
     ensures numbers { IfOk result (λ ks. ks ≡ numbers_of dictionary.now deprecation.now.successors) }
     ensures allowed { IfOk result (λ ks. IsAllowed dictionary.now number (Some ks)) }
-    ensures ok { IfOk result (λ ks. (note : Note) → first_some (deprecation_causes dictionary.now name.now deprecation.now note) ≡ None) }
-    ensures err { IfErr result (λ f. (note : Note) → IsCause f (first_some (deprecation_causes dictionary.now name.now deprecation.now note))) }
+    ensures ok { IfOk result (λ ks. (note : Option Note) → first_some (deprecation_causes dictionary.now name.now deprecation.now note) ≡ None) }
+    ensures err { IfErr result (λ f. (note : Option Note) → IsCause f (first_some (deprecation_causes dictionary.now name.now deprecation.now note))) }
 {
     edits_by_number();
     edits_are_changes();

@@ -12,5 +12,6 @@ mod weigh;
 
 pub use laws::{edits_weigh, losses_are_known};
 pub use weigh::{
-    with_deprecation, with_entry, with_key, with_name, with_note, with_statement, with_test,
+    with_active_entry, with_deprecation, with_entry, with_key, with_name, with_note,
+    with_statement, with_test,
 };

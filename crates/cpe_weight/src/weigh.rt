@@ -1,11 +1,11 @@
 // A weight with that of one thing more.
-ghost use Rattle.std.specs.Prelude.{◌≡◌, ◌+◌, length, map};
+ghost use Rattle.std.specs.Prelude.{◌≡◌, ◌+◌, None, length, map};
 ghost use Rattle.cpe_rows.specs.Weight.{weighs, name_weight, note_weight, deprecation_weight, entry_weight, key_weight, test_weight, statement_weight, total};
 ghost use Rattle.cpe_weight.specs.Capped.{capped};
 
 use cpe_fs::fs_len;
 use cpe_name::Wfn;
-use cpe_rows::{CheckKey, Date, Deprecation, Entry, Note, Statement, Test, Text};
+use cpe_rows::{CheckKey, Date, Deprecation, Entry, Note, Provenance, Statement, Test, Text};
 
 // The weight with that of a row or a part of one, without its texts.
 fn with_one(weight: u64) -> u64
@@ -90,16 +90,23 @@ fn with_notes(weight: u64, notes: &[Note]) -> u64
     sum
 }
 
+/// The weight with that of an active entry, by its parts, or the largest number where it would be more. It takes no memory.
+pub fn with_active_entry(weight: u64, name: &Wfn, title: &Text, provenance: &Provenance) -> u64
+    ensures { result ≡ capped (weight + entry_weight (record { name = name.now; title = title.now; provenance = provenance.now; deprecation = None })) }
+{
+    let titled = with_text(with_name(weight, name), title);
+    let submitter = with_text(titled, &provenance.submitter);
+    let authority = with_text(submitter, &provenance.authority);
+    with_notes(authority, provenance.notes.as_slice())
+}
+
 /// The weight with that of an entry, or the largest number where it would be more. It takes no memory.
 pub fn with_entry(weight: u64, entry: &Entry) -> u64
     ensures { result ≡ capped (weight + entry_weight entry.now) }
 {
-    let title = with_text(with_name(weight, &entry.name), &entry.title);
-    let submitter = with_text(title, &entry.provenance.submitter);
-    let authority = with_text(submitter, &entry.provenance.authority);
-    let notes = with_notes(authority, entry.provenance.notes.as_slice());
+    let active = with_active_entry(weight, &entry.name, &entry.title, &entry.provenance);
     match &entry.deprecation {
-        Some(deprecation) => with_deprecation(notes, deprecation),
-        None => notes,
+        Some(deprecation) => with_deprecation(active, deprecation),
+        None => active,
     }
 }

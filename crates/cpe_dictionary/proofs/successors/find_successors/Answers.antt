@@ -1,4 +1,4 @@
-use Rattle.std.proofs.Common.{ℕ, List, sym, ap, subst, ◌∙◌, Some, Err}
+use Rattle.std.proofs.Common.{ℕ, List, Option, sym, ap, subst, ◌∙◌, Some, Err}
 use Rattle.std.specs.Prelude.{option_and_then}
 use Rattle.std.proofs.lemmas.Result.{err_from_is_err_and}
 use Rattle.cpe_rows.specs.Step.{first_some}
@@ -28,9 +28,9 @@ returns-in_err-check-clause-err c =
     let asked = c.in_ok-numbers.ensures.ok in
     let slice = c.as_slice.ensures ∙ asked.numbers in
     let p = err_from_is_err_and c.from_residual-in_err-check.result c.from_residual-in_err-check.ensures.1 in
-    let named = λ (note : Note). causes_named es n k c.requires c.lawful.ensures.lawful.names_differ c.edits_by_number.ensures.writes c.edits_are_changes.ensures.width note c.faults_by_number.ensures.cycles d asked.entries (none_earlier es d ks asked)
+    let named = λ (note : Option Note). causes_named es n k c.requires c.lawful.ensures.lawful.names_differ c.edits_by_number.ensures.writes c.edits_are_changes.ensures.width note c.faults_by_number.ensures.cycles d asked.entries (none_earlier es d ks asked)
     ∙ ap (λ (xs : List ℕ). option_and_then (named_fault es) (change_fault (nodes_of_entries es) k (Some xs))) (sym slice) in
-    at_error c.from_residual-in_err-check.result c.in_err-check.field-0.0 (λ f. (note : Note) → IsCause f (first_some (deprecation_causes es n d note))) (p.1 ∙ ap Err p.2)
+    at_error c.from_residual-in_err-check.result c.in_err-check.field-0.0 (λ f. (note : Option Note) → IsCause f (first_some (deprecation_causes es n d note))) (p.1 ∙ ap Err p.2)
     (λ note. cause_moves c.in_err-check.field-0.0 (option_and_then (named_fault es) (change_fault (nodes_of_entries es) k (Some c.as_slice.result.now))) (first_some (deprecation_causes es n d note)) (λ h. named note ∙ h) c.in_err-check.ensures.err)
 
 pub returns-clause-allowed : goal.returns-clause-allowed
