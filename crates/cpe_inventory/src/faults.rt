@@ -3,34 +3,14 @@ ghost use Rattle.std.specs.Prelude.{◌≡◌, ◌++◌, ◌∷◌, [], length, 
 ghost use Rattle.cpe_rows.specs.Prelude.{first_some, most, number_of_facts, with_check};
 ghost use Rattle.cpe_rows.specs.declared.truth.Truth.{Truth};
 ghost use Rattle.cpe_rows.specs.declared.fault.Which.TheVariants as which;
-ghost use Rattle.cpe_rows.specs.Causes.{item_causes, statement_causes, check_causes};
+ghost use Rattle.cpe_rows.specs.Causes.{statement_causes, check_causes};
 
 use crate::count::with_facts_of;
-use crate::{Checks, Items, Statements};
-use cpe_name::Wfn;
-use cpe_rows::{
-    CheckKey, EditFault, MOST_CHECKS, MOST_FACTS, MOST_ITEMS, MOST_STATEMENTS, Statement, Which,
-    has_wildcards,
-};
+use crate::{Checks, Statements};
+use cpe_rows::{CheckKey, EditFault, MOST_CHECKS, MOST_FACTS, MOST_STATEMENTS, Statement, Which};
 
-/// Why an item of this name can't be added: the first cause in the order of [`EditFault`], without the weight. There is none
-/// exactly where an edit that adds it is in order but for the weight. It takes no memory.
-pub fn item_fault(items: &Items, name: &Wfn) -> Option<EditFault>
-    ensures { result ≡ first_some (item_causes items.now name.now) }
-{
-    if has_wildcards(name) {
-        return Some(EditFault::Wildcards);
-    }
-    if items.has(name) {
-        return Some(EditFault::Exists);
-    }
-    if items.len() >= MOST_ITEMS {
-        return Some(EditFault::Full(Which::Items));
-    }
-    None
-}
-
-/// The same of a statement that is to be put.
+/// Why a statement can't be put: the first cause in the order of [`EditFault`], without the weight. There is none exactly where an
+/// edit that puts it is in order but for the weight. It takes no memory.
 pub fn statement_fault(statements: &Statements, statement: &Statement) -> Option<EditFault>
     ensures { result ≡ first_some (statement_causes statements.now statement.now) }
 {

@@ -18,7 +18,7 @@ mod statements;
 
 pub use checks::Checks;
 pub use facts::{PlainFacts, plain_verdict};
-pub use faults::{check_fault, item_fault, statement_fault};
+pub use faults::{check_fault, statement_fault};
 pub use items::Items;
 pub use laws::item_laws;
 pub use names::{Names, name_of_slot};

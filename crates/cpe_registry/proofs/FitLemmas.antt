@@ -1,0 +1,145 @@
+-- Dictionary and items beside a table that changes: their names stay, and what is released is none of theirs.
+use Rattle.std.proofs.Common.{◌≡◌, ◌≢◌, ℕ, zero, suc, ◌≤◌, List, [], ◌∷◌, ◌++◌, Option, Some, None, slice_get, Bool, ◌||◌, refl, sym, ap, subst, ◌∙◌, inl, inr}
+use Rattle.std.specs.Prelude.{IsSome, IfOk, Result, Ok, Err, OnOk, OnErr}
+use Rattle.std.specs.List.{list_any}
+use Rattle.std.proofs.lemmas.Option.{none-some, same_Some}
+use Rattle.std.proofs.lemmas.List.{length-map}
+use Rattle.cpe_name.specs.declared.name.Values.{Values}
+use Rattle.name_index.specs.declared.table.NameId.{NameId}
+use Rattle.name_index.specs.Index.{name_id}
+use Rattle.name_index.specs.Table.{AreNames, find_kept, HasName, Holding, Holds, IsLive, Kept, kept_at, kept_or, Names, Releases}
+use Rattle.names_in_order.specs.InOrder.{AreInOrder, IsSafe, names_numbered, Roll}
+use Rattle.numbered_names.specs.Shown.{holds_in, Shows, times_named}
+use Rattle.cpe_rows.specs.Names.{is_same}
+use Rattle.cpe_rows.specs.Rows.{is_named}
+use Rattle.cpe_rows.specs.declared.entry.Entry.{Entry}
+use Rattle.cpe_dictionary.specs.Kept.{entries_in, entries_of, FitsTable, IsKept, names_of, Stored}
+use Rattle.cpe_dictionary.proofs.EntryLemmas.{names_are}
+use Rattle.cpe_registry.specs.Registered.{AreFitting}
+use Rattle.cpe_registry.proofs.HeldLemmas.{second_stands, third_stands}
+
+-- ---- names that stay
+
+pub same_entries : (old new : Names) (s : Stored) → names_numbered new s.names.numbers ≡ names_numbered old s.names.numbers → entries_in new s ≡ entries_in old s
+same_entries old new s same = ap (λ (ns : List Values). entries_of ns s.details) same
+
+pub fits_still : (old new : Names) (s : Stored) → AreInOrder new s.names.held s.names.numbers → names_numbered new s.names.numbers ≡ names_numbered old s.names.numbers → FitsTable old s → FitsTable new s
+fits_still old new s order same fits = record {
+  order = order;
+  even = fits.even;
+  kept = subst (λ (es : List Entry). IsKept es s.nodes) (sym (same_entries old new s same)) fits.kept;
+}
+
+-- entries have the names of their numbers
+pub names_stored : (table : Names) (s : Stored) → FitsTable table s → names_of (entries_in table s) ≡ names_numbered table s.names.numbers
+names_stored table s fits = names_are (names_numbered table s.names.numbers) s.details (length-map s.names.numbers (λ (x : NameId). (kept_at table x.0).name) ∙ fits.even)
+
+-- ---- a name that is held
+
+pub held_live : (old new : Names) (id : ℕ) (name : Values) → Holds old new id name → IsLive new id
+held_live old new id name h = by (find_kept old id) h.held
+  where
+    by : (o : Option Kept) → Holding o name (find_kept new id) → IsLive new id
+    by None held = subst IsSome (sym held.1) refl
+    by (Some k) held = subst IsSome (sym held.1) refl
+
+pub held_name : (old new : Names) (id : ℕ) (name : Values) → Holds old new id name → (kept_at new id).name ≡ name
+held_name old new id name h = by (find_kept old id) h.held
+  where
+    by : (o : Option Kept) → Holding o name (find_kept new id) → (kept_at new id).name ≡ name
+    by None held = ap (λ (p : Option Kept). (kept_or p).name) held.1
+    by (Some k) held = ap (λ (p : Option Kept). (kept_or p).name) held.1 ∙ held.0
+
+-- ---- a number that is released
+
+pub own_name : (table : Names) (id : ℕ) → IsLive table id → HasName table id (kept_at table id).name
+own_name table id live = by (find_kept table id) refl live
+  where
+    by : (o : Option Kept) → find_kept table id ≡ o → IsSome o → (k : Kept) × (find_kept table id ≡ Some k) × (k.name ≡ (kept_at table id).name)
+    by None e h = let wrong : ⊥ = cc in absurd wrong
+    by (Some k) e h = (k, e, sym (ap (λ (p : Option Kept). (kept_or p).name) e))
+
+name_stands : (table : Names) (numbers : List NameId) (k : ℕ) (x : NameId) → slice_get numbers k ≡ Some x → slice_get (names_numbered table numbers) k ≡ Some (kept_at table x.0).name
+name_stands table [] k x e = absurd (none-some x e)
+name_stands table (y ∷ ys) zero x e = ap {B = Option Values} (λ (z : NameId). Some (kept_at table z.0).name) (same_Some y x e)
+name_stands table (y ∷ ys) (suc k) x e = name_stands table ys k x e
+
+-- it is none of these numbers, or live still, where all their names are among those held then
+is_safe : (old new : Names) (id : ℕ) (numbers : List NameId) (list : List Values) → AreNames old → IsLive old id → Releases old new id
+    → ((n : Values) (k : ℕ) → slice_get (names_numbered old numbers) k ≡ Some n → 1 ≤ times_named n list) → Shows new (holds_in new) list → IsSafe new numbers id
+is_safe old new id numbers list names live r among shows = by (find_kept new id) refl
+  where
+    none : find_kept new id ≡ None → (k : ℕ) → slice_get numbers k ≢ Some (name_id id)
+    none gone k at =
+        let n = (kept_at old id).name in
+        let has = own_name old id live in
+        let there = shows.known n (among n k (name_stands old numbers k (name_id id) at)) in
+        let other : there.0 ≢ id = λ is. none-some there.1.0 (sym gone ∙ ap (find_kept new) (sym is) ∙ there.1.1) in
+        other (names.different there.0 id there.1.0 has.0 (sym (r.others there.0 other) ∙ there.1.1) has.1 (there.1.2 ∙ ap (λ (o : Option Kept). (kept_or o).name) has.1))
+
+    by : (o : Option Kept) → find_kept new id ≡ o → IsSafe new numbers id
+    by None e = inr (none e)
+    by (Some k) e = inl (subst IsSome (sym e) refl)
+
+module _ (old new : Names) (s : Stored) (r : Roll) (id : ℕ) (others : List Values) (names : AreNames old) (live : IsLive old id) (gone : Releases old new id) (fit : AreFitting old s r)
+    (shows : Shows new (holds_in new) (others ++ (names_of (entries_in old s) ++ names_numbered old r.numbers))) where
+  pub safe_entries : IsSafe new s.names.numbers id
+  safe_entries =
+      is_safe old new id s.names.numbers (others ++ (names_of (entries_in old s) ++ names_numbered old r.numbers)) names live gone
+      (λ n k at. second_stands n others (names_of (entries_in old s)) (names_numbered old r.numbers) k (ap (λ (ns : List Values). slice_get ns k) (names_stored old s fit.entries) ∙ at)) shows
+
+  pub safe_items : IsSafe new r.numbers id
+  safe_items = is_safe old new id r.numbers (others ++ (names_of (entries_in old s) ++ names_numbered old r.numbers)) names live gone (λ n k at. third_stands n others (names_of (entries_in old s)) (names_numbered old r.numbers) k at) shows
+
+-- ---- answers
+
+pub on_ok : {A B P Q : Type 0} (r : Result A B) → (P → Q) → OnOk r P → OnOk r Q
+on_ok (Ok x) f h = f h
+on_ok (Err e) f h = tt
+
+pub on_err : {A B P Q : Type 0} (r : Result A B) → (P → Q) → OnErr r P → OnErr r Q
+on_err (Ok x) f h = tt
+on_err (Err e) f h = f h
+
+pub ok_if : {A B P : Type 0} (Q : A → Type 0) (r : Result A B) → ((x : A) → Q x → P) → IfOk r Q → OnOk r P
+ok_if Q (Ok x) f h = f x h
+ok_if Q (Err e) f h = tt
+
+pub either_if : {A B P E : Type 0} (Q : A → Type 0) (r : Result A B) → ((x : A) → Q x → P) → (E → P) → IfOk r Q → OnErr r E → P
+either_if Q (Ok x) f g ok err = f x ok
+either_if Q (Err e) f g ok err = g err
+
+pub either : {A B P Q E : Type 0} (r : Result A B) → (Q → P) → (E → P) → OnOk r Q → OnErr r E → P
+either (Ok x) f g ok err = f ok
+either (Err e) f g ok err = g err
+
+-- ---- what stays where the table changes
+
+pub record Stays (old new : Names) (s : Stored) (r : Roll) : Type 0 where
+  pub fitting : AreFitting new s r
+  pub entries : entries_in new s ≡ entries_in old s
+  pub items : names_numbered new r.numbers ≡ names_numbered old r.numbers
+
+pub stays_by : (old new : Names) (s : Stored) (r : Roll) → AreFitting old s r → AreInOrder new s.names.held s.names.numbers → names_numbered new s.names.numbers ≡ names_numbered old s.names.numbers
+    → AreInOrder new r.held r.numbers → names_numbered new r.numbers ≡ names_numbered old r.numbers → Stays old new s r
+stays_by old new s r fit order names item_order item_names = record {
+  fitting = record { entries = fits_still old new s order names fit.entries; items = item_order };
+  entries = same_entries old new s names;
+  items = item_names;
+}
+
+pub stays_same : (old new : Names) (s : Stored) (r : Roll) → AreFitting old s r → new ≡ old → Stays old new s r
+stays_same old new s r fit same = subst (λ (t : Names). Stays old t s r) (sym same) (record { fitting = fit; entries = refl; items = refl })
+
+-- the list of what is held, by the names that stay
+pub shows_still : (old new : Names) (s : Stored) (r : Roll) (front : List Values) → Stays old new s r → Shows new (holds_in new) (front ++ (names_of (entries_in old s) ++ names_numbered old r.numbers))
+    → Shows new (holds_in new) (front ++ (names_of (entries_in new s) ++ names_numbered new r.numbers))
+shows_still old new s r front stays shows =
+    let list : front ++ (names_of (entries_in new s) ++ names_numbered new r.numbers) ≡ front ++ (names_of (entries_in old s) ++ names_numbered old r.numbers) = λ k. front ++ (names_of (stays.entries k) ++ stays.items k) in
+    subst (Shows new (holds_in new)) (sym list) shows
+
+-- ---- entries by their names
+
+pub any_named : (n : Values) (es : List Entry) → list_any (is_named n) es ≡ list_any (is_same n) (names_of es)
+any_named n [] = refl
+any_named n (e ∷ es) = ap (λ (b : Bool). is_named n e || b) (any_named n es)

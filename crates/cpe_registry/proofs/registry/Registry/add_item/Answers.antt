@@ -1,0 +1,20 @@
+use Rattle.std.proofs.Common.{◌++◌, ◌∷◌, [], List, sym, ap, subst, ◌∙◌}
+use Rattle.cpe_name.specs.declared.name.Values.{Values}
+use Rattle.names_in_order.specs.InOrder.{names_numbered}
+use Rattle.numbered_names.specs.Shown.{holds_in, Shows}
+use Rattle.cpe_dictionary.specs.Kept.{entries_in, names_of}
+use Rattle.cpe_registry.specs.Registered.{AreHeld, name_in, Registered}
+use Rattle.cpe_registry.proofs.FitLemmas.{on_ok}
+use Rattle.cpe_registry.proofs.HeldLemmas.{last_of_third}
+use Rattle.cpe_registry.proofs.registry.Registry.add_item.Goals as goal
+
+pub returns-clause-others : goal.returns-clause-others
+returns-clause-others c others held =
+    let i = c.self.inside in
+    let t = i.table in
+    let id = c.args.id in
+    let es = entries_in t i.dictionary in
+    let items = names_numbered t i.items.numbers in
+    let shows = subst (λ (x : Registered). AreHeld x (name_in x.table id ∷ others)) (sym c.self.view_is) held in
+    let more = c.lists_are_shown.ensures.order t (holds_in t) (name_in t id ∷ (others ++ (names_of es ++ items))) (others ++ (names_of es ++ (items ++ name_in t id ∷ []))) (last_of_third (name_in t id) others (names_of es) items) shows in
+    on_ok c.push.result (λ ok. subst (λ (ns : List Values). Shows t (holds_in t) (others ++ (names_of es ++ ns))) (sym (ap (names_numbered t) ok ∙ c.orders_stay.ensures.more t i.items.numbers id)) more) c.push.ensures.ok

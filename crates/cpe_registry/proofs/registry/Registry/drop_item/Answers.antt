@@ -1,0 +1,60 @@
+use Rattle.std.proofs.Common.{◌≡◌, ◌++◌, ◌∷◌, List, true, sym, ap, subst, ◌∙◌}
+use Rattle.std.specs.List.{list_any}
+use Rattle.cpe_name.specs.declared.name.Values.{Values}
+use Rattle.name_index.specs.Table.{IsLive}
+use Rattle.names_in_order.proofs.ChangeLemmas.{name_among}
+use Rattle.names_in_order.specs.InOrder.{names_numbered}
+use Rattle.numbered_names.specs.Shown.{holds_in, Shows}
+use Rattle.cpe_rows.specs.After.{without_first}
+use Rattle.cpe_rows.specs.Names.{is_same}
+use Rattle.cpe_dictionary.specs.Kept.{entries_in, names_of}
+use Rattle.cpe_registry.specs.Registered.{AreHeld, name_in, Registered}
+use Rattle.cpe_registry.proofs.FitLemmas.{own_name}
+use Rattle.cpe_registry.proofs.HeldLemmas.{dropped_first}
+use Rattle.cpe_registry.proofs.registry.Registry.drop_item.Goals as goal
+
+pub remove-requires-clause-has : goal.remove-requires-clause-has
+remove-requires-clause-has c =
+    let i = c.self.inside in
+    let t = i.table in
+    let id = c.args.id in
+    let n = name_in t id in
+    let numbers = i.items.numbers in
+    let items = names_numbered t numbers in
+    let live = subst (λ (x : Registered). IsLive x.table id.0) (sym c.self.view_is) c.requires.live in
+    let has = subst (λ (x : Registered). list_any (is_same (name_in x.table id)) x.items ≡ true) (sym c.self.view_is) c.requires.has in
+    let among = sym (name_among t numbers id n c.lawful.ensures c.self.invariant.items.live (own_name t id.0 live)) ∙ sym (c.item_laws.ensures.same n items) ∙ has in
+    among
+
+pub returns-clause-items : goal.returns-clause-items
+returns-clause-items c =
+    let i = c.self.inside in
+    let t = i.table in
+    let id = c.args.id in
+    let n = name_in t id in
+    let numbers = i.items.numbers in
+    let items = names_numbered t numbers in
+    let live = subst (λ (x : Registered). IsLive x.table id.0) (sym c.self.view_is) c.requires.live in
+    let has = subst (λ (x : Registered). list_any (is_same (name_in x.table id)) x.items ≡ true) (sym c.self.view_is) c.requires.has in
+    let among = sym (name_among t numbers id n c.lawful.ensures c.self.invariant.items.live (own_name t id.0 live)) ∙ sym (c.item_laws.ensures.same n items) ∙ has in
+    ap (names_numbered t) c.remove.ensures.numbers
+    ∙ c.item_laws.ensures.dropped t numbers id c.lawful.ensures c.self.invariant.items.live among
+    ∙ ap (λ (x : Registered). without_first (is_same (name_in x.table id)) x.items) c.self.view_is
+
+pub returns-clause-others : goal.returns-clause-others
+returns-clause-others c others held =
+    let i = c.self.inside in
+    let t = i.table in
+    let id = c.args.id in
+    let n = name_in t id in
+    let numbers = i.items.numbers in
+    let items = names_numbered t numbers in
+    let live = subst (λ (x : Registered). IsLive x.table id.0) (sym c.self.view_is) c.requires.live in
+    let has = subst (λ (x : Registered). list_any (is_same (name_in x.table id)) x.items ≡ true) (sym c.self.view_is) c.requires.has in
+    let among = sym (name_among t numbers id n c.lawful.ensures c.self.invariant.items.live (own_name t id.0 live)) ∙ sym (c.item_laws.ensures.same n items) ∙ has in
+    let es = names_of (entries_in t i.dictionary) in
+    let shows = subst (λ (x : Registered). AreHeld x others) (sym c.self.view_is) held in
+    let left = ap (names_numbered t) c.remove.ensures.numbers ∙ c.item_laws.ensures.dropped t numbers id c.lawful.ensures c.self.invariant.items.live among in
+    let first = c.lists_are_shown.ensures.order t (holds_in t) (others ++ (es ++ items)) (n ∷ (others ++ (es ++ without_first (is_same n) items))) (dropped_first n others es items has) shows in
+    subst (λ (x : Registered). Shows t (holds_in t) (name_in x.table id ∷ (others ++ (es ++ names_numbered t c.remove.new.self.numbers)))) c.self.view_is
+    (subst (λ (ns : List Values). Shows t (holds_in t) (n ∷ (others ++ (es ++ ns)))) (sym left) first)

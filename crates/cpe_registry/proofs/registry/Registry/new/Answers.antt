@@ -1,0 +1,18 @@
+use Rattle.std.proofs.Common.{[], arith, refl, sym, subst}
+use Rattle.name_index.specs.Table.{Names}
+use Rattle.names_in_order.specs.InOrder.{Roll}
+use Rattle.cpe_dictionary.specs.Kept.{Stored}
+use Rattle.cpe_registry.specs.Registered.{AreFitting}
+use Rattle.cpe_registry.proofs.registry.Registry.new.Goals as goal
+
+pub invariant_of-result : goal.invariant_of-result
+invariant_of-result c =
+    let none : Roll = record { held = []; numbers = [] } in
+    let empty : Stored = record { names = none; details = []; nodes = [] } in
+    let fit : AreFitting [] empty none =
+    record {
+      entries = record { order = c.orders_stay.ensures.empty []; even = refl; kept = record { lawful = c.rows_stay_lawful.ensures.start.dictionary; few = omega arith; numbered = refl } };
+      items = c.orders_stay.ensures.empty [];
+    } in
+    subst (λ (t : Names). AreFitting t c.new-2.result c.new-3.result) (sym c.new.ensures)
+    (subst (λ (s : Stored). AreFitting [] s c.new-3.result) (sym c.new-2.ensures) (subst (λ (r : Roll). AreFitting [] empty r) (sym c.new-3.ensures) fit))

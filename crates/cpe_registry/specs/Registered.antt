@@ -1,0 +1,30 @@
+-- A registry: one table of names, of which entries (NIST IR 7697) and items (NIST IR 7698) keep numbers.
+use Rattle.std.specs.Prelude.{◌++◌, List}
+use Rattle.cpe_name.specs.declared.name.Values.{Values}
+use Rattle.cpe_rows.specs.declared.entry.Entry.{Entry}
+use Rattle.name_index.specs.declared.table.NameId.{NameId}
+use Rattle.name_index.specs.Table.{Names, kept_at}
+use Rattle.names_in_order.specs.InOrder.{AreInOrder, Roll, names_numbered}
+use Rattle.numbered_names.specs.Shown.{Shows, holds_in}
+use Rattle.cpe_dictionary.specs.Kept.{entries_in, FitsTable, names_of, Stored}
+
+pub record Registered : Type 0 where
+  pub table : Names
+  pub entries : List Entry
+  pub items : List Values
+
+abbrev pub registered : Names → Stored → Roll → Registered
+registered table s r = record { table = table; entries = entries_in table s; items = names_numbered table r.numbers }
+
+-- dictionary and items fit the table
+pub record AreFitting (table : Names) (s : Stored) (r : Roll) : Type 0 where
+  pub entries : FitsTable table s
+  pub items : AreInOrder table r.held r.numbers
+
+-- the name of a number
+abbrev pub name_in : Names → NameId → Values
+name_in table id = (kept_at table id.0).name
+
+-- the table holds the names of entries and items, these others besides, each as often as it is one, and no more
+abbrev pub AreHeld : Registered → List Values → Type 0
+AreHeld r others = Shows r.table (holds_in r.table) (others ++ (names_of r.entries ++ r.items))

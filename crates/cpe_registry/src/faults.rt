@@ -1,0 +1,39 @@
+// Why entries and items can't be added, and changes of deprecations not made.
+ghost use Rattle.std.specs.Prelude.{◌≡◌};
+ghost use Rattle.cpe_rows.specs.Causes.{entry_causes, item_causes};
+ghost use Rattle.cpe_rows.specs.Prelude.{first_some};
+ghost use Rattle.cpe_rows.specs.declared.entry.Entry.{Entry};
+ghost use Rattle.name_index.specs.Table.{IsLive};
+ghost use Rattle.cpe_registry.specs.Registered.{name_in};
+
+use crate::registry::Registry;
+use cpe_rows::{EditFault, MOST_ITEMS, Which, has_wildcards};
+use name_index::NameId;
+
+impl Registry {
+    /// The first fault of an entry of this name that is to be added, but for the weight. It takes no memory.
+    pub fn entry_fault(&self, id: NameId) -> Option<EditFault>
+        requires { IsLive self.now.table id.0 }
+        ensures { (entry : Entry) → entry.name ≡ name_in self.now.table id → result ≡ first_some (entry_causes self.now.entries entry) }
+    {
+        let number = self.entry_number(id);
+        self.dictionary().entry_fault(self.name(id), number)
+    }
+
+    /// The first fault of an item of this name that is to be added, but for the weight. It takes no memory.
+    pub fn item_fault(&self, id: NameId) -> Option<EditFault>
+        requires { IsLive self.now.table id.0 }
+        ensures { result ≡ first_some (item_causes self.now.items (name_in self.now.table id)) }
+    {
+        if has_wildcards(self.name(id)) {
+            return Some(EditFault::Wildcards);
+        }
+        if self.has_item(id) {
+            return Some(EditFault::Exists);
+        }
+        if self.items().len() >= MOST_ITEMS {
+            return Some(EditFault::Full(Which::Items));
+        }
+        None
+    }
+}

@@ -1,0 +1,12 @@
+//! The names that are known, and who holds them: one table of names, and the entries of a dictionary and the items of an inventory
+//! (NIST IR 7697, 7698), which keep numbers of it.
+//!
+//! A [`Registry`] holds a name once for each entry and each item that it is; others, an edit on its way or a statement, may hold names
+//! besides. A name is moved in and found by its hash once ([`Registry::hold`], [`Registry::find`]); what comes behind goes by its
+//! number. That the table has these names and no other is one fact, `AreHeld`, which each call says how it changes.
+#![tactic(auto)]
+
+mod faults;
+mod registry;
+
+pub use registry::Registry;

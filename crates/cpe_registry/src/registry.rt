@@ -1,0 +1,250 @@
+// One table of names, and the entries and items that keep numbers of it.
+ghost use Rattle.std.specs.Prelude.{◌≡◌, ◌+◌, ◌++◌, ◌∷◌, [], ◌<◌, ◌≤◌, ℕ, IfOk, IfSome, IsNone, List, None, OnErr, OnOk, false, length, position, true};
+ghost use Rattle.std.specs.List.{list_any};
+ghost use Rattle.cpe_name.specs.Lower.{IsLower};
+ghost use Rattle.cpe_name.specs.declared.name.Values.{Values};
+ghost use Rattle.cpe_rows.specs.Names.{is_same};
+ghost use Rattle.cpe_rows.specs.Prelude.{is_named, IsDictionary, most, without_first};
+ghost use Rattle.cpe_rows.specs.declared.fault.Which.TheVariants as limit;
+ghost use Rattle.name_index.specs.Table.{AreNames, HasName, Holds, IsLive, kept_at, Releases};
+ghost use Rattle.cpe_inventory.specs.Slots.{slot_names};
+ghost use Rattle.cpe_dictionary.specs.Kept.{new_entry, rewritten, written};
+ghost use Rattle.cpe_dictionary.specs.Plans.{IsAllowed, numbered};
+ghost use Rattle.cpe_registry.specs.Registered.{AreHeld, name_in};
+
+use cpe_dictionary::{Dictionary, KeptDictionary, Plan};
+use cpe_inventory::{Items, item_laws};
+use cpe_name::Wfn;
+use cpe_rows::{Deprecation, Note, Provenance, Text, names_are_equal, rows_stay_lawful};
+use cpe_values::Memory;
+use name_index::{NameId, NameTable};
+use names_in_order::{ChangingNames, orders_stay};
+use numbered_names::{lists_are_shown, tables_are_lists};
+use std::alloc::Global;
+use std::marker::Model;
+
+/// One table of names, and the entries of a dictionary and the items of an inventory (NIST IR 7697, 7698), which keep numbers of it.
+/// Contracts see the table, the entries and the items.
+#[derive(Drop)]
+pub struct Registry {
+    table: NameTable,
+    dictionary: KeptDictionary,
+    items: ChangingNames,
+}
+
+impl Model for Registry {
+    ghost use Rattle.cpe_registry.specs.Registered.{AreFitting, Registered, registered};
+
+    ghost Value = { Registered };
+
+    ghost view = { λ r. registered r.table r.dictionary r.items };
+
+    ghost invariant = { λ r. AreFitting r.table r.dictionary r.items };
+}
+
+impl Registry {
+    /// A registry without names. It takes no memory.
+    pub fn new(alloc: Global) -> Registry
+        ensures rows { result ≡ record { table = []; entries = []; items = [] } }
+        ensures held { AreHeld result [] }
+    {
+        lists_are_shown();
+        orders_stay();
+        rows_stay_lawful();
+        Registry {
+            table: NameTable::new(alloc),
+            dictionary: KeptDictionary::new(alloc),
+            items: ChangingNames::new(alloc),
+        }
+    }
+
+    /// What is so of every table of names. It does nothing, and tells a proof so.
+    pub fn lawful(&self)
+        ensures { AreNames self.now.table }
+    {
+        self.table.lawful();
+    }
+
+    /// The entries.
+    pub fn dictionary(&self) -> Dictionary<'_>
+        ensures { result ≡ self.now.entries }
+    {
+        self.dictionary.with(&self.table)
+    }
+
+    /// The items.
+    pub fn items(&self) -> Items<'_>
+        ensures { result ≡ self.now.items }
+    {
+        Items::new(&self.table, &self.items)
+    }
+
+    /// The table of names.
+    pub fn table(&self) -> &NameTable
+        ensures { result.now ≡ self.now.table }
+    {
+        &self.table
+    }
+
+    /// The items by their numbers in the table, with marks among them where some went.
+    pub fn item_slots(&self) -> &[Option<NameId>]
+        ensures { slot_names self.now.table result.now ≡ self.now.items }
+    {
+        self.items.slots()
+    }
+
+    /// The number of a name, by its hash. A name without a number is that of no entry and of no item.
+    pub fn find(&self, name: &Wfn) -> Option<NameId>
+        ensures live { IfSome result (λ id. IsLive self.now.table id.0) }
+        ensures named { IfSome result (λ id. name_in self.now.table id ≡ name.now) }
+        ensures no_entry { IsNone result → list_any (is_named name.now) self.now.entries ≡ false }
+        ensures no_item { IsNone result → list_any (is_same name.now) self.now.items ≡ false }
+    {
+        item_laws();
+        self.table.find(name)
+    }
+
+    /// The name of a number. It is no look.
+    pub fn name(&self, id: NameId) -> &Wfn
+        requires { IsLive self.now.table id.0 }
+        ensures { result.now ≡ name_in self.now.table id }
+    {
+        self.table.name(id)
+    }
+
+    /// The number of the entry of this name, if it is one. It looks at one place alone.
+    pub fn entry_number(&self, id: NameId) -> Option<u32>
+        requires { IsLive self.now.table id.0 }
+        ensures { result ≡ position (is_named (name_in self.now.table id)) self.now.entries }
+    {
+        self.dictionary.number_of(&self.table, id)
+    }
+
+    /// Whether an item has this name. It looks at one place alone.
+    pub fn has_item(&self, id: NameId) -> bool
+        requires { IsLive self.now.table id.0 }
+        ensures { result ≡ list_any (is_same (name_in self.now.table id)) self.now.items }
+    {
+        self.table.lawful();
+        item_laws();
+        self.items.has(id)
+    }
+}
+
+impl Registry {
+    /// The number of a name in lower case, which is held once more: besides entries and items, until it is one of them or
+    /// [released](Registry::release). It is moved, and found by its hash.
+    ///
+    /// # Errors
+    /// Want of memory alone; all is then as it was.
+    pub fn hold(&mut self, name: Wfn) -> Result<NameId, Memory>
+        requires lower { IsLower name }
+        requires few { (id : ℕ) → HasName self.old.table id name → (kept_at self.old.table id).holds < 4294967295 }
+        ensures live { IfOk result (λ id. IsLive self.new.table id.0) }
+        ensures named { IfOk result (λ id. name_in self.new.table id ≡ name) }
+        ensures held { IfOk result (λ id. Holds self.old.table self.new.table id.0 name) }
+        ensures entries { self.new.entries ≡ self.old.entries }
+        ensures items { self.new.items ≡ self.old.items }
+        ensures others { (others : List Values) → AreHeld self.old others → OnOk result (AreHeld self.new (name ∷ others)) }
+        ensures err { OnErr result (self.new ≡ self.old) }
+    {
+        orders_stay();
+        tables_are_lists();
+        self.table.hold_moved(name)
+    }
+
+    /// Lets a name go that is held besides entries and items. It takes no memory.
+    pub fn release(&mut self, id: NameId)
+        requires live { IsLive self.old.table id.0 }
+        requires held { (others : List Values) × AreHeld self.old (name_in self.old.table id ∷ others) }
+        ensures released { Releases self.old.table self.new.table id.0 }
+        ensures entries { self.new.entries ≡ self.old.entries }
+        ensures items { self.new.items ≡ self.old.items }
+        ensures others { (others : List Values) → AreHeld self.old (name_in self.old.table id ∷ others) → AreHeld self.new others }
+    {
+        self.table.lawful();
+        orders_stay();
+        tables_are_lists();
+        self.table.release(id);
+    }
+
+    /// Puts an active entry last, which takes a hold of its name over. No entry has the name.
+    ///
+    /// # Errors
+    /// Want of memory alone; all is then as it was.
+    pub fn add_entry(
+        &mut self,
+        id: NameId,
+        title: Text,
+        provenance: Provenance,
+    ) -> Result<(), Memory>
+        requires live { IsLive self.old.table id.0 }
+        requires absent { list_any (is_named (name_in self.old.table id)) self.old.entries ≡ false }
+        requires few { length self.old.entries + 1 ≤ most limit.Entries }
+        requires lawful { IsDictionary (self.old.entries ++ new_entry (name_in self.old.table id) title provenance ∷ []) }
+        ensures table { self.new.table ≡ self.old.table }
+        ensures items { self.new.items ≡ self.old.items }
+        ensures ok { OnOk result (self.new.entries ≡ self.old.entries ++ new_entry (name_in self.old.table id) title provenance ∷ []) }
+        ensures others { (others : List Values) → AreHeld self.old (name_in self.old.table id ∷ others) → OnOk result (AreHeld self.new others) }
+        ensures err { OnErr result (self.new ≡ self.old) }
+    {
+        lists_are_shown();
+        self.dictionary.add(&self.table, id, title, provenance)
+    }
+
+    /// Makes a planned change: the entry gets this deprecation, or none, and a note, if there is one, that goes last.
+    ///
+    /// # Errors
+    /// Want of memory alone; all is then as it was.
+    pub fn change(
+        &mut self,
+        plan: &Plan,
+        deprecation: Option<Deprecation>,
+        note: Option<Note>,
+    ) -> Result<(), Memory>
+        requires numbers { plan.now.next ≡ numbered self.old.entries deprecation }
+        requires allowed { IsAllowed self.old.entries plan.now.number plan.now.next }
+        requires lawful { IsDictionary (written (rewritten deprecation note) plan.now.number self.old.entries) }
+        ensures table { self.new.table ≡ self.old.table }
+        ensures items { self.new.items ≡ self.old.items }
+        ensures ok { OnOk result (self.new.entries ≡ written (rewritten deprecation note) plan.now.number self.old.entries) }
+        ensures others { (others : List Values) → AreHeld self.old others → AreHeld self.new others }
+        ensures err { OnErr result (self.new ≡ self.old) }
+    {
+        self.dictionary.commit(&self.table, plan, deprecation, note)
+    }
+
+    /// Puts an item last, which takes a hold of its name over. No item has the name.
+    ///
+    /// # Errors
+    /// Want of memory alone; all is then as it was.
+    pub fn add_item(&mut self, id: NameId) -> Result<(), Memory>
+        requires live { IsLive self.old.table id.0 }
+        requires absent { list_any (is_same (name_in self.old.table id)) self.old.items ≡ false }
+        ensures table { self.new.table ≡ self.old.table }
+        ensures entries { self.new.entries ≡ self.old.entries }
+        ensures ok { OnOk result (self.new.items ≡ self.old.items ++ name_in self.old.table id ∷ []) }
+        ensures others { (others : List Values) → AreHeld self.old (name_in self.old.table id ∷ others) → OnOk result (AreHeld self.new others) }
+        ensures err { OnErr result (self.new ≡ self.old) }
+    {
+        item_laws();
+        orders_stay();
+        lists_are_shown();
+        self.items.push(&self.table, id)
+    }
+
+    /// Takes an item out. Its hold of the name is another's then, until it is [released](Registry::release). It takes no memory.
+    pub fn drop_item(&mut self, id: NameId)
+        requires live { IsLive self.old.table id.0 }
+        requires has { list_any (is_same (name_in self.old.table id)) self.old.items ≡ true }
+        ensures table { self.new.table ≡ self.old.table }
+        ensures entries { self.new.entries ≡ self.old.entries }
+        ensures items { self.new.items ≡ without_first (is_same (name_in self.old.table id)) self.old.items }
+        ensures others { (others : List Values) → AreHeld self.old others → AreHeld self.new (name_in self.old.table id ∷ others) }
+    {
+        self.table.lawful();
+        item_laws();
+        lists_are_shown();
+        self.items.remove(&self.table, id);
+    }
+}
