@@ -156,22 +156,22 @@ pub record Leaves (rows : Rows) (e : Edit) (p : Plan) : Type 0 where
   pub left : AreLeftBy rows.entries p (after rows e).entries
 
 module _ (rows : Rows) (writes : WritesByNumber) where
-  by_plan : (n : Values) (d : Option Deprecation) (now : Note) (p : Plan) (left : List Entry) → IsPlan rows.entries n d p → left ≡ changed (rewritten d now) n rows.entries → AreLeftBy rows.entries p left
+  by_plan : (n : Values) (d : Option Deprecation) (now : Option Note) (p : Plan) (left : List Entry) → IsPlan rows.entries n d p → left ≡ changed (rewritten d now) n rows.entries → AreLeftBy rows.entries p left
   by_plan n d now p left plan is =
       record { deprecation = d; note = now; next = plan.next; written = is ∙ sym (written_changed rows.entries n p.number d now writes plan.place) }
 
   pub leaves : (e : Edit) (p : Plan) (n : Values) → deprecation_changed e ≡ Some n → IsPlanned rows.entries e (Some p) → Leaves rows e p
   leaves (edit.Deprecate n d date comment) p m h plan = record {
     allowed = plan.allowed;
-    left = by_plan n (Some d) (record { kind = note.Deprecation; date = date; comment = comment }) p (after rows (edit.Deprecate n d date comment)).entries plan refl;
+    left = by_plan n (Some d) (Some (record { kind = note.Deprecation; date = date; comment = comment })) p (after rows (edit.Deprecate n d date comment)).entries plan refl;
   }
   leaves (edit.Amend n d date comment) p m h plan = record {
     allowed = plan.allowed;
-    left = by_plan n (Some d) (record { kind = note.DeprecationModification; date = date; comment = comment }) p (after rows (edit.Amend n d date comment)).entries plan refl;
+    left = by_plan n (Some d) (Some (record { kind = note.DeprecationModification; date = date; comment = comment })) p (after rows (edit.Amend n d date comment)).entries plan refl;
   }
   leaves (edit.Restore n date comment) p m h plan = record {
     allowed = plan.allowed;
-    left = by_plan n None (record { kind = note.DeprecationModification; date = date; comment = comment }) p (after rows (edit.Restore n date comment)).entries plan refl;
+    left = by_plan n None (Some (record { kind = note.DeprecationModification; date = date; comment = comment })) p (after rows (edit.Restore n date comment)).entries plan refl;
   }
   leaves (edit.Entry e) p m h plan = absurd (none-some m h)
   leaves (edit.Item n) p m h plan = absurd (none-some m h)

@@ -1,7 +1,8 @@
 -- What follows for the lists of rows where an edit has no fault.
-use Rattle.std.proofs.Common.{◌≡◌, ◌≤◌, ◌<◌, ◌+◌, ◌∙◌, ℕ, ap, sym, subst, zero-add, Bool, true, false, List, ◌∷◌, arith, refl, Some, None}
+use Rattle.std.proofs.Common.{◌≡◌, ◌≤◌, ◌<◌, ◌+◌, ◌∙◌, ℕ, ap, sym, subst, zero-add, Bool, true, false, List, [], ◌∷◌, ◌++◌, length, arith, refl, Some, None}
 use Rattle.std.proofs.Math.Nat.{min-eq_left}
 use Rattle.std.proofs.lemmas.Bool.{le-ltb, lt-ltb, ltb-false}
+use Rattle.std.proofs.lemmas.List.{length-map}
 use Rattle.std.specs.Prelude.{Option, Result, Ok, Err, OnOk, OnErr}
 use Rattle.cpe_rows.specs.After.{after}
 use Rattle.cpe_rows.specs.Causes.{heavy}
@@ -18,7 +19,16 @@ use Rattle.cpe_rows.specs.declared.fault.EditFault.TheVariants as fault
 use Rattle.cpe_rows.specs.declared.fault.Which.TheVariants as limit
 use Rattle.cpe_rows.proofs.Limited.{each_within}
 use Rattle.cpe_weight.specs.Capped.{capped}
-use Rattle.cpe_engine.specs.Parts.{AreKept, AreStored, rows_in}
+use Rattle.cpe_name.specs.declared.name.Values.{Values}
+use Rattle.cpe_rows.specs.declared.entry.Entry.{Entry}
+use Rattle.cpe_rows.specs.declared.statement.Statement.{Statement}
+use Rattle.cpe_rows.specs.declared.test.CheckKey.{CheckKey}
+use Rattle.cpe_rows.specs.declared.truth.Truth.{Truth}
+use Rattle.name_index.specs.Table.{kept_at}
+use Rattle.numbered_names.specs.Shown.{holds_in}
+use Rattle.cpe_dictionary.specs.Kept.{names_of}
+use Rattle.cpe_registry.specs.Registered.{AreHeld, Registered}
+use Rattle.cpe_engine.specs.Parts.{AreKept, rows_in}
 use Rattle.cpe_engine.specs.declared.parts.Parts.{Parts}
 
 -- where there is no cause, this isn't one, and there is none behind it
@@ -71,9 +81,31 @@ is_light next n counted below =
     }
 
 -- lawful rows, and the weight that they were found to have
-pub stay_kept : (made : Parts) (rows : Rows) (n : ℕ) → IsLawful rows → rows_in made ≡ rows → made.weight ≡ n → n ≡ weight rows → AreStored made → AreKept made
-stay_kept made rows n lawful same weighed weighs stored = record {
+pub stay_kept : (made : Parts) (rows : Rows) (n : ℕ) → IsLawful rows → rows_in made ≡ rows → made.weight ≡ n → n ≡ weight rows → AreHeld made.registry [] → AreKept made
+stay_kept made rows n lawful same weighed weighs held = record {
   lawful = subst IsLawful (sym same) lawful;
   weight = weighed ∙ weighs ∙ ap weight (sym same);
-  stored = stored;
+  held = held;
 }
+
+-- ---- rows, list by list
+
+pub rows_by : (es fs : List Entry) (is js : List Values) (statements : List Statement) (checks : List (CheckKey × Truth)) → es ≡ fs → is ≡ js
+    → ◌≡◌ {A = Rows} (record { entries = es; items = is; statements = statements; checks = checks }) (record { entries = fs; items = js; statements = statements; checks = checks })
+rows_by es fs is js statements checks e i = λ k. record { entries = e k; items = i k; statements = statements; checks = checks }
+
+-- ---- holds are few
+
+pub few_holds : (r : Registered) → ((id : ℕ) → holds_in r.table id ≤ length (names_of r.entries ++ r.items)) → length r.entries ≤ 2000000 → length r.items ≤ 1000000 → (id : ℕ) → (kept_at r.table id).holds < 4294967295
+few_holds r few entries items id = omega (arith, few id, length_append (names_of r.entries) r.items, length-map r.entries (λ (e : Entry). e.name), entries, items)
+  where
+    length_append : (xs ys : List Values) → length (xs ++ ys) ≡ length xs + length ys
+    length_append [] ys = omega arith
+    length_append (x ∷ xs) ys = omega (arith, length_append xs ys)
+
+-- rows within their limits have so many
+pub entries_within : (rows : Rows) → AreWithin rows → length rows.entries ≤ 2000000
+entries_within rows h = ltb-false (most limit.Entries) (length rows.entries) (each_within rows h limit.Entries)
+
+pub items_within : (rows : Rows) → AreWithin rows → length rows.items ≤ 1000000
+items_within rows h = ltb-false (most limit.Items) (length rows.items) (each_within rows h limit.Items)

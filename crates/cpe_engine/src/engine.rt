@@ -65,9 +65,9 @@ impl Engine {
         ensures { result ≡ counts_of self.now }
     {
         Counts {
-            entries: self.parts.dictionary().len() as u64,
-            deprecated: self.parts.dictionary().count_deprecated() as u64,
-            items: self.parts.items.len() as u64,
+            entries: self.parts.registry.dictionary().len() as u64,
+            deprecated: self.parts.registry.dictionary().count_deprecated() as u64,
+            items: self.parts.registry.items().len() as u64,
             statements: self.parts.statements.len() as u64,
             facts: self.parts.statements.facts() as u64,
             checks: self.parts.checks.len() as u64,
@@ -83,7 +83,7 @@ impl Engine {
     }
 
     /// Makes an edit, and doesn't tell which verdicts it changes, so it evaluates nothing: the rows are then those that it leaves.
-    /// What it brings is moved in; the name of an entry or of an item is copied once besides. It takes no step.
+    /// What it brings is moved in. It takes no step.
     ///
     /// The edit is in order ([`Edit::valid`]), so the rows stay lawful ([`rows_stay_lawful`]).
     ///
@@ -95,16 +95,11 @@ impl Engine {
         ensures counts { steps.new ≡ steps.old }
     {
         let _ = steps;
-        rows_stay_lawful();
-        let checked = match self.parts.check(&edit) {
-            Ok(checked) => checked,
-            Err(fault) => {
-                drop(edit);
-                return Err(fault);
-            }
-        };
-        self.parts.commit(self.alloc, edit, checked)?;
-        Ok(())
+        let numbered = self.parts.number(edit)?;
+        match self.parts.check(&numbered) {
+            Ok(checked) => Ok(self.parts.commit(self.alloc, numbered, checked)?),
+            Err(fault) => Err(self.parts.refuse(numbered, fault)),
+        }
     }
 
     /// Makes an edit as [`edit`](Self::edit) does, and answers which verdicts it changes, in the order of the statements. It
@@ -123,11 +118,14 @@ impl Engine {
         ensures counts { steps.new ≡ steps.old }
     {
         let _ = steps;
-        rows_stay_lawful();
-        let checked = self.parts.check(&edit)?;
-        let changes = self.parts.find_changes(self.alloc, &edit, &checked.plan)?;
-        self.parts.commit(self.alloc, edit, checked)?;
-        Ok(changes)
+        let numbered = self.parts.number(edit)?;
+        match self.parts.foresee(self.alloc, &numbered) {
+            Ok((checked, changes)) => {
+                self.parts.commit(self.alloc, numbered, checked)?;
+                Ok(changes)
+            }
+            Err(fault) => Err(self.parts.refuse(numbered, fault)),
+        }
     }
 
     /// The answer to a query. That there is no entry or statement of a name or id is an answer too. The name or id is moved
@@ -162,14 +160,14 @@ impl Engine {
     fn lookup(&self, name: Wfn) -> Reply
         ensures { result ≡ answer self.now (Query.Lookup name) }
     {
-        let state = self.parts.dictionary().state_of(&name);
+        let state = self.parts.registry.dictionary().state_of(&name);
         Reply::Lookup { name, state }
     }
 
     fn show(&self, alloc: Global, name: Wfn) -> Result<Reply, Memory>
         ensures { IfOk result (λ r. r ≡ answer self.now (Query.Show name)) }
     {
-        match self.parts.dictionary().entry_of(alloc, &name) {
+        match self.parts.registry.dictionary().entry_of(alloc, &name) {
             Ok(entry) => Ok(Reply::Show { name, entry }),
             Err(memory) => Err(let_go(name, memory)),
         }
@@ -187,7 +185,7 @@ impl Engine {
         ensures steps { StepsWithin steps.old steps.new (looks self.now (Query.Search name active_only)) }
     {
         names_are_equal();
-        let dictionary = self.parts.dictionary();
+        let dictionary = self.parts.registry.dictionary();
         match dictionary.rows_found(alloc, &name, active_only, steps) {
             Ok(rows) => Ok(Reply::Search { name, rows }),
             Err(memory) => Err(let_go(name, memory)),
@@ -205,7 +203,7 @@ impl Engine {
         ensures steps { StepsWithin steps.old steps.new (looks self.now (Query.Items name)) }
     {
         names_are_equal();
-        match self.parts.items().covered(alloc, &name, steps) {
+        match self.parts.registry.items().covered(alloc, &name, steps) {
             Ok(rows) => Ok(Reply::Items { name, rows }),
             Err(memory) => Err(let_go(name, memory)),
         }
@@ -214,7 +212,7 @@ impl Engine {
     fn chain(&self, alloc: Global, name: Wfn) -> Result<Reply, Memory>
         ensures { IfOk result (λ r. r ≡ answer self.now (Query.Chain name)) }
     {
-        match self.parts.dictionary().chain(alloc, &name) {
+        match self.parts.registry.dictionary().chain(alloc, &name) {
             Ok((links, ends)) => Ok(Reply::Chain { name, links, ends }),
             Err(memory) => Err(let_go(name, memory)),
         }

@@ -1,117 +1,133 @@
 // Items that come and go.
-ghost use Rattle.std.specs.Prelude.{◌≡◌, ◌≢◌, ◌++◌, ◌∷◌, [], ◌<◌, ℕ, None, OnOk, OnErr, Some, false, slice_get, true};
-ghost use Rattle.std.specs.List.{list_any};
-ghost use Rattle.cpe_name.specs.Equal.{same_name};
-ghost use Rattle.cpe_name.specs.Lower.{IsLower};
-ghost use Rattle.cpe_rows.specs.Names.{is_same};
-ghost use Rattle.cpe_rows.specs.Prelude.{after, causes, first_some, is_valid_edit, IsLawful, without_first};
+ghost use Rattle.std.specs.Prelude.{◌≡◌, ◌∷◌, [], IfErr, IfOk, None, OnErr, OnOk, Some, true};
+ghost use Rattle.cpe_inventory.specs.Asked.{all_names};
+ghost use Rattle.cpe_rows.specs.Prelude.{after, causes, changes, first_some, is_valid_edit, IsAccepted, IsCause, IsLawful};
 ghost use Rattle.cpe_rows.specs.declared.edit.Edit.TheVariants as edit;
-ghost use Rattle.name_index.specs.Index.{name_id};
-ghost use Rattle.name_index.specs.Table.{HasName, Holds, IsLive, kept_at, Releases};
-ghost use Rattle.names_in_order.specs.InOrder.{AreInOrder, KeepsAll, names_numbered};
-ghost use Rattle.cpe_engine.specs.Parts.{AreStored, IsTaken, rows_in};
+ghost use Rattle.name_index.specs.Table.{IsLive};
+ghost use Rattle.cpe_registry.specs.Registered.{AreHeld, name_in};
+ghost use Rattle.cpe_engine.specs.Changing.{item_moved};
+ghost use Rattle.cpe_engine.specs.Numbered.{IsFound, names_coming};
+ghost use Rattle.cpe_engine.specs.Parts.{AreKept, edit_in, rows_in};
 
+use crate::numbered::Numbered;
 use crate::parts::Parts;
-use cpe_inventory::item_laws;
+use crate::prospect::Prospect;
+use crate::scene::Scene;
+use crate::touch::Touch;
+use cpe_changes::{find_changes, items_touch};
+use cpe_inventory::Names;
 use cpe_name::Wfn;
-use cpe_rows::names_are_equal;
+use cpe_rows::{Changed, EditFault, List, names_are_equal};
 use cpe_values::Memory;
-use name_index::{NameId, NameTable};
-use names_in_order::{ChangingNames, orders_stay};
-use numbered_names::{lists_are_shown, tables_are_lists};
-
-// Puts an item last whose name is held, or releases the name again.
-fn put_held(table: &mut NameTable, items: &mut ChangingNames, id: NameId) -> Result<(), Memory>
-    requires order { AreInOrder table.old items.old.held items.old.numbers }
-    requires live { IsLive table.old id.0 }
-    requires fresh { list_any (same_name (kept_at table.old id.0).name) (names_numbered table.old items.old.numbers) ≡ false }
-    ensures table { OnOk result (table.new ≡ table.old) }
-    ensures order { OnOk result (AreInOrder table.old items.new.held items.new.numbers) }
-    ensures ok { OnOk result (items.new.numbers ≡ items.old.numbers ++ id ∷ []) }
-    ensures released { OnErr result (Releases table.old table.new id.0) }
-    ensures err { OnErr result (items.new ≡ items.old) }
-{
-    match items.push(table, id) {
-        Ok(()) => Ok(()),
-        Err(memory) => {
-            table.release(id);
-            Err(memory)
-        }
-    }
-}
-
-// Holds the name of an item, and puts the item last.
-fn put_item(table: &mut NameTable, items: &mut ChangingNames, name: Wfn) -> Result<(), Memory>
-    requires order { AreInOrder table.old items.old.held items.old.numbers }
-    requires lower { IsLower name }
-    requires fresh { list_any (same_name name) (names_numbered table.old items.old.numbers) ≡ false }
-    requires holds { (id : ℕ) → (kept_at table.old id).holds < 4294967295 }
-    ensures held { OnOk result ((id : ℕ) × Holds table.old table.new id name) }
-    ensures order { OnOk result (AreInOrder table.new items.new.held items.new.numbers) }
-    ensures ok { OnOk result (names_numbered table.new items.new.numbers ≡ names_numbered table.old items.old.numbers ++ name ∷ []) }
-    ensures kept { OnErr result (KeepsAll table.old table.new) }
-    ensures err { OnErr result (items.new ≡ items.old) }
-{
-    orders_stay();
-    table.lawful();
-    match table.hold_moved(name) {
-        Ok(id) => put_held(table, items, id),
-        Err(memory) => Err(memory),
-    }
-}
-
-// Takes the item of a name out, and releases the name.
-fn take_item(table: &mut NameTable, items: &mut ChangingNames, name: &Wfn)
-    requires order { AreInOrder table.old items.old.held items.old.numbers }
-    requires has { list_any (is_same name.now) (names_numbered table.old items.old.numbers) ≡ true }
-    ensures { IsTaken table.old table.new name.now items.old items.new }
-{
-    orders_stay();
-    item_laws();
-    table.lawful();
-    let Some(number) = items.find(table, name) else {
-        unreachable!();
-    };
-    items.remove(table, number);
-    table.release(number);
-}
+use name_index::NameId;
+use numbered_names::lists_are_shown;
+use std::alloc::Global;
 
 impl Parts {
-    /// Puts an item last that has no fault.
+    /// An item that comes: its name is held.
+    ///
+    /// # Errors
+    /// Want of memory alone; all is then as it was.
+    pub(crate) fn number_item(&mut self, name: Wfn) -> Result<Numbered, Memory>
+        requires kept { AreKept self.old }
+        requires valid { is_valid_edit (edit.Item name) ≡ true }
+        ensures rows { rows_in self.new ≡ rows_in self.old }
+        ensures weight { self.new.weight ≡ self.old.weight }
+        ensures edit { IfOk result (λ n. edit_in self.new n ≡ edit.Item name) }
+        ensures found { IfOk result (IsFound self.new.registry.table) }
+        ensures held { IfOk result (λ n. AreHeld self.new.registry (names_coming self.new.registry.table n)) }
+        ensures err { OnErr result (AreHeld self.new.registry []) }
+    {
+        names_are_equal();
+        lists_are_shown();
+        let id = self.registry.hold(name)?;
+        Ok(Numbered::Item(id))
+    }
+
+    /// An item that goes, by its name, which is let go.
+    ///
+    /// # Errors
+    /// That nothing has this name.
+    pub(crate) fn number_dropped_item(&self, name: Wfn) -> Result<Numbered, EditFault>
+        ensures edit { IfOk result (λ n. edit_in self.now n ≡ edit.DropItem name) }
+        ensures found { IfOk result (IsFound self.now.registry.table) }
+        ensures coming { IfOk result (λ n. names_coming self.now.registry.table n ≡ []) }
+        ensures err { IfErr result (λ f. IsCause f (first_some (causes (rows_in self.now) (edit.DropItem name)))) }
+    {
+        let found = self.registry.find(&name);
+        drop(name);
+        match found {
+            Some(id) => Ok(Numbered::DropItem(id)),
+            None => Err(EditFault::Unknown),
+        }
+    }
+
+    /// The verdicts that change with an item that comes or goes; `names` are those of the items behind that.
+    ///
+    /// # Errors
+    /// Want of memory alone.
+    pub(crate) fn item_changes(
+        &self,
+        alloc: Global,
+        numbered: &Numbered,
+        item: &Wfn,
+        names: Names,
+    ) -> Result<List<Changed>, Memory>
+        requires accepted { IsAccepted (rows_in self.now) (edit_in self.now numbered.now) (after (rows_in self.now) (edit_in self.now numbered.now)) }
+        requires moved { item_moved (edit_in self.now numbered.now) ≡ Some item.now }
+        requires names { all_names names ≡ (after (rows_in self.now) (edit_in self.now numbered.now)).items }
+        ensures { IfOk result (λ cs. cs ≡ changes (rows_in self.now) (edit_in self.now numbered.now)) }
+    {
+        items_touch();
+        let trails = self.trails();
+        let before = self.scene(&trails);
+        let mut ends = List::new(alloc);
+        trails.push_ends(alloc, item, &mut ends)?;
+        let touch = Touch::Item {
+            trails: &trails,
+            item,
+            ends,
+        };
+        let after = Scene {
+            items: names,
+            ..before
+        };
+        let mut prospect = Prospect::new(self, numbered, before, after, touch);
+        find_changes(alloc, self.statements.as_slice(), &mut prospect)
+    }
+
+    /// Puts an item last that has no fault, or lets its name go.
     ///
     /// # Errors
     /// Want of memory alone; the rows are then as they were.
-    pub(crate) fn add_item(&mut self, name: Wfn) -> Result<(), Memory>
-        requires stored { AreStored self.old }
-        requires valid { is_valid_edit (edit.Item name) ≡ true }
-        requires none { first_some (causes (rows_in self.old) (edit.Item name)) ≡ None }
-        requires lawful { IsLawful (after (rows_in self.old) (edit.Item name)) }
-        ensures stored { AreStored self.new }
-        ensures ok { OnOk result (rows_in self.new ≡ after (rows_in self.old) (edit.Item name)) }
+    pub(crate) fn add_item(&mut self, id: NameId) -> Result<(), Memory>
+        requires live { IsLive self.old.registry.table id.0 }
+        requires held { AreHeld self.old.registry (name_in self.old.registry.table id ∷ []) }
+        requires none { first_some (causes (rows_in self.old) (edit.Item (name_in self.old.registry.table id))) ≡ None }
+        ensures held { AreHeld self.new.registry [] }
+        ensures ok { OnOk result (rows_in self.new ≡ after (rows_in self.old) (edit.Item (name_in self.old.registry.table id))) }
         ensures weight { self.new.weight ≡ self.old.weight }
         ensures err { OnErr result (rows_in self.new ≡ rows_in self.old) }
     {
-        names_are_equal();
-        item_laws();
-        orders_stay();
-        tables_are_lists();
-        lists_are_shown();
-        put_item(&mut self.table, &mut self.items, name)
+        match self.registry.add_item(id) {
+            Ok(()) => Ok(()),
+            Err(memory) => {
+                self.registry.release(id);
+                Err(memory)
+            }
+        }
     }
 
-    /// Drops the item of this name, which is there. It takes no memory.
-    pub(crate) fn drop_item(&mut self, name: Wfn)
-        requires stored { AreStored self.old }
-        requires none { first_some (causes (rows_in self.old) (edit.DropItem name)) ≡ None }
-        ensures stored { AreStored self.new }
-        ensures ok { rows_in self.new ≡ after (rows_in self.old) (edit.DropItem name) }
+    /// Drops an item, which is there, and lets its name go. It takes no memory.
+    pub(crate) fn drop_item(&mut self, id: NameId)
+        requires live { IsLive self.old.registry.table id.0 }
+        requires held { AreHeld self.old.registry [] }
+        requires none { first_some (causes (rows_in self.old) (edit.DropItem (name_in self.old.registry.table id))) ≡ None }
+        ensures held { AreHeld self.new.registry [] }
+        ensures rows { rows_in self.new ≡ after (rows_in self.old) (edit.DropItem (name_in self.old.registry.table id)) }
         ensures weight { self.new.weight ≡ self.old.weight }
     {
-        self.table.lawful();
-        orders_stay();
-        tables_are_lists();
-        lists_are_shown();
-        take_item(&mut self.table, &mut self.items, &name);
-        drop(name);
+        self.registry.drop_item(id);
+        self.registry.release(id);
     }
 }

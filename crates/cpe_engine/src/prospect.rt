@@ -1,16 +1,17 @@
 // The verdicts before an edit, and as the edit will leave them.
 ghost use Rattle.std.specs.Prelude.{◌≡◌};
 ghost use Rattle.cpe_rows.specs.Prelude.{after as left_by};
-ghost use Rattle.cpe_engine.specs.Parts.{rows_in};
+ghost use Rattle.cpe_engine.specs.Parts.{edit_in, rows_in};
 ghost use Rattle.cpe_engine.specs.Prospects.{Keeps};
 ghost use Rattle.cpe_engine.specs.Scenes.{Shows};
 
 use crate::item_ends::{ItemEnds, find_ends};
+use crate::numbered::Numbered;
 use crate::parts::Parts;
 use crate::scene::Scene;
 use crate::touch::Touch;
 use cpe_changes::{Outlook, find_touched, untouched_tests_stay};
-use cpe_rows::{Edit, Mode, Statement, Truth};
+use cpe_rows::{Mode, Statement, Truth};
 use cpe_values::Memory;
 use std::alloc::Global;
 use std::marker::Model;
@@ -19,7 +20,7 @@ use std::marker::Model;
 #[derive(Drop)]
 pub(crate) struct Prospect<'e> {
     parts: &'e Parts,
-    edit: &'e Edit,
+    edit: &'e Numbered,
     before: Scene<'e>,
     after: Scene<'e>,
     touch: Touch<'e>,
@@ -32,7 +33,7 @@ impl<'e> Model for Prospect<'e> {
     ghost use Rattle.cpe_rows.specs.Rows.{Rows};
     ghost use Rattle.cpe_rows.specs.declared.edit.Edit.{Edit};
     ghost use Rattle.cpe_rows.specs.contracts.test.Test as test;
-    ghost use Rattle.cpe_engine.specs.Parts.{rows_in};
+    ghost use Rattle.cpe_engine.specs.Parts.{edit_in, rows_in};
     ghost use Rattle.cpe_rows.specs.After.{after as left_by};
     ghost use Rattle.cpe_engine.specs.Prospects.{IsProspect};
 
@@ -40,24 +41,24 @@ impl<'e> Model for Prospect<'e> {
 
     ghost coded = { Prim.hlevel (codes, test.the_row.coded) };
 
-    ghost view = { λ p. (rows_in p.parts.now, p.edit.now) };
+    ghost view = { λ p. (rows_in p.parts.now, edit_in p.parts.now p.edit.now) };
 
-    ghost invariant = { λ p. IsProspect p.before p.after p.touch p.ends (rows_in p.parts.now) (left_by (rows_in p.parts.now) p.edit.now) };
+    ghost invariant = { λ p. IsProspect p.before p.after p.touch p.ends (rows_in p.parts.now) (left_by (rows_in p.parts.now) (edit_in p.parts.now p.edit.now)) };
 }
 
 impl<'e> Prospect<'e> {
     /// An edit of the rows of these parts, with the scenes that show them before and after it, and what it touches.
     pub(crate) fn new(
         parts: &'e Parts,
-        edit: &'e Edit,
+        edit: &'e Numbered,
         before: Scene<'e>,
         after: Scene<'e>,
         touch: Touch<'e>,
     ) -> Prospect<'e>
         requires before { Shows before (rows_in parts.now) }
-        requires after { Shows after (left_by (rows_in parts.now) edit.now) }
-        requires touch { Keeps touch (rows_in parts.now) (left_by (rows_in parts.now) edit.now) }
-        ensures { result ≡ (rows_in parts.now, edit.now) }
+        requires after { Shows after (left_by (rows_in parts.now) (edit_in parts.now edit.now)) }
+        requires touch { Keeps touch (rows_in parts.now) (left_by (rows_in parts.now) (edit_in parts.now edit.now)) }
+        ensures { result ≡ (rows_in parts.now, edit_in parts.now edit.now) }
     {
         Prospect {
             parts,

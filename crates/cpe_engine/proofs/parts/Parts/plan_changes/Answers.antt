@@ -6,7 +6,7 @@ use Rattle.cpe_rows.specs.declared.entry.Entry.{Entry}
 use Rattle.cpe_dictionary.specs.Plans.{ends_by}
 use Rattle.cpe_dictionary.specs.declared.plans.Plan.{Plan}
 use Rattle.cpe_engine.specs.Followed.{ends_led, is_covering}
-use Rattle.cpe_engine.specs.Parts.{rows_in}
+use Rattle.cpe_engine.specs.Parts.{edit_in, rows_in}
 use Rattle.cpe_engine.specs.Planned.{IsPlanned}
 use Rattle.cpe_engine.proofs.ChangeLemmas.{ends_are_touched, leaves, plan_keeps, plan_shows}
 use Rattle.cpe_engine.proofs.parts.Parts.plan_changes.Goals as goal
@@ -20,7 +20,7 @@ ends_led-requires-clause-later c = ap (λ (t : List Entry × Option Plan). t.0) 
 pub new-prospect-requires-clause-after : goal.new-prospect-requires-clause-after
 new-prospect-requires-clause-after c =
     let rows = rows_in c.args.self.now in
-    let e = c.args.edit.now in
+    let e = edit_in c.args.self.now c.args.numbered.now in
     let n = c.args.name.now in
     let next = after rows e in
     let p = c.in-Some.plan in
@@ -33,7 +33,7 @@ new-prospect-requires-clause-after c =
 pub new-prospect-requires-clause-touch : goal.new-prospect-requires-clause-touch
 new-prospect-requires-clause-touch c =
     let rows = rows_in c.args.self.now in
-    let e = c.args.edit.now in
+    let e = edit_in c.args.self.now c.args.numbered.now in
     let n = c.args.name.now in
     let next = after rows e in
     let p = c.in-Some.plan in

@@ -6,7 +6,7 @@ use Rattle.names_in_order.proofs.Rows.{item_first}
 use Rattle.cpe_inventory.specs.Slots.{slot_name, slot_names}
 use Rattle.cpe_engine.specs.Followed.{ends_if_led, ends_led}
 use Rattle.cpe_engine.proofs.FollowedLemmas.{first_flat}
-use Rattle.cpe_engine.proofs.changes.find_ends_led.Goals as goal
+use Rattle.cpe_engine.proofs.led.find_ends_led.Goals as goal
 
 pub loop-slot-preserved : goal.loop-slot-preserved
 loop-slot-preserved c =

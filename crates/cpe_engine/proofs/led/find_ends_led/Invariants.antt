@@ -1,7 +1,7 @@
 use Rattle.std.proofs.Common.{◌≡◌, ◌++◌, drop}
 use Rattle.cpe_inventory.specs.Slots.{slot_names}
 use Rattle.cpe_engine.specs.Followed.{ends_led}
-use Rattle.cpe_engine.proofs.changes.find_ends_led.Given as goal
+use Rattle.cpe_engine.proofs.led.find_ends_led.Given as goal
 
 abbrev pub invariant-loop-slot : goal.invariant-loop-slot
 invariant-loop-slot l =

@@ -1,0 +1,85 @@
+-- A change of a deprecation, and the edit that it is: whatever becomes of the deprecation.
+use Rattle.std.proofs.Common.{◌≡◌, ◌+◌, ◌∙◌, ℕ, Bool, true, false, not, if◌then◌else◌, List, [], ◌∷◌, ◌++◌, Option, Some, None, refl, ap, subst, arith}
+use Rattle.std.specs.Option.{option_map_or}
+use Rattle.std.specs.List.{list_any}
+use Rattle.std.proofs.lemmas.Bool.{not-false}
+use Rattle.std.proofs.lemmas.Option.{none-some, same_Some}
+use Rattle.name_index.specs.declared.table.NameId.{NameId}
+use Rattle.name_index.specs.Table.{IsLive, Names}
+use Rattle.cpe_name.specs.declared.name.Values.{Values}
+use Rattle.cpe_rows.specs.After.{after, changed}
+use Rattle.cpe_rows.specs.Causes.{causes}
+use Rattle.cpe_rows.specs.Faults.{is_deprecated, successor_faults, too_wide, when}
+use Rattle.cpe_rows.specs.Rows.{is_entry, is_named, Rows}
+use Rattle.cpe_rows.specs.Step.{first_some}
+use Rattle.cpe_rows.specs.Weight.{deprecation_weight, note_weight}
+use Rattle.cpe_rows.specs.declared.edit.Edit.TheVariants as edit
+use Rattle.cpe_rows.specs.declared.fault.EditFault.TheVariants as fault
+use Rattle.cpe_changes.specs.Touching.{deprecation_changed}
+use Rattle.cpe_weight.specs.Gain.{deprecated_weight, gain, loss, weight_of_first}
+use Rattle.cpe_dictionary.specs.Causes.{change_causes}
+use Rattle.cpe_dictionary.specs.Kept.{rewritten, with_entries}
+use Rattle.cpe_dictionary.specs.declared.plans.Plan.{Plan}
+use Rattle.cpe_engine.specs.Numbered.{coming, given, is_first, IsFound, note_of, turned}
+use Rattle.cpe_engine.specs.declared.numbered.Numbered.{Numbered}
+use Rattle.cpe_engine.specs.declared.numbered.Numbered.TheVariants as numbered
+use Rattle.cpe_engine.specs.Planned.{HasPlan, IsPlanned}
+use Rattle.cpe_engine.specs.declared.numbered.Turn.{Turn}
+use Rattle.cpe_engine.specs.declared.numbered.Turn.TheVariants.{Give, Replace, TakeAway}
+use Rattle.cpe_engine.proofs.PartsLemmas.{none_here}
+
+-- the name that comes with an edit is live
+pub coming_live : (table : Names) (e : Numbered) (id : NameId) → coming e ≡ Some id → IsFound table e → IsLive table id.0
+coming_live table (numbered.Entry i title provenance) id h found = subst (λ (x : NameId). IsLive table x.0) (same_Some i id h) found
+coming_live table (numbered.Item i) id h found = subst (λ (x : NameId). IsLive table x.0) (same_Some i id h) found
+coming_live table (numbered.DropItem i) id h found = absurd (none-some id h)
+coming_live table (numbered.Change c) id h found = absurd (none-some id h)
+coming_live table (numbered.PutStatement s) id h found = absurd (none-some id h)
+coming_live table (numbered.DropStatement i) id h found = absurd (none-some id h)
+coming_live table (numbered.SetCheck k t) id h found = absurd (none-some id h)
+coming_live table (numbered.DropCheck k) id h found = absurd (none-some id h)
+
+module _ (rows : Rows) (n : Values) (date comment : List ℕ) where
+  pub causes_turned : (t : Turn) → causes rows (turned n t date comment) ≡ change_causes rows.entries n (is_first t) (given t) (Some (note_of t date comment))
+  causes_turned (Give d) = refl
+  causes_turned (Replace d) = refl
+  causes_turned TakeAway = refl
+
+  pub after_turned : (t : Turn) → after rows (turned n t date comment) ≡ with_entries rows (changed (rewritten (given t) (Some (note_of t date comment))) n rows.entries)
+  after_turned (Give d) = refl
+  after_turned (Replace d) = refl
+  after_turned TakeAway = refl
+
+  pub planned_turned : (t : Turn) (o : Option Plan) → HasPlan rows.entries n (given t) o ≡ IsPlanned rows.entries (turned n t date comment) o
+  planned_turned (Give d) o = refl
+  planned_turned (Replace d) o = refl
+  planned_turned TakeAway o = refl
+
+  pub changed_turned : (t : Turn) → deprecation_changed (turned n t date comment) ≡ Some n
+  changed_turned (Give d) = refl
+  changed_turned (Replace d) = refl
+  changed_turned TakeAway = refl
+
+  pub loss_turned : (t : Turn) → loss rows (turned n t date comment) ≡ weight_of_first deprecated_weight (is_named n) rows.entries
+  loss_turned (Give d) = refl
+  loss_turned (Replace d) = refl
+  loss_turned TakeAway = refl
+
+  pub unknown_turned : (t : Turn) → list_any (is_named n) rows.entries ≡ false → first_some (causes rows (turned n t date comment)) ≡ Some fault.Unknown
+  unknown_turned (Give d) h =
+      ap (λ (b : Bool). first_some (when (not b) fault.Unknown ∷ when (is_deprecated rows n) fault.AlreadyDeprecated ∷ successor_faults rows n d ++ too_wide (after rows (edit.Deprecate n d date comment)) ∷ [])) h
+  unknown_turned (Replace d) h =
+      ap (λ (b : Bool). first_some (when (not b) fault.Unknown ∷ when (not (is_deprecated rows n)) fault.NotDeprecated ∷ successor_faults rows n d ++ too_wide (after rows (edit.Amend n d date comment)) ∷ [])) h
+  unknown_turned TakeAway h =
+      ap (λ (b : Bool). first_some (when (not b) fault.Unknown ∷ when (not (is_deprecated rows n)) fault.NotDeprecated ∷ too_wide (after rows (edit.Restore n date comment)) ∷ [])) h
+
+  known_turned : (t : Turn) → first_some (causes rows (turned n t date comment)) ≡ None → is_entry rows n ≡ true
+  known_turned (Give d) h = not-false (is_entry rows n) (none_here (not (is_entry rows n)) fault.Unknown _ h)
+  known_turned (Replace d) h = not-false (is_entry rows n) (none_here (not (is_entry rows n)) fault.Unknown _ h)
+  known_turned TakeAway h = not-false (is_entry rows n) (none_here (not (is_entry rows n)) fault.Unknown _ h)
+
+  pub gain_turned : (t : Turn) → first_some (causes rows (turned n t date comment)) ≡ None
+      → gain rows (turned n t date comment) ≡ note_weight (note_of t date comment) + option_map_or deprecation_weight (given t) 0
+  gain_turned (Give d) h = ap (λ (b : Bool). if b then note_weight (note_of (Give d) date comment) + deprecation_weight d else 0) (known_turned (Give d) h)
+  gain_turned (Replace d) h = ap (λ (b : Bool). if b then note_weight (note_of (Replace d) date comment) + deprecation_weight d else 0) (known_turned (Replace d) h)
+  gain_turned TakeAway h = ap (λ (b : Bool). if b then note_weight (note_of TakeAway date comment) else 0) (known_turned TakeAway h) ∙ omega (arith)

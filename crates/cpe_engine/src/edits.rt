@@ -1,0 +1,380 @@
+// An edit on its way: it gets its numbers, is looked at, and is made or let go.
+ghost use Rattle.std.specs.Prelude.{◌≡◌, ◌≤◌, ◌+◌, ◌∷◌, [], IfErr, IfOk, None, OnErr, OnOk, not, true};
+ghost use Rattle.cpe_rows.specs.Prelude.{after, causes, changes, first_some, is_valid_edit, IsAccepted, IsCause, IsLawful, most, Refuses, step, when};
+ghost use Rattle.std.specs.Option.{option_map_or};
+ghost use Rattle.cpe_rows.specs.Weight.{deprecation_weight, note_weight, weight as weight_of};
+ghost use Rattle.cpe_rows.specs.declared.fault.Which.TheVariants as limit;
+ghost use Rattle.cpe_weight.specs.Capped.{capped};
+ghost use Rattle.cpe_weight.specs.Gain.{gain, loss};
+ghost use Rattle.cpe_registry.specs.Registered.{AreHeld};
+ghost use Rattle.cpe_engine.specs.Checked.{IsChecked};
+ghost use Rattle.cpe_engine.specs.Numbered.{given, IsFound, names_coming, note_of};
+ghost use Rattle.cpe_engine.specs.Parts.{AreBeside, AreKept, edit_in, rows_in};
+ghost use Rattle.cpe_engine.specs.Planned.{IsPlanned};
+
+use crate::checked::Checked;
+use crate::numbered::{Change, Numbered, Turn};
+use crate::parts::Parts;
+use cpe_changes::entries_change_nothing;
+use cpe_dictionary::Plan;
+use cpe_inventory::{check_fault, statement_fault};
+use cpe_rows::{
+    Changed, Edit, EditFault, List, MOST_WEIGHT, Truth, Which, causes_are_faults, causes_refuse,
+    rows_stay_lawful,
+};
+use cpe_values::Memory;
+use cpe_weight::{
+    edits_weigh, losses_are_known, with_active_entry, with_deprecation, with_key, with_name,
+    with_note, with_statement,
+};
+use std::alloc::Global;
+
+// ---- numbers
+
+impl Parts {
+    /// Gives an edit in order its numbers. A name that comes is held for it; one that has to be there is found, and let go.
+    ///
+    /// # Errors
+    /// That there is no such name, or want of memory. All is then as it was.
+    pub(crate) fn number(&mut self, edit: Edit) -> Result<Numbered, EditFault>
+        requires kept { AreKept self.old }
+        requires valid { is_valid_edit edit ≡ true }
+        ensures rows { rows_in self.new ≡ rows_in self.old }
+        ensures beside { IfOk result (AreBeside self.new) }
+        ensures edit { IfOk result (λ n. edit_in self.new n ≡ edit) }
+        ensures left { OnErr result (AreKept self.new) }
+        ensures err { IfErr result (λ f. Refuses f (step (rows_in self.old) edit)) }
+    {
+        edit.formed();
+        causes_refuse();
+        self.find_numbers(edit)
+    }
+
+    // The same, by kind.
+    fn find_numbers(&mut self, edit: Edit) -> Result<Numbered, EditFault>
+        requires kept { AreKept self.old }
+        requires valid { is_valid_edit edit ≡ true }
+        ensures rows { rows_in self.new ≡ rows_in self.old }
+        ensures weight { self.new.weight ≡ self.old.weight }
+        ensures edit { IfOk result (λ n. edit_in self.new n ≡ edit) }
+        ensures found { IfOk result (IsFound self.new.registry.table) }
+        ensures held { IfOk result (λ n. AreHeld self.new.registry (names_coming self.new.registry.table n)) }
+        ensures left { OnErr result (AreHeld self.new.registry []) }
+        ensures err { IfErr result (λ f. IsCause f (first_some (causes (rows_in self.old) edit))) }
+    {
+        match edit {
+            Edit::Entry(entry) => Ok(self.number_entry(entry)?),
+            Edit::Item(name) => Ok(self.number_item(name)?),
+            Edit::DropItem(name) => self.number_dropped_item(name),
+            Edit::Deprecate {
+                name,
+                deprecation,
+                date,
+                comment,
+            } => self.number_change(name, Turn::Give(deprecation), date, comment),
+            Edit::Amend {
+                name,
+                deprecation,
+                date,
+                comment,
+            } => self.number_change(name, Turn::Replace(deprecation), date, comment),
+            Edit::Restore {
+                name,
+                date,
+                comment,
+            } => self.number_change(name, Turn::TakeAway, date, comment),
+            Edit::PutStatement(statement) => Ok(Numbered::PutStatement(statement)),
+            Edit::DropStatement(id) => Ok(Numbered::DropStatement(id)),
+            Edit::SetCheck { key, result } => Ok(Numbered::SetCheck { key, result }),
+            Edit::DropCheck(key) => Ok(Numbered::DropCheck(key)),
+        }
+    }
+
+    // Lets an edit go that isn't made, and the name that was held for it.
+    fn let_go(&mut self, numbered: Numbered)
+        requires { AreBeside self.old numbered }
+        ensures rows { rows_in self.new ≡ rows_in self.old }
+        ensures kept { AreKept self.new }
+    {
+        let coming = numbered.coming();
+        drop(numbered);
+        match coming {
+            Some(id) => self.registry.release(id),
+            None => {}
+        }
+    }
+
+    /// The fault for which an edit isn't made, which is let go.
+    pub(crate) fn refuse(&mut self, numbered: Numbered, fault: EditFault) -> EditFault
+        requires { AreBeside self.old numbered }
+        ensures fault { result ≡ fault }
+        ensures rows { rows_in self.new ≡ rows_in self.old }
+        ensures kept { AreKept self.new }
+    {
+        self.let_go(numbered);
+        fault
+    }
+}
+
+// ---- faults
+
+impl Parts {
+    /// Looks at an edit, and changes nothing.
+    ///
+    /// # Errors
+    /// The first fault of the edit, or want of memory.
+    pub(crate) fn check(&self, numbered: &Numbered) -> Result<Checked, EditFault>
+        requires { AreBeside self.now numbered.now }
+        ensures ok { IfOk result (IsChecked (rows_in self.now) (edit_in self.now numbered.now)) }
+        ensures err { IfErr result (λ f. Refuses f (step (rows_in self.now) (edit_in self.now numbered.now))) }
+    {
+        causes_are_faults();
+        causes_refuse();
+        rows_stay_lawful();
+        let plan = self.plan(numbered)?;
+        let weight = self.weight_after(numbered);
+        if weight > MOST_WEIGHT {
+            return Err(EditFault::Full(Which::Weight));
+        }
+        Ok(Checked { plan, weight })
+    }
+
+    // The plan of a change of a deprecation, or none.
+    //
+    // # Errors
+    // The first fault of the edit but for the weight, or want of memory.
+    fn plan(&self, numbered: &Numbered) -> Result<Option<Plan>, EditFault>
+        requires { IsFound self.now.registry.table numbered.now }
+        ensures planned { IfOk result (λ p. IsPlanned (rows_in self.now).entries (edit_in self.now numbered.now) p) }
+        ensures ok { IfOk result (λ p. first_some (causes (rows_in self.now) (edit_in self.now numbered.now)) ≡ None) }
+        ensures err { IfErr result (λ f. IsCause f (first_some (causes (rows_in self.now) (edit_in self.now numbered.now)))) }
+    {
+        match numbered {
+            Numbered::Entry { id, .. } => unplanned(self.registry.entry_fault(*id)),
+            Numbered::Item(id) => unplanned(self.registry.item_fault(*id)),
+            Numbered::DropItem(id) => known(self.registry.has_item(*id)),
+            Numbered::Change(change) => self.plan_change(change),
+            Numbered::PutStatement(statement) => {
+                unplanned(statement_fault(&self.statements, statement))
+            }
+            Numbered::DropStatement(id) => known(self.statements.has(id)),
+            Numbered::SetCheck { key, .. } => unplanned(check_fault(&self.checks, key)),
+            Numbered::DropCheck(key) => known(self.checks.has(key)),
+        }
+    }
+}
+
+// ---- weight
+
+impl Parts {
+    // The weight of all rows behind an edit that has no other fault, or the largest number where it is more.
+    fn weight_after(&self, numbered: &Numbered) -> u64
+        requires found { IsFound self.now.registry.table numbered.now }
+        requires weight { self.now.weight ≡ weight_of (rows_in self.now) }
+        requires within { weight_of (rows_in self.now) ≤ most limit.Weight }
+        requires none { first_some (causes (rows_in self.now) (edit_in self.now numbered.now)) ≡ None }
+        ensures { result ≡ capped (weight_of (after (rows_in self.now) (edit_in self.now numbered.now))) }
+    {
+        edits_weigh();
+        self.with_gain(self.weight - self.loss(numbered), numbered)
+    }
+
+    // What the edit takes from the weight.
+    fn loss(&self, numbered: &Numbered) -> u64
+        requires found { IsFound self.now.registry.table numbered.now }
+        requires within { weight_of (rows_in self.now) ≤ most limit.Weight }
+        requires none { first_some (causes (rows_in self.now) (edit_in self.now numbered.now)) ≡ None }
+        ensures { result ≡ loss (rows_in self.now) (edit_in self.now numbered.now) }
+    {
+        edits_weigh();
+        losses_are_known();
+        match numbered {
+            Numbered::DropItem(id) => with_name(0, self.registry.name(*id)),
+            Numbered::DropStatement(id) => self.statement_weight(id),
+            Numbered::DropCheck(key) => with_key(0, key),
+            Numbered::Change(change) => self.deprecation_weight(change.id),
+            _ => 0,
+        }
+    }
+
+    // The weight with what the edit adds to it.
+    fn with_gain(&self, weight: u64, numbered: &Numbered) -> u64
+        requires found { IsFound self.now.registry.table numbered.now }
+        requires none { first_some (causes (rows_in self.now) (edit_in self.now numbered.now)) ≡ None }
+        ensures { result ≡ capped (weight + gain (rows_in self.now) (edit_in self.now numbered.now)) }
+    {
+        match numbered {
+            Numbered::Entry {
+                id,
+                title,
+                provenance,
+            } => with_active_entry(weight, self.registry.name(*id), title, provenance),
+            Numbered::Item(id) => with_name(weight, self.registry.name(*id)),
+            Numbered::Change(change) => with_change(weight, change),
+            Numbered::PutStatement(statement) => with_statement(weight, statement),
+            Numbered::SetCheck { key, .. } if !self.checks.has(key) => with_key(weight, key),
+            _ => weight,
+        }
+    }
+}
+
+// ---- changes of verdicts
+
+impl Parts {
+    /// Looks at an edit, and at the verdicts that it will change; it changes nothing.
+    ///
+    /// # Errors
+    /// The first fault of the edit, or want of memory.
+    pub(crate) fn foresee(
+        &self,
+        alloc: Global,
+        numbered: &Numbered,
+    ) -> Result<(Checked, List<Changed>), EditFault>
+        requires { AreBeside self.now numbered.now }
+        ensures checked { IfOk result (λ r. IsChecked (rows_in self.now) (edit_in self.now numbered.now) r.0) }
+        ensures changes { IfOk result (λ r. r.1 ≡ changes (rows_in self.now) (edit_in self.now numbered.now)) }
+        ensures err { IfErr result (λ f. Refuses f (step (rows_in self.now) (edit_in self.now numbered.now))) }
+    {
+        let checked = self.check(numbered)?;
+        let changes = self.changes(alloc, numbered, &checked.plan)?;
+        Ok((checked, changes))
+    }
+
+    // The verdicts that an edit will change, in the order of the statements. It evaluates those alone that the edit touches.
+    //
+    // # Errors
+    // Want of memory alone.
+    fn changes(
+        &self,
+        alloc: Global,
+        numbered: &Numbered,
+        plan: &Option<Plan>,
+    ) -> Result<List<Changed>, Memory>
+        requires found { IsFound self.now.registry.table numbered.now }
+        requires accepted { IsAccepted (rows_in self.now) (edit_in self.now numbered.now) (after (rows_in self.now) (edit_in self.now numbered.now)) }
+        requires planned { IsPlanned (rows_in self.now).entries (edit_in self.now numbered.now) plan.now }
+        ensures { IfOk result (λ cs. cs ≡ changes (rows_in self.now) (edit_in self.now numbered.now)) }
+    {
+        entries_change_nothing();
+        let items = self.registry.items();
+        match numbered {
+            Numbered::Entry { .. } => Ok(List::new(alloc)),
+            Numbered::Item(id) => {
+                let name = self.registry.name(*id);
+                self.item_changes(alloc, numbered, name, items.names_with(name))
+            }
+            Numbered::DropItem(id) => {
+                let name = self.registry.name(*id);
+                self.item_changes(alloc, numbered, name, items.names_without(name))
+            }
+            Numbered::Change(change) => {
+                let name = self.registry.name(change.id);
+                self.plan_changes(alloc, numbered, name, plan)
+            }
+            Numbered::PutStatement(statement) => self.put_change(alloc, statement),
+            Numbered::DropStatement(id) => self.dropped_change(alloc, id),
+            Numbered::SetCheck { key, result } => {
+                self.check_changes(alloc, numbered, key, *result)
+            }
+            Numbered::DropCheck(key) => { self.check_changes(alloc, numbered, key, Truth::Unknown) }
+        }
+    }
+}
+
+// ---- changes that are made
+
+impl Parts {
+    /// Makes an edit that has no fault.
+    ///
+    /// # Errors
+    /// Want of memory alone; the rows are then as they were.
+    pub(crate) fn commit(
+        &mut self,
+        alloc: Global,
+        numbered: Numbered,
+        checked: Checked,
+    ) -> Result<(), Memory>
+        requires beside { AreBeside self.old numbered }
+        requires checked { IsChecked (rows_in self.old) (edit_in self.old numbered) checked }
+        ensures ok { OnOk result (rows_in self.new ≡ after (rows_in self.old) (edit_in self.old numbered)) }
+        ensures err { OnErr result (rows_in self.new ≡ rows_in self.old) }
+        ensures kept { AreKept self.new }
+    {
+        rows_stay_lawful();
+        self.make(alloc, numbered, &checked.plan)?;
+        self.weight = checked.weight;
+        Ok(())
+    }
+
+    // Makes the edit, and leaves the weight.
+    fn make(&mut self, alloc: Global, numbered: Numbered, plan: &Option<Plan>) -> Result<(), Memory>
+        requires found { IsFound self.old.registry.table numbered }
+        requires held { AreHeld self.old.registry (names_coming self.old.registry.table numbered) }
+        requires none { first_some (causes (rows_in self.old) (edit_in self.old numbered)) ≡ None }
+        requires lawful { IsLawful (after (rows_in self.old) (edit_in self.old numbered)) }
+        requires planned { IsPlanned (rows_in self.old).entries (edit_in self.old numbered) plan.now }
+        ensures held { AreHeld self.new.registry [] }
+        ensures ok { OnOk result (rows_in self.new ≡ after (rows_in self.old) (edit_in self.old numbered)) }
+        ensures weight { self.new.weight ≡ self.old.weight }
+        ensures err { OnErr result (rows_in self.new ≡ rows_in self.old) }
+    {
+        match numbered {
+            Numbered::Entry {
+                id,
+                title,
+                provenance,
+            } => self.add_entry(id, title, provenance),
+            Numbered::Item(id) => self.add_item(id),
+            Numbered::DropItem(id) => {
+                self.drop_item(id);
+                Ok(())
+            }
+            Numbered::Change(change) => self.change(change, plan),
+            Numbered::PutStatement(statement) => self.statements.put(alloc, statement),
+            Numbered::DropStatement(id) => {
+                self.statements.remove(&id);
+                Ok(())
+            }
+            Numbered::SetCheck { key, result } => self.checks.set(key, result),
+            Numbered::DropCheck(key) => {
+                self.checks.remove(&key);
+                Ok(())
+            }
+        }
+    }
+}
+// Whether there is such a row; a drop has no other fault.
+fn known(found: bool) -> Result<Option<Plan>, EditFault>
+    ensures plan { IfOk result (λ p. p ≡ None) }
+    ensures ok { IfOk result (λ p. first_some (when (not found) EditFault.Unknown ∷ []) ≡ None) }
+    ensures err { IfErr result (λ f. IsCause f (first_some (when (not found) EditFault.Unknown ∷ []))) }
+{
+    if found {
+        Ok(None)
+    } else {
+        Err(EditFault::Unknown)
+    }
+}
+
+// An edit without a plan, unless it has a fault.
+fn unplanned(fault: Option<EditFault>) -> Result<Option<Plan>, EditFault>
+    ensures plan { IfOk result (λ p. p ≡ None) }
+    ensures ok { IfOk result (λ p. fault ≡ None) }
+    ensures err { IfErr result (λ f. IsCause f fault) }
+{
+    match fault {
+        Some(fault) => Err(fault),
+        None => Ok(None),
+    }
+}
+
+// The weight with that of the note of a change, and of the deprecation that it gives.
+fn with_change(weight: u64, change: &Change) -> u64
+    ensures { result ≡ capped (weight + (note_weight (note_of change.now.turn change.now.date change.now.comment) + option_map_or deprecation_weight (given change.now.turn) 0)) }
+{
+    let noted = with_note(weight, change.date, &change.comment);
+    match change.turn.deprecation() {
+        Some(deprecation) => with_deprecation(noted, deprecation),
+        None => noted,
+    }
+}

@@ -1,0 +1,120 @@
+// Edits whose names are numbers of the engine's table.
+ghost use Rattle.std.specs.Prelude.{◌≡◌};
+ghost use Rattle.std.specs.Option.{option_copied};
+ghost use Rattle.cpe_engine.specs.Numbered.{coming, given, is_first, note_kind, note_of};
+
+use cpe_rows::{CheckKey, Date, Deprecation, Note, NoteKind, Provenance, Statement, Text, Truth};
+use name_index::NameId;
+
+/// An edit of which the names of entries and items are numbers of the engine's table. A name that comes is held for it.
+#[derive(Drop)]
+pub(crate) enum Numbered {
+    /// Adds an entry.
+    Entry {
+        id: NameId,
+        title: Text,
+        provenance: Provenance,
+    },
+    /// Adds an item.
+    Item(NameId),
+    /// Drops an item.
+    DropItem(NameId),
+    /// Changes the deprecation of an entry.
+    Change(Change),
+    /// Adds a statement.
+    PutStatement(Statement),
+    /// Drops the statement of this id.
+    DropStatement(Text),
+    /// Keeps the result of a check.
+    SetCheck {
+        key: CheckKey,
+        result: Truth,
+    },
+    /// Drops the result that is kept for a key.
+    DropCheck(CheckKey),
+}
+
+/// What becomes of the deprecation of an entry, with a note of this date and comment.
+#[derive(Drop)]
+pub(crate) struct Change {
+    pub(crate) id: NameId,
+    pub(crate) turn: Turn,
+    pub(crate) date: Date,
+    pub(crate) comment: Text,
+}
+
+/// What becomes of a deprecation.
+#[derive(Drop)]
+pub(crate) enum Turn {
+    /// An active entry gets this one.
+    Give(Deprecation),
+    /// This one stands in the place of another.
+    Replace(Deprecation),
+    /// It is taken away.
+    TakeAway,
+}
+
+impl Numbered {
+    /// The number of the name that is held for the edit, if one comes with it.
+    pub(crate) fn coming(&self) -> Option<NameId>
+        ensures { result ≡ coming self.now }
+    {
+        match self {
+            Numbered::Entry { id, .. } | Numbered::Item(id) => Some(*id),
+            _ => None,
+        }
+    }
+}
+
+impl Turn {
+    /// The deprecation of the entry then, if it has one.
+    pub(crate) fn deprecation(&self) -> Option<&Deprecation>
+        ensures { option_copied result ≡ given self.now }
+    {
+        match self {
+            Turn::Give(deprecation) | Turn::Replace(deprecation) => Some(deprecation),
+            Turn::TakeAway => None,
+        }
+    }
+
+    // The same, and what the note of it tells of.
+    fn into_parts(self) -> (Option<Deprecation>, NoteKind)
+        ensures deprecation { result.0 ≡ given self }
+        ensures kind { result.1 ≡ note_kind self }
+    {
+        match self {
+            Turn::Give(deprecation) => (Some(deprecation), NoteKind::Deprecation),
+            Turn::Replace(deprecation) => { (Some(deprecation), NoteKind::DeprecationModification) }
+            Turn::TakeAway => (None, NoteKind::DeprecationModification),
+        }
+    }
+
+    /// Whether the entry has to be active before.
+    pub(crate) fn is_first(&self) -> bool
+        ensures { result ≡ is_first self.now }
+    {
+        matches!(self, Turn::Give(_))
+    }
+}
+
+impl Change {
+    /// The deprecation of the entry then, if it has one, and the note.
+    pub(crate) fn into_parts(self) -> (Option<Deprecation>, Note)
+        ensures deprecation { result.0 ≡ given self.turn }
+        ensures note { result.1 ≡ note_of self.turn self.date self.comment }
+    {
+        let Change {
+            id: _,
+            turn,
+            date,
+            comment,
+        } = self;
+        let (deprecation, kind) = turn.into_parts();
+        let note = Note {
+            kind,
+            date,
+            comment,
+        };
+        (deprecation, note)
+    }
+}
