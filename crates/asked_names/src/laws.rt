@@ -1,0 +1,110 @@
+// What is asked and what is there, and what edits make of both. The functions do nothing: their clauses are the laws.
+ghost use Rattle.std.specs.Prelude.{◌≡◌, ◌⊎◌, ◌≤◌, ◌∷◌, ◌++◌, length, Bool, List, ℕ, Some, true, count_by, filter, find, replicate};
+ghost use Rattle.std.specs.List.{flat_map, list_any, sum_by};
+ghost use Rattle.cpe_name.specs.declared.name.Values.{Values};
+ghost use Rattle.cpe_rows.specs.Prelude.{after, ends, fact_names, has_id, IsAccepted, leads_to, Rows};
+ghost use Rattle.cpe_rows.specs.Lawful.{are_different, IsLawful};
+ghost use Rattle.cpe_rows.specs.Names.{is_same};
+ghost use Rattle.cpe_rows.specs.Rows.{is_named};
+ghost use Rattle.cpe_rows.specs.Verdict.{fact_truth, truth};
+ghost use Rattle.cpe_rows.specs.declared.entry.Entry.{Entry};
+ghost use Rattle.cpe_rows.specs.declared.statement.Mode.{Mode};
+ghost use Rattle.cpe_rows.specs.declared.statement.Mode.TheVariants.{Plain};
+ghost use Rattle.cpe_rows.specs.declared.statement.Statement.{Statement};
+ghost use Rattle.cpe_rows.specs.declared.test.CheckKey.{CheckKey};
+ghost use Rattle.cpe_rows.specs.declared.truth.Truth.{Truth};
+ghost use Rattle.cpe_changes.specs.Touching.{deprecation_changed};
+ghost use Rattle.product_orders.specs.Elements.{SameElements};
+ghost use Rattle.numbered_names.specs.Shown.{times_named};
+ghost use Rattle.asked_names.specs.Asked.{asked, facts_in, facts_of, is_one_covering, leads, names_kept, references_in, references_of, refers_to, source_names, there};
+
+use cpe_rows::Edit;
+
+/// A fact is true exactly where one of the names to which it leads covers one that is there, in whatever order these stand.
+pub fn facts_are_asked()
+    ensures truth { (rows : Rows) (mode : Mode) (fact : Values) → fact_truth rows mode fact ≡ truth (is_one_covering (leads rows.entries mode fact) (there rows mode)) }
+    ensures order { (names others same : List Values) → SameElements others same → is_one_covering names others ≡ is_one_covering names same }
+{}
+
+/// An item brings the names to which it leads, and takes them along. It asks nothing.
+pub fn items_arrive()
+    ensures there { (rows : Rows) (mode : Mode) (n : Values) → SameElements (leads rows.entries mode n ++ there rows mode) (there (after rows (Edit.Item n)) mode) }
+    ensures left { (rows : Rows) (mode : Mode) (n : Values) → list_any (is_same n) rows.items ≡ true
+        → SameElements (there rows mode) (leads rows.entries mode n ++ there (after rows (Edit.DropItem n)) mode) }
+    ensures asked { (rows : Rows) (mode : Mode) (n : Values) → asked (after rows (Edit.Item n)) mode ≡ asked rows mode }
+    ensures asked_still { (rows : Rows) (mode : Mode) (n : Values) → asked (after rows (Edit.DropItem n)) mode ≡ asked rows mode }
+    ensures kept { (rows : Rows) (n : Values) → SameElements (n ∷ names_kept rows) (names_kept (after rows (Edit.Item n))) }
+    ensures kept_without { (rows : Rows) (n : Values) → list_any (is_same n) rows.items ≡ true → SameElements (names_kept rows) (n ∷ names_kept (after rows (Edit.DropItem n))) }
+{}
+
+/// A statement asks the names to which its facts lead, and asks them no more when it is dropped. Nothing comes or goes.
+pub fn statements_ask()
+    ensures asked { (rows : Rows) (mode : Mode) (s : Statement)
+        → SameElements (flat_map (leads rows.entries mode) (facts_of mode s) ++ asked rows mode) (asked (after rows (Edit.PutStatement s)) mode) }
+    ensures no_more { (rows : Rows) (mode : Mode) (id : List ℕ) (s : Statement) → find (has_id id) rows.statements ≡ Some s
+        → SameElements (asked rows mode) (flat_map (leads rows.entries mode) (facts_of mode s) ++ asked (after rows (Edit.DropStatement id)) mode) }
+    ensures there { (rows : Rows) (mode : Mode) (s : Statement) → there (after rows (Edit.PutStatement s)) mode ≡ there rows mode }
+    ensures there_still { (rows : Rows) (mode : Mode) (id : List ℕ) → there (after rows (Edit.DropStatement id)) mode ≡ there rows mode }
+    ensures kept { (rows : Rows) (s : Statement) → SameElements (fact_names s.test ++ names_kept rows) (names_kept (after rows (Edit.PutStatement s))) }
+    ensures kept_without { (rows : Rows) (id : List ℕ) (s : Statement) → find (has_id id) rows.statements ≡ Some s
+        → SameElements (names_kept rows) (fact_names s.test ++ names_kept (after rows (Edit.DropStatement id))) }
+{}
+
+/// A fact stands among those of a mode as often as there are statements of this mode that refer to it. So whatever each fact weighs,
+/// as the looks that it takes, the facts weigh no more than all references to them.
+pub fn facts_stand_once_a_statement()
+    ensures times { (mode : Mode) (statements : List Statement) (fact : Values) → times_named fact (facts_in mode statements) ≡ count_by (refers_to mode fact) statements }
+    ensures less { (mode : Mode) (s : Statement) (weight : Values → ℕ) → sum_by weight (facts_of mode s) ≤ sum_by weight (references_of mode s) }
+    ensures less_in { (mode : Mode) (statements : List Statement) (weight : Values → ℕ) → sum_by weight (facts_in mode statements) ≤ sum_by weight (references_in mode statements) }
+{}
+
+/// An entry that is added is its own end, as its name was before. It asks nothing, and nothing comes.
+pub fn entries_lead_to_themselves()
+    ensures asked { (rows next : Rows) (mode : Mode) (e : Entry) → IsAccepted rows (Edit.Entry e) next → asked next mode ≡ asked rows mode }
+    ensures there { (rows next : Rows) (mode : Mode) (e : Entry) → IsAccepted rows (Edit.Entry e) next → there next mode ≡ there rows mode }
+    ensures kept { (rows next : Rows) (e : Entry) → IsAccepted rows (Edit.Entry e) next → SameElements (e.name ∷ names_kept rows) (names_kept next) }
+{}
+
+/// Where the deprecation of an entry is given, replaced or taken away, the items and the facts that lead to the entry leave the names to
+/// which they led, and come to others. In mode plain all stays.
+pub fn deprecations_lead_elsewhere()
+    ensures there { (rows : Rows) (mode : Mode) (e : Edit) (n : Values) → deprecation_changed e ≡ Some n → SameElements
+        (flat_map (leads (after rows e).entries mode) (filter (λ x. leads_to rows.entries x n) rows.items) ++ there rows mode)
+        (flat_map (leads rows.entries mode) (filter (λ x. leads_to rows.entries x n) rows.items) ++ there (after rows e) mode) }
+    ensures asked { (rows : Rows) (mode : Mode) (e : Edit) (n : Values) → deprecation_changed e ≡ Some n → SameElements
+        (flat_map (leads (after rows e).entries mode) (filter (λ x. leads_to rows.entries x n) (facts_in mode rows.statements)) ++ asked rows mode)
+        (flat_map (leads rows.entries mode) (filter (λ x. leads_to rows.entries x n) (facts_in mode rows.statements)) ++ asked (after rows e) mode) }
+    ensures plain { (rows : Rows) (e : Edit) (n : Values) → deprecation_changed e ≡ Some n → asked (after rows e) Plain ≡ asked rows Plain }
+    ensures plain_there { (rows : Rows) (e : Edit) (n : Values) → deprecation_changed e ≡ Some n → there (after rows e) Plain ≡ there rows Plain }
+    ensures kept { (rows : Rows) (e : Edit) (n : Values) → deprecation_changed e ≡ Some n → names_kept (after rows e) ≡ names_kept rows }
+{}
+
+/// A result of a check asks nothing.
+pub fn checks_ask_nothing()
+    ensures set { (rows : Rows) (mode : Mode) (k : CheckKey) (t : Truth) → asked (after rows (Edit.SetCheck k t)) mode ≡ asked rows mode }
+    ensures set_there { (rows : Rows) (mode : Mode) (k : CheckKey) (t : Truth) → there (after rows (Edit.SetCheck k t)) mode ≡ there rows mode }
+    ensures dropped { (rows : Rows) (mode : Mode) (k : CheckKey) → asked (after rows (Edit.DropCheck k)) mode ≡ asked rows mode }
+    ensures dropped_there { (rows : Rows) (mode : Mode) (k : CheckKey) → there (after rows (Edit.DropCheck k)) mode ≡ there rows mode }
+{}
+
+/// All names that are asked and all that are there are names of entries, items or facts.
+pub fn asked_names_are_kept()
+    ensures asked { (rows : Rows) (mode : Mode) (passes : Values → Bool) → list_any passes (asked rows mode) ≡ true → list_any passes (names_kept rows) ≡ true }
+    ensures there { (rows : Rows) (mode : Mode) (passes : Values → Bool) → list_any passes (there rows mode) ≡ true → list_any passes (names_kept rows) ≡ true }
+{}
+
+/// The names of a list that lead to an entry are those of the sources of the entry, each as often as it stands in the list. Who has
+/// an end is it, or leads to the entry of its name.
+pub fn led_are_sources()
+    ensures ends { (entries : List Entry) (name end : Values) → list_any (is_same end) (ends entries name) ≡ true → (name ≡ end) ⊎ (leads_to entries name end ≡ true) }
+    ensures led { (entries : List Entry) (n : Values) (list : List Values) → are_different (λ (e : Entry). is_named e.name) entries ≡ true
+        → SameElements (filter (λ x. leads_to entries x n) list) (flat_map (λ s. replicate (times_named s list) s) (source_names entries n)) }
+{}
+
+/// Lawful rows keep few names, and few are asked and there, however often: far fewer than 32 bits count.
+pub fn lawful_rows_ask_few()
+    ensures leads { (rows : Rows) (mode : Mode) (n : Values) → IsLawful rows → length (leads rows.entries mode n) ≤ 64 }
+    ensures asked { (rows : Rows) (mode : Mode) → IsLawful rows → length (asked rows mode) ≤ 64000000 }
+    ensures there { (rows : Rows) (mode : Mode) → IsLawful rows → length (there rows mode) ≤ 64000000 }
+    ensures kept { (rows : Rows) → IsLawful rows → length (names_kept rows) ≤ 4000000 }
+{}

@@ -1,0 +1,115 @@
+-- What names that aren't flipped keep, and what tables change.
+use Rattle.std.proofs.Common.{◌≡◌, ℕ, ◌≤◌, Bool, true, false, ◌||◌, List, [], ◌∷◌, length, Option, Some, None, refl, sym, ap, ◌∙◌, inl, inr, arith}
+use Rattle.std.specs.List.{list_any, AllByRecursion}
+use Rattle.std.proofs.lemmas.Bool.{cases_Bool}
+use Rattle.std.proofs.lemmas.Option.{same_Some}
+use Rattle.cpe_name.specs.declared.name.Values.{Values}
+use Rattle.cpe_relation.specs.NameRelation.{covers}
+use Rattle.name_index.specs.declared.table.NameId.{NameId}
+use Rattle.name_index.specs.Table.{Names, find_kept, kept_at, Holds, Releases}
+use Rattle.pair_board.specs.Rows.{Seen, differs, holds_now}
+use Rattle.pair_board.specs.Board.{AreAnswers, AreFlips, Board, FitsBoard, probe_at, probe_times, target_times, times_in as times_of, was_in}
+use Rattle.cpe_rows.specs.Rows.{Rows}
+use Rattle.cpe_rows.specs.Verdict.{fact_truth, truth}
+use Rattle.cpe_rows.specs.declared.statement.Mode.{Mode}
+use Rattle.cpe_rows.specs.declared.statement.Mode.TheVariants.{Plain, Follow}
+use Rattle.numbered_names.specs.Shown.{names_at, Shows}
+use Rattle.numbered_names.proofs.Shown.{shown_passes, passing_shown}
+use Rattle.numbered_names.proofs.Tables.{held_shows, released_shows}
+use Rattle.asked_names.specs.Asked.{is_one_covering, leads, there}
+use Rattle.asked_names.proofs.Facts.{fact_is}
+use Rattle.kept_facts.proofs.Steps.{holds_shown}
+use Rattle.kept_facts.specs.Kept.{AreNowhere, AreSettled, AreSound, board_of, Boards, FitBoards, IsOneOf, KeepKnown, KeepsKnown, ShowRows, ShowsRows}
+
+pub fact_kept : (rows : Rows) (mode : Mode) (names : Names) (fact : Values) (numbers : List NameId) (answer : Bool) → names_at names numbers ≡ leads rows.entries mode fact → answer ≡ is_one_covering (names_at names numbers) (there rows mode) → fact_truth rows mode fact ≡ truth answer
+fact_kept rows mode names fact numbers answer e is = fact_is rows mode fact ∙ ap (λ (ns : List Values). truth (is_one_covering ns (there rows mode))) (sym e) ∙ ap truth (sym is)
+
+-- ---- one name
+
+same_if : (a b : Bool) → differs a b ≡ false → a ≡ b
+same_if true true e = refl
+same_if true false e = absurd cc
+same_if false true e = absurd cc
+same_if false false e = refl
+
+-- what is kept of a probe that is on the board
+pub seen_there : (board : Board) (p : ℕ) → 1 ≤ probe_times board p → (s : Seen) × (probe_at board p ≡ Some s)
+seen_there board p some = by (probe_at board p) refl
+  where
+    by : (o : Option Seen) → probe_at board p ≡ o → (s : Seen) × (probe_at board p ≡ Some s)
+    by None e = absurd (omega (arith, some, ap times_of e))
+    by (Some s) e = (s, e)
+
+-- the answer of a probe that isn't flipped is the known one
+pub known_is : (board : Board) → AreFlips board → (p : ℕ) (s : Seen) → probe_at board p ≡ Some s → (IsOneOf board.flips p → ⊥) → s.was ≡ holds_now s
+known_is board flips p s e apart = elim (cases_Bool (differs s.was (holds_now s))) [
+  | inl t ↦ absurd (apart (flips.whole p (s, e, t)))
+  | inr f ↦ same_if s.was (holds_now s) f
+]
+
+pub none_flipped : (board : Board) (p : ℕ) → board.flips ≡ [] → IsOneOf board.flips p → ⊥
+none_flipped board p e h = omega (arith, h.1, ap length e)
+
+pub answer_is : (board : Board) (names : Names) (list : List Values) (p : ℕ) (s : Seen) → AreAnswers board → FitsBoard board names → Shows names (target_times board) list → probe_at board p ≡ Some s
+    → holds_now s ≡ list_any (covers (kept_at names p).name) list
+answer_is board names list p s answers fits shows e =
+    holds_shown board names list p (holds_now s) (λ passes id. shown_passes names (target_times board) list passes id shows) (λ passes. passing_shown names (target_times board) list passes shows) (answers names p s fits e)
+
+module _ (names : Names) (old new : Board) (before after : List Values)
+    (fits_old : FitsBoard old names) (fits_new : FitsBoard new names) (shows_old : Shows names (target_times old) before) (shows_new : Shows names (target_times new) after)
+    (answers_old : AreAnswers old) (answers_new : AreAnswers new) (flips_old : AreFlips old) (flips_new : AreFlips new) (settled : old.flips ≡ []) (was : KeepsKnown old new) where
+  name_stays : (p : ℕ) → 1 ≤ probe_times old p → 1 ≤ probe_times new p → (IsOneOf new.flips p → ⊥) → list_any (covers (kept_at names p).name) after ≡ list_any (covers (kept_at names p).name) before
+  name_stays p some more apart =
+      let s = seen_there old p some in
+      let t = seen_there new p more in
+      let known : Some t.0.was ≡ Some s.0.was = sym (ap was_in t.1) ∙ was.was p (omega (arith, some)) (omega (arith, more)) ∙ ap was_in s.1 in
+      sym (answer_is new names after p t.0 answers_new fits_new shows_new t.1)
+      ∙ sym (known_is new flips_new p t.0 t.1 apart)
+      ∙ same_Some t.0.was s.0.was known
+      ∙ known_is old flips_old p s.0 s.1 (none_flipped old p settled)
+      ∙ answer_is old names before p s.0 answers_old fits_old shows_old s.1
+
+  names_stay : (numbers : List NameId) → AllByRecursion (λ (x : NameId). 1 ≤ probe_times old x.0) numbers → AllByRecursion (λ (x : NameId). 1 ≤ probe_times new x.0) numbers → AllByRecursion (λ (x : NameId). IsOneOf new.flips x.0 → ⊥) numbers
+      → is_one_covering (names_at names numbers) after ≡ is_one_covering (names_at names numbers) before
+  names_stay [] some more apart = refl
+  names_stay (x ∷ numbers) some more apart = λ i. name_stays x.0 some.0 more.0 apart.0 i || names_stay numbers some.1 more.1 apart.1 i
+
+fact_stays : (rows next : Rows) (mode : Mode) (names : Names) (old new : Board) (fact : Values) (numbers : List NameId)
+    → FitsBoard old names → FitsBoard new names → ShowsRows names old rows mode → ShowsRows names new next mode → AreAnswers old → AreAnswers new → AreFlips old → AreFlips new → old.flips ≡ [] → KeepsKnown old new
+    → names_at names numbers ≡ leads rows.entries mode fact → names_at names numbers ≡ leads next.entries mode fact
+    → AllByRecursion (λ (x : NameId). 1 ≤ probe_times old x.0) numbers → AllByRecursion (λ (x : NameId). 1 ≤ probe_times new x.0) numbers → AllByRecursion (λ (x : NameId). IsOneOf new.flips x.0 → ⊥) numbers
+    → fact_truth next mode fact ≡ fact_truth rows mode fact
+fact_stays rows next mode names old new fact numbers fits_old fits_new is_old is_new answers_old answers_new flips_old flips_new settled was e f some more apart =
+    fact_kept next mode names fact numbers (is_one_covering (names_at names numbers) (there next mode)) f refl
+    ∙ ap truth (names_stay names old new (there rows mode) (there next mode) fits_old fits_new is_old.there is_new.there answers_old answers_new flips_old flips_new settled was numbers some more apart)
+    ∙ sym (fact_kept rows mode names fact numbers (is_one_covering (names_at names numbers) (there rows mode)) e refl)
+
+pub facts_stay : (rows next : Rows) (mode : Mode) (names : Names) (old new : Boards) (fact : Values) (numbers : List NameId)
+    → FitBoards old names → FitBoards new names → ShowRows names old rows → ShowRows names new next → AreSound old → AreSound new → AreSettled old → KeepKnown old new
+    → names_at names numbers ≡ leads rows.entries mode fact → names_at names numbers ≡ leads next.entries mode fact
+    → AllByRecursion (λ (x : NameId). 1 ≤ probe_times (board_of old mode) x.0) numbers → AllByRecursion (λ (x : NameId). 1 ≤ probe_times (board_of new mode) x.0) numbers
+    → AllByRecursion (λ (x : NameId). IsOneOf (board_of new mode).flips x.0 → ⊥) numbers → fact_truth next mode fact ≡ fact_truth rows mode fact
+facts_stay rows next Plain names old new fact numbers fits_old fits_new is_old is_new sound_old sound_new settled known =
+    fact_stays rows next Plain names old.plain new.plain fact numbers fits_old.plain fits_new.plain is_old.plain is_new.plain (sound_old.answers Plain) (sound_new.answers Plain) (sound_old.flips Plain) (sound_new.flips Plain) settled.plain known.plain
+facts_stay rows next Follow names old new fact numbers fits_old fits_new is_old is_new sound_old sound_new settled known =
+    fact_stays rows next Follow names old.follow new.follow fact numbers fits_old.follow fits_new.follow is_old.follow is_new.follow (sound_old.answers Follow) (sound_new.answers Follow) (sound_old.flips Follow) (sound_new.flips Follow) settled.follow known.follow
+
+-- ---- tables
+
+held_asked : (old new : Names) (id : ℕ) (name : Values) (board : Board) (rows : Rows) (mode : Mode) → Holds old new id name → ShowsRows old board rows mode → ShowsRows new board rows mode
+held_asked old new id name board rows mode h s = record { asked = held_shows old new id name h (probe_times board) _ s.asked; there = held_shows old new id name h (target_times board) _ s.there }
+
+pub held_boards : (old new : Names) (id : ℕ) (name : Values) (boards : Boards) (rows : Rows) → Holds old new id name → ShowRows old boards rows → ShowRows new boards rows
+held_boards old new id name boards rows h s = record { plain = held_asked old new id name boards.plain rows Plain h s.plain; follow = held_asked old new id name boards.follow rows Follow h s.follow }
+
+pub released_boards : (old new : Names) (id : ℕ) (boards : Boards) (rows : Rows) → Releases old new id → (find_kept new id ≡ None → AreNowhere boards id) → ShowRows old boards rows → ShowRows new boards rows
+released_boards old new id boards rows r none s = record {
+  plain = record {
+    asked = released_shows old new id r (probe_times boards.plain) _ (λ e. (none e).asked) s.plain.asked;
+    there = released_shows old new id r (target_times boards.plain) _ (λ e. (none e).there) s.plain.there;
+  };
+  follow = record {
+    asked = released_shows old new id r (probe_times boards.follow) _ (λ e. (none e).asked_follow) s.follow.asked;
+    there = released_shows old new id r (target_times boards.follow) _ (λ e. (none e).there_follow) s.follow.there;
+  };
+}

@@ -1,0 +1,19 @@
+-- Looks of a board, by names.
+use Rattle.std.proofs.Common.{◌≡◌, ℕ, ◌+◌, List, ap, sym, ◌∙◌}
+use Rattle.cpe_name.specs.declared.name.Values.{Values}
+use Rattle.product_orders.specs.declared.products.Side.{Side}
+use Rattle.product_orders.proofs.Sums.{sum_agree}
+use Rattle.name_index.specs.declared.table.NameId.{NameId}
+use Rattle.name_index.specs.Index.{times_held}
+use Rattle.name_index.specs.Table.{AreNames, Names}
+use Rattle.name_index.proofs.Postings.{sum_map}
+use Rattle.numbered_names.specs.Shown.{different, name_at, names_at, near_names, one_if_some, Shows}
+use Rattle.numbered_names.proofs.Different.{near_different}
+use Rattle.kept_facts.specs.Lists.{looks, looks_at}
+use Rattle.kept_facts.specs.Kept.{looks_by}
+
+pub looks_are : (names : Names) (times : ℕ → ℕ) (list : List Values) (held : List (ℕ × ℕ)) (side : Side) (numbers : List NameId) → AreNames names → ((id : ℕ) → times_held held id ≡ one_if_some (times id)) → Shows names times list
+    → looks names side held numbers ≡ looks_by side list (names_at names numbers)
+looks_are names times list held side numbers are on s =
+    sum_agree (looks_at names side held) (λ (x : NameId). 1 + near_names side (name_at names x).product (different list)) (λ x. ap (λ (n : ℕ). 1 + n) (near_different names times list held are on s side (name_at names x).product)) numbers
+    ∙ sym (sum_map (λ (n : Values). 1 + near_names side n.product (different list)) (name_at names) numbers)

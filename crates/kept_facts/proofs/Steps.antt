@@ -1,0 +1,227 @@
+-- What one number more makes of a board on which so many came, went, are asked or are no longer asked.
+use Rattle.std.proofs.Common.{◌≡◌, ◌≢◌, ℕ, zero, suc, ◌+◌, ◌-◌, ◌≤◌, ◌<◌, Bool, true, false, cond, List, [], ◌∷◌, drop, length, get_or, Some, refl, sym, ap, subst, ◌∙◌, inl, inr, arith, eq-eqb}
+use Rattle.std.specs.Prelude.{nat_eq, nat_lt, IsTrue, ◌↔◌}
+use Rattle.std.specs.List.{list_any, AllByRecursion}
+use Rattle.std.proofs.Math.Seq.{drop-cons}
+use Rattle.std.proofs.lemmas.Bool.{cases_eq, ne_eqb, both_ways}
+use Rattle.std.proofs.lemmas.List.Sums.{sum_by-cons}
+use Rattle.cpe_name.specs.declared.name.Values.{Values}
+use Rattle.cpe_relation.specs.NameRelation.{covers}
+use Rattle.product_orders.specs.declared.products.Side.{Side}
+use Rattle.name_index.specs.declared.table.NameId.{NameId}
+use Rattle.name_index.specs.Table.{Names, kept_at, IsLive}
+use Rattle.pair_board.specs.Board.{Board, Holds, TargetsTo, ProbesTo, probe_times, target_times, was_at, covered_count}
+use Rattle.numbered_names.specs.Shown.{times_in}
+use Rattle.numbered_names.proofs.Shown.{number_first, live_is}
+use Rattle.kept_facts.specs.Lists.{IsWide, looks_at, looks, Arriving, Leaving, Asking, Unasking}
+
+add_one : (i : ℕ) → suc i ≡ i + 1
+add_one i = omega arith
+
+-- the rest of a list begins with the element at its place
+pub first_there : {A : Type 0} (xs : List A) (i : ℕ) (d : A) → i < length xs → drop i xs ≡ get_or xs i d ∷ drop (i + 1) xs
+first_there xs i d lt = drop-cons xs i d lt ∙ ap (λ (k : ℕ). get_or xs i d ∷ drop k xs) (add_one i)
+
+-- as often as a number stands there
+pub itself : (x : NameId) (rest : List NameId) → times_in x.0 (x ∷ rest) ≡ 1 + times_in x.0 rest
+itself x rest = omega (arith, number_first x.0 x rest, ap {B = ℕ} (λ (b : Bool). cond b 1 0) (eq-eqb x.0 x.0 refl))
+
+another : (t : ℕ) (x : NameId) (rest : List NameId) → t ≢ x.0 → times_in t (x ∷ rest) ≡ times_in t rest
+another t x rest ne = omega (arith, number_first t x rest, ap {B = ℕ} (λ (b : Bool). cond b 1 0) (ne_eqb t x.0 ne))
+
+-- one number that is there
+pub one_there : (board : Board) (x : NameId) → 1 ≤ target_times board x.0 → (t : ℕ) → times_in t (x ∷ []) ≤ target_times board t
+one_there board x some t = elim (cases_eq t x.0) [
+  | inl at ↦ omega (arith, some, itself x [], ap (λ (k : ℕ). times_in k (x ∷ [])) at, ap (target_times board) at)
+  | inr ne ↦ omega (arith, another t x [] ne)
+]
+
+one_at_most : (b : Bool) → cond b 1 0 ≤ 1
+one_at_most true = omega arith
+one_at_most false = omega arith
+
+pub at_most_all : (t : ℕ) (xs : List NameId) → times_in t xs ≤ length xs
+at_most_all t [] = omega arith
+at_most_all t (x ∷ xs) = omega (arith, number_first t x xs, one_at_most (nat_eq t x.0), at_most_all t xs)
+
+-- the first of those that are live
+pub first_live : (names : Names) (x : NameId) (rest xs : List NameId) → xs ≡ x ∷ rest → AllByRecursion (λ (y : NameId). IsLive names y.0) xs → IsLive names x.0 × AllByRecursion (λ (y : NameId). IsLive names y.0) rest
+first_live names x rest xs e live = subst (AllByRecursion (λ (y : NameId). IsLive names y.0)) e live
+
+-- its product may come
+pub wide_there : (board now : Board) (names : Names) (id : ℕ) → IsWide board names → now.wide ≡ board.wide → IsLive names id → (kept_at names id).product < now.wide
+wide_there board now names id wide same live = omega (arith, wide id (kept_at names id) (live_is names id live), same)
+
+pub looks_first : (names : Names) (side : Side) (others : List (ℕ × ℕ)) (x : NameId) (rest xs : List NameId) → xs ≡ x ∷ rest → looks names side others xs ≡ looks_at names side others x + looks names side others rest
+looks_first names side others x rest xs e = ap (looks names side others) e ∙ sum_by-cons (looks_at names side others) x rest
+
+module _ (names : Names) (old now new : Board) (all : List NameId) (x : NameId) (rest xs : List NameId) (e : xs ≡ x ∷ rest) where
+  first_times : (t : ℕ) → times_in t xs ≡ times_in t (x ∷ rest)
+  first_times t = ap (times_in t) e
+
+  longer : length xs ≡ 1 + length rest
+  longer = omega (arith, ap length e)
+
+  -- ---- one more is there
+
+  pub arriving_few : Arriving old now names all xs → ((t : ℕ) → target_times old t + length all ≤ 4294967295) → target_times now x.0 < 4294967295
+  arriving_few a few = omega (arith, few x.0, a.times x.0, first_times x.0, itself x rest, at_most_all x.0 all)
+
+  pub arriving_room : Arriving old now names all xs → length all ≤ old.target_room → 1 ≤ now.target_room
+  arriving_room a room = omega (arith, a.room, room, longer)
+
+  pub arriving_next : Arriving old now names all xs → TargetsTo now new names x.0 (target_times now x.0 + 1) → now.target_room ≤ new.target_room + 1 → Arriving old new names all rest
+  arriving_next a t room = record {
+    fits = t.fits;
+    times = times;
+    stay = record {
+      times = λ p. t.probes p ∙ a.stay.times p;
+      was = λ p. t.was p ∙ a.stay.was p;
+      probe_ids = t.probe_ids ∙ a.stay.probe_ids;
+      probe_room = t.probe_room ∙ a.stay.probe_room;
+      wide = t.wide ∙ a.stay.wide;
+    };
+    room = omega (arith, a.room, room, longer);
+  }
+    where
+      times : (s : ℕ) → target_times new s + times_in s rest ≡ target_times old s + times_in s all
+      times s = elim (cases_eq s x.0) [
+        | inl at ↦ omega (arith, a.times s, first_times s, ap (λ (k : ℕ). times_in k (x ∷ rest)) at, itself x rest, ap (λ (k : ℕ). times_in k rest) at, ap (target_times new) at, ap (target_times now) at, t.times_now)
+        | inr ne ↦ omega (arith, a.times s, first_times s, another s x rest ne, t.others s ne)
+      ]
+
+  -- ---- one less is there
+
+  pub leaving_some : Leaving old now names all xs → ((t : ℕ) → times_in t all ≤ target_times old t) → 1 ≤ target_times now x.0
+  leaving_some a there = omega (arith, a.times x.0, there x.0, first_times x.0, itself x rest)
+
+  pub leaving_next : Leaving old now names all xs → ((t : ℕ) → times_in t all ≤ target_times old t) → TargetsTo now new names x.0 (target_times now x.0 - 1) → now.target_room ≤ new.target_room → Leaving old new names all rest
+  leaving_next a there t room = record {
+    fits = t.fits;
+    times = times;
+    stay = record {
+      times = λ p. t.probes p ∙ a.stay.times p;
+      was = λ p. t.was p ∙ a.stay.was p;
+      probe_ids = t.probe_ids ∙ a.stay.probe_ids;
+      probe_room = t.probe_room ∙ a.stay.probe_room;
+      wide = t.wide ∙ a.stay.wide;
+    };
+    room = omega (arith, a.room, room);
+  }
+    where
+      times : (s : ℕ) → target_times new s + times_in s all ≡ target_times old s + times_in s rest
+      times s = elim (cases_eq s x.0) [
+        | inl at ↦ omega (arith, a.times s, first_times s, ap (λ (k : ℕ). times_in k (x ∷ rest)) at, itself x rest, ap (λ (k : ℕ). times_in k rest) at, ap (target_times new) at, ap (target_times now) at, t.times_now, leaving_some a there)
+        | inr ne ↦ omega (arith, a.times s, first_times s, another s x rest ne, t.others s ne)
+      ]
+
+  -- ---- one more is asked
+
+  pub asking_few : Asking old now names all xs → ((p : ℕ) → probe_times old p + length all ≤ 4294967295) → probe_times now x.0 < 4294967295
+  asking_few a few = omega (arith, few x.0, a.times x.0, first_times x.0, itself x rest, at_most_all x.0 all)
+
+  pub asking_room : Asking old now names all xs → length all ≤ old.probe_room → 1 ≤ now.probe_room
+  asking_room a room = omega (arith, a.room, room, longer)
+
+  pub asking_next : Asking old now names all xs → ProbesTo now new names x.0 (probe_times now x.0 + 1) → now.probe_room ≤ new.probe_room + 1 → Asking old new names all rest
+  asking_next a t room = record {
+    fits = t.fits;
+    still = still;
+    times = times;
+    stay = record {
+      targets = t.targets ∙ a.stay.targets;
+      target_ids = t.target_ids ∙ a.stay.target_ids;
+      target_room = t.target_room ∙ a.stay.target_room;
+      wide = t.wide ∙ a.stay.wide;
+    };
+    was = was;
+    was_new = was_new;
+    room = omega (arith, a.room, room, longer);
+  }
+    where
+      times : (s : ℕ) → probe_times new s + times_in s rest ≡ probe_times old s + times_in s all
+      times s = elim (cases_eq s x.0) [
+        | inl at ↦ omega (arith, a.times s, first_times s, ap (λ (k : ℕ). times_in k (x ∷ rest)) at, itself x rest, ap (λ (k : ℕ). times_in k rest) at, ap (probe_times new) at, ap (probe_times now) at, t.times_now)
+        | inr ne ↦ omega (arith, a.times s, first_times s, another s x rest ne, t.others s ne)
+      ]
+
+      -- what stands at the number itself
+      was_here : 0 < probe_times now x.0 → was_at new x.0 ≡ was_at now x.0
+      was_here some = t.was_kept (omega arith) some
+
+      was : (p : ℕ) → 0 < probe_times old p → was_at new p ≡ was_at old p
+      was p some = elim (cases_eq p x.0) [
+        | inl at ↦ ap (was_at new) at ∙ was_here (a.still x.0 (omega (arith, some, ap (probe_times old) at))) ∙ ap (was_at now) (sym at) ∙ a.was p some
+        | inr ne ↦ t.was p ne ∙ a.was p some
+      ]
+
+      still : (p : ℕ) → 0 < probe_times old p → 0 < probe_times new p
+      still p some = elim (cases_eq p x.0) [
+        | inl at ↦ omega (arith, ap (probe_times new) at, t.times_now)
+        | inr ne ↦ omega (arith, a.still p some, t.others p ne)
+      ]
+
+      was_new : (p : ℕ) → probe_times old p ≡ 0 → 0 < probe_times new p → was_at new p ≡ Some (nat_lt 0 (covered_count names p new.target_ids))
+      was_new p none some = elim (cases_eq p x.0) [
+        | inl at ↦ at_itself at (probe_times now p) refl
+        | inr ne ↦ t.was p ne ∙ a.was_new p none (omega (arith, some, t.others p ne)) ∙ ap (λ (ids : List (ℕ × ℕ)). Some (nat_lt 0 (covered_count names p ids))) (sym t.target_ids)
+      ]
+        where
+          at_itself : p ≡ x.0 → (n : ℕ) → probe_times now p ≡ n → was_at new p ≡ Some (nat_lt 0 (covered_count names p new.target_ids))
+          at_itself at zero h = subst (λ (k : ℕ). was_at new k ≡ Some (nat_lt 0 (covered_count names k new.target_ids))) (sym at) (t.was_new (ap (probe_times now) (sym at) ∙ h))
+          at_itself at (suc n) h =
+              let more : 0 < probe_times now p = omega (arith, h) in
+              ap (was_at new) at ∙ was_here (omega (arith, more, ap (probe_times now) at)) ∙ ap (was_at now) (sym at)
+              ∙ a.was_new p none more ∙ ap (λ (ids : List (ℕ × ℕ)). Some (nat_lt 0 (covered_count names p ids))) (sym t.target_ids)
+
+  -- ---- one less is asked
+
+  pub unasking_some : Unasking old now names all xs → ((p : ℕ) → times_in p all ≤ probe_times old p) → 1 ≤ probe_times now x.0
+  unasking_some a asked = omega (arith, a.times x.0, asked x.0, first_times x.0, itself x rest)
+
+  pub unasking_next : Unasking old now names all xs → ((p : ℕ) → times_in p all ≤ probe_times old p) → ProbesTo now new names x.0 (probe_times now x.0 - 1) → now.probe_room ≤ new.probe_room → Unasking old new names all rest
+  unasking_next a asked t room = record {
+    fits = t.fits;
+    times = times;
+    stay = record {
+      targets = t.targets ∙ a.stay.targets;
+      target_ids = t.target_ids ∙ a.stay.target_ids;
+      target_room = t.target_room ∙ a.stay.target_room;
+      wide = t.wide ∙ a.stay.wide;
+    };
+    was = was;
+    room = omega (arith, a.room, room);
+  }
+    where
+      some_now : 1 ≤ probe_times now x.0
+      some_now = unasking_some a asked
+
+      times : (s : ℕ) → probe_times new s + times_in s all ≡ probe_times old s + times_in s rest
+      times s = elim (cases_eq s x.0) [
+        | inl at ↦ omega (arith, a.times s, first_times s, ap (λ (k : ℕ). times_in k (x ∷ rest)) at, itself x rest, ap (λ (k : ℕ). times_in k rest) at, ap (probe_times new) at, ap (probe_times now) at, t.times_now, some_now)
+        | inr ne ↦ omega (arith, a.times s, first_times s, another s x rest ne, t.others s ne)
+      ]
+
+      was : (p : ℕ) → 0 < probe_times new p → was_at new p ≡ was_at old p
+      was p some = elim (cases_eq p x.0) [
+        | inl at ↦ ap (was_at new) at ∙ t.was_kept (omega (arith, some, ap (probe_times new) at, t.times_now)) (omega (arith, some_now)) ∙ ap (was_at now) (sym at) ∙ a.was p (omega (arith, some_now, ap (probe_times now) at))
+        | inr ne ↦ t.was p ne ∙ a.was p (omega (arith, some, t.others p ne))
+      ]
+
+-- ---- what holds
+
+pub holds_shown : (board : Board) (names : Names) (there : List Values) (p : ℕ) (result : Bool)
+    → ((passes : Values → Bool) (id : ℕ) → 1 ≤ target_times board id → passes (kept_at names id).name ≡ true → list_any passes there ≡ true)
+    → ((passes : Values → Bool) → list_any passes there ≡ true → (id : ℕ) × (1 ≤ target_times board id) × (passes (kept_at names id).name ≡ true))
+    → IsTrue result ↔ Holds board names p → result ≡ list_any (covers (kept_at names p).name) there
+holds_shown board names there p result somewhere passing holds = by result (list_any (covers (kept_at names p).name) there) refl refl
+  where
+    by : (a b : Bool) → result ≡ a → list_any (covers (kept_at names p).name) there ≡ b → a ≡ b
+    by true true e f = refl
+    by false false e f = refl
+    by true false e f =
+        let t = holds.0 e in
+        absurd (both_ways (list_any (covers (kept_at names p).name) there) f (somewhere (covers (kept_at names p).name) t.0 (omega (arith, t.1)) t.2))
+    by false true e f =
+        let t = passing (covers (kept_at names p).name) f in
+        absurd (both_ways result e (holds.1 (t.0, omega (arith, t.1), t.2)))

@@ -1,0 +1,14 @@
+use Rattle.std.proofs.Common.{◌+◌, ◌≤◌, drop}
+use Rattle.std.specs.List.{AllByRecursion}
+use Rattle.product_orders.specs.declared.products.Side.TheVariants as side
+use Rattle.name_index.specs.declared.table.NameId.{NameId}
+use Rattle.name_index.specs.Table.{IsLive}
+use Rattle.kept_facts.specs.Lists.{Leaving, looks}
+use Rattle.kept_facts.proofs.lists.leave.Given as goal
+
+abbrev pub invariant-loop-id : goal.invariant-loop-id
+invariant-loop-id g l = record {
+  live : AllByRecursion (λ (x : NameId). IsLive l.table x.0) (drop l.id-index l.numbers);
+  done : Leaving l.fn.board l.board l.table l.numbers (drop l.id-index l.numbers);
+  looked : l.steps + looks l.table side.Target l.fn.board.probe_ids (drop l.id-index l.numbers) ≤ l.fn.steps + looks l.table side.Target l.fn.board.probe_ids l.numbers;
+}

@@ -1,0 +1,18 @@
+use Rattle.std.proofs.Common.{◌+◌, drop, get_or, ◌∙◌}
+use Rattle.name_index.specs.declared.table.NameId.{NameId}
+use Rattle.name_index.specs.Index.{name_id}
+use Rattle.kept_facts.proofs.Steps.{first_there, first_live, unasking_next}
+use Rattle.kept_facts.proofs.lists.unask.Goals as goal
+
+pub loop-id-preserved : goal.loop-id-preserved
+loop-id-preserved g c =
+    let numbers = c.args.numbers.now in
+    let i = c.loop-id.id-index in
+    let x : NameId = get_or numbers i (name_id 0) in
+    let rest = drop (i + 1) numbers in
+    let here = first_there numbers i (name_id 0) c.loop-id-test.true in
+    record {
+      live = (first_live c.args.table.now x rest (drop i numbers) here c.loop-id.invariant.live).1;
+      done = unasking_next c.args.table.now c.args.board.now c.loop-id.board c.drop_probe.new.self numbers x rest (drop i numbers) here c.loop-id.invariant.done c.requires.asked c.drop_probe.ensures.changes c.drop_probe.ensures.room;
+      looked = c.drop_probe.ensures.steps ∙ c.loop-id.invariant.looked;
+    }

@@ -1,0 +1,79 @@
+// What the boards tell of facts. The functions do nothing: their clauses are the laws.
+ghost use Rattle.std.specs.Prelude.{◌≡◌, ◌≤◌, ◌<◌, ℕ, List, [], Bool, None, length};
+ghost use Rattle.std.specs.List.{AllByRecursion};
+ghost use Rattle.cpe_name.specs.declared.name.Values.{Values};
+ghost use Rattle.product_orders.specs.declared.products.Side.TheVariants as side;
+ghost use Rattle.name_index.specs.declared.table.NameId.{NameId};
+ghost use Rattle.name_index.specs.Table.{AreNames, Names, find_kept, Holds, Releases};
+ghost use Rattle.pair_board.specs.Board.{Board, IsOn, probe_times};
+ghost use Rattle.cpe_rows.specs.After.{after};
+ghost use Rattle.cpe_rows.specs.Accepted.{IsAccepted};
+ghost use Rattle.cpe_rows.specs.Rows.{Rows};
+ghost use Rattle.cpe_rows.specs.declared.entry.Entry.{Entry};
+ghost use Rattle.cpe_rows.specs.declared.test.CheckKey.{CheckKey};
+ghost use Rattle.cpe_rows.specs.declared.truth.Truth.{Truth};
+ghost use Rattle.cpe_rows.specs.Verdict.{fact_truth, truth};
+ghost use Rattle.cpe_rows.specs.declared.statement.Mode.{Mode};
+ghost use Rattle.numbered_names.specs.Shown.{names_at};
+ghost use Rattle.asked_names.specs.Asked.{asked, is_one_covering, leads, there};
+ghost use Rattle.kept_facts.specs.Lists.{looks};
+ghost use Rattle.kept_facts.specs.Kept.{AreHeld, AreNowhere, AreSettled, AreSound, board_of, Boards, FitBoards, IsOneOf, KeepKnown, looks_by, SameBoards, ShowRows, ShowsRows};
+
+use cpe_rows::Edit;
+
+/// A fact is true exactly where one of the names to which it leads holds on the board of its mode.
+pub fn facts_are_kept()
+    ensures { (rows : Rows) (mode : Mode) (names : Names) (fact : Values) (numbers : List NameId) (answer : Bool) → names_at names numbers ≡ leads rows.entries mode fact
+        → answer ≡ is_one_covering (names_at names numbers) (there rows mode) → fact_truth rows mode fact ≡ truth answer }
+{}
+
+/// A fact keeps its truth where it leads to the same names, all of them asked before and after, and none of them is flipped.
+pub fn unflipped_facts_stay()
+    ensures { (rows next : Rows) (mode : Mode) (names : Names) (old new : Boards) (fact : Values) (numbers : List NameId)
+        → FitBoards old names → FitBoards new names → ShowRows names old rows → ShowRows names new next → AreSound old → AreSound new → AreSettled old → KeepKnown old new
+        → names_at names numbers ≡ leads rows.entries mode fact → names_at names numbers ≡ leads next.entries mode fact
+        → AllByRecursion (λ (x : NameId). 1 ≤ probe_times (board_of old mode) x.0) numbers → AllByRecursion (λ (x : NameId). 1 ≤ probe_times (board_of new mode) x.0) numbers
+        → AllByRecursion (λ (x : NameId). IsOneOf (board_of new mode).flips x.0 → ⊥) numbers → fact_truth next mode fact ≡ fact_truth rows mode fact }
+{}
+
+/// Entries that are added and results of checks change nothing of what is asked and what is there.
+pub fn boards_stay()
+    ensures entries { (names : Names) (boards : Boards) (rows next : Rows) (e : Entry) → IsAccepted rows (Edit.Entry e) next → ShowRows names boards rows → ShowRows names boards next }
+    ensures set { (names : Names) (boards : Boards) (rows : Rows) (k : CheckKey) (t : Truth) → ShowRows names boards rows → ShowRows names boards (after rows (Edit.SetCheck k t)) }
+    ensures dropped { (names : Names) (boards : Boards) (rows : Rows) (k : CheckKey) → ShowRows names boards rows → ShowRows names boards (after rows (Edit.DropCheck k)) }
+    ensures same { (names : Names) (old new : Boards) (rows : Rows) → SameBoards old new → ShowRows names old rows → ShowRows names new rows }
+{}
+
+/// A name that is held or released leaves the boards as they are: they show the same, where no name that they show is released for the
+/// last time.
+pub fn tables_change()
+    ensures held { (old new : Names) (id : ℕ) (name : Values) (boards : Boards) (rows : Rows) → Holds old new id name → ShowRows old boards rows → ShowRows new boards rows }
+    ensures fit { (old new : Names) (id : ℕ) (name : Values) (boards : Boards) → AreSound boards → Holds old new id name → FitBoards boards old → FitBoards boards new }
+    ensures released { (old new : Names) (id : ℕ) (boards : Boards) (rows : Rows) → Releases old new id → (find_kept new id ≡ None → AreNowhere boards id) → ShowRows old boards rows → ShowRows new boards rows }
+    ensures fit_still { (old new : Names) (id : ℕ) (boards : Boards) → AreSound boards → Releases old new id → (find_kept new id ≡ None → AreNowhere boards id) → FitBoards boards old → FitBoards boards new }
+{}
+
+/// Where a table holds the names of the rows once a name is released, and the boards show what these rows ask and what is there for them,
+/// they do so still, and fit the table: what is released for the last time is on neither board.
+pub fn releases_are_safe()
+    ensures asked { (old new : Names) (id : ℕ) (boards : Boards) (rows : Rows) → AreNames old → Releases old new id → AreHeld new rows → ShowRows old boards rows → ShowRows new boards rows }
+    ensures fit { (old new : Names) (id : ℕ) (boards : Boards) (rows : Rows) → AreNames old → AreSound boards → Releases old new id → AreHeld new rows → ShowRows old boards rows
+        → FitBoards boards old → FitBoards boards new }
+{}
+
+/// Where boards that were settled show what they showed, after a change that was taken back, none of their answers is flipped.
+pub fn undone_changes_are_settled()
+    ensures { (names : Names) (old between new : Boards) (rows : Rows) → FitBoards old names → FitBoards new names → ShowRows names old rows → ShowRows names new rows → AreSound old → AreSound new
+        → AreSettled old → KeepKnown old between → KeepKnown between new → AreSettled new }
+{}
+
+/// The looks that a board takes are those by the different names that the rows ask or have there; and it keeps no more numbers than
+/// these names are many.
+pub fn looks_are_by_names()
+    ensures asked { (names : Names) (board : Board) (rows : Rows) (mode : Mode) (numbers : List NameId) → AreNames names → IsOn board → ShowsRows names board rows mode
+        → looks names side.Target board.probe_ids numbers ≡ looks_by side.Target (asked rows mode) (names_at names numbers) }
+    ensures there { (names : Names) (board : Board) (rows : Rows) (mode : Mode) (numbers : List NameId) → AreNames names → IsOn board → ShowsRows names board rows mode
+        → looks names side.Source board.target_ids numbers ≡ looks_by side.Source (there rows mode) (names_at names numbers) }
+    ensures few { (names : Names) (board : Board) (rows : Rows) (mode : Mode) → AreNames names → IsOn board → ShowsRows names board rows mode → length board.probe_ids ≤ length (asked rows mode) }
+    ensures few_there { (names : Names) (board : Board) (rows : Rows) (mode : Mode) → AreNames names → IsOn board → ShowsRows names board rows mode → length board.target_ids ≤ length (there rows mode) }
+{}

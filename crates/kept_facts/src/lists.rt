@@ -1,0 +1,117 @@
+// What the numbers of a list do to a board, one after the other: they come and go, and are asked or no longer asked.
+ghost use Rattle.std.specs.Prelude.{◌≡◌, ◌+◌, ◌≤◌, ◌<◌, ℕ, List, length};
+ghost use Rattle.std.specs.List.{AllByRecursion, list_any};
+ghost use Rattle.cpe_name.specs.declared.name.Values.{Values};
+ghost use Rattle.cpe_relation.specs.NameRelation.{covers};
+ghost use Rattle.product_orders.specs.declared.products.Side.TheVariants as side;
+ghost use Rattle.name_index.specs.declared.table.NameId.{NameId};
+ghost use Rattle.name_index.specs.Table.{Names};
+ghost use Rattle.pair_board.specs.Board.{FitsBoard, probe_times, target_times};
+ghost use Rattle.numbered_names.specs.Shown.{name_at, names_at, Shows, times_in};
+ghost use Rattle.asked_names.specs.Asked.{is_one_covering};
+ghost use Rattle.kept_facts.specs.Kept.{AreLive};
+ghost use Rattle.kept_facts.specs.Lists.{Arrives, Asks, IsWide, Leaves, Unasks, looks};
+
+use cpe_steps::Steps;
+use name_index::{NameId, NameTable};
+use numbered_names::lists_are_shown;
+use pair_board::PairBoard;
+use std::sync::ledger::Ledger;
+
+// Names come. It looks at each of them, and at those that are asked and near it, and takes no memory.
+pub(crate) fn arrive<L: Ledger>(
+    board: &mut PairBoard,
+    table: &NameTable,
+    numbers: &[NameId],
+    steps: &mut Steps<L>,
+)
+    requires fits { FitsBoard board.old table.now }
+    requires live { AreLive table.now numbers.now }
+    requires wide { IsWide board.old table.now }
+    requires room { length numbers.now ≤ board.old.target_room }
+    requires few { (t : ℕ) → target_times board.old t + length numbers.now ≤ 4294967295 }
+    ensures arrives { Arrives board.old board.new table.now numbers.now }
+    ensures steps { steps.new ≤ steps.old + looks table.now side.Target board.old.probe_ids numbers.now }
+{
+    for id in numbers {
+        board.add_target(table, *id, steps);
+    }
+}
+
+// Names go that are there. It looks as they do that come, and takes no memory.
+pub(crate) fn leave<L: Ledger>(
+    board: &mut PairBoard,
+    table: &NameTable,
+    numbers: &[NameId],
+    steps: &mut Steps<L>,
+)
+    requires fits { FitsBoard board.old table.now }
+    requires live { AreLive table.now numbers.now }
+    requires there { (t : ℕ) → times_in t numbers.now ≤ target_times board.old t }
+    ensures leaves { Leaves board.old board.new table.now numbers.now }
+    ensures steps { steps.new ≤ steps.old + looks table.now side.Target board.old.probe_ids numbers.now }
+{
+    for id in numbers {
+        board.drop_target(table, *id, steps);
+    }
+}
+
+// Names are asked. It looks at each of them, and at those that are there to which it is near, and takes no memory.
+pub(crate) fn ask<L: Ledger>(
+    board: &mut PairBoard,
+    table: &NameTable,
+    numbers: &[NameId],
+    steps: &mut Steps<L>,
+)
+    requires fits { FitsBoard board.old table.now }
+    requires live { AreLive table.now numbers.now }
+    requires wide { IsWide board.old table.now }
+    requires room { length numbers.now ≤ board.old.probe_room }
+    requires few { (p : ℕ) → probe_times board.old p + length numbers.now ≤ 4294967295 }
+    ensures asks { Asks board.old board.new table.now numbers.now }
+    ensures steps { steps.new ≤ steps.old + looks table.now side.Source board.old.target_ids numbers.now }
+{
+    for id in numbers {
+        board.add_probe(table, *id, steps);
+    }
+}
+
+// Names that are asked are so no longer. It takes no step and no memory.
+pub(crate) fn unask<L: Ledger>(
+    board: &mut PairBoard,
+    table: &NameTable,
+    numbers: &[NameId],
+    steps: &mut Steps<L>,
+)
+    requires fits { FitsBoard board.old table.now }
+    requires live { AreLive table.now numbers.now }
+    requires asked { (p : ℕ) → times_in p numbers.now ≤ probe_times board.old p }
+    ensures unasks { Unasks board.old board.new table.now numbers.now }
+    ensures steps { steps.new ≡ steps.old }
+{
+    for id in numbers {
+        board.drop_probe(table, *id, steps);
+    }
+}
+
+// Whether a probe covers a target, by the names that these are.
+fn holds(board: &PairBoard, id: NameId) -> bool
+    requires { 1 ≤ probe_times board.now id.0 }
+    ensures { (names : Names) (there : List Values) → FitsBoard board.now names → Shows names (target_times board.now) there → result ≡ list_any (covers (name_at names id)) there }
+{
+    lists_are_shown();
+    board.holds(id)
+}
+
+// Whether one of these names, which are asked, covers one that is there. It looks at nothing.
+pub(crate) fn holds_one(board: &PairBoard, numbers: &[NameId]) -> bool
+    requires { AllByRecursion (λ (x : NameId). 1 ≤ probe_times board.now x.0) numbers.now }
+    ensures { (names : Names) (there : List Values) → FitsBoard board.now names → Shows names (target_times board.now) there → result ≡ is_one_covering (names_at names numbers.now) there }
+{
+    for id in numbers {
+        if holds(board, *id) {
+            return true;
+        }
+    }
+    false
+}

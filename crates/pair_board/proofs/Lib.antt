@@ -1,0 +1,6 @@
+pub mod Orders
+pub mod WalkCounts
+pub mod Changes
+pub mod Sides
+pub mod Told
+pub mod Kept
