@@ -1,0 +1,92 @@
+use Rattle.std.proofs.Common.{◌≡◌, ◌<◌, ◌≤◌, ℕ, Bool, true, false, List, Option, Some, None, refl, sym, ap, ◌∙◌, inl, inr, arith}
+use Rattle.std.specs.Prelude.{nat_lt}
+use Rattle.std.proofs.lemmas.Option.{same_Some}
+use Rattle.std.proofs.lemmas.Bool.{cases_eq, false_from_ne_true, true≢false}
+use Rattle.pair_board.specs.Rows.{Seen, differs, holds_now}
+use Rattle.pair_board.specs.Board.{Board, covered_count, probe_at, probe_times, target_times, times_in, was_in, find_times, or_none}
+use Rattle.board_tests.proofs.pairs.drop_two_targets.Goals as goal
+
+same_times : (a b : Board) → b.targets ≡ a.targets → (t : ℕ) → target_times b t ≡ target_times a t
+same_times a b e t = ap (λ (ts : List (ℕ × ℕ)). or_none (find_times ts t)) e
+
+pub returns-clause-one_left : goal.returns-clause-one_left
+returns-clause-one_left g c =
+    let t = c.args.second.0 in
+    let more : 0 < target_times c.drop_target.new.self t = omega (arith, c.drop_target.ensures.changes.others t c.requires.apart, same_times c.add_target-2.new.self c.add_probe.new.self c.add_probe.ensures.changes.targets t, c.add_target-2.ensures.changes.times_now) in
+    (c.holds-one_left.ensures c.args.table.now c.drop_target.ensures.changes.fits).1 (t, more, c.requires.covers_second)
+
+pub returns-clause-none_left : goal.returns-clause-none_left
+returns-clause-none_left g c =
+    false_from_ne_true c.holds.result (λ e. let h = (c.holds.ensures c.args.table.now c.drop_target-2.ensures.changes.fits).0 e in none h.0 h.1)
+  where
+    none : (t : ℕ) → 0 < target_times c.drop_target-2.new.self t → ⊥
+    none t more = elim (cases_eq t c.args.second.0) [
+      | inl e ↦ omega (
+        arith,
+        more,
+        ap (target_times c.drop_target-2.new.self) e,
+        c.drop_target-2.ensures.changes.times_now,
+        c.drop_target.ensures.changes.others c.args.second.0 c.requires.apart,
+        same_times c.add_target-2.new.self c.add_probe.new.self c.add_probe.ensures.changes.targets c.args.second.0,
+        c.add_target-2.ensures.changes.times_now,
+        c.add_target.ensures.changes.others c.args.second.0 c.requires.apart,
+        c.requires.no_targets c.args.second.0,
+      )
+      | inr ne ↦ elim (cases_eq t c.args.first.0) [
+        | inl e ↦ omega (
+          arith,
+          more,
+          c.drop_target-2.ensures.changes.others t ne,
+          ap (target_times c.drop_target.new.self) e,
+          c.drop_target.ensures.changes.times_now,
+          same_times c.add_target-2.new.self c.add_probe.new.self c.add_probe.ensures.changes.targets c.args.first.0,
+          c.add_target-2.ensures.changes.others c.args.first.0 (λ z. c.requires.apart (sym z)),
+          c.add_target.ensures.changes.times_now,
+          c.requires.no_targets c.args.first.0,
+        )
+        | inr no_ ↦ omega (
+          arith,
+          more,
+          c.drop_target-2.ensures.changes.others t ne,
+          c.drop_target.ensures.changes.others t no_,
+          same_times c.add_target-2.new.self c.add_probe.new.self c.add_probe.ensures.changes.targets t,
+          c.add_target-2.ensures.changes.others t ne,
+          c.add_target.ensures.changes.others t no_,
+          c.requires.no_targets t,
+        )
+      ]
+    ]
+
+-- what is kept of a probe on the board
+kept_there : (b : Board) (p : ℕ) → 1 ≤ probe_times b p → (s : Seen) × (probe_at b p ≡ Some s)
+kept_there b p some = by (probe_at b p) refl
+  where
+    by : (o : Option Seen) → probe_at b p ≡ o → (s : Seen) × (probe_at b p ≡ Some s)
+    by None e = absurd (omega (arith, some, ap times_in e))
+    by (Some s) e = (s, e)
+
+other_answer : (a b : Bool) → a ≡ true → b ≡ false → differs a b ≡ true
+other_answer true false e f = refl
+other_answer true true e f = absurd cc
+other_answer false b e f = absurd cc
+
+pub returns-clause-flipped : goal.returns-clause-flipped
+returns-clause-flipped g c =
+    let names = c.args.table.now in
+    let p = c.args.probe.0 in
+    let before = c.add_target-2.new.self in
+    let mid = c.add_probe.new.self in
+    let last = c.drop_target-2.new.self in
+    let fresh : probe_times before p ≡ 0 = omega (arith, c.add_target-2.ensures.changes.probes p, c.add_target.ensures.changes.probes p, c.requires.no_probes p) in
+    let one : probe_times mid p ≡ 1 = omega (arith, c.add_probe.ensures.changes.times_now, fresh) in
+    let t = kept_there mid p (omega (arith, one)) in
+    let s = kept_there last p (omega (arith, one, c.drop_target.ensures.changes.probes p, c.drop_target-2.ensures.changes.probes p)) in
+    let counted : t.0.hits ≡ covered_count names p mid.target_ids = c.add_probe.ensures.changes.fits.counts p t.0 t.1 in
+    let known : t.0.was ≡ nat_lt 0 t.0.hits = same_Some t.0.was (nat_lt 0 t.0.hits) (sym (ap was_in t.1) ∙ c.add_probe.ensures.changes.was_new fresh ∙ ap (λ (n : ℕ). Some (nat_lt 0 n)) (sym counted)) in
+    let more : 0 < target_times mid c.args.second.0 = omega (arith, same_times before mid c.add_probe.ensures.changes.targets c.args.second.0, c.add_target-2.ensures.changes.times_now) in
+    let held : nat_lt 0 t.0.hits ≡ true = (c.lawful.ensures.answers names p t.0 c.add_probe.ensures.changes.fits t.1).1 (c.args.second.0, more, c.requires.covers_second) in
+    let stayed : s.0.was ≡ t.0.was = same_Some s.0.was t.0.was (sym (ap was_in s.1) ∙ c.drop_target-2.ensures.changes.was p ∙ c.drop_target.ensures.changes.was p ∙ ap was_in t.1) in
+    let none : holds_now s.0 ≡ false =
+    false_from_ne_true (holds_now s.0) (λ e.
+    true≢false (sym ((c.holds.ensures names c.drop_target-2.ensures.changes.fits).1 ((c.lawful-2.ensures.answers names p s.0 c.drop_target-2.ensures.changes.fits s.1).0 e)) ∙ returns-clause-none_left g c)) in
+    c.lawful-2.ensures.flips.whole p (s.0, s.1, other_answer s.0.was (holds_now s.0) (stayed ∙ known ∙ held) none)

@@ -1,0 +1,74 @@
+// A board in use, and how many looks a change takes.
+ghost use Rattle.std.specs.Prelude.{◌≡◌, ◌≢◌, true, false, ◌+◌, ◌≤◌, ◌<◌, ℕ, [], ◌∷◌, List, length};
+ghost use Rattle.product_orders.specs.Elements.{SameElements};
+ghost use Rattle.name_index.specs.Table.{IsLive, kept_at};
+ghost use Rattle.pair_board.specs.Rows.{number_at};
+ghost use Rattle.pair_board.specs.Board.{FitsBoard, covers_at, target_times, probe_times};
+ghost use Rattle.board_tests.specs.Tried.{plain};
+
+use cpe_steps::Steps;
+use name_index::{NameId, NameTable};
+use pair_board::PairBoard;
+use std::sync::ledger::Ledger;
+
+// Five probes are on the board, of the products `p` and `q0` to `q3`. A target of the product `p` comes: two looks at most.
+fn add_target_two_looks<L: Ledger>(
+    board: &mut PairBoard,
+    table: &NameTable,
+    target: NameId,
+    steps: &mut Steps<L>,
+)
+    requires probes { SameElements ((0, 0) ∷ (1, 1) ∷ (2, 2) ∷ (3, 3) ∷ (4, 4) ∷ []) board.old.probe_ids }
+    requires fits { FitsBoard board.old table.now }
+    requires first { (kept_at table.now 0).name.product ≡ plain (112 ∷ []) }
+    requires second { (kept_at table.now 1).name.product ≡ plain (113 ∷ 48 ∷ []) }
+    requires third { (kept_at table.now 2).name.product ≡ plain (113 ∷ 49 ∷ []) }
+    requires fourth { (kept_at table.now 3).name.product ≡ plain (113 ∷ 50 ∷ []) }
+    requires fifth { (kept_at table.now 4).name.product ≡ plain (113 ∷ 51 ∷ []) }
+    requires live { IsLive table.now target.0 }
+    requires target { (kept_at table.now target.0).name.product ≡ plain (112 ∷ []) }
+    requires room { 1 ≤ board.old.target_room }
+    requires product { (kept_at table.now target.0).product < board.old.wide }
+    requires new { target_times board.old target.0 ≡ 0 }
+    ensures { steps.new ≤ steps.old + 2 }
+{
+    board.add_target(table, target, steps);
+}
+
+// Two targets come, and a probe that covers both. The first target goes, and then the second: what holds after each, and that the
+// probe is flipped then.
+fn drop_two_targets<L: Ledger>(
+    board: &mut PairBoard,
+    table: &NameTable,
+    first: NameId,
+    second: NameId,
+    probe: NameId,
+    steps: &mut Steps<L>,
+) -> (bool, bool)
+    requires first { IsLive table.now first.0 }
+    requires second { IsLive table.now second.0 }
+    requires probe { IsLive table.now probe.0 }
+    requires apart { second.0 ≢ first.0 }
+    requires fits { FitsBoard board.old table.now }
+    requires no_targets { (t : ℕ) → target_times board.old t ≡ 0 }
+    requires no_probes { (p : ℕ) → probe_times board.old p ≡ 0 }
+    requires target_room { 2 ≤ board.old.target_room }
+    requires probe_room { 1 ≤ board.old.probe_room }
+    requires first_product { (kept_at table.now first.0).product < board.old.wide }
+    requires second_product { (kept_at table.now second.0).product < board.old.wide }
+    requires probe_product { (kept_at table.now probe.0).product < board.old.wide }
+    requires covers_second { covers_at table.now probe.0 second.0 ≡ true }
+    ensures one_left { result.0 ≡ true }
+    ensures none_left { result.1 ≡ false }
+    ensures flipped { (k : ℕ) × (k < length board.new.flips) × (number_at board.new.flips k ≡ probe.0) }
+{
+    board.add_target(table, first, steps);
+    board.add_target(table, second, steps);
+    board.add_probe(table, probe, steps);
+    board.lawful();
+    board.drop_target(table, first, steps);
+    let one_left = board.holds(probe);
+    board.drop_target(table, second, steps);
+    board.lawful();
+    (one_left, board.holds(probe))
+}

@@ -1,0 +1,177 @@
+-- Places of rows, found by their tickets, as places of the statements that pass.
+use Rattle.std.proofs.Common.{◌≡◌, ℕ, zero, suc, ◌+◌, ◌<◌, Bool, true, false, not, cond, List, [], ◌∷◌, length, find, map, position, refl, sym, ap, subst, ◌∙◌, arith}
+use Rattle.std.specs.Prelude.{nat_eq, nat_lt, slice_get, Option, Some, None}
+use Rattle.std.specs.Option.{option_map, option_map_or}
+use Rattle.std.specs.List.{AllByRecursion, filter, position_from}
+use Rattle.std.proofs.lemmas.Iterator.Adapters.{position_from-zero}
+use Rattle.std.proofs.lemmas.Bool.Decides.{nat_tests}
+use Rattle.cpe_rows.specs.Truth.{same_truth}
+use Rattle.cpe_rows.specs.declared.truth.Truth.{Truth}
+use Rattle.cpe_applicability.specs.declared.parts.Parts.{Parts}
+use Rattle.cpe_applicability.specs.declared.row.Row.{Row}
+use Rattle.ticket_list.specs.Rising.{IsRisingBy, front}
+use Rattle.cpe_applicability.specs.Board.{changed_places, has_changed, is_of, places, verdict_of}
+use Rattle.cpe_applicability.specs.Tickets.{first_place}
+use Rattle.cpe_applicability.specs.Held.{has_row_id, is_changed, place_in, ticket_of, tickets}
+use Rattle.cpe_applicability.specs.Invariant.{judged, part_verdict, state_of}
+use Rattle.cpe_applicability.proofs.RowLemmas.{all_at, all_keys, nat_same, lower_differs}
+
+pub get-map : {X Y : Type 0} (f : X → Y) (xs : List X) (k : ℕ) → slice_get (map f xs) k ≡ option_map f (slice_get xs k)
+get-map f [] k = refl
+get-map f (x ∷ xs) zero = refl
+get-map f (x ∷ xs) (suc k) = get-map f xs k
+
+not_lt_self : (t : ℕ) → nat_lt t t ≡ false
+not_lt_self t = grind (arith, nat_tests)
+
+is_lt : (a b : ℕ) → a < b → nat_lt a b ≡ true
+is_lt a b h = grind (arith, nat_tests)
+
+-- ---- the place of a ticket
+
+place-here : (t : ℕ) (x : Row) (xs : List Row) → ticket_of x ≡ t → place_in t (x ∷ xs) ≡ Some 0
+place-here t x xs e =
+    subst (λ (t : ℕ). place_in t (x ∷ xs) ≡ Some 0) e (ap (λ (b : Bool). cond b (Some 0) (option_map suc (place_in (ticket_of x) xs))) (nat_same (ticket_of x)))
+
+place-later : (t : ℕ) (x : Row) (xs : List Row) → ticket_of x < t → place_in t (x ∷ xs) ≡ option_map suc (place_in t xs)
+place-later t x xs lt = ap (λ (b : Bool). cond b (Some 0) (option_map suc (place_in t xs))) (lower_differs (ticket_of x) t lt)
+
+module _ (p : Row → Bool) where
+  pub first_none : (rows : List Row) → tickets p rows ≡ [] → first_place p rows ≡ None
+  first_none [] h = refl
+  first_none (x ∷ xs) h = go (p x) h (first_none xs) where
+    go : (b : Bool) → map ticket_of (cond b (x ∷ filter p xs) (filter p xs)) ≡ [] → (tickets p xs ≡ [] → first_place p xs ≡ None)
+        → cond b (Some 0) (option_map suc (first_place p xs)) ≡ None
+    go true h more = absurd (cc)
+    go false h more = ap (option_map suc) (more h)
+
+  pub first_is : (t : ℕ) (rows : List Row) → IsRisingBy ticket_of rows → tickets p rows ≡ t ∷ [] → place_in t rows ≡ first_place p rows
+  first_is t [] r h = absurd (cc)
+  first_is t (x ∷ xs) r h = go (p x) h (first_is t xs r.1) where
+    go : (b : Bool) → map ticket_of (cond b (x ∷ filter p xs) (filter p xs)) ≡ t ∷ [] → (tickets p xs ≡ t ∷ [] → place_in t xs ≡ first_place p xs)
+        → place_in t (x ∷ xs) ≡ cond b (Some 0) (option_map suc (first_place p xs))
+    go true h more = let here : ticket_of x ≡ t = cc h in place-here t x xs here
+    go false h more =
+        let above = subst (AllByRecursion (λ y. ticket_of x < y)) h (all_keys ticket_of (ticket_of x) p xs r.0) in
+        place-later t x xs above.0 ∙ ap (option_map suc) (more h)
+
+  -- ---- the places of those that pass
+
+  pub places-length : (n : ℕ) (rows : List Row) → length (tickets p rows) ≡ length (places p n rows)
+  places-length n [] = refl
+  places-length n (x ∷ xs) = go (p x) (places-length (suc n) xs) where
+    go : (b : Bool) → length (tickets p xs) ≡ length (places p (suc n) xs)
+        → length (map ticket_of (cond b (x ∷ filter p xs) (filter p xs))) ≡ length (cond b (n ∷ places p (suc n) xs) (places p (suc n) xs))
+    go true h = ap suc h
+    go false h = h
+
+  places-suc : (n : ℕ) (rows : List Row) → places p (suc n) rows ≡ map suc (places p n rows)
+  places-suc n [] = refl
+  places-suc n (x ∷ xs) = go (p x) (places-suc (suc n) xs) where
+    go : (b : Bool) → places p (suc (suc n)) xs ≡ map suc (places p (suc n) xs)
+        → cond b (suc n ∷ places p (suc (suc n)) xs) (places p (suc (suc n)) xs) ≡ map suc (cond b (n ∷ places p (suc n) xs) (places p (suc n) xs))
+    go true h = ap (λ (u : List ℕ). suc n ∷ u) h
+    go false h = h
+
+  get_none : (ts us : List ℕ) (j : ℕ) → length ts ≡ length us → slice_get ts j ≡ None → slice_get us j ≡ None
+  get_none [] [] j e h = refl
+  get_none [] (u ∷ us) j e h = absurd (let wrong : 0 ≡ suc (length us) = e in omega (arith, wrong))
+  get_none (t ∷ ts) [] j e h = refl
+  get_none (t ∷ ts) (u ∷ us) zero e h = absurd (let wrong : Some t ≡ None = h in cc)
+  get_none (t ∷ ts) (u ∷ us) (suc j) e h = get_none ts us j (omega (arith, e)) h
+
+  pub place_none : (rows : List Row) (j : ℕ) → slice_get (tickets p rows) j ≡ None → slice_get (places p 0 rows) j ≡ None
+  place_none rows j h = get_none (tickets p rows) (places p 0 rows) j (places-length 0 rows) h
+
+  pub place_nth : (t : ℕ) (rows : List Row) (j : ℕ) → IsRisingBy ticket_of rows → slice_get (tickets p rows) j ≡ Some t → place_in t rows ≡ slice_get (places p 0 rows) j
+  place_nth t [] j r h = absurd (let wrong : None ≡ Some t = h in cc)
+  place_nth t (x ∷ xs) j r h = go (p x) j h (λ j. place_nth t xs j r.1) where
+    behind : (j : ℕ) → slice_get (tickets p xs) j ≡ Some t → (slice_get (tickets p xs) j ≡ Some t → place_in t xs ≡ slice_get (places p 0 xs) j)
+        → place_in t (x ∷ xs) ≡ slice_get (places p 1 xs) j
+    behind j h more =
+        place-later t x xs (all_at (λ y. ticket_of x < y) (tickets p xs) j t (all_keys ticket_of (ticket_of x) p xs r.0) h)
+        ∙ (ap (option_map suc) (more h) ∙ (sym (get-map suc (places p 0 xs) j) ∙ ap (λ (ns : List ℕ). slice_get ns j) (sym (places-suc 0 xs))))
+
+    go : (b : Bool) (j : ℕ) → slice_get (map ticket_of (cond b (x ∷ filter p xs) (filter p xs))) j ≡ Some t
+        → ((j : ℕ) → slice_get (tickets p xs) j ≡ Some t → place_in t xs ≡ slice_get (places p 0 xs) j)
+        → place_in t (x ∷ xs) ≡ slice_get (cond b (0 ∷ places p 1 xs) (places p 1 xs)) j
+    go true zero h more = let here : ticket_of x ≡ t = cc h in place-here t x xs here
+    go true (suc j) h more = behind j h (more j)
+    go false j h more = behind j h (more j)
+
+-- ---- as contracts see it
+
+pub places-map : {X Y : Type 0} (f : X → Y) (p : X → Bool) (q : Y → Bool) (n : ℕ) (xs : List X) → AllByRecursion (λ x. q (f x) ≡ p x) xs → places q n (map f xs) ≡ places p n xs
+places-map f p q n [] h = refl
+places-map f p q n (x ∷ xs) h = λ i. cond (h.0 i) (n ∷ places-map f p q (suc n) xs h.1 i) (places-map f p q (suc n) xs h.1 i)
+
+all_changed : (b : Parts) (rows : List Row) → AllByRecursion (λ r. r.verdict ≡ part_verdict b r) rows → AllByRecursion (λ r. has_changed (state_of b) (judged r) ≡ is_changed r) rows
+all_changed b [] h = tt
+all_changed b (r ∷ rows) h = (ap (λ (t : Truth). not (same_truth t r.was)) (sym h.0), all_changed b rows h.1)
+
+pub changed_are : (b : Parts) → AllByRecursion (λ r. r.verdict ≡ part_verdict b r) b.rows.items → changed_places (state_of b) ≡ places is_changed 0 b.rows.items
+changed_are b h = places-map judged is_changed (has_changed (state_of b)) 0 b.rows.items (all_changed b b.rows.items h)
+
+pub first-map : {X Y : Type 0} (f : X → Y) (q : Y → Bool) (xs : List X) → first_place q (map f xs) ≡ first_place (λ x. q (f x)) xs
+first-map f q [] = refl
+first-map f q (x ∷ xs) = ap (λ (o : Option ℕ). cond (q (f x)) (Some 0) (option_map suc o)) (first-map f q xs)
+
+module _ {X : Type 0} (p : X → Bool) where
+  no_suc : (o : Option ℕ) → option_map suc o ≡ None → o ≡ None
+  no_suc None h = refl
+  no_suc (Some n) h = absurd (cc)
+
+  pub find_none : (xs : List X) → first_place p xs ≡ None → find p xs ≡ None
+  find_none [] h = refl
+  find_none (x ∷ xs) h = go (p x) h (find_none xs) where
+    go : (b : Bool) → cond b (Some 0) (option_map suc (first_place p xs)) ≡ None → (first_place p xs ≡ None → find p xs ≡ None) → cond b (Some x) (find p xs) ≡ None
+    go true h more = absurd (cc)
+    go false h more = more (no_suc (first_place p xs) h)
+
+  pub find_at : (xs : List X) (k : ℕ) → first_place p xs ≡ Some k → find p xs ≡ slice_get xs k
+  find_at [] k h = absurd (cc)
+  find_at (x ∷ xs) k h = go (p x) k h (first_place p xs) refl (find_at xs) where
+    go : (b : Bool) (k : ℕ) → cond b (Some 0) (option_map suc (first_place p xs)) ≡ Some k → (o : Option ℕ) → first_place p xs ≡ o
+        → ((k : ℕ) → first_place p xs ≡ Some k → find p xs ≡ slice_get xs k) → cond b (Some x) (find p xs) ≡ slice_get (x ∷ xs) k
+    go true k h o e more = let same : 0 ≡ k = cc h in ap (slice_get (x ∷ xs)) same
+    go false k h None e more = absurd (let wrong : None ≡ Some k = sym (ap (option_map suc) e) ∙ h in cc)
+    go false k h (Some n) e more =
+        let same : suc n ≡ k = let one : Some (suc n) ≡ Some k = sym (ap (option_map suc) e) ∙ h in cc in
+        more n e ∙ ap (slice_get (x ∷ xs)) same
+
+pub verdict_there : (b : Parts) (k : ℕ) (r : Row) → AllByRecursion (λ r. r.verdict ≡ part_verdict b r) b.rows.items → slice_get b.rows.items k ≡ Some r
+    → Some r.verdict ≡ option_map (verdict_of (state_of b)) (slice_get (map judged b.rows.items) k)
+verdict_there b k r h e =
+    ap (λ (t : Truth). Some t) (all_at (λ r. r.verdict ≡ part_verdict b r) b.rows.items k r h e)
+    ∙ sym (ap (option_map (verdict_of (state_of b))) (get-map judged b.rows.items k ∙ ap (option_map judged) e))
+
+pub verdict_none : (b : Parts) (k : ℕ) → slice_get b.rows.items k ≡ None → None ≡ option_map (verdict_of (state_of b)) (slice_get (map judged b.rows.items) k)
+verdict_none b k e = sym (ap (option_map (verdict_of (state_of b))) (get-map judged b.rows.items k ∙ ap (option_map judged) e))
+
+pub verdict_found : (b : Parts) (id : List ℕ) (k : ℕ) → first_place (has_row_id id) b.rows.items ≡ Some k
+    → find (is_of id) (map judged b.rows.items) ≡ slice_get (map judged b.rows.items) k
+verdict_found b id k h = find_at (is_of id) (map judged b.rows.items) k (first-map judged (is_of id) b.rows.items ∙ h)
+
+pub verdict_missing : (b : Parts) (id : List ℕ) → first_place (has_row_id id) b.rows.items ≡ None → find (is_of id) (map judged b.rows.items) ≡ None
+verdict_missing b id h = find_none (is_of id) (map judged b.rows.items) (first-map judged (is_of id) b.rows.items ∙ h)
+
+-- ---- the place of the first, as std has it
+
+place_from : {X : Type 0} (p : X → Bool) (i : ℕ) (xs : List X) → position_from p i xs ≡ option_map (λ k. i + k) (first_place p xs)
+place_from p i [] = refl
+place_from p i (x ∷ xs) = go (p x) (place_from p (i + 1) xs) where
+  step : (o : Option ℕ) → option_map (λ k. i + 1 + k) o ≡ option_map (λ k. i + k) (option_map suc o)
+  step None = refl
+  step (Some k) = let same : i + 1 + k ≡ i + suc k = omega arith in ap (λ (n : ℕ). Some n) same
+
+  go : (b : Bool) → position_from p (i + 1) xs ≡ option_map (λ k. i + 1 + k) (first_place p xs)
+      → cond b (Some i) (position_from p (i + 1) xs) ≡ option_map (λ k. i + k) (cond b (Some 0) (option_map suc (first_place p xs)))
+  go true h = let same : i ≡ i + 0 = omega arith in ap (λ (n : ℕ). Some n) same
+  go false h = h ∙ step (first_place p xs)
+
+as_it_is : (o : Option ℕ) → option_map (λ k. 0 + k) o ≡ o
+as_it_is None = refl
+as_it_is (Some k) = let same : 0 + k ≡ k = omega arith in ap (λ (n : ℕ). Some n) same
+
+pub position_is : {X : Type 0} (p : X → Bool) (xs : List X) → position p xs ≡ first_place p xs
+position_is p xs = position_from-zero p xs ∙ (place_from p 0 xs ∙ as_it_is (first_place p xs))

@@ -1,0 +1,5 @@
+pub mod RisingLemmas
+mod MarkLemmas
+mod SlotLemmas
+mod FoundLemmas
+mod ChangeLemmas

@@ -1,0 +1,4 @@
+pub mod Rising
+pub mod Marks
+pub mod Slots
+pub mod TicketList
