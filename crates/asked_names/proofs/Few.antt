@@ -17,9 +17,8 @@ use Rattle.cpe_rows.specs.declared.statement.Statement.{Statement}
 use Rattle.cpe_rows.proofs.Added.{own_end}
 use Rattle.cpe_rows.proofs.Limited.{each_within}
 use Rattle.cpe_rows.proofs.NameTests.{same_is}
-use Rattle.numbered_names.specs.Shown.{different}
 use Rattle.numbered_names.proofs.Different.{fewer_different}
-use Rattle.asked_names.specs.Asked.{asked, entry_names, facts_in, facts_of, leads, names_kept, same_mode, there}
+use Rattle.asked_names.specs.Asked.{asked, entry_names, facts_in, leads, names_kept, references_in, references_of, same_mode, there}
 
 one_of_both : (p q : Entry → Bool) (es : List Entry) → list_any p es ≡ true → list_any q es ≡ false → (e : Entry) × (p e ≡ true) × (q e ≡ false)
 one_of_both p q [] h none = absurd cc
@@ -45,17 +44,23 @@ all_few : (g : Values → List Values) → ((n : Values) → length (g n) ≤ 64
 all_few g few [] = omega arith
 all_few g few (n ∷ ns) = omega (arith, length-append (g n) (flat_map g ns), few n, all_few g few ns)
 
-facts_fewer : (mode : Mode) (s : Statement) → length (facts_of mode s) ≤ length (fact_names s.test)
-facts_fewer mode s = by (same_mode mode s.mode)
+references_fewer : (mode : Mode) (s : Statement) → length (references_of mode s) ≤ length (fact_names s.test)
+references_fewer mode s = by (same_mode mode s.mode)
   where
-    by : (b : Bool) → length (cond b (different (fact_names s.test)) []) ≤ length (fact_names s.test)
-    by true = fewer_different (fact_names s.test)
+    by : (b : Bool) → length (cond b (fact_names s.test) []) ≤ length (fact_names s.test)
+    by true = omega arith
     by false = omega arith
 
-all_facts_fewer : (mode : Mode) (ss : List Statement) → length (facts_in mode ss) ≤ number_of_facts ss
-all_facts_fewer mode [] = omega arith
-all_facts_fewer mode (s ∷ ss) =
-    omega (arith, length-append (facts_of mode s) (facts_in mode ss), length-append (fact_names s.test) (flat_map (λ (t : Statement). fact_names t.test) ss), facts_fewer mode s, all_facts_fewer mode ss)
+all_references_fewer : (mode : Mode) (ss : List Statement) → length (references_in mode ss) ≤ number_of_facts ss
+all_references_fewer mode [] = omega arith
+all_references_fewer mode (s ∷ ss) =
+    omega (
+      arith,
+      length-append (references_of mode s) (references_in mode ss),
+      length-append (fact_names s.test) (flat_map (λ (t : Statement). fact_names t.test) ss),
+      references_fewer mode s,
+      all_references_fewer mode ss,
+    )
 
 module _ (rows : Rows) (lawful : IsLawful rows) where
   items_few : length rows.items ≤ 1000000
@@ -74,7 +79,7 @@ module _ (rows : Rows) (lawful : IsLawful rows) where
   there_few mode = omega (arith, all_few (leads rows.entries mode) (lead_few mode) rows.items, items_few)
 
   pub asked_few : (mode : Mode) → length (asked rows mode) ≤ 64000000
-  asked_few mode = omega (arith, all_few (leads rows.entries mode) (lead_few mode) (facts_in mode rows.statements), all_facts_fewer mode rows.statements, facts_few)
+  asked_few mode = omega (arith, all_few (leads rows.entries mode) (lead_few mode) (facts_in mode rows.statements), fewer_different (references_in mode rows.statements), all_references_fewer mode rows.statements, facts_few)
 
   pub kept_few : length (names_kept rows) ≤ 4000000
   kept_few =

@@ -15,7 +15,7 @@ use Rattle.cpe_rows.specs.declared.statement.Mode.TheVariants.{Plain, Follow}
 use Rattle.cpe_rows.specs.declared.statement.Statement.{Statement}
 use Rattle.cpe_name.specs.Equal.{same_name}
 use Rattle.numbered_names.specs.Shown.{different}
-use Rattle.asked_names.specs.Asked.{asked, entry_names, facts_in, facts_of, leads, names_kept, same_mode, there}
+use Rattle.asked_names.specs.Asked.{asked, entry_names, facts_in, leads, names_kept, references_in, references_of, same_mode, there}
 
 module _ (p : Values → Bool) where
   in_filter : (q : Entry → Bool) (es : List Entry) → list_any p (entry_names (filter q es)) ≡ true → list_any p (entry_names es) ≡ true
@@ -60,20 +60,24 @@ module _ (p : Values → Bool) where
       ]
 
   -- the facts of a mode are among all
-  facts_of_all : (mode : Mode) (s : Statement) → list_any p (facts_of mode s) ≡ true → list_any p (fact_names s.test) ≡ true
-  facts_of_all mode s h = by (same_mode mode s.mode) h
+  references_of_all : (mode : Mode) (s : Statement) → list_any p (references_of mode s) ≡ true → list_any p (fact_names s.test) ≡ true
+  references_of_all mode s h = by (same_mode mode s.mode) h
     where
-      by : (b : Bool) → list_any p (cond b (different (fact_names s.test)) []) ≡ true → list_any p (fact_names s.test) ≡ true
-      by true at = in_different (fact_names s.test) at
+      by : (b : Bool) → list_any p (cond b (fact_names s.test) []) ≡ true → list_any p (fact_names s.test) ≡ true
+      by true at = at
       by false at = absurd cc
 
-  facts_in_all : (mode : Mode) (ss : List Statement) → list_any p (facts_in mode ss) ≡ true → list_any p (flat_map (λ (s : Statement). fact_names s.test) ss) ≡ true
-  facts_in_all mode [] h = h
-  facts_in_all mode (s ∷ ss) h =
-      list_any-append p (fact_names s.test) (flat_map (λ (t : Statement). fact_names t.test) ss) ∙ elim (or_cases (list_any p (facts_of mode s)) (list_any p (facts_in mode ss)) (sym (list_any-append p (facts_of mode s) (facts_in mode ss)) ∙ h)) [
-        | inl here ↦ or_left (list_any p (fact_names s.test)) (list_any p (flat_map (λ (t : Statement). fact_names t.test) ss)) (facts_of_all mode s here)
-        | inr later ↦ or_right (list_any p (fact_names s.test)) (list_any p (flat_map (λ (t : Statement). fact_names t.test) ss)) (facts_in_all mode ss later)
+  references_in_all : (mode : Mode) (ss : List Statement) → list_any p (references_in mode ss) ≡ true → list_any p (flat_map (λ (s : Statement). fact_names s.test) ss) ≡ true
+  references_in_all mode [] h = h
+  references_in_all mode (s ∷ ss) h =
+      list_any-append p (fact_names s.test) (flat_map (λ (t : Statement). fact_names t.test) ss)
+      ∙ elim (or_cases (list_any p (references_of mode s)) (list_any p (references_in mode ss)) (sym (list_any-append p (references_of mode s) (references_in mode ss)) ∙ h)) [
+        | inl here ↦ or_left (list_any p (fact_names s.test)) (list_any p (flat_map (λ (t : Statement). fact_names t.test) ss)) (references_of_all mode s here)
+        | inr later ↦ or_right (list_any p (fact_names s.test)) (list_any p (flat_map (λ (t : Statement). fact_names t.test) ss)) (references_in_all mode ss later)
       ]
+
+  facts_in_all : (mode : Mode) (ss : List Statement) → list_any p (facts_in mode ss) ≡ true → list_any p (flat_map (λ (s : Statement). fact_names s.test) ss) ≡ true
+  facts_in_all mode ss h = references_in_all mode ss (in_different (references_in mode ss) h)
 
   module _ (rows : Rows) where
     abbrev names : List Values

@@ -1,5 +1,5 @@
 -- Names that lead to an entry are names of entries.
-use Rattle.std.proofs.Common.{◌≡◌, ◌⊎◌, ℕ, suc, ◌+◌, Bool, true, false, not, cond, ◌||◌, List, [], ◌∷◌, refl, sym, ap, ◌∙◌, inl, inr, arith}
+use Rattle.std.proofs.Common.{◌≡◌, ◌⊎◌, ◌≤◌, ℕ, zero, suc, ◌+◌, Bool, true, false, not, cond, ◌||◌, List, [], ◌∷◌, ◌++◌, refl, sym, ap, ◌∙◌, inl, inr, arith}
 use Rattle.std.specs.Prelude.{filter, replicate}
 use Rattle.std.specs.List.{sum_by, list_any, flat_map}
 use Rattle.std.proofs.lemmas.Bool.{and_parts, not-true, cases_Bool, both_ways, or_cases, or_left, or_right}
@@ -13,9 +13,11 @@ use Rattle.cpe_rows.specs.Names.{is_same}
 use Rattle.cpe_rows.specs.Rows.{is_named}
 use Rattle.cpe_rows.specs.declared.entry.Entry.{Entry}
 use Rattle.cpe_rows.proofs.NameTests.{same_is, not_same}
-use Rattle.numbered_names.specs.Shown.{times_named}
+use Rattle.cpe_name.specs.Equal.{same_name, same_name-Decides}
+use Rattle.numbered_names.specs.Shown.{one_if_some, times_named}
+use Rattle.numbered_names.proofs.Different.{none_named, one_some}
 use Rattle.numbered_names.proofs.Shown.{named_first}
-use Rattle.asked_names.proofs.Counted.{same_test}
+use Rattle.asked_names.proofs.Counted.{at_most_one, same_test, some_stands}
 use Rattle.asked_names.specs.Asked.{entry_names, source_names}
 use Rattle.asked_names.proofs.Names.{sum_flat}
 
@@ -122,6 +124,44 @@ copies s (x ∷ xs) = by (is_same s x) refl (copies s xs)
 pub led_by_copies : ((es : List Entry) (m : Values) → list_any (is_named m) es ≡ false → chain es m ≡ []) → (all : List Entry) (n : Values) (list : List Values) → are_different (λ (e : Entry). is_named e.name) all ≡ true
     → SameElements (filter (λ x. leads_to all x n) list) (flat_map (λ s. replicate (times_named s list) s) (source_names all n))
 led_by_copies absent all n list d f = led_by_sources absent all n list d f ∙ (λ i. sum_by f (flat_map (λ s. copies s list i) (source_names all n)))
+
+-- a name stands once at most where each is told apart from those behind it
+pub apart_once : (x : Values) (list : List Values) → are_different is_same list ≡ true → times_named x list ≤ 1
+apart_once x [] d = omega arith
+apart_once x (y ∷ list) d = by (same_name x y) refl (apart_once x list)
+  where
+    parts : (not (list_any (is_same y) list) ≡ true) × (are_different is_same list ≡ true)
+    parts = and_parts (not (list_any (is_same y) list)) (are_different is_same list) d
+
+    none : times_named y list ≡ 0
+    none = none_named y list (ap (λ (p : Values → Bool). list_any p list) (λ i m. sym (same_test y m) i) ∙ not-true (list_any (is_same y) list) parts.0)
+
+    by : (b : Bool) → same_name x y ≡ b → (are_different is_same list ≡ true → times_named x list ≤ 1) → times_named x (y ∷ list) ≤ 1
+    by true e later = omega (arith, named_first x y list, at_most_one (same_name x y), ap (λ (m : Values). times_named m list) ((same_name-Decides x y).0 e), none)
+    by false e later = omega (arith, named_first x y list, ap {B = ℕ} (λ (b : Bool). cond b 1 0) e, later parts.1)
+
+-- so the sources that stand in the list lead, once each
+pub led_by_those_there : ((es : List Entry) (m : Values) → list_any (is_named m) es ≡ false → chain es m ≡ []) → (all : List Entry) (n : Values) (list : List Values) → are_different (λ (e : Entry). is_named e.name) all ≡ true
+    → ((x : Values) → times_named x list ≤ 1) → SameElements (filter (λ x. leads_to all x n) list) (filter (λ s. list_any (is_same s) list) (source_names all n))
+led_by_those_there absent all n list d few f = led_by_copies absent all n list d f ∙ go (source_names all n)
+  where
+    exact : (t : ℕ) → t ≤ 1 → one_if_some t ≡ t
+    exact zero h = refl
+    exact (suc t) h = omega (arith, h, one_some (suc t) (omega arith))
+
+    times : (s : Values) → times_named s list ≡ cond (list_any (is_same s) list) 1 0
+    times s = sym (exact (times_named s list) (few s)) ∙ some_stands s list
+
+    go : (sources : List Values) → sum_by f (flat_map (λ s. replicate (times_named s list) s) sources) ≡ sum_by f (filter (λ s. list_any (is_same s) list) sources)
+    go [] = refl
+    go (s ∷ sources) =
+        ap (λ (k : ℕ). sum_by f (replicate k s ++ flat_map (λ t. replicate (times_named t list) t) sources)) (times s)
+        ∙ by (list_any (is_same s) list) (go sources)
+      where
+        by : (b : Bool) → sum_by f (flat_map (λ t. replicate (times_named t list) t) sources) ≡ sum_by f (filter (λ t. list_any (is_same t) list) sources)
+            → sum_by f (replicate (cond b 1 0) s ++ flat_map (λ t. replicate (times_named t list) t) sources) ≡ sum_by f (cond b (s ∷ filter (λ t. list_any (is_same t) list) sources) (filter (λ t. list_any (is_same t) list) sources))
+        by true later = omega (arith, later, sum_by-cons f s (flat_map (λ t. replicate (times_named t list) t) sources), sum_by-cons f s (filter (λ t. list_any (is_same t) list) sources))
+        by false later = later
 
 -- ---- from an end back to the names that lead there
 

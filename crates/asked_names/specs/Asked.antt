@@ -1,5 +1,5 @@
 -- By which names facts are asked, and what is there for them: names as they stand, or their ends where deprecations lead (NIST IR 7697).
-use Rattle.std.specs.Prelude.{Bool, true, false, ◌&&◌, if◌then◌else◌, List, [], ◌∷◌, ◌++◌, map, filter}
+use Rattle.std.specs.Prelude.{Bool, true, false, not, ◌&&◌, if◌then◌else◌, List, [], ◌∷◌, ◌++◌, map, filter}
 use Rattle.std.specs.List.{flat_map, list_any}
 use Rattle.cpe_name.specs.declared.name.Values.{Values}
 use Rattle.cpe_relation.specs.NameRelation.{covers}
@@ -36,13 +36,21 @@ facts_of mode s = if same_mode mode s.mode then different (fact_names s.test) el
 abbrev pub refers_to : Mode → Values → Statement → Bool
 refers_to mode fact s = same_mode mode s.mode && list_any (is_same fact) (fact_names s.test)
 
--- the facts of all statements, each as often as there are statements that refer to it
-abbrev pub facts_in : Mode → List Statement → List Values
-facts_in mode statements = flat_map (facts_of mode) statements
-
--- all fact references, each as often as it stands there
+-- all fact references of a mode, each as often as it stands there
 abbrev pub references_in : Mode → List Statement → List Values
 references_in mode statements = flat_map (references_of mode) statements
+
+-- the facts of a mode: each once, however many statements refer to it
+abbrev pub facts_in : Mode → List Statement → List Values
+facts_in mode statements = different (references_in mode statements)
+
+-- one of these statements does
+abbrev pub is_referred : Mode → List Statement → Values → Bool
+is_referred mode statements fact = list_any (refers_to mode fact) statements
+
+-- the facts of a statement to which none of these others refers
+abbrev pub fresh_facts : Mode → List Statement → Statement → List Values
+fresh_facts mode others s = filter (λ fact. not (is_referred mode others fact)) (facts_of mode s)
 
 -- the names by which facts are asked in a mode, and those that are there for them
 abbrev pub asked : Rows → Mode → List Values

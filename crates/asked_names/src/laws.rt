@@ -1,5 +1,5 @@
 // What is asked and what is there, and what edits make of both. The functions do nothing: their clauses are the laws.
-ghost use Rattle.std.specs.Prelude.{◌≡◌, ◌⊎◌, ◌≤◌, ◌∷◌, ◌++◌, length, Bool, List, ℕ, Some, true, count_by, filter, find, replicate};
+ghost use Rattle.std.specs.Prelude.{◌≡◌, ◌⊎◌, ◌≤◌, ◌∷◌, ◌++◌, length, Bool, List, ℕ, Some, true, cond, filter, find, replicate};
 ghost use Rattle.std.specs.List.{flat_map, list_any, sum_by};
 ghost use Rattle.cpe_name.specs.declared.name.Values.{Values};
 ghost use Rattle.cpe_rows.specs.Prelude.{after, ends, fact_names, has_id, IsAccepted, leads_to, Rows};
@@ -16,7 +16,7 @@ ghost use Rattle.cpe_rows.specs.declared.truth.Truth.{Truth};
 ghost use Rattle.cpe_changes.specs.Touching.{deprecation_changed};
 ghost use Rattle.product_orders.specs.Elements.{SameElements};
 ghost use Rattle.numbered_names.specs.Shown.{times_named};
-ghost use Rattle.asked_names.specs.Asked.{asked, facts_in, facts_of, is_one_covering, leads, names_kept, references_in, references_of, refers_to, source_names, there};
+ghost use Rattle.asked_names.specs.Asked.{asked, facts_in, facts_of, fresh_facts, is_one_covering, is_referred, leads, names_kept, references_in, references_of, source_names, there};
 
 use cpe_rows::Edit;
 
@@ -37,12 +37,13 @@ pub fn items_arrive()
     ensures kept_without { (rows : Rows) (n : Values) → list_any (is_same n) rows.items ≡ true → SameElements (names_kept rows) (n ∷ names_kept (after rows (Edit.DropItem n))) }
 {}
 
-/// A statement asks the names to which its facts lead, and asks them no more when it is dropped. Nothing comes or goes.
+/// A statement asks the names to which those of its facts lead to which no other refers; and where it is dropped, these are asked no
+/// more. Nothing comes or goes.
 pub fn statements_ask()
     ensures asked { (rows : Rows) (mode : Mode) (s : Statement)
-        → SameElements (flat_map (leads rows.entries mode) (facts_of mode s) ++ asked rows mode) (asked (after rows (Edit.PutStatement s)) mode) }
+        → SameElements (flat_map (leads rows.entries mode) (fresh_facts mode rows.statements s) ++ asked rows mode) (asked (after rows (Edit.PutStatement s)) mode) }
     ensures no_more { (rows : Rows) (mode : Mode) (id : List ℕ) (s : Statement) → find (has_id id) rows.statements ≡ Some s
-        → SameElements (asked rows mode) (flat_map (leads rows.entries mode) (facts_of mode s) ++ asked (after rows (Edit.DropStatement id)) mode) }
+        → SameElements (asked rows mode) (flat_map (leads rows.entries mode) (fresh_facts mode (after rows (Edit.DropStatement id)).statements s) ++ asked (after rows (Edit.DropStatement id)) mode) }
     ensures there { (rows : Rows) (mode : Mode) (s : Statement) → there (after rows (Edit.PutStatement s)) mode ≡ there rows mode }
     ensures there_still { (rows : Rows) (mode : Mode) (id : List ℕ) → there (after rows (Edit.DropStatement id)) mode ≡ there rows mode }
     ensures kept { (rows : Rows) (s : Statement) → SameElements (fact_names s.test ++ names_kept rows) (names_kept (after rows (Edit.PutStatement s))) }
@@ -50,11 +51,12 @@ pub fn statements_ask()
         → SameElements (names_kept rows) (fact_names s.test ++ names_kept (after rows (Edit.DropStatement id))) }
 {}
 
-/// A fact stands among those of a mode as often as there are statements of this mode that refer to it. So whatever each fact weighs,
-/// as the looks that it takes, the facts weigh no more than all references to them.
-pub fn facts_stand_once_a_statement()
-    ensures times { (mode : Mode) (statements : List Statement) (fact : Values) → times_named fact (facts_in mode statements) ≡ count_by (refers_to mode fact) statements }
+/// A fact stands once among those of its mode, however many statements refer to it. So whatever each fact weighs, as the looks that it
+/// takes, the facts weigh no more than all references to them.
+pub fn facts_stand_once()
+    ensures times { (mode : Mode) (statements : List Statement) (fact : Values) → times_named fact (facts_in mode statements) ≡ cond (is_referred mode statements fact) 1 0 }
     ensures less { (mode : Mode) (s : Statement) (weight : Values → ℕ) → sum_by weight (facts_of mode s) ≤ sum_by weight (references_of mode s) }
+    ensures less_fresh { (mode : Mode) (others : List Statement) (s : Statement) (weight : Values → ℕ) → sum_by weight (fresh_facts mode others s) ≤ sum_by weight (references_of mode s) }
     ensures less_in { (mode : Mode) (statements : List Statement) (weight : Values → ℕ) → sum_by weight (facts_in mode statements) ≤ sum_by weight (references_in mode statements) }
 {}
 
@@ -93,12 +95,16 @@ pub fn asked_names_are_kept()
     ensures there { (rows : Rows) (mode : Mode) (passes : Values → Bool) → list_any passes (there rows mode) ≡ true → list_any passes (names_kept rows) ≡ true }
 {}
 
-/// The names of a list that lead to an entry are those of the sources of the entry, each as often as it stands in the list. Who has
-/// an end is it, or leads to the entry of its name.
+/// The names of a list that lead to an entry are those of the sources of the entry, each as often as it stands in the list: where none
+/// stands twice, as with items and with facts, those sources that stand there. Who has an end is it, or leads to the entry of its name.
 pub fn led_are_sources()
     ensures ends { (entries : List Entry) (name end : Values) → list_any (is_same end) (ends entries name) ≡ true → (name ≡ end) ⊎ (leads_to entries name end ≡ true) }
     ensures led { (entries : List Entry) (n : Values) (list : List Values) → are_different (λ (e : Entry). is_named e.name) entries ≡ true
         → SameElements (filter (λ x. leads_to entries x n) list) (flat_map (λ s. replicate (times_named s list) s) (source_names entries n)) }
+    ensures once { (entries : List Entry) (n : Values) (list : List Values) → are_different (λ (e : Entry). is_named e.name) entries ≡ true → ((x : Values) → times_named x list ≤ 1)
+        → SameElements (filter (λ x. leads_to entries x n) list) (filter (λ s. list_any (is_same s) list) (source_names entries n)) }
+    ensures items_once { (rows : Rows) (x : Values) → IsLawful rows → times_named x rows.items ≤ 1 }
+    ensures facts_once { (mode : Mode) (statements : List Statement) (x : Values) → times_named x (facts_in mode statements) ≤ 1 }
 {}
 
 /// Lawful rows keep few names, and few are asked and there, however often: far fewer than 32 bits count.

@@ -2,13 +2,14 @@
 //!
 //! In either mode a name leads to some names: to itself, or to its ends. A fact is true exactly where one of those to which it
 //! leads covers one of those to which some item leads ([`facts_are_asked`]). Both are seen as lists in any order, so that a part
-//! that keeps such names, each with how often it is there, has nothing else to say; and each edit puts some in and takes some out.
+//! that keeps such names, each with how often it is there, has nothing else to say; and each edit puts some in and takes some out. A fact
+//! is asked once, however many statements refer to it: the first asks its names, and with the last they are asked no more.
 #![tactic(auto)]
 
 mod laws;
 
 pub use laws::{
     asked_names_are_kept, checks_ask_nothing, deprecations_lead_elsewhere,
-    entries_lead_to_themselves, facts_are_asked, facts_stand_once_a_statement, items_arrive,
+    entries_lead_to_themselves, facts_are_asked, facts_stand_once, items_arrive,
     lawful_rows_ask_few, led_are_sources, statements_ask,
 };

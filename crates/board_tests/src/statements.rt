@@ -1,7 +1,7 @@
 // A board that is edited.
 use cpe_applicability::{Board, FactTruth};
 use cpe_name::Wfn;
-use cpe_rows::{BoxedName, CheckKey, List, Mode, Operator, Statement, Test, Text, Truth};
+use cpe_rows::{BoxedName, CheckKey, List, Mode, Operator, Room, Statement, Test, Text, Truth};
 use cpe_values::Memory;
 use name_index::NameId;
 use std::alloc::Global;
@@ -58,13 +58,15 @@ fn a_statement(alloc: Global, id: &str) -> Result<Statement, Memory> {
 }
 
 fn put(alloc: Global, board: &mut Board, statement: Statement, number: u32) -> bool {
-    if board.has(&statement.id) {
-        drop(statement);
-        return false;
+    match board.statement_fault(&statement) {
+        Some(_) => {
+            drop(statement);
+            false
+        }
+        None => board
+            .put(alloc, statement, &[NameId(number)], &AllHold)
+            .is_ok(),
     }
-    board
-        .put(alloc, statement, &[NameId(number)], &AllHold)
-        .is_ok()
 }
 
 fn puts(alloc: Global, board: &mut Board, id: &str, number: u32) -> bool {
@@ -90,9 +92,17 @@ fn verdict_of(alloc: Global, board: &Board, id: &str) -> Option<Truth> {
 
 fn sets(alloc: Global, board: &mut Board, truth: Truth) -> bool {
     match a_key(alloc) {
-        Ok(key) => board.set_check(key, truth).is_ok(),
+        Ok(key) => set(board, key, truth),
         Err(Memory) => false,
     }
+}
+
+fn set(board: &mut Board, key: CheckKey, truth: Truth) -> bool {
+    if board.check_fault(&key).is_some() {
+        drop(key);
+        return false;
+    }
+    board.set_check(key, truth).is_ok()
 }
 
 fn forgets(alloc: Global, board: &mut Board) -> bool {
@@ -105,6 +115,47 @@ fn forgets(alloc: Global, board: &mut Board) -> bool {
 fn kept(alloc: Global, board: &Board) -> Option<Truth> {
     match a_key(alloc) {
         Ok(key) => board.check(&key),
+        Err(Memory) => None,
+    }
+}
+
+fn has_check(alloc: Global, board: &Board) -> bool {
+    match a_key(alloc) {
+        Ok(key) => board.has_check(&key),
+        Err(Memory) => false,
+    }
+}
+
+fn mode_of(alloc: Global, board: &Board, id: &str) -> Option<Mode> {
+    match Text::new(alloc, id) {
+        Ok(id) => found_mode(board, &id),
+        Err(Memory) => None,
+    }
+}
+
+fn found_mode(board: &Board, id: &Text) -> Option<Mode> {
+    match board.find(id) {
+        Some(statement) => Some(statement.mode),
+        None => None,
+    }
+}
+
+fn uses(board: &Board, number: u32, plain: usize, follow: usize) -> bool {
+    board.users(NameId(number), Mode::Plain) == plain
+        && board.users(NameId(number), Mode::Follow) == follow
+}
+
+// How many changes are listed, where there are few statements.
+fn listed(alloc: Global, board: &Board) -> Option<usize> {
+    if board.len() > 100 {
+        return None;
+    }
+    let mut changes = Room::new(alloc);
+    match changes.reserve(board.len()) {
+        Ok(()) => {
+            board.change_list(&mut changes);
+            Some(changes.into_list().as_slice().len())
+        }
         Err(Memory) => None,
     }
 }
@@ -137,11 +188,24 @@ fn statements_come(alloc: Global, board: &mut Board) -> bool {
         && verdict_of(alloc, board, "s") == Some(Truth::Unknown)
 }
 
+fn statements_are_there(alloc: Global, board: &Board) -> bool {
+    uses(board, 7, 1, 0)
+        && uses(board, 9, 0, 0)
+        && board.facts() == 2
+        && board.checks_len() == 0
+        && mode_of(alloc, board, "t") == Some(Mode::Plain)
+        && mode_of(alloc, board, "u") == None
+        && !has_check(alloc, board)
+}
+
 fn the_check_comes(alloc: Global, board: &mut Board) -> bool {
     sets(alloc, board, Truth::True)
         && kept(alloc, board) == Some(Truth::True)
         && verdict_of(alloc, board, "s") == Some(Truth::True)
         && counts(board, 2, 2)
+        && has_check(alloc, board)
+        && board.checks_len() == 1
+        && listed(alloc, board) == Some(2)
 }
 
 // The truth of the second fact changes in the mode that no statement has.
@@ -172,6 +236,8 @@ fn a_statement_goes(alloc: Global, board: &mut Board) -> bool {
         && first_changed(board) == Some(0)
         && verdict_of(alloc, board, "t") == Some(Truth::Unknown)
         && verdict_of(alloc, board, "s") == None
+        && uses(board, 7, 0, 0)
+        && board.facts() == 1
 }
 
 #[test]
@@ -179,6 +245,7 @@ fn verdicts_change(rt: HostRuntime) {
     let alloc = rt.alloc();
     let mut board = Board::new(alloc);
     assert!(rt; statements_come(alloc, &mut board));
+    assert!(rt; statements_are_there(alloc, &board));
     assert!(rt; the_check_comes(alloc, &mut board));
     assert!(rt; facts_change(alloc, &mut board));
     assert!(rt; changes_are_cleared(&mut board));

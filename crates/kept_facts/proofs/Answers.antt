@@ -24,6 +24,12 @@ use Rattle.kept_facts.specs.Kept.{AreNowhere, AreSettled, AreSound, board_of, Bo
 pub fact_kept : (rows : Rows) (mode : Mode) (names : Names) (fact : Values) (numbers : List NameId) (answer : Bool) → names_at names numbers ≡ leads rows.entries mode fact → answer ≡ is_one_covering (names_at names numbers) (there rows mode) → fact_truth rows mode fact ≡ truth answer
 fact_kept rows mode names fact numbers answer e is = fact_is rows mode fact ∙ ap (λ (ns : List Values). truth (is_one_covering ns (there rows mode))) (sym e) ∙ ap truth (sym is)
 
+pub answer_kept : (boards : Boards) (mode : Mode) (numbers : List NameId) (answer : Bool)
+    → ((names : Names) (list : List Values) → FitsBoard (board_of boards mode) names → Shows names (target_times (board_of boards mode)) list → answer ≡ is_one_covering (names_at names numbers) list)
+    → (names : Names) (rows : Rows) (fact : Values) → FitBoards boards names → ShowRows names boards rows → names_at names numbers ≡ leads rows.entries mode fact → truth answer ≡ fact_truth rows mode fact
+answer_kept boards Plain numbers answer by names rows fact fits shows is = sym (fact_kept rows Plain names fact numbers answer is (by names (there rows Plain) fits.plain shows.plain.there))
+answer_kept boards Follow numbers answer by names rows fact fits shows is = sym (fact_kept rows Follow names fact numbers answer is (by names (there rows Follow) fits.follow shows.follow.there))
+
 -- ---- one name
 
 same_if : (a b : Bool) → differs a b ≡ false → a ≡ b
@@ -33,7 +39,7 @@ same_if false true e = absurd cc
 same_if false false e = refl
 
 -- what is kept of a probe that is on the board
-pub seen_there : (board : Board) (p : ℕ) → 1 ≤ probe_times board p → (s : Seen) × (probe_at board p ≡ Some s)
+seen_there : (board : Board) (p : ℕ) → 1 ≤ probe_times board p → (s : Seen) × (probe_at board p ≡ Some s)
 seen_there board p some = by (probe_at board p) refl
   where
     by : (o : Option Seen) → probe_at board p ≡ o → (s : Seen) × (probe_at board p ≡ Some s)
@@ -41,16 +47,16 @@ seen_there board p some = by (probe_at board p) refl
     by (Some s) e = (s, e)
 
 -- the answer of a probe that isn't flipped is the known one
-pub known_is : (board : Board) → AreFlips board → (p : ℕ) (s : Seen) → probe_at board p ≡ Some s → (IsOneOf board.flips p → ⊥) → s.was ≡ holds_now s
+known_is : (board : Board) → AreFlips board → (p : ℕ) (s : Seen) → probe_at board p ≡ Some s → (IsOneOf board.flips p → ⊥) → s.was ≡ holds_now s
 known_is board flips p s e apart = elim (cases_Bool (differs s.was (holds_now s))) [
   | inl t ↦ absurd (apart (flips.whole p (s, e, t)))
   | inr f ↦ same_if s.was (holds_now s) f
 ]
 
-pub none_flipped : (board : Board) (p : ℕ) → board.flips ≡ [] → IsOneOf board.flips p → ⊥
+none_flipped : (board : Board) (p : ℕ) → board.flips ≡ [] → IsOneOf board.flips p → ⊥
 none_flipped board p e h = omega (arith, h.1, ap length e)
 
-pub answer_is : (board : Board) (names : Names) (list : List Values) (p : ℕ) (s : Seen) → AreAnswers board → FitsBoard board names → Shows names (target_times board) list → probe_at board p ≡ Some s
+answer_is : (board : Board) (names : Names) (list : List Values) (p : ℕ) (s : Seen) → AreAnswers board → FitsBoard board names → Shows names (target_times board) list → probe_at board p ≡ Some s
     → holds_now s ≡ list_any (covers (kept_at names p).name) list
 answer_is board names list p s answers fits shows e =
     holds_shown board names list p (holds_now s) (λ passes id. shown_passes names (target_times board) list passes id shows) (λ passes. passing_shown names (target_times board) list passes shows) (answers names p s fits e)

@@ -1,6 +1,6 @@
 -- What boards show behind an edit.
 use Rattle.std.proofs.Common.{◌≡◌, ℕ, ◌<◌, length, true, cond, List, [], ◌++◌, refl, sym, ap, subst, ◌∙◌, arith, Some}
-use Rattle.std.specs.Prelude.{find, nat_lt}
+use Rattle.std.specs.Prelude.{filter, find, nat_lt, not}
 use Rattle.std.proofs.lemmas.Option.{same_Some}
 use Rattle.std.specs.List.{flat_map, list_any, sum_by}
 use Rattle.std.proofs.lemmas.List.Sums.{sum_by-append}
@@ -23,7 +23,7 @@ use Rattle.cpe_rows.specs.declared.statement.Statement.{Statement}
 use Rattle.cpe_changes.specs.Touching.{deprecation_changed}
 use Rattle.numbered_names.specs.Shown.{different, names_at, Shows}
 use Rattle.numbered_names.proofs.Shown.{shows_none, shows_more, shows_fewer, shows_order, shows_same}
-use Rattle.asked_names.specs.Asked.{asked, facts_in, facts_of, leads, same_mode, there}
+use Rattle.asked_names.specs.Asked.{asked, facts_in, facts_of, fresh_facts, is_referred, leads, same_mode, there}
 use Rattle.asked_names.proofs.Moves.{item_there, item_left, statement_asked, statement_asked_no_more, led_there, led_asked, plain_asked, plain_there}
 use Rattle.kept_facts.specs.Lists.{Arrives, Asks, Leaves, ProbesStay, TargetsStay, Unasks}
 use Rattle.kept_facts.specs.Kept.{AreLive, board_of, Boards, ends_of_led, KeepsKnown, KeepsRoom, SameBoards, ShowRows, ShowsRows}
@@ -143,26 +143,33 @@ abbrev pub other_mode : Mode → Mode
 other_mode Plain = Follow
 other_mode Follow = Plain
 
-no_facts : (mode : Mode) (s : Statement) → s.mode ≡ mode → facts_of (other_mode mode) s ≡ []
-no_facts Plain s e = ap (λ (m : Mode). cond (same_mode Follow m) (different (fact_names s.test)) []) e
-no_facts Follow s e = ap (λ (m : Mode). cond (same_mode Plain m) (different (fact_names s.test)) []) e
+no_facts : (mode : Mode) (others : List Statement) (s : Statement) → s.mode ≡ mode → fresh_facts (other_mode mode) others s ≡ []
+no_facts mode others s e = ap (filter (λ fact. not (is_referred (other_mode mode) others fact))) (none mode e)
+  where
+    none : (mode : Mode) → s.mode ≡ mode → facts_of (other_mode mode) s ≡ []
+    none Plain e = ap (λ (m : Mode). cond (same_mode Follow m) (different (fact_names s.test)) []) e
+    none Follow e = ap (λ (m : Mode). cond (same_mode Plain m) (different (fact_names s.test)) []) e
 
-pub statement_more : (rows : Rows) (mode : Mode) (s : Statement) (list : List Values) → SameElements list (flat_map (leads rows.entries mode) (facts_of mode s)) → SameElements (list ++ asked rows mode) (asked (after rows (edit.PutStatement s)) mode)
-statement_more rows mode s list e = in_front list (flat_map (leads rows.entries mode) (facts_of mode s)) (asked rows mode) (asked (after rows (edit.PutStatement s)) mode) e (statement_asked rows mode s)
+pub statement_more : (rows : Rows) (mode : Mode) (s : Statement) (list : List Values) → SameElements list (flat_map (leads rows.entries mode) (fresh_facts mode rows.statements s))
+    → SameElements (list ++ asked rows mode) (asked (after rows (edit.PutStatement s)) mode)
+statement_more rows mode s list e = in_front list (flat_map (leads rows.entries mode) (fresh_facts mode rows.statements s)) (asked rows mode) (asked (after rows (edit.PutStatement s)) mode) e (statement_asked rows mode s)
 
-pub statement_less : (rows : Rows) (mode : Mode) (id : List ℕ) (s : Statement) (list : List Values) → find (has_id id) rows.statements ≡ Some s → SameElements list (flat_map (leads rows.entries mode) (facts_of mode s))
-    → SameElements (asked rows mode) (list ++ asked (after rows (edit.DropStatement id)) mode)
+pub statement_less : (rows : Rows) (mode : Mode) (id : List ℕ) (s : Statement) (list : List Values) → find (has_id id) rows.statements ≡ Some s
+    → SameElements list (flat_map (leads rows.entries mode) (fresh_facts mode (after rows (edit.DropStatement id)).statements s)) → SameElements (asked rows mode) (list ++ asked (after rows (edit.DropStatement id)) mode)
 statement_less rows mode id s list found e =
-    turned (list ++ asked (after rows (edit.DropStatement id)) mode) (asked rows mode)
-    (in_front list (flat_map (leads rows.entries mode) (facts_of mode s)) (asked (after rows (edit.DropStatement id)) mode) (asked rows mode) e
-    (turned (asked rows mode) (flat_map (leads rows.entries mode) (facts_of mode s) ++ asked (after rows (edit.DropStatement id)) mode) (statement_asked_no_more rows mode id s found)))
+    let left_by : Rows = after rows (edit.DropStatement id) in
+    let gone = flat_map (leads rows.entries mode) (fresh_facts mode left_by.statements s) in
+    turned (list ++ asked left_by mode) (asked rows mode)
+    (in_front list gone (asked left_by mode) (asked rows mode) e (turned (asked rows mode) (gone ++ asked left_by mode) (statement_asked_no_more rows mode id s found)))
 
 -- a statement of one mode asks nothing in the other
 pub other_put : (rows : Rows) (mode : Mode) (s : Statement) → s.mode ≡ mode → SameElements (asked rows (other_mode mode)) (asked (after rows (edit.PutStatement s)) (other_mode mode))
-other_put rows mode s own = statement_more rows (other_mode mode) s [] (λ f. sym (ap (λ (fs : List Values). sum_by f (flat_map (leads rows.entries (other_mode mode)) fs)) (no_facts mode s own)))
+other_put rows mode s own = statement_more rows (other_mode mode) s [] (λ f. sym (ap (λ (fs : List Values). sum_by f (flat_map (leads rows.entries (other_mode mode)) fs)) (no_facts mode rows.statements s own)))
 
 pub other_dropped : (rows : Rows) (mode : Mode) (id : List ℕ) (s : Statement) → s.mode ≡ mode → find (has_id id) rows.statements ≡ Some s → SameElements (asked rows (other_mode mode)) (asked (after rows (edit.DropStatement id)) (other_mode mode))
-other_dropped rows mode id s own found = statement_less rows (other_mode mode) id s [] found (λ f. sym (ap (λ (fs : List Values). sum_by f (flat_map (leads rows.entries (other_mode mode)) fs)) (no_facts mode s own)))
+other_dropped rows mode id s own found =
+    let rest = (after rows (edit.DropStatement id)).statements in
+    statement_less rows (other_mode mode) id s [] found (λ f. sym (ap (λ (fs : List Values). sum_by f (flat_map (leads rows.entries (other_mode mode)) fs)) (no_facts mode rest s own)))
 
 -- ---- deprecations
 
@@ -198,12 +205,6 @@ module _ (rows : Rows) (e : Edit) (n : Values) (h : deprecation_changed e ≡ So
   pub facts_lead : SameElements from (ends_of_led rows.entries rows.entries n (facts_in Follow rows.statements)) → SameElements to (ends_of_led rows.entries (after rows e).entries n (facts_in Follow rows.statements))
       → SameElements (to ++ asked rows Follow) (from ++ asked (after rows e) Follow)
   facts_lead f t = moved from to (ends_of_led rows.entries rows.entries n (facts_in Follow rows.statements)) (ends_of_led rows.entries (after rows e).entries n (facts_in Follow rows.statements)) (asked rows Follow) (asked (after rows e) Follow) f t (led_asked rows e n h Follow)
-
-pub plain_returns : (names : Names) (board : Board) (rows : Rows) (e : Edit) (n : Values) → deprecation_changed e ≡ Some n → ShowsRows names board (after rows e) Plain → ShowsRows names board rows Plain
-plain_returns names board rows e n h s = record {
-  asked = subst (Shows names (probe_times board)) (plain_asked rows e n h) s.asked;
-  there = subst (Shows names (target_times board)) (plain_there rows e n h) s.there;
-}
 
 pub plain_stays : (names : Names) (board : Board) (rows : Rows) (e : Edit) (n : Values) → deprecation_changed e ≡ Some n → ShowsRows names board rows Plain → ShowsRows names board (after rows e) Plain
 plain_stays names board rows e n h s = record {

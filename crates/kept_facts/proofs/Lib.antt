@@ -5,3 +5,4 @@ pub mod Answers
 pub mod Safe
 pub mod Looks
 pub mod EachOnce
+pub mod AskedOn

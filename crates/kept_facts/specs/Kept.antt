@@ -12,7 +12,7 @@ use Rattle.cpe_rows.specs.Rows.{Rows}
 use Rattle.cpe_rows.specs.declared.entry.Entry.{Entry}
 use Rattle.cpe_rows.specs.declared.statement.Mode.{Mode}
 use Rattle.cpe_rows.specs.declared.statement.Mode.TheVariants.{Plain, Follow}
-use Rattle.numbered_names.specs.Shown.{Shows, different, holds_in, near_names}
+use Rattle.numbered_names.specs.Shown.{Shows, different, IsKnown, near_names, times_named}
 use Rattle.asked_names.specs.Asked.{asked, names_kept, there}
 
 pub record Boards : Type 0 where
@@ -37,9 +37,9 @@ pub record FitBoards (boards : Boards) (names : Names) : Type 0 where
   pub plain : FitsBoard boards.plain names
   pub follow : FitsBoard boards.follow names
 
--- the table holds the names of entries, items and facts, each as often as it is one
-abbrev pub AreHeld : Names → Rows → Type 0
-AreHeld names rows = Shows names (holds_in names) (names_kept rows)
+-- the table has the names of entries, items and facts
+abbrev pub AreKnown : Names → Rows → Type 0
+AreKnown names rows = (n : Values) → 1 ≤ times_named n (names_kept rows) → IsKnown names n
 
 -- what is so of all boards: they hold the numbers that are asked or there, their answers are right, and the flipped ones are told
 pub record AreSound (boards : Boards) : Type 0 where

@@ -1,14 +1,10 @@
 // The boards of both modes, and what edits of the rows make of them.
-ghost use Rattle.std.specs.Prelude.{◌≡◌, ◌≢◌, ◌∷◌, ◌+◌, ◌≤◌, ℕ, [], List, IfOk, OnOk, Some, count_by, filter, find, length, map, true};
-ghost use Rattle.std.specs.List.Sorted.{IsStrictlyIncreasing};
+ghost use Rattle.std.specs.Prelude.{◌≡◌, ◌≢◌, ◌∷◌, ◌+◌, ◌≤◌, ℕ, [], List, OnOk, Some, find, length, true};
 ghost use Rattle.std.specs.List.{AllByRecursion, flat_map, list_any};
 ghost use Rattle.cpe_name.specs.declared.name.Values.{Values};
-ghost use Rattle.cpe_name.specs.Lower.{IsLower};
-ghost use Rattle.cpe_steps.specs.Within.{StepsWithin};
 ghost use Rattle.product_orders.specs.Elements.{SameElements};
 ghost use Rattle.product_orders.specs.declared.products.Side.TheVariants as side;
 ghost use Rattle.name_index.specs.declared.table.NameId.{NameId};
-ghost use Rattle.name_index.specs.Index.{ids, is_covered, is_near};
 ghost use Rattle.name_index.specs.Table.{Names, IsLive};
 ghost use Rattle.pair_board.specs.Board.{AreFlips, probe_times, target_times};
 ghost use Rattle.cpe_rows.specs.Prelude.{after, ends as ends_in, has_id, no_rows, Rows};
@@ -21,13 +17,12 @@ ghost use Rattle.cpe_rows.specs.declared.statement.Mode.TheVariants.{Plain, Foll
 ghost use Rattle.cpe_rows.specs.declared.statement.Statement.{Statement};
 ghost use Rattle.cpe_changes.specs.Touching.{deprecation_changed};
 ghost use Rattle.numbered_names.specs.Shown.{name_at, names_at, times_in};
-ghost use Rattle.asked_names.specs.Asked.{facts_in, facts_of, leads};
+ghost use Rattle.asked_names.specs.Asked.{facts_in, fresh_facts, leads};
 ghost use Rattle.kept_facts.specs.Lists.{IsWide, looks};
 ghost use Rattle.kept_facts.specs.Kept.{AreLive, AreSettled, AreSound, board_of, ends_of_led, FitBoards, KeepKnown, KeepsRoom, SameBoards, ShowRows};
 
 use crate::lists::{arrive, ask, holds_one, leave, unask};
 use asked_names::facts_are_asked;
-use cpe_name::Wfn;
 use cpe_rows::Mode;
 use cpe_steps::Steps;
 use cpe_values::Memory;
@@ -108,7 +103,7 @@ impl KeptFacts {
         self.follow.reserve(table, follow.asked, follow.there)
     }
 
-    /// An item comes, of which these are the ends. So one that went is taken back, too. It takes no memory.
+    /// An item comes, of which these are the ends. It takes no memory.
     pub fn item_comes<L: Ledger>(
         &mut self,
         table: &NameTable,
@@ -128,19 +123,18 @@ impl KeptFacts {
         ensures fits { FitBoards self.new table.now }
         ensures shows { (rows : Rows) → ShowRows table.now self.old rows → names_at table.now ends.now ≡ ends_in rows.entries (name_at table.now item)
             → ShowRows table.now self.new (after rows (edit.Item (name_at table.now item))) }
-        ensures back { (rows : Rows) → list_any (is_same (name_at table.now item)) rows.items ≡ true → names_at table.now ends.now ≡ ends_in rows.entries (name_at table.now item)
-            → ShowRows table.now self.old (after rows (edit.DropItem (name_at table.now item))) → ShowRows table.now self.new rows }
         ensures known { KeepKnown self.old self.new }
         ensures room { KeepsRoom self.old.plain self.new.plain 0 1 }
         ensures room_follow { KeepsRoom self.old.follow self.new.follow 0 (length ends.now) }
         ensures steps { steps.new ≤ steps.old + looks table.now side.Target self.old.plain.probe_ids (item ∷ []) + looks table.now side.Target self.old.follow.probe_ids ends.now }
+        ensures rise { steps.old ≤ steps.new }
     {
         table.lawful();
         arrive(&mut self.plain, table, from_ref(&item), steps);
         arrive(&mut self.follow, table, ends, steps);
     }
 
-    /// An item goes, of which these are the ends. So one that came is taken back, too. It takes no memory.
+    /// An item goes, of which these are the ends. It takes no memory.
     pub fn item_goes<L: Ledger>(
         &mut self,
         table: &NameTable,
@@ -156,20 +150,20 @@ impl KeptFacts {
         ensures fits { FitBoards self.new table.now }
         ensures shows { (rows : Rows) → ShowRows table.now self.old rows → list_any (is_same (name_at table.now item)) rows.items ≡ true
             → names_at table.now ends.now ≡ ends_in rows.entries (name_at table.now item) → ShowRows table.now self.new (after rows (edit.DropItem (name_at table.now item))) }
-        ensures back { (rows : Rows) → names_at table.now ends.now ≡ ends_in rows.entries (name_at table.now item)
-            → ShowRows table.now self.old (after rows (edit.Item (name_at table.now item))) → ShowRows table.now self.new rows }
         ensures known { KeepKnown self.old self.new }
         ensures room { KeepsRoom self.old.plain self.new.plain 0 0 }
         ensures room_follow { KeepsRoom self.old.follow self.new.follow 0 0 }
         ensures steps { steps.new ≤ steps.old + looks table.now side.Target self.old.plain.probe_ids (item ∷ []) + looks table.now side.Target self.old.follow.probe_ids ends.now }
+        ensures rise { steps.old ≤ steps.new }
     {
         table.lawful();
         leave(&mut self.plain, table, from_ref(&item), steps);
         leave(&mut self.follow, table, ends, steps);
     }
 
-    /// A statement of a mode comes. These are the names to which its facts lead, in any order: of each fact once, however often the
-    /// statement refers to it ([`keep_each_once`](crate::keep_each_once)). So one that went is taken back, too. It takes no memory.
+    /// A statement of a mode comes. These are the names to which those of its facts lead to which no statement refers yet, in any order:
+    /// of each fact once, however often this one refers to it ([`keep_each_once`](crate::keep_each_once)). So there may be none. It
+    /// takes no memory.
     pub fn ask<L: Ledger>(
         &mut self,
         table: &NameTable,
@@ -184,13 +178,12 @@ impl KeptFacts {
         requires few { (p : ℕ) → probe_times (board_of self.old mode) p + length numbers.now ≤ 4294967295 }
         ensures fits { FitBoards self.new table.now }
         ensures shows { (rows : Rows) (s : Statement) → s.mode ≡ mode → ShowRows table.now self.old rows
-            → SameElements (names_at table.now numbers.now) (flat_map (leads rows.entries mode) (facts_of mode s)) → ShowRows table.now self.new (after rows (edit.PutStatement s)) }
-        ensures back { (rows : Rows) (id : List ℕ) (s : Statement) → s.mode ≡ mode → find (has_id id) rows.statements ≡ Some s → SameElements (names_at table.now numbers.now) (flat_map (leads rows.entries mode) (facts_of mode s))
-            → ShowRows table.now self.old (after rows (edit.DropStatement id)) → ShowRows table.now self.new rows }
+            → SameElements (names_at table.now numbers.now) (flat_map (leads rows.entries mode) (fresh_facts mode rows.statements s)) → ShowRows table.now self.new (after rows (edit.PutStatement s)) }
         ensures known { KeepKnown self.old self.new }
         ensures room { KeepsRoom (board_of self.old mode) (board_of self.new mode) (length numbers.now) 0 }
         ensures other { (m : Mode) → m ≢ mode → board_of self.new m ≡ board_of self.old m }
         ensures steps { steps.new ≤ steps.old + looks table.now side.Source (board_of self.old mode).target_ids numbers.now }
+        ensures rise { steps.old ≤ steps.new }
     {
         table.lawful();
         match mode {
@@ -199,8 +192,8 @@ impl KeptFacts {
         }
     }
 
-    /// A statement of a mode goes, or one that came is taken back; the names are those of [`ask`](KeptFacts::ask). It takes no step
-    /// and no memory.
+    /// A statement of a mode goes, or one that came is taken back. These are the names to which those of its facts lead to which no
+    /// other refers, as for [`ask`](KeptFacts::ask). It takes no step and no memory.
     pub fn unask<L: Ledger>(
         &mut self,
         table: &NameTable,
@@ -213,8 +206,8 @@ impl KeptFacts {
         requires asked { (p : ℕ) → times_in p numbers.now ≤ probe_times (board_of self.old mode) p }
         ensures fits { FitBoards self.new table.now }
         ensures shows { (rows : Rows) (id : List ℕ) (s : Statement) → s.mode ≡ mode → find (has_id id) rows.statements ≡ Some s → ShowRows table.now self.old rows
-            → SameElements (names_at table.now numbers.now) (flat_map (leads rows.entries mode) (facts_of mode s)) → ShowRows table.now self.new (after rows (edit.DropStatement id)) }
-        ensures back { (rows : Rows) (s : Statement) → s.mode ≡ mode → SameElements (names_at table.now numbers.now) (flat_map (leads rows.entries mode) (facts_of mode s))
+            → SameElements (names_at table.now numbers.now) (flat_map (leads rows.entries mode) (fresh_facts mode (after rows (edit.DropStatement id)).statements s)) → ShowRows table.now self.new (after rows (edit.DropStatement id)) }
+        ensures back { (rows : Rows) (s : Statement) → s.mode ≡ mode → SameElements (names_at table.now numbers.now) (flat_map (leads rows.entries mode) (fresh_facts mode rows.statements s))
             → ShowRows table.now self.old (after rows (edit.PutStatement s)) → ShowRows table.now self.new rows }
         ensures known { KeepKnown self.old self.new }
         ensures room { KeepsRoom (board_of self.old mode) (board_of self.new mode) 0 0 }
@@ -229,8 +222,7 @@ impl KeptFacts {
     }
 
     /// The deprecation of an entry changes: items and facts that lead there leave the ends that they had, and come to others. Each
-    /// fact does so once for each statement that refers to it. With the same lists exchanged, the change is taken back. It takes no
-    /// memory.
+    /// fact does so once, however many statements refer to it. It takes no memory.
     pub fn lead<L: Ledger>(
         &mut self,
         table: &NameTable,
@@ -259,17 +251,12 @@ impl KeptFacts {
             → SameElements (names_at table.now facts_from.now) (ends_of_led rows.entries rows.entries n (facts_in Follow rows.statements))
             → SameElements (names_at table.now facts_to.now) (ends_of_led rows.entries (after rows e).entries n (facts_in Follow rows.statements))
             → ShowRows table.now self.new (after rows e) }
-        ensures back { (rows : Rows) (e : Edit) (n : Values) → deprecation_changed e ≡ Some n → ShowRows table.now self.old (after rows e)
-            → SameElements (names_at table.now items_from.now) (ends_of_led rows.entries (after rows e).entries n rows.items)
-            → SameElements (names_at table.now items_to.now) (ends_of_led rows.entries rows.entries n rows.items)
-            → SameElements (names_at table.now facts_from.now) (ends_of_led rows.entries (after rows e).entries n (facts_in Follow rows.statements))
-            → SameElements (names_at table.now facts_to.now) (ends_of_led rows.entries rows.entries n (facts_in Follow rows.statements))
-            → ShowRows table.now self.new rows }
         ensures known { KeepKnown self.old self.new }
         ensures room { KeepsRoom self.old.follow self.new.follow (length facts_to.now) (length items_to.now) }
         ensures plain { self.new.plain ≡ self.old.plain }
         ensures steps { steps.new ≤ steps.old + looks table.now side.Target self.old.follow.probe_ids items_to.now + looks table.now side.Target self.old.follow.probe_ids items_from.now
             + looks table.now side.Source self.new.follow.target_ids facts_to.now }
+        ensures rise { steps.old ≤ steps.new }
     {
         table.lawful();
         arrive(&mut self.follow, table, items_to, steps);
@@ -280,36 +267,14 @@ impl KeptFacts {
 
     /// The truth of a fact that is asked in a mode, by the numbers of the names to which it leads. It looks at nothing.
     pub fn is_true(&self, mode: Mode, numbers: &[NameId]) -> bool
-        requires { AllByRecursion (λ (x : NameId). 1 ≤ probe_times (board_of self.now mode) x.0) numbers.now }
-        ensures { (names : Names) (rows : Rows) (fact : Values) → FitBoards self.now names → ShowRows names self.now rows → names_at names numbers.now ≡ leads rows.entries mode fact
-            → truth result ≡ fact_truth rows mode fact }
+        ensures { AllByRecursion (λ (x : NameId). 1 ≤ probe_times (board_of self.now mode) x.0) numbers.now → (names : Names) (rows : Rows) (fact : Values)
+            → FitBoards self.now names → ShowRows names self.now rows → names_at names numbers.now ≡ leads rows.entries mode fact → truth result ≡ fact_truth rows mode fact }
     {
         facts_are_asked();
         match mode {
             Mode::Plain => holds_one(&self.plain, numbers),
             Mode::Follow => holds_one(&self.follow, numbers),
         }
-    }
-
-    /// The numbers of the items that a name in lower case covers, rising. It looks at most once at each item to whose product that of
-    /// the name is near, and at no other.
-    ///
-    /// # Errors
-    /// Want of memory alone. The bound on steps holds then, too.
-    pub fn covered_items<L: Ledger>(
-        &self,
-        alloc: Global,
-        table: &NameTable,
-        name: &Wfn,
-        steps: &mut Steps<L>,
-    ) -> Result<Vec<NameId>, Memory>
-        requires fits { FitBoards self.now table.now }
-        requires lower { IsLower name.now }
-        ensures covered { IfOk result (λ v. SameElements (filter (is_covered table.now name.now) (ids self.now.plain.target_ids)) v.items) }
-        ensures rising { IfOk result (λ v. IsStrictlyIncreasing (map (λ id. id.0) v.items)) }
-        ensures steps { StepsWithin steps.old steps.new (count_by (is_near table.now side.Source name.now.product) (ids self.now.plain.target_ids)) }
-    {
-        self.plain.covered_targets(alloc, table, name, steps)
     }
 
     /// The names asked in a mode whose answer differs from the known one, each once.

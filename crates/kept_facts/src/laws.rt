@@ -1,13 +1,14 @@
 // What the boards tell of facts. The functions do nothing: their clauses are the laws.
-ghost use Rattle.std.specs.Prelude.{◌≡◌, ◌≤◌, ◌<◌, ℕ, List, [], Bool, None, length};
+ghost use Rattle.std.specs.Prelude.{◌≡◌, ◌≤◌, ◌<◌, ℕ, List, [], Bool, None, length, true};
 ghost use Rattle.std.specs.List.{AllByRecursion};
 ghost use Rattle.cpe_name.specs.declared.name.Values.{Values};
 ghost use Rattle.product_orders.specs.declared.products.Side.TheVariants as side;
 ghost use Rattle.name_index.specs.declared.table.NameId.{NameId};
 ghost use Rattle.name_index.specs.Table.{AreNames, Names, find_kept, Holds, Releases};
-ghost use Rattle.pair_board.specs.Board.{Board, IsOn, probe_times};
+ghost use Rattle.pair_board.specs.Board.{Board, IsOn, probe_times, target_times};
 ghost use Rattle.cpe_rows.specs.After.{after};
 ghost use Rattle.cpe_rows.specs.Accepted.{IsAccepted};
+ghost use Rattle.cpe_rows.specs.Lawful.{IsLawful};
 ghost use Rattle.cpe_rows.specs.Rows.{Rows};
 ghost use Rattle.cpe_rows.specs.declared.entry.Entry.{Entry};
 ghost use Rattle.cpe_rows.specs.declared.test.CheckKey.{CheckKey};
@@ -15,9 +16,9 @@ ghost use Rattle.cpe_rows.specs.declared.truth.Truth.{Truth};
 ghost use Rattle.cpe_rows.specs.Verdict.{fact_truth, truth};
 ghost use Rattle.cpe_rows.specs.declared.statement.Mode.{Mode};
 ghost use Rattle.numbered_names.specs.Shown.{names_at};
-ghost use Rattle.asked_names.specs.Asked.{asked, is_one_covering, leads, there};
+ghost use Rattle.asked_names.specs.Asked.{asked, is_one_covering, is_referred, leads, there};
 ghost use Rattle.kept_facts.specs.Lists.{looks};
-ghost use Rattle.kept_facts.specs.Kept.{AreHeld, AreNowhere, AreSettled, AreSound, board_of, Boards, FitBoards, IsOneOf, KeepKnown, looks_by, SameBoards, ShowRows, ShowsRows};
+ghost use Rattle.kept_facts.specs.Kept.{AreKnown, AreLive, AreNowhere, AreSettled, AreSound, board_of, Boards, FitBoards, IsOneOf, KeepKnown, looks_by, SameBoards, ShowRows, ShowsRows};
 
 use cpe_rows::Edit;
 
@@ -34,6 +35,12 @@ pub fn unflipped_facts_stay()
         → names_at names numbers ≡ leads rows.entries mode fact → names_at names numbers ≡ leads next.entries mode fact
         → AllByRecursion (λ (x : NameId). 1 ≤ probe_times (board_of old mode) x.0) numbers → AllByRecursion (λ (x : NameId). 1 ≤ probe_times (board_of new mode) x.0) numbers
         → AllByRecursion (λ (x : NameId). IsOneOf (board_of new mode).flips x.0 → ⊥) numbers → fact_truth next mode fact ≡ fact_truth rows mode fact }
+{}
+
+/// The names to which a fact leads are asked where a statement refers to the fact: the board tells its truth.
+pub fn asked_facts_are_on()
+    ensures { (names : Names) (board : Board) (rows : Rows) (mode : Mode) (fact : Values) (numbers : List NameId) → AreNames names → ShowsRows names board rows mode → is_referred mode rows.statements fact ≡ true
+        → AreLive names numbers → names_at names numbers ≡ leads rows.entries mode fact → AllByRecursion (λ (x : NameId). 1 ≤ probe_times board x.0) numbers }
 {}
 
 /// Entries that are added and results of checks change nothing of what is asked and what is there.
@@ -53,18 +60,12 @@ pub fn tables_change()
     ensures fit_still { (old new : Names) (id : ℕ) (boards : Boards) → AreSound boards → Releases old new id → (find_kept new id ≡ None → AreNowhere boards id) → FitBoards boards old → FitBoards boards new }
 {}
 
-/// Where a table holds the names of the rows once a name is released, and the boards show what these rows ask and what is there for them,
+/// Where a table has the names of the rows once a name is released, and the boards show what these rows ask and what is there for them,
 /// they do so still, and fit the table: what is released for the last time is on neither board.
 pub fn releases_are_safe()
-    ensures asked { (old new : Names) (id : ℕ) (boards : Boards) (rows : Rows) → AreNames old → Releases old new id → AreHeld new rows → ShowRows old boards rows → ShowRows new boards rows }
-    ensures fit { (old new : Names) (id : ℕ) (boards : Boards) (rows : Rows) → AreNames old → AreSound boards → Releases old new id → AreHeld new rows → ShowRows old boards rows
+    ensures asked { (old new : Names) (id : ℕ) (boards : Boards) (rows : Rows) → AreNames old → Releases old new id → AreKnown new rows → ShowRows old boards rows → ShowRows new boards rows }
+    ensures fit { (old new : Names) (id : ℕ) (boards : Boards) (rows : Rows) → AreNames old → AreSound boards → Releases old new id → AreKnown new rows → ShowRows old boards rows
         → FitBoards boards old → FitBoards boards new }
-{}
-
-/// Where boards that were settled show what they showed, after a change that was taken back, none of their answers is flipped.
-pub fn undone_changes_are_settled()
-    ensures { (names : Names) (old between new : Boards) (rows : Rows) → FitBoards old names → FitBoards new names → ShowRows names old rows → ShowRows names new rows → AreSound old → AreSound new
-        → AreSettled old → KeepKnown old between → KeepKnown between new → AreSettled new }
 {}
 
 /// The looks that a board takes are those by the different names that the rows ask or have there; and it keeps no more numbers than
@@ -76,4 +77,12 @@ pub fn looks_are_by_names()
         → looks names side.Source board.target_ids numbers ≡ looks_by side.Source (there rows mode) (names_at names numbers) }
     ensures few { (names : Names) (board : Board) (rows : Rows) (mode : Mode) → AreNames names → IsOn board → ShowsRows names board rows mode → length board.probe_ids ≤ length (asked rows mode) }
     ensures few_there { (names : Names) (board : Board) (rows : Rows) (mode : Mode) → AreNames names → IsOn board → ShowsRows names board rows mode → length board.target_ids ≤ length (there rows mode) }
+{}
+
+/// The boards of lawful rows keep few numbers, and few of each: far fewer than 32 bits count.
+pub fn few_stand()
+    ensures probes { (names : Names) (board : Board) (rows : Rows) (mode : Mode) (p : ℕ) → ShowsRows names board rows mode → IsLawful rows → probe_times board p ≤ 64000000 }
+    ensures targets { (names : Names) (board : Board) (rows : Rows) (mode : Mode) (t : ℕ) → ShowsRows names board rows mode → IsLawful rows → target_times board t ≤ 64000000 }
+    ensures probe_ids { (names : Names) (board : Board) (rows : Rows) (mode : Mode) → AreNames names → IsOn board → ShowsRows names board rows mode → IsLawful rows → length board.probe_ids ≤ 64000000 }
+    ensures target_ids { (names : Names) (board : Board) (rows : Rows) (mode : Mode) → AreNames names → IsOn board → ShowsRows names board rows mode → IsLawful rows → length board.target_ids ≤ 64000000 }
 {}

@@ -5,8 +5,10 @@
 //! over numbers of one table, which holds the names of entries, items and facts. A fact that is asked as it stands is one name, and
 //! one that is followed is its ends: it is true where one of them covers a name that is there ([`KeptFacts::is_true`]).
 //!
-//! Memory is taken by [`KeptFacts::reserve`] alone, before an edit; what changes the boards takes none, and can't fail. A change is
-//! taken back by the call that is its opposite, and then nothing is flipped ([`undone_changes_are_settled`]).
+//! A fact is asked once, however many statements refer to it: the first that comes asks it, and the last that goes lets it go.
+//!
+//! Memory is taken by [`KeptFacts::reserve`] alone, before an edit; what changes the boards takes none, and can't fail. A statement that
+//! came is taken back by [`KeptFacts::unask`].
 #![tactic(auto)]
 
 mod kept;
@@ -16,7 +18,7 @@ mod once;
 
 pub use kept::{KeptFacts, Wanted};
 pub use laws::{
-    boards_stay, facts_are_kept, looks_are_by_names, releases_are_safe, tables_change,
-    undone_changes_are_settled, unflipped_facts_stay,
+    asked_facts_are_on, boards_stay, facts_are_kept, few_stand, looks_are_by_names,
+    releases_are_safe, tables_change, unflipped_facts_stay,
 };
 pub use once::keep_each_once;

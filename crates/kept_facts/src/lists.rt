@@ -32,6 +32,7 @@ pub(crate) fn arrive<L: Ledger>(
     requires few { (t : ℕ) → target_times board.old t + length numbers.now ≤ 4294967295 }
     ensures arrives { Arrives board.old board.new table.now numbers.now }
     ensures steps { steps.new ≤ steps.old + looks table.now side.Target board.old.probe_ids numbers.now }
+    ensures rise { steps.old ≤ steps.new }
 {
     for id in numbers {
         board.add_target(table, *id, steps);
@@ -50,6 +51,7 @@ pub(crate) fn leave<L: Ledger>(
     requires there { (t : ℕ) → times_in t numbers.now ≤ target_times board.old t }
     ensures leaves { Leaves board.old board.new table.now numbers.now }
     ensures steps { steps.new ≤ steps.old + looks table.now side.Target board.old.probe_ids numbers.now }
+    ensures rise { steps.old ≤ steps.new }
 {
     for id in numbers {
         board.drop_target(table, *id, steps);
@@ -70,6 +72,7 @@ pub(crate) fn ask<L: Ledger>(
     requires few { (p : ℕ) → probe_times board.old p + length numbers.now ≤ 4294967295 }
     ensures asks { Asks board.old board.new table.now numbers.now }
     ensures steps { steps.new ≤ steps.old + looks table.now side.Source board.old.target_ids numbers.now }
+    ensures rise { steps.old ≤ steps.new }
 {
     for id in numbers {
         board.add_probe(table, *id, steps);
@@ -96,17 +99,15 @@ pub(crate) fn unask<L: Ledger>(
 
 // Whether a probe covers a target, by the names that these are.
 fn holds(board: &PairBoard, id: NameId) -> bool
-    requires { 1 ≤ probe_times board.now id.0 }
-    ensures { (names : Names) (there : List Values) → FitsBoard board.now names → Shows names (target_times board.now) there → result ≡ list_any (covers (name_at names id)) there }
+    ensures { 1 ≤ probe_times board.now id.0 → (names : Names) (there : List Values) → FitsBoard board.now names → Shows names (target_times board.now) there → result ≡ list_any (covers (name_at names id)) there }
 {
     lists_are_shown();
     board.holds(id)
 }
 
-// Whether one of these names, which are asked, covers one that is there. It looks at nothing.
+// Whether one of these names covers one that is there, where they are asked. It looks at nothing.
 pub(crate) fn holds_one(board: &PairBoard, numbers: &[NameId]) -> bool
-    requires { AllByRecursion (λ (x : NameId). 1 ≤ probe_times board.now x.0) numbers.now }
-    ensures { (names : Names) (there : List Values) → FitsBoard board.now names → Shows names (target_times board.now) there → result ≡ is_one_covering (names_at names numbers.now) there }
+    ensures { AllByRecursion (λ (x : NameId). 1 ≤ probe_times board.now x.0) numbers.now → (names : Names) (there : List Values) → FitsBoard board.now names → Shows names (target_times board.now) there → result ≡ is_one_covering (names_at names numbers.now) there }
 {
     for id in numbers {
         if holds(board, *id) {

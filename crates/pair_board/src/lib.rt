@@ -9,7 +9,7 @@ ghost use Rattle.std.specs.List.Sorted.{IsStrictlyIncreasing};
 ghost use Rattle.cpe_name.specs.Lower.{IsLower};
 ghost use Rattle.cpe_steps.specs.Within.{StepsWithin};
 ghost use Rattle.product_orders.specs.Elements.{SameElements};
-ghost use Rattle.std.specs.Prelude.{IfOk, filter, map, ◌≡◌, ℕ, ◌+◌, ◌-◌, ◌<◌, ◌≤◌, ◌↔◌, length, IsTrue, OnOk, count_by, Some};
+ghost use Rattle.std.specs.Prelude.{IfOk, filter, map, ◌≡◌, ℕ, ◌+◌, ◌-◌, ◌<◌, ◌≤◌, ◌↔◌, length, IsTrue, OnOk, count_by, Some, false};
 ghost use Rattle.product_orders.specs.declared.products.Side.TheVariants as side;
 ghost use Rattle.name_index.specs.Table.{Names, Kept, find_kept, IsLive, kept_at};
 ghost use Rattle.name_index.specs.Index.{ids, is_covered, is_near};
@@ -81,10 +81,10 @@ impl PairBoard {
         let _parts = &self.parts;
     }
 
-    /// Whether a probe covers some target on the board.
+    /// Whether a probe covers some target on the board. What is no probe doesn't.
     pub fn holds(&self, probe: NameId) -> bool
-        requires { 1 ≤ probe_times self.now probe.0 }
-        ensures { (names : Names) → FitsBoard self.now names → (IsTrue result ↔ Holds self.now names probe.0) }
+        ensures probe { 1 ≤ probe_times self.now probe.0 → (names : Names) → FitsBoard self.now names → (IsTrue result ↔ Holds self.now names probe.0) }
+        ensures other { probe_times self.now probe.0 ≡ 0 → result ≡ false }
     {
         self.parts.holds(probe)
     }
@@ -136,6 +136,7 @@ impl PairBoard {
         ensures changes { TargetsTo self.old self.new table.now id.0 (target_times self.old id.0 + 1) }
         ensures room { self.old.target_room ≤ self.new.target_room + 1 }
         ensures steps { steps.new ≤ steps.old + 1 + count_by (is_near table.now side.Target (kept_at table.now id.0).name.product) (ids self.old.probe_ids) }
+        ensures rise { steps.old ≤ steps.new }
     {
         self.parts.add_target(table, id, steps);
     }
@@ -148,6 +149,7 @@ impl PairBoard {
         ensures changes { TargetsTo self.old self.new table.now id.0 (target_times self.old id.0 - 1) }
         ensures room { self.old.target_room ≤ self.new.target_room }
         ensures steps { steps.new ≤ steps.old + 1 + count_by (is_near table.now side.Target (kept_at table.now id.0).name.product) (ids self.old.probe_ids) }
+        ensures rise { steps.old ≤ steps.new }
     {
         self.parts.drop_target(table, id, steps);
     }
@@ -162,6 +164,7 @@ impl PairBoard {
         ensures changes { ProbesTo self.old self.new table.now id.0 (probe_times self.old id.0 + 1) }
         ensures room { self.old.probe_room ≤ self.new.probe_room + 1 }
         ensures steps { steps.new ≤ steps.old + 1 + count_by (is_near table.now side.Source (kept_at table.now id.0).name.product) (ids self.old.target_ids) }
+        ensures rise { steps.old ≤ steps.new }
     {
         self.parts.add_probe(table, id, steps);
     }

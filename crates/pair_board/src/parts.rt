@@ -3,7 +3,7 @@ ghost use Rattle.std.specs.List.Sorted.{IsStrictlyIncreasing};
 ghost use Rattle.cpe_name.specs.Lower.{IsLower};
 ghost use Rattle.cpe_steps.specs.Within.{StepsWithin};
 ghost use Rattle.product_orders.specs.Elements.{SameElements};
-ghost use Rattle.std.specs.Prelude.{IfOk, filter, map, ◌≡◌, ℕ, ◌+◌, ◌<◌, ◌≤◌, cond, length, nat_eq, ◌-◌, Some, None, IsSome, count_by, vec_capacity, IsTrue, ◌↔◌, OnOk};
+ghost use Rattle.std.specs.Prelude.{IfOk, filter, map, ◌≡◌, ℕ, ◌+◌, ◌<◌, ◌≤◌, cond, length, nat_eq, ◌-◌, Some, None, IsSome, count_by, vec_capacity, IsTrue, ◌↔◌, OnOk, false};
 ghost use Rattle.std.specs.HashMap.{spare};
 ghost use Rattle.product_orders.specs.declared.products.Side.TheVariants as side;
 ghost use Rattle.name_index.specs.Table.{Names, Kept, find_kept, IsLive, kept_at};
@@ -184,10 +184,13 @@ impl Parts {
     // Whether a probe covers some target.
     pub(crate) fn holds(&self, probe: NameId) -> bool
         requires board { IsBoard self.now }
-        requires some { 1 ≤ probe_times (board_of self.now) probe.0 }
-        ensures { (names : Names) → FitsBoard (board_of self.now) names → (IsTrue result ↔ Holds (board_of self.now) names probe.0) }
+        ensures probe { 1 ≤ probe_times (board_of self.now) probe.0 → (names : Names) → FitsBoard (board_of self.now) names → (IsTrue result ↔ Holds (board_of self.now) names probe.0) }
+        ensures other { probe_times (board_of self.now) probe.0 ≡ 0 → result ≡ false }
     {
-        row_of(&self.probes.rows, probe.0).hits > 0
+        match self.probes.rows.get(&probe.0) {
+            Some(row) => row.hits > 0,
+            None => false,
+        }
     }
 
     // The flipped probes.
@@ -242,6 +245,7 @@ impl Parts {
         ensures changes { TargetsTo (board_of self.old) (board_of self.new) table.now id.0 (target_times (board_of self.old) id.0 + 1) }
         ensures room { self.old.target_room ≤ self.new.target_room + 1 }
         ensures steps { steps.new ≤ steps.old + 1 + count_by (is_near table.now side.Target (kept_at table.now id.0).name.product) (ids self.old.probe_index.held) }
+        ensures rise { steps.old ≤ steps.new }
     {
         let times = times_of(&self.targets, id.0);
         if times > 0 {
@@ -269,6 +273,7 @@ impl Parts {
         ensures changes { TargetsTo (board_of self.old) (board_of self.new) table.now id.0 (target_times (board_of self.old) id.0 - 1) }
         ensures room { self.old.target_room ≤ self.new.target_room }
         ensures steps { steps.new ≤ steps.old + 1 + count_by (is_near table.now side.Target (kept_at table.now id.0).name.product) (ids self.old.probe_index.held) }
+        ensures rise { steps.old ≤ steps.new }
     {
         let times = times_of(&self.targets, id.0);
         if times > 1 {
@@ -297,6 +302,7 @@ impl Parts {
         ensures changes { ProbesTo (board_of self.old) (board_of self.new) table.now id.0 (probe_times (board_of self.old) id.0 + 1) }
         ensures room { self.old.probe_room ≤ self.new.probe_room + 1 }
         ensures steps { steps.new ≤ steps.old + 1 + count_by (is_near table.now side.Source (kept_at table.now id.0).name.product) (ids self.old.target_index.held) }
+        ensures rise { steps.old ≤ steps.new }
     {
         let times = probe_times_of(&self.probes.rows, id.0);
         if times > 0 {

@@ -13,11 +13,15 @@ pub returns-clause-one_left : goal.returns-clause-one_left
 returns-clause-one_left g c =
     let t = c.args.second.0 in
     let more : 0 < target_times c.drop_target.new.self t = omega (arith, c.drop_target.ensures.changes.others t c.requires.apart, same_times c.add_target-2.new.self c.add_probe.new.self c.add_probe.ensures.changes.targets t, c.add_target-2.ensures.changes.times_now) in
-    (c.holds-one_left.ensures c.args.table.now c.drop_target.ensures.changes.fits).1 (t, more, c.requires.covers_second)
+    let p = c.args.probe.0 in
+    let asked : 1 ≤ probe_times c.drop_target.new.self p = omega (arith, c.drop_target.ensures.changes.probes p, c.add_probe.ensures.changes.times_now, c.add_target-2.ensures.changes.probes p, c.add_target.ensures.changes.probes p, c.requires.no_probes p) in
+    (c.holds-one_left.ensures.probe asked c.args.table.now c.drop_target.ensures.changes.fits).1 (t, more, c.requires.covers_second)
 
 pub returns-clause-none_left : goal.returns-clause-none_left
 returns-clause-none_left g c =
-    false_from_ne_true c.holds.result (λ e. let h = (c.holds.ensures c.args.table.now c.drop_target-2.ensures.changes.fits).0 e in none h.0 h.1)
+    let p = c.args.probe.0 in
+    let asked : 1 ≤ probe_times c.drop_target-2.new.self p = omega (arith, c.drop_target-2.ensures.changes.probes p, c.drop_target.ensures.changes.probes p, c.add_probe.ensures.changes.times_now, c.add_target-2.ensures.changes.probes p, c.add_target.ensures.changes.probes p, c.requires.no_probes p) in
+    false_from_ne_true c.holds.result (λ e. let h = (c.holds.ensures.probe asked c.args.table.now c.drop_target-2.ensures.changes.fits).0 e in none h.0 h.1)
   where
     none : (t : ℕ) → 0 < target_times c.drop_target-2.new.self t → ⊥
     none t more = elim (cases_eq t c.args.second.0) [
@@ -86,7 +90,8 @@ returns-clause-flipped g c =
     let more : 0 < target_times mid c.args.second.0 = omega (arith, same_times before mid c.add_probe.ensures.changes.targets c.args.second.0, c.add_target-2.ensures.changes.times_now) in
     let held : nat_lt 0 t.0.hits ≡ true = (c.lawful.ensures.answers names p t.0 c.add_probe.ensures.changes.fits t.1).1 (c.args.second.0, more, c.requires.covers_second) in
     let stayed : s.0.was ≡ t.0.was = same_Some s.0.was t.0.was (sym (ap was_in s.1) ∙ c.drop_target-2.ensures.changes.was p ∙ c.drop_target.ensures.changes.was p ∙ ap was_in t.1) in
+    let asked : 1 ≤ probe_times last p = omega (arith, one, c.drop_target.ensures.changes.probes p, c.drop_target-2.ensures.changes.probes p) in
     let none : holds_now s.0 ≡ false =
     false_from_ne_true (holds_now s.0) (λ e.
-    true≢false (sym ((c.holds.ensures names c.drop_target-2.ensures.changes.fits).1 ((c.lawful-2.ensures.answers names p s.0 c.drop_target-2.ensures.changes.fits s.1).0 e)) ∙ returns-clause-none_left g c)) in
+    true≢false (sym ((c.holds.ensures.probe asked names c.drop_target-2.ensures.changes.fits).1 ((c.lawful-2.ensures.answers names p s.0 c.drop_target-2.ensures.changes.fits s.1).0 e)) ∙ returns-clause-none_left g c)) in
     c.lawful-2.ensures.flips.whole p (s.0, s.1, other_answer s.0.was (holds_now s.0) (stayed ∙ known ∙ held) none)

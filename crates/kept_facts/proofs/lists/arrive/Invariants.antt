@@ -11,4 +11,5 @@ invariant-loop-id g l = record {
   live : AllByRecursion (λ (x : NameId). IsLive l.table x.0) (drop l.id-index l.numbers);
   done : Arriving l.fn.board l.board l.table l.numbers (drop l.id-index l.numbers);
   looked : l.steps + looks l.table side.Target l.fn.board.probe_ids (drop l.id-index l.numbers) ≤ l.fn.steps + looks l.table side.Target l.fn.board.probe_ids l.numbers;
+  rise : l.fn.steps ≤ l.steps;
 }

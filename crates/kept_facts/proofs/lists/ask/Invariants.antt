@@ -11,4 +11,5 @@ invariant-loop-id g l = record {
   live : AllByRecursion (λ (x : NameId). IsLive l.table x.0) (drop l.id-index l.numbers);
   done : Asking l.fn.board l.board l.table l.numbers (drop l.id-index l.numbers);
   looked : l.steps + looks l.table side.Source l.fn.board.target_ids (drop l.id-index l.numbers) ≤ l.fn.steps + looks l.table side.Source l.fn.board.target_ids l.numbers;
+  rise : l.fn.steps ≤ l.steps;
 }

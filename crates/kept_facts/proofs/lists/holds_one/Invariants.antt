@@ -9,7 +9,6 @@ use Rattle.asked_names.specs.Asked.{is_one_covering}
 use Rattle.kept_facts.proofs.lists.holds_one.Given as goal
 
 abbrev pub invariant-loop-id : goal.invariant-loop-id
-invariant-loop-id l = record {
-  asked : AllByRecursion (λ (x : NameId). 1 ≤ probe_times l.board x.0) (drop l.id-index l.numbers);
-  so_far : (names : Names) (there : List Values) → FitsBoard l.board names → Shows names (target_times l.board) there → is_one_covering (names_at names l.numbers) there ≡ is_one_covering (names_at names (drop l.id-index l.numbers)) there;
-}
+invariant-loop-id l =
+    AllByRecursion (λ (x : NameId). 1 ≤ probe_times l.board x.0) l.numbers → AllByRecursion (λ (x : NameId). 1 ≤ probe_times l.board x.0) (drop l.id-index l.numbers)
+    × ((names : Names) (there : List Values) → FitsBoard l.board names → Shows names (target_times l.board) there → is_one_covering (names_at names l.numbers) there ≡ is_one_covering (names_at names (drop l.id-index l.numbers)) there)

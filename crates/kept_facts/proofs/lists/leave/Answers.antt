@@ -17,4 +17,5 @@ loop-id-preserved g c =
       live = (first_live c.args.table.now x rest (drop i numbers) here c.loop-id.invariant.live).1;
       done = leaving_next c.args.table.now c.args.board.now c.loop-id.board c.drop_target.new.self numbers x rest (drop i numbers) here c.loop-id.invariant.done c.requires.there c.drop_target.ensures.changes c.drop_target.ensures.room;
       looked = omega (arith, c.loop-id.invariant.looked, c.drop_target.ensures.steps, looks_first c.args.table.now side.Target c.args.board.now.probe_ids x rest (drop i numbers) here, ap (λ (others : List (ℕ × ℕ)). looks_at c.args.table.now side.Target others x) c.loop-id.invariant.done.stay.probe_ids);
+      rise = omega (arith, c.loop-id.invariant.rise, c.drop_target.ensures.rise);
     }

@@ -1,4 +1,4 @@
-use Rattle.std.proofs.Common.{◌≡◌, ◌≢◌, ◌++◌, length, refl, sym, ap, subst, ◌∙◌}
+use Rattle.std.proofs.Common.{◌≡◌, ◌≢◌, length, refl, sym, ap, subst, ◌∙◌}
 use Rattle.std.specs.List.{flat_map}
 use Rattle.product_orders.specs.Elements.{SameElements}
 use Rattle.cpe_rows.specs.After.{after}
@@ -6,9 +6,9 @@ use Rattle.cpe_rows.specs.declared.edit.Edit.TheVariants as edit
 use Rattle.cpe_rows.specs.declared.statement.Mode.{Mode}
 use Rattle.cpe_rows.specs.declared.statement.Mode.TheVariants.{Plain, Follow}
 use Rattle.numbered_names.specs.Shown.{names_at}
-use Rattle.asked_names.specs.Asked.{asked, facts_of, leads}
+use Rattle.asked_names.specs.Asked.{fresh_facts, leads}
 use Rattle.kept_facts.specs.Kept.{board_of, Boards, KeepKnown, KeepsRoom, ShowRows}
-use Rattle.kept_facts.proofs.Boards.{asked_room, asks, asks_known, other_dropped, other_put, reordered, same_known, statement_less, statement_more, turned}
+use Rattle.kept_facts.proofs.Boards.{asked_room, asks, asks_known, other_put, reordered, same_known, statement_more}
 use Rattle.kept_facts.proofs.kept.KeptFacts.ask.Goals as goal
 
 pub returns-in-Plain-clause-shows : goal.returns-in-Plain-clause-shows
@@ -16,17 +16,8 @@ returns-in-Plain-clause-shows g c rows s own asked_before led =
     let names = c.args.table.now in
     let before = subst (λ (b : Boards). ShowRows names b rows) (sym c.self.view_is) asked_before in
     record {
-      plain = asks names c.lawful.ensures c.self.inside.plain c.ask.new.board Plain c.args.numbers.now c.requires.live rows (after rows (edit.PutStatement s)) c.ask.ensures.asks (statement_more rows Plain s (names_at names c.args.numbers.now) (subst (λ (m : Mode). SameElements (names_at names c.args.numbers.now) (flat_map (leads rows.entries m) (facts_of m s))) c.in-Plain.is led)) refl before.plain;
+      plain = asks names c.lawful.ensures c.self.inside.plain c.ask.new.board Plain c.args.numbers.now c.requires.live rows (after rows (edit.PutStatement s)) c.ask.ensures.asks (statement_more rows Plain s (names_at names c.args.numbers.now) (subst (λ (m : Mode). SameElements (names_at names c.args.numbers.now) (flat_map (leads rows.entries m) (fresh_facts m rows.statements s))) c.in-Plain.is led)) refl before.plain;
       follow = reordered names c.self.inside.follow Follow rows (after rows (edit.PutStatement s)) (other_put rows Plain s (own ∙ c.in-Plain.is)) refl before.follow;
-    }
-
-pub returns-in-Plain-clause-back : goal.returns-in-Plain-clause-back
-returns-in-Plain-clause-back g c rows id s own found led asked_before =
-    let names = c.args.table.now in
-    let before = subst (λ (b : Boards). ShowRows names b (after rows (edit.DropStatement id))) (sym c.self.view_is) asked_before in
-    record {
-      plain = asks names c.lawful.ensures c.self.inside.plain c.ask.new.board Plain c.args.numbers.now c.requires.live (after rows (edit.DropStatement id)) rows c.ask.ensures.asks (turned (asked rows Plain) (names_at names c.args.numbers.now ++ asked (after rows (edit.DropStatement id)) Plain) (statement_less rows Plain id s (names_at names c.args.numbers.now) found (subst (λ (m : Mode). SameElements (names_at names c.args.numbers.now) (flat_map (leads rows.entries m) (facts_of m s))) c.in-Plain.is led))) refl before.plain;
-      follow = reordered names c.self.inside.follow Follow (after rows (edit.DropStatement id)) rows (turned (asked rows Follow) (asked (after rows (edit.DropStatement id)) Follow) (other_dropped rows Plain id s (own ∙ c.in-Plain.is) found)) refl before.follow;
     }
 
 pub returns-in-Plain-clause-known : goal.returns-in-Plain-clause-known
@@ -56,17 +47,8 @@ returns-in-Follow-clause-shows g c rows s own asked_before led =
     let names = c.args.table.now in
     let before = subst (λ (b : Boards). ShowRows names b rows) (sym c.self.view_is) asked_before in
     record {
-      follow = asks names c.lawful.ensures c.self.inside.follow c.ask-in-Follow.new.board Follow c.args.numbers.now c.requires.live rows (after rows (edit.PutStatement s)) c.ask-in-Follow.ensures.asks (statement_more rows Follow s (names_at names c.args.numbers.now) (subst (λ (m : Mode). SameElements (names_at names c.args.numbers.now) (flat_map (leads rows.entries m) (facts_of m s))) c.in-Follow.is led)) refl before.follow;
+      follow = asks names c.lawful.ensures c.self.inside.follow c.ask-in-Follow.new.board Follow c.args.numbers.now c.requires.live rows (after rows (edit.PutStatement s)) c.ask-in-Follow.ensures.asks (statement_more rows Follow s (names_at names c.args.numbers.now) (subst (λ (m : Mode). SameElements (names_at names c.args.numbers.now) (flat_map (leads rows.entries m) (fresh_facts m rows.statements s))) c.in-Follow.is led)) refl before.follow;
       plain = reordered names c.self.inside.plain Plain rows (after rows (edit.PutStatement s)) (other_put rows Follow s (own ∙ c.in-Follow.is)) refl before.plain;
-    }
-
-pub returns-in-Follow-clause-back : goal.returns-in-Follow-clause-back
-returns-in-Follow-clause-back g c rows id s own found led asked_before =
-    let names = c.args.table.now in
-    let before = subst (λ (b : Boards). ShowRows names b (after rows (edit.DropStatement id))) (sym c.self.view_is) asked_before in
-    record {
-      follow = asks names c.lawful.ensures c.self.inside.follow c.ask-in-Follow.new.board Follow c.args.numbers.now c.requires.live (after rows (edit.DropStatement id)) rows c.ask-in-Follow.ensures.asks (turned (asked rows Follow) (names_at names c.args.numbers.now ++ asked (after rows (edit.DropStatement id)) Follow) (statement_less rows Follow id s (names_at names c.args.numbers.now) found (subst (λ (m : Mode). SameElements (names_at names c.args.numbers.now) (flat_map (leads rows.entries m) (facts_of m s))) c.in-Follow.is led))) refl before.follow;
-      plain = reordered names c.self.inside.plain Plain (after rows (edit.DropStatement id)) rows (turned (asked rows Plain) (asked (after rows (edit.DropStatement id)) Plain) (other_dropped rows Follow id s (own ∙ c.in-Follow.is) found)) refl before.plain;
     }
 
 pub returns-in-Follow-clause-known : goal.returns-in-Follow-clause-known

@@ -1,13 +1,12 @@
-use Rattle.std.proofs.Common.{List, length, [], ◌∷◌, ◌++◌, refl, sym, subst}
+use Rattle.std.proofs.Common.{List, length, [], ◌∷◌, refl, sym, subst}
 use Rattle.cpe_rows.specs.After.{after}
 use Rattle.cpe_rows.specs.declared.edit.Edit.TheVariants as edit
 use Rattle.cpe_rows.specs.declared.statement.Mode.TheVariants.{Plain, Follow}
 use Rattle.name_index.specs.declared.table.NameId.{NameId}
 use Rattle.numbered_names.specs.Shown.{name_at, names_at}
-use Rattle.asked_names.specs.Asked.{there}
 use Rattle.kept_facts.specs.Lists.{Arrives}
 use Rattle.kept_facts.specs.Kept.{Boards, KeepKnown, KeepsRoom, ShowRows}
-use Rattle.kept_facts.proofs.Boards.{arrived_room, comes, item_less, item_more, probes_known, turned}
+use Rattle.kept_facts.proofs.Boards.{arrived_room, comes, item_more, probes_known}
 use Rattle.kept_facts.proofs.kept.KeptFacts.item_comes.Goals as goal
 
 pub returns-clause-shows : goal.returns-clause-shows
@@ -18,16 +17,6 @@ returns-clause-shows g c rows asked led =
     record {
       plain = comes names c.lawful.ensures c.self.inside.plain c.arrive.new.board Plain (c.args.item ∷ []) (c.requires.item, tt) rows (after rows (edit.Item (name_at names c.args.item))) one (item_more rows Plain (name_at names c.args.item) (names_at names (c.args.item ∷ [])) refl) refl before.plain;
       follow = comes names c.lawful.ensures c.self.inside.follow c.arrive-2.new.board Follow c.args.ends.now c.requires.ends rows (after rows (edit.Item (name_at names c.args.item))) c.arrive-2.ensures.arrives (item_more rows Follow (name_at names c.args.item) (names_at names c.args.ends.now) led) refl before.follow;
-    }
-
-pub returns-clause-back : goal.returns-clause-back
-returns-clause-back g c rows known led asked =
-    let names = c.args.table.now in
-    let before = subst (λ (b : Boards). ShowRows names b (after rows (edit.DropItem (name_at names c.args.item)))) (sym c.self.view_is) asked in
-    let one = subst (λ (ns : List NameId). Arrives c.self.inside.plain c.arrive.new.board names ns) c.from_ref.ensures.value c.arrive.ensures.arrives in
-    record {
-      plain = comes names c.lawful.ensures c.self.inside.plain c.arrive.new.board Plain (c.args.item ∷ []) (c.requires.item, tt) (after rows (edit.DropItem (name_at names c.args.item))) rows one (turned (there rows Plain) (names_at names (c.args.item ∷ []) ++ there (after rows (edit.DropItem (name_at names c.args.item))) Plain) (item_less rows Plain (name_at names c.args.item) (names_at names (c.args.item ∷ [])) known refl)) refl before.plain;
-      follow = comes names c.lawful.ensures c.self.inside.follow c.arrive-2.new.board Follow c.args.ends.now c.requires.ends (after rows (edit.DropItem (name_at names c.args.item))) rows c.arrive-2.ensures.arrives (turned (there rows Follow) (names_at names c.args.ends.now ++ there (after rows (edit.DropItem (name_at names c.args.item))) Follow) (item_less rows Follow (name_at names c.args.item) (names_at names c.args.ends.now) known led)) refl before.follow;
     }
 
 pub returns-clause-known : goal.returns-clause-known

@@ -1,14 +1,13 @@
-use Rattle.std.proofs.Common.{◌≤◌, ℕ, List, [], ◌∷◌, ◌++◌, refl, sym, subst}
+use Rattle.std.proofs.Common.{◌≤◌, ℕ, List, [], ◌∷◌, refl, sym, subst}
 use Rattle.cpe_rows.specs.After.{after}
 use Rattle.cpe_rows.specs.declared.edit.Edit.TheVariants as edit
 use Rattle.cpe_rows.specs.declared.statement.Mode.TheVariants.{Plain, Follow}
 use Rattle.name_index.specs.declared.table.NameId.{NameId}
 use Rattle.numbered_names.specs.Shown.{name_at, names_at, times_in}
 use Rattle.pair_board.specs.Board.{target_times}
-use Rattle.asked_names.specs.Asked.{there}
 use Rattle.kept_facts.specs.Lists.{Leaves}
 use Rattle.kept_facts.specs.Kept.{Boards, KeepKnown, KeepsRoom, ShowRows}
-use Rattle.kept_facts.proofs.Boards.{left_room, goes, item_less, item_more, probes_known, turned}
+use Rattle.kept_facts.proofs.Boards.{left_room, goes, item_less, probes_known}
 use Rattle.kept_facts.proofs.Steps.{one_there}
 use Rattle.kept_facts.proofs.kept.KeptFacts.item_goes.Goals as goal
 
@@ -25,16 +24,6 @@ returns-clause-shows g c rows asked known led =
     record {
       plain = goes names c.lawful.ensures c.self.inside.plain c.leave.new.board Plain (c.args.item ∷ []) (c.requires.item, tt) rows (after rows (edit.DropItem (name_at names c.args.item))) one (item_less rows Plain (name_at names c.args.item) (names_at names (c.args.item ∷ [])) known refl) refl before.plain;
       follow = goes names c.lawful.ensures c.self.inside.follow c.leave-2.new.board Follow c.args.ends.now c.requires.ends rows (after rows (edit.DropItem (name_at names c.args.item))) c.leave-2.ensures.leaves (item_less rows Follow (name_at names c.args.item) (names_at names c.args.ends.now) known led) refl before.follow;
-    }
-
-pub returns-clause-back : goal.returns-clause-back
-returns-clause-back g c rows led asked =
-    let names = c.args.table.now in
-    let before = subst (λ (b : Boards). ShowRows names b (after rows (edit.Item (name_at names c.args.item)))) (sym c.self.view_is) asked in
-    let one = subst (λ (ns : List NameId). Leaves c.self.inside.plain c.leave.new.board names ns) c.from_ref.ensures.value c.leave.ensures.leaves in
-    record {
-      plain = goes names c.lawful.ensures c.self.inside.plain c.leave.new.board Plain (c.args.item ∷ []) (c.requires.item, tt) (after rows (edit.Item (name_at names c.args.item))) rows one (turned (names_at names (c.args.item ∷ []) ++ there rows Plain) (there (after rows (edit.Item (name_at names c.args.item))) Plain) (item_more rows Plain (name_at names c.args.item) (names_at names (c.args.item ∷ [])) refl)) refl before.plain;
-      follow = goes names c.lawful.ensures c.self.inside.follow c.leave-2.new.board Follow c.args.ends.now c.requires.ends (after rows (edit.Item (name_at names c.args.item))) rows c.leave-2.ensures.leaves (turned (names_at names c.args.ends.now ++ there rows Follow) (there (after rows (edit.Item (name_at names c.args.item))) Follow) (item_more rows Follow (name_at names c.args.item) (names_at names c.args.ends.now) led)) refl before.follow;
     }
 
 pub returns-clause-known : goal.returns-clause-known

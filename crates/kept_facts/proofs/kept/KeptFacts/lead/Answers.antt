@@ -1,10 +1,8 @@
-use Rattle.std.proofs.Common.{◌++◌, length, sym, subst}
+use Rattle.std.proofs.Common.{length, sym, subst}
 use Rattle.cpe_rows.specs.After.{after}
-use Rattle.cpe_rows.specs.declared.statement.Mode.TheVariants.{Follow}
 use Rattle.numbered_names.specs.Shown.{names_at}
-use Rattle.asked_names.specs.Asked.{asked, there}
 use Rattle.kept_facts.specs.Kept.{Boards, KeepKnown, KeepsRoom, ShowRows}
-use Rattle.kept_facts.proofs.Boards.{arrived_room, asked_room, facts_lead, items_lead, led, led_known, led_room, left_room, plain_returns, plain_stays, same_known, turned, unasked_room}
+use Rattle.kept_facts.proofs.Boards.{arrived_room, asked_room, facts_lead, items_lead, led, led_known, led_room, left_room, plain_stays, same_known, unasked_room}
 use Rattle.kept_facts.proofs.kept.KeptFacts.lead.Goals as goal
 
 pub returns-clause-shows : goal.returns-clause-shows
@@ -16,18 +14,6 @@ returns-clause-shows g c rows e n h shown from to facts_from facts_to =
       follow = led names c.lawful.ensures c.self.inside.follow c.arrive.new.board c.leave.new.board c.ask.new.board c.unask.new.board c.args.items_from.now c.args.items_to.now c.args.facts_from.now c.args.facts_to.now rows (after rows e)
           c.requires.live_from c.requires.live_to c.requires.live_facts_from c.requires.live_facts_to c.arrive.ensures.arrives c.leave.ensures.leaves c.ask.ensures.asks c.unask.ensures.unasks
           (items_lead rows e n h (names_at names c.args.items_from.now) (names_at names c.args.items_to.now) from to) (facts_lead rows e n h (names_at names c.args.facts_from.now) (names_at names c.args.facts_to.now) facts_from facts_to) before.follow;
-    }
-
-pub returns-clause-back : goal.returns-clause-back
-returns-clause-back g c rows e n h shown from to facts_from facts_to =
-    let names = c.args.table.now in
-    let before = subst (λ (b : Boards). ShowRows names b (after rows e)) (sym c.self.view_is) shown in
-    record {
-      plain = plain_returns names c.self.inside.plain rows e n h before.plain;
-      follow = led names c.lawful.ensures c.self.inside.follow c.arrive.new.board c.leave.new.board c.ask.new.board c.unask.new.board c.args.items_from.now c.args.items_to.now c.args.facts_from.now c.args.facts_to.now (after rows e) rows
-          c.requires.live_from c.requires.live_to c.requires.live_facts_from c.requires.live_facts_to c.arrive.ensures.arrives c.leave.ensures.leaves c.ask.ensures.asks c.unask.ensures.unasks
-          (turned (names_at names c.args.items_from.now ++ there rows Follow) (names_at names c.args.items_to.now ++ there (after rows e) Follow) (items_lead rows e n h (names_at names c.args.items_to.now) (names_at names c.args.items_from.now) to from))
-          (turned (names_at names c.args.facts_from.now ++ asked rows Follow) (names_at names c.args.facts_to.now ++ asked (after rows e) Follow) (facts_lead rows e n h (names_at names c.args.facts_to.now) (names_at names c.args.facts_from.now) facts_to facts_from)) before.follow;
     }
 
 pub returns-clause-known : goal.returns-clause-known

@@ -7,7 +7,7 @@ use Rattle.cpe_rows.specs.declared.edit.Edit.TheVariants as edit
 use Rattle.cpe_rows.specs.declared.statement.Mode.{Mode}
 use Rattle.cpe_rows.specs.declared.statement.Mode.TheVariants.{Plain, Follow}
 use Rattle.numbered_names.specs.Shown.{names_at, times_in}
-use Rattle.asked_names.specs.Asked.{asked, facts_of, leads}
+use Rattle.asked_names.specs.Asked.{asked, fresh_facts, leads}
 use Rattle.kept_facts.specs.Kept.{board_of, Boards, KeepKnown, KeepsRoom, ShowRows}
 use Rattle.kept_facts.proofs.Boards.{unasked_room, unasks, unasks_known, other_dropped, other_put, reordered, same_known, statement_less, statement_more, turned}
 use Rattle.kept_facts.proofs.kept.KeptFacts.unask.Goals as goal
@@ -27,7 +27,7 @@ returns-in-Plain-clause-shows g c rows id s own found asked_before led =
     let names = c.args.table.now in
     let before = subst (λ (b : Boards). ShowRows names b rows) (sym c.self.view_is) asked_before in
     record {
-      plain = unasks names c.lawful.ensures c.self.inside.plain c.unask.new.board Plain c.args.numbers.now c.requires.live rows (after rows (edit.DropStatement id)) c.unask.ensures.unasks (statement_less rows Plain id s (names_at names c.args.numbers.now) found (subst (λ (m : Mode). SameElements (names_at names c.args.numbers.now) (flat_map (leads rows.entries m) (facts_of m s))) c.in-Plain.is led)) refl before.plain;
+      plain = unasks names c.lawful.ensures c.self.inside.plain c.unask.new.board Plain c.args.numbers.now c.requires.live rows (after rows (edit.DropStatement id)) c.unask.ensures.unasks (statement_less rows Plain id s (names_at names c.args.numbers.now) found (subst (λ (m : Mode). SameElements (names_at names c.args.numbers.now) (flat_map (leads rows.entries m) (fresh_facts m (after rows (edit.DropStatement id)).statements s))) c.in-Plain.is led)) refl before.plain;
       follow = reordered names c.self.inside.follow Follow rows (after rows (edit.DropStatement id)) (other_dropped rows Plain id s (own ∙ c.in-Plain.is) found) refl before.follow;
     }
 
@@ -36,7 +36,7 @@ returns-in-Plain-clause-back g c rows s own led asked_before =
     let names = c.args.table.now in
     let before = subst (λ (b : Boards). ShowRows names b (after rows (edit.PutStatement s))) (sym c.self.view_is) asked_before in
     record {
-      plain = unasks names c.lawful.ensures c.self.inside.plain c.unask.new.board Plain c.args.numbers.now c.requires.live (after rows (edit.PutStatement s)) rows c.unask.ensures.unasks (turned (names_at names c.args.numbers.now ++ asked rows Plain) (asked (after rows (edit.PutStatement s)) Plain) (statement_more rows Plain s (names_at names c.args.numbers.now) (subst (λ (m : Mode). SameElements (names_at names c.args.numbers.now) (flat_map (leads rows.entries m) (facts_of m s))) c.in-Plain.is led))) refl before.plain;
+      plain = unasks names c.lawful.ensures c.self.inside.plain c.unask.new.board Plain c.args.numbers.now c.requires.live (after rows (edit.PutStatement s)) rows c.unask.ensures.unasks (turned (names_at names c.args.numbers.now ++ asked rows Plain) (asked (after rows (edit.PutStatement s)) Plain) (statement_more rows Plain s (names_at names c.args.numbers.now) (subst (λ (m : Mode). SameElements (names_at names c.args.numbers.now) (flat_map (leads rows.entries m) (fresh_facts m rows.statements s))) c.in-Plain.is led))) refl before.plain;
       follow = reordered names c.self.inside.follow Follow (after rows (edit.PutStatement s)) rows (turned (asked rows Follow) (asked (after rows (edit.PutStatement s)) Follow) (other_put rows Plain s (own ∙ c.in-Plain.is))) refl before.follow;
     }
 
@@ -67,7 +67,7 @@ returns-in-Follow-clause-shows g c rows id s own found asked_before led =
     let names = c.args.table.now in
     let before = subst (λ (b : Boards). ShowRows names b rows) (sym c.self.view_is) asked_before in
     record {
-      follow = unasks names c.lawful.ensures c.self.inside.follow c.unask-in-Follow.new.board Follow c.args.numbers.now c.requires.live rows (after rows (edit.DropStatement id)) c.unask-in-Follow.ensures.unasks (statement_less rows Follow id s (names_at names c.args.numbers.now) found (subst (λ (m : Mode). SameElements (names_at names c.args.numbers.now) (flat_map (leads rows.entries m) (facts_of m s))) c.in-Follow.is led)) refl before.follow;
+      follow = unasks names c.lawful.ensures c.self.inside.follow c.unask-in-Follow.new.board Follow c.args.numbers.now c.requires.live rows (after rows (edit.DropStatement id)) c.unask-in-Follow.ensures.unasks (statement_less rows Follow id s (names_at names c.args.numbers.now) found (subst (λ (m : Mode). SameElements (names_at names c.args.numbers.now) (flat_map (leads rows.entries m) (fresh_facts m (after rows (edit.DropStatement id)).statements s))) c.in-Follow.is led)) refl before.follow;
       plain = reordered names c.self.inside.plain Plain rows (after rows (edit.DropStatement id)) (other_dropped rows Follow id s (own ∙ c.in-Follow.is) found) refl before.plain;
     }
 
@@ -76,7 +76,7 @@ returns-in-Follow-clause-back g c rows s own led asked_before =
     let names = c.args.table.now in
     let before = subst (λ (b : Boards). ShowRows names b (after rows (edit.PutStatement s))) (sym c.self.view_is) asked_before in
     record {
-      follow = unasks names c.lawful.ensures c.self.inside.follow c.unask-in-Follow.new.board Follow c.args.numbers.now c.requires.live (after rows (edit.PutStatement s)) rows c.unask-in-Follow.ensures.unasks (turned (names_at names c.args.numbers.now ++ asked rows Follow) (asked (after rows (edit.PutStatement s)) Follow) (statement_more rows Follow s (names_at names c.args.numbers.now) (subst (λ (m : Mode). SameElements (names_at names c.args.numbers.now) (flat_map (leads rows.entries m) (facts_of m s))) c.in-Follow.is led))) refl before.follow;
+      follow = unasks names c.lawful.ensures c.self.inside.follow c.unask-in-Follow.new.board Follow c.args.numbers.now c.requires.live (after rows (edit.PutStatement s)) rows c.unask-in-Follow.ensures.unasks (turned (names_at names c.args.numbers.now ++ asked rows Follow) (asked (after rows (edit.PutStatement s)) Follow) (statement_more rows Follow s (names_at names c.args.numbers.now) (subst (λ (m : Mode). SameElements (names_at names c.args.numbers.now) (flat_map (leads rows.entries m) (fresh_facts m rows.statements s))) c.in-Follow.is led))) refl before.follow;
       plain = reordered names c.self.inside.plain Plain (after rows (edit.PutStatement s)) rows (turned (asked rows Plain) (asked (after rows (edit.PutStatement s)) Plain) (other_put rows Follow s (own ∙ c.in-Follow.is))) refl before.plain;
     }
 
