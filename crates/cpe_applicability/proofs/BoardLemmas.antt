@@ -108,7 +108,7 @@ pub any_plain : (q : ℕ) (rows : List Row) → is_used (map judged rows) Plain 
 any_plain q [] = refl
 any_plain q (r ∷ rows) = ap (λ (b : Bool). uses_plain q r || b) (any_plain q rows)
 
-follow_one : (b x : Bool) → cond (not b) x false ≡ cond b false x
+pub follow_one : (b x : Bool) → cond (not b) x false ≡ cond b false x
 follow_one true x = refl
 follow_one false x = refl
 

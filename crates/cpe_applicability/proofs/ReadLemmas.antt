@@ -1,7 +1,7 @@
 -- Places of rows, found by their tickets, as places of the statements that pass.
 use Rattle.std.proofs.Common.{◌≡◌, ℕ, zero, suc, ◌+◌, ◌<◌, Bool, true, false, not, cond, List, [], ◌∷◌, length, find, map, position, refl, sym, ap, subst, ◌∙◌, arith}
-use Rattle.std.specs.Prelude.{nat_eq, nat_lt, slice_get, Option, Some, None}
-use Rattle.std.specs.Option.{option_map, option_map_or}
+use Rattle.std.specs.Prelude.{nat_lt, slice_get, Option, Some, None}
+use Rattle.std.specs.Option.{option_map}
 use Rattle.std.specs.List.{AllByRecursion, filter, position_from}
 use Rattle.std.proofs.lemmas.Iterator.Adapters.{position_from-zero}
 use Rattle.std.proofs.lemmas.Bool.Decides.{nat_tests}
@@ -9,7 +9,7 @@ use Rattle.cpe_rows.specs.Truth.{same_truth}
 use Rattle.cpe_rows.specs.declared.truth.Truth.{Truth}
 use Rattle.cpe_applicability.specs.declared.parts.Parts.{Parts}
 use Rattle.cpe_applicability.specs.declared.row.Row.{Row}
-use Rattle.ticket_list.specs.Rising.{IsRisingBy, front}
+use Rattle.ticket_list.specs.Rising.{IsRisingBy}
 use Rattle.cpe_applicability.specs.Board.{changed_places, has_changed, is_of, places, verdict_of}
 use Rattle.cpe_applicability.specs.Tickets.{first_place}
 use Rattle.cpe_applicability.specs.Held.{has_row_id, is_changed, place_in, ticket_of, tickets}

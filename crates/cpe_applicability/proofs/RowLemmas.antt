@@ -13,7 +13,7 @@ use Rattle.cpe_rows.specs.declared.truth.Truth.TheVariants.{True, False, Error, 
 use Rattle.cpe_applicability.specs.declared.row.Row.{Row}
 use Rattle.cpe_applicability.specs.Entering.{among}
 use Rattle.cpe_applicability.specs.Tickets.{IsRising, put_in, without}
-use Rattle.ticket_list.specs.Rising.{IsRisingBy, front}
+use Rattle.ticket_list.specs.Rising.{IsRisingBy}
 use Rattle.cpe_applicability.specs.Held.{at_place, at_ticket, at_tickets, is_changed, moved, place_in, settled, ticket_of, tickets}
 use Rattle.cpe_applicability.proofs.TicketLemmas.{without_none}
 use Rattle.cpe_applicability.proofs.EnteringLemmas.{nat_decides}

@@ -1,9 +1,11 @@
 -- What contracts see of a board.
-use Rattle.std.specs.Prelude.{◌≡◌, ℕ, suc, Bool, true, false, not, cond, List, [], ◌∷◌, Option, Some, None}
+use Rattle.std.specs.Prelude.{◌≡◌, ℕ, suc, Bool, true, false, not, cond, List, [], ◌∷◌, map, slice_get}
 use Rattle.std.specs.List.{list_any}
 use Rattle.std.specs.Option.{option_map}
+use Rattle.cpe_rows.specs.Changes.{change}
 use Rattle.cpe_rows.specs.Rows.{has_id}
 use Rattle.cpe_rows.specs.Truth.{same_truth}
+use Rattle.cpe_rows.specs.declared.reply.Changed.{Changed}
 use Rattle.cpe_rows.specs.declared.statement.Mode.{Mode}
 use Rattle.cpe_rows.specs.declared.statement.Mode.TheVariants.{Plain, Follow}
 use Rattle.cpe_rows.specs.declared.statement.Statement.{Statement}
@@ -34,9 +36,15 @@ abbrev pub same_mode : Mode → Mode → Bool
 same_mode Plain m = is_plain m
 same_mode Follow m = not (is_plain m)
 
--- a statement of this mode has this number among its own
+abbrev pub statements_of : List Judged → List Statement
+statements_of rows = map (λ j. j.statement) rows
+
+-- a statement of this mode that has this number among its own
+abbrev pub uses : Mode → ℕ → Judged → Bool
+uses mode id j = cond (same_mode mode j.statement.mode) (among j.ids id) false
+
 abbrev pub is_used : List Judged → Mode → ℕ → Bool
-is_used rows mode id = list_any (λ j. cond (same_mode mode j.statement.mode) (among j.ids id) false) rows
+is_used rows mode id = list_any (uses mode id) rows
 
 -- the test of a statement, where the k-th fact reference has the truth of the k-th of its numbers
 abbrev pub verdict_of : State → Judged → Truth
@@ -53,6 +61,10 @@ places p n (x ∷ xs) = cond (p x) (n ∷ places p (suc n) xs) (places p (suc n)
 -- the places of the statements whose verdict differs from the known one, rising
 abbrev pub changed_places : State → List ℕ
 changed_places b = places (has_changed b) 0 b.rows
+
+-- the known verdict and the present one of the statement at a place
+abbrev pub change_at : State → ℕ → Changed
+change_at b k = change k (option_map (λ j. j.was) (slice_get b.rows k)) (option_map (verdict_of b) (slice_get b.rows k))
 
 abbrev pub is_of : List ℕ → Judged → Bool
 is_of id j = has_id id j.statement

@@ -1,5 +1,5 @@
 -- The rows of a board, each with a ticket of its own.
-use Rattle.std.specs.Prelude.{ℕ, zero, suc, Bool, true, false, not, cond, nat_eq, nat_lt, List, [], ◌∷◌, map, slice_get, Option, Some, None}
+use Rattle.std.specs.Prelude.{ℕ, zero, suc, Bool, true, false, not, cond, nat_eq, List, [], ◌∷◌, map, Option}
 use Rattle.std.specs.List.{filter}
 use Rattle.cpe_rows.specs.Rows.{has_id}
 use Rattle.cpe_rows.specs.Truth.{same_truth}

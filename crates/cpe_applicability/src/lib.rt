@@ -4,7 +4,10 @@
 
 mod askers;
 mod board;
+mod changes;
+mod count;
 mod facts;
+mod faults;
 mod held;
 mod laws;
 mod parts;
@@ -16,4 +19,4 @@ mod users;
 
 pub use board::Board;
 pub use facts::FactTruth;
-pub use laws::verdicts_are_truths;
+pub use laws::{changes_are_differences, verdicts_are_truths};

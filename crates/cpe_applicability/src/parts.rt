@@ -3,10 +3,13 @@ ghost use Rattle.std.specs.Prelude.{◌≡◌, ℕ, ◌+◌, ◌<◌, ◌≤◌,
 ghost use Rattle.std.specs.Map.{lookup};
 ghost use Rattle.std.specs.Str.{bytes_eq};
 ghost use Rattle.std.specs.Option.{option_copied, option_map};
-ghost use Rattle.std.specs.List.{list_any};
-ghost use Rattle.cpe_rows.specs.Prelude.{has_key, with_check, without_first};
+ghost use Rattle.std.specs.List.{count_by, list_any};
+ghost use Rattle.cpe_rows.specs.Causes.{check_causes};
+ghost use Rattle.cpe_rows.specs.Prelude.{first_some, has_id, has_key, most, number_of_facts, with_check, without_first};
+ghost use Rattle.cpe_rows.specs.declared.truth.Truth.{Truth};
+ghost use Rattle.cpe_rows.specs.declared.fault.Which.TheVariants as which;
 ghost use Rattle.cpe_rows.specs.declared.statement.Mode.TheVariants.{Plain, Follow};
-ghost use Rattle.cpe_applicability.specs.Board.{ChangesTruth, KeepsTruths, TakesTruths, changed_places, is_of, known, put_row, verdict_of};
+ghost use Rattle.cpe_applicability.specs.Board.{ChangesTruth, KeepsTruths, TakesTruths, changed_places, is_of, known, put_row, statements_of, truth_at, uses, verdict_of};
 ghost use Rattle.cpe_applicability.specs.Tickets.{first_place};
 ghost use Rattle.cpe_applicability.specs.Held.{has_row_id, is_changed};
 ghost use Rattle.cpe_applicability.specs.Entering.{left_out};
@@ -16,14 +19,16 @@ ghost use Rattle.cpe_applicability.specs.Told.{check_keys};
 ghost use Rattle.std.specs.HashMap.{spare};
 
 use crate::askers::askers_of;
+use crate::count::with_facts_of;
 use crate::facts::{FactTruth, Facts, change_truth};
 use crate::held::{enter_held, hold, leave_held};
 use crate::row::{Held, Row};
 use crate::rows::{differ, place_of, refresh_rows, settle_rows, take_row, verdict_of};
 use crate::tickets::take_out;
+use crate::told::truth_of;
 use crate::users::users_of;
-use cpe_inventory::Checks;
-use cpe_rows::{CheckKey, Mode, Statement, Text, Truth};
+use cpe_inventory::{Checks, check_fault};
+use cpe_rows::{CheckKey, EditFault, Mode, Statement, Text, Truth};
 use cpe_values::Memory;
 use name_index::NameId;
 use std::alloc::Global;
@@ -68,6 +73,48 @@ impl Parts {
         self.rows.len()
     }
 
+    // How many statements of the mode have the number among theirs.
+    pub(crate) fn users(&self, id: u32, mode: Mode) -> usize
+        requires { IsBoard self.now }
+        ensures { result ≡ count_by (uses mode id) (state_of self.now).rows }
+    {
+        match mode {
+            Mode::Plain => count(users_of(&self.plain.users, id)),
+            Mode::Follow => count(users_of(&self.follow.users, id)),
+        }
+    }
+
+    // The truth that is kept for a number in a mode.
+    fn truth(&self, id: u32, mode: Mode) -> Truth
+        ensures { result ≡ truth_at (state_of self.now) mode id }
+    {
+        match mode {
+            Mode::Plain => truth_of(&self.plain.truths, id),
+            Mode::Follow => truth_of(&self.follow.truths, id),
+        }
+    }
+
+    // For how many checks a result is kept.
+    pub(crate) fn checks_len(&self) -> usize
+        ensures { result ≡ length self.now.results }
+    {
+        self.results.len()
+    }
+
+    // Whether a result is kept for a check.
+    pub(crate) fn has_check(&self, key: &CheckKey) -> bool
+        ensures { result ≡ list_any (has_key key.now) self.now.results }
+    {
+        self.results.has(key)
+    }
+
+    // Why a result can't be set for a check.
+    pub(crate) fn check_fault(&self, key: &CheckKey) -> Option<EditFault>
+        ensures { (truth : Truth) → result ≡ first_some (check_causes self.now.results key.now truth) }
+    {
+        check_fault(&self.results, key)
+    }
+
     // The result that is kept for a check.
     pub(crate) fn check(&self, key: &CheckKey) -> Option<Truth>
         ensures { result ≡ option_map (λ c. c.1) (find (has_key key.now) self.now.results) }
@@ -87,6 +134,9 @@ impl Parts {
         ensures checks { (state_of self.new).checks ≡ (state_of self.old).checks }
         ensures truths { ChangesTruth (state_of self.old) (state_of self.new) mode id truth }
     {
+        if !differ(self.truth(id, mode), truth) {
+            return;
+        }
         match mode {
             Mode::Plain => self.plain_changed(id, truth),
             Mode::Follow => self.follow_changed(id, truth),
@@ -214,6 +264,39 @@ impl Parts {
         ensures { result ≡ position (is_of id.now) (state_of self.now).rows }
     {
         self.place_by_id(id)
+    }
+
+    // The statement of this id.
+    pub(crate) fn find(&self, id: &Text) -> Option<&Statement>
+        requires { IsBoard self.now }
+        ensures { option_copied result ≡ find (has_id id.now) (statements_of (state_of self.now).rows) }
+    {
+        match self.place_by_id(id) {
+            Some(place) => self.statement_at(place),
+            None => None,
+        }
+    }
+
+    // The statement at a place.
+    fn statement_at(&self, place: usize) -> Option<&Statement>
+        ensures { option_copied result ≡ slice_get (statements_of (state_of self.now).rows) place }
+    {
+        match self.rows.at(place) {
+            Some(row) => Some(&row.held.statement),
+            None => None,
+        }
+    }
+
+    // How many fact references go with the statement of this id.
+    pub(crate) fn facts_of(&self, id: &Text) -> usize
+        requires board { IsBoard self.now }
+        requires few { number_of_facts (statements_of (state_of self.now).rows) ≤ most which.Facts }
+        ensures { number_of_facts (statements_of (without_first (is_of id.now) (state_of self.now).rows)) + result ≡ number_of_facts (statements_of (state_of self.now).rows) }
+    {
+        match self.find(id) {
+            Some(statement) => with_facts_of(&statement.test, 0),
+            None => 0,
+        }
     }
 
     // The verdict of the statement of this id.

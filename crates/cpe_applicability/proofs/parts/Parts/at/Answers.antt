@@ -1,8 +1,6 @@
-use Rattle.std.proofs.Common.{List, ap, sym, ◌∙◌}
-use Rattle.std.specs.Prelude.{slice_get}
+use Rattle.std.proofs.Common.{ap, sym, ◌∙◌}
 use Rattle.std.specs.Option.{option_map}
 use Rattle.cpe_applicability.specs.declared.parts.Parts.{Parts}
-use Rattle.cpe_applicability.specs.declared.row.Row.{Row}
 use Rattle.cpe_applicability.specs.Board.{Judged}
 use Rattle.cpe_applicability.specs.Invariant.{judged}
 use Rattle.cpe_applicability.proofs.ReadLemmas.{get-map, verdict_there, verdict_none}

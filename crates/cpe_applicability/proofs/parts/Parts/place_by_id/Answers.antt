@@ -1,7 +1,6 @@
-use Rattle.std.proofs.Common.{List, ap, sym, ◌∙◌}
+use Rattle.std.proofs.Common.{ap, sym, ◌∙◌}
 use Rattle.cpe_applicability.specs.declared.parts.Parts.{Parts}
-use Rattle.cpe_applicability.specs.declared.row.Row.{Row}
-use Rattle.cpe_applicability.specs.Held.{has_row_id, place_in}
+use Rattle.cpe_applicability.specs.Held.{has_row_id}
 use Rattle.cpe_applicability.specs.Invariant.{one_or_none}
 use Rattle.cpe_applicability.proofs.ReadLemmas.{first_is, first_none}
 use Rattle.cpe_applicability.proofs.parts.Parts.place_by_id.Goals as goal

@@ -1,5 +1,5 @@
 use Rattle.std.proofs.Common.{cond, refl, sym, ap, subst, ◌∙◌}
-use Rattle.std.specs.Prelude.{None, Some}
+use Rattle.std.specs.Prelude.{None}
 use Rattle.std.specs.Map.{lookup}
 use Rattle.std.specs.Str.{bytes_eq}
 use Rattle.cpe_applicability.specs.declared.parts.Parts.{Parts}
@@ -9,7 +9,7 @@ use Rattle.cpe_applicability.specs.Entering.{is_asked, left_out}
 use Rattle.cpe_applicability.specs.Held.{asks, follow_use, is_changed, plain_use, ticket_of, uses_follow, uses_plain}
 use Rattle.cpe_applicability.specs.Tickets.{IsRising}
 use Rattle.cpe_applicability.specs.Users.{askers_at, users_at}
-use Rattle.cpe_applicability.proofs.RowLemmas.{rising-filter, there}
+use Rattle.cpe_applicability.proofs.RowLemmas.{rising-filter}
 use Rattle.cpe_applicability.proofs.RemovedLemmas.{IsBoard-removed, keeps_used}
 use Rattle.cpe_applicability.proofs.parts.Parts.remove.Goals as goal
 

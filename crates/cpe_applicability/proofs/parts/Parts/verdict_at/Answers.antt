@@ -1,7 +1,5 @@
-use Rattle.std.proofs.Common.{List, ap, sym, ◌∙◌}
-use Rattle.std.specs.Prelude.{slice_get}
+use Rattle.std.proofs.Common.{sym}
 use Rattle.cpe_applicability.specs.declared.parts.Parts.{Parts}
-use Rattle.cpe_applicability.specs.declared.row.Row.{Row}
 use Rattle.cpe_applicability.proofs.ReadLemmas.{verdict_there, verdict_none}
 use Rattle.cpe_applicability.proofs.parts.Parts.verdict_at.Goals as goal
 
