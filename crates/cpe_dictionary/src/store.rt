@@ -1,6 +1,6 @@
 // A dictionary as it is kept beside a table of names.
-ghost use Rattle.std.specs.Prelude.{◌≡◌, ◌+◌, ◌++◌, ◌∷◌, [], ◌≤◌, OnOk, OnErr, length, position, false};
-ghost use Rattle.std.specs.List.{list_any};
+ghost use Rattle.std.specs.Prelude.{◌≡◌, ◌+◌, ◌++◌, ◌∷◌, [], ◌≤◌, IfOk, OnOk, OnErr, length, position, slice_get, false};
+ghost use Rattle.std.specs.List.{filter_map, list_any};
 ghost use Rattle.cpe_name.specs.Equal.{same_name};
 ghost use Rattle.cpe_rows.specs.Prelude.{is_named, IsDictionary, most};
 ghost use Rattle.name_index.specs.Table.{IsLive, kept_at};
@@ -95,6 +95,27 @@ fn rewrite_at(
     Ok(())
 }
 
+// Puts the number at a place last, if there is one.
+fn push_number(names: &GrowingNames, place: u32, numbers: &mut Vec<NameId>) -> Result<(), Memory>
+    ensures { OnOk result (numbers.new.items ≡ numbers.old.items ++ filter_map (slice_get names.now.numbers) (place ∷ [])) }
+{
+    if let Some(id) = names.number_at(place as usize) {
+        numbers.push(id)?;
+    }
+    Ok(())
+}
+
+// The numbers at these places.
+fn numbers_at(alloc: Global, names: &GrowingNames, places: &[u32]) -> Result<Vec<NameId>, Memory>
+    ensures { IfOk result (λ v. v.items ≡ filter_map (slice_get names.now.numbers) places.now) }
+{
+    let mut numbers = Vec::with_capacity(alloc, places.len())?;
+    for place in places {
+        push_number(names, *place, &mut numbers)?;
+    }
+    Ok(numbers)
+}
+
 impl KeptDictionary {
     /// The dictionary without entries. It takes no memory.
     pub fn new(alloc: Global) -> KeptDictionary
@@ -127,6 +148,16 @@ impl KeptDictionary {
             Some(place) => Some(place as u32),
             None => None,
         }
+    }
+
+    /// The numbers in the table of the names of the entries of these numbers.
+    ///
+    /// # Errors
+    /// Want of memory alone.
+    pub fn ids_at(&self, alloc: Global, numbers: &[u32]) -> Result<Vec<NameId>, Memory>
+        ensures { IfOk result (λ v. v.items ≡ filter_map (slice_get self.now.names.numbers) numbers.now) }
+    {
+        numbers_at(alloc, &self.names, numbers)
     }
 
     /// Puts an active entry last whose name has this number in the table, and which no entry has. What it brings is moved.

@@ -1,9 +1,10 @@
 -- A registry: one table of names, of which entries (NIST IR 7697) and items (NIST IR 7698) keep numbers.
 use Rattle.std.specs.Prelude.{◌++◌, List}
+use Rattle.std.specs.List.{AllByRecursion}
 use Rattle.cpe_name.specs.declared.name.Values.{Values}
 use Rattle.cpe_rows.specs.declared.entry.Entry.{Entry}
 use Rattle.name_index.specs.declared.table.NameId.{NameId}
-use Rattle.name_index.specs.Table.{Names, kept_at}
+use Rattle.name_index.specs.Table.{IsLive, Names, kept_at}
 use Rattle.names_in_order.specs.InOrder.{AreInOrder, Roll, names_numbered}
 use Rattle.numbered_names.specs.Shown.{Shows, holds_in}
 use Rattle.cpe_dictionary.specs.Kept.{entries_in, FitsTable, names_of, Stored}
@@ -24,6 +25,10 @@ pub record AreFitting (table : Names) (s : Stored) (r : Roll) : Type 0 where
 -- the name of a number
 abbrev pub name_in : Names → NameId → Values
 name_in table id = (kept_at table id.0).name
+
+-- each of these numbers is that of a name
+abbrev pub AreLive : Names → List NameId → Type 0
+AreLive table numbers = AllByRecursion (λ (x : NameId). IsLive table x.0) numbers
 
 -- the table holds the names of entries and items, these others besides, each as often as it is one, and no more
 abbrev pub AreHeld : Registered → List Values → Type 0

@@ -28,7 +28,7 @@ use std::marker::Model;
 #[derive(Drop)]
 pub struct Registry {
     table: NameTable,
-    dictionary: KeptDictionary,
+    pub(crate) dictionary: KeptDictionary,
     items: ChangingNames,
 }
 
@@ -97,6 +97,7 @@ impl Registry {
     pub fn find(&self, name: &Wfn) -> Option<NameId>
         ensures live { IfSome result (λ id. IsLive self.now.table id.0) }
         ensures named { IfSome result (λ id. name_in self.now.table id ≡ name.now) }
+        ensures none { IsNone result → (id : ℕ) → HasName self.now.table id name.now → ⊥ }
         ensures no_entry { IsNone result → list_any (is_named name.now) self.now.entries ≡ false }
         ensures no_item { IsNone result → list_any (is_same name.now) self.now.items ≡ false }
     {

@@ -1,4 +1,4 @@
-use Rattle.std.proofs.Common.{◌∷◌, [], List, Option, None, sym, ap, ◌∙◌, refl}
+use Rattle.std.proofs.Common.{Option, None, sym, ap, ◌∙◌, refl}
 use Rattle.std.specs.Prelude.{Err, option_and_then}
 use Rattle.std.proofs.lemmas.Result.{err_from_is_err_and}
 use Rattle.cpe_rows.specs.Causes.{IsCause}

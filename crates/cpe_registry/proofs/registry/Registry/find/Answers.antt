@@ -1,6 +1,7 @@
-use Rattle.std.proofs.Common.{sym, ap, ◌∙◌}
+use Rattle.std.proofs.Common.{sym, ap, subst, ◌∙◌}
 use Rattle.std.specs.List.{list_any}
 use Rattle.cpe_name.specs.Equal.{same_name}
+use Rattle.name_index.specs.Table.{HasName}
 use Rattle.names_in_order.proofs.ChangeLemmas.{name_nowhere}
 use Rattle.names_in_order.specs.InOrder.{names_numbered}
 use Rattle.cpe_rows.specs.Names.{is_same}
@@ -28,3 +29,6 @@ returns-clause-no_item c none =
     ap (λ (r : Registered). list_any (is_same n) r.items) (sym c.self.view_is)
     ∙ c.item_laws.ensures.same n (names_numbered i.table i.items.numbers)
     ∙ name_nowhere i.table i.items.numbers n c.self.invariant.items.live (c.find.ensures.none none)
+
+pub returns-clause-none : goal.returns-clause-none
+returns-clause-none c none id has = c.find.ensures.none none id (subst (λ (r : Registered). HasName r.table id c.args.name.now) (sym c.self.view_is) has)
