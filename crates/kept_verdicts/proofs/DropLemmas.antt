@@ -1,0 +1,168 @@
+-- What is asked for the facts of one statement alone, and what stands where it is dropped.
+use Rattle.std.proofs.Common.{◌≡◌, ℕ, Bool, true, false, cond, ◌||◌, List, [], ◌∷◌, Option, Some, None, refl, sym, ap, subst, ◌∙◌, inl, inr}
+use Rattle.std.specs.Prelude.{find, IsSome, option_map}
+use Rattle.std.specs.List.{AllByRecursion, flat_map, list_any, sum_by}
+use Rattle.std.proofs.lemmas.Bool.{cases_Bool, or_cases, or_left, or_right, true≢false}
+use Rattle.std.proofs.lemmas.Option.{none-some, same_Some}
+use Rattle.cpe_name.specs.declared.name.Values.{Values}
+use Rattle.product_orders.specs.Elements.{SameElements}
+use Rattle.name_index.specs.declared.table.NameId.{NameId}
+use Rattle.name_index.specs.Table.{Names, kept_at}
+use Rattle.cpe_rows.specs.After.{after, without_first}
+use Rattle.cpe_rows.specs.Chains.{ends}
+use Rattle.cpe_rows.specs.Rows.{Rows, has_id}
+use Rattle.cpe_rows.specs.Verdict.{fact_truth}
+use Rattle.cpe_rows.specs.declared.edit.Edit.TheVariants as edit
+use Rattle.cpe_rows.specs.declared.entry.Entry.{Entry}
+use Rattle.cpe_rows.specs.declared.statement.Mode.{Mode}
+use Rattle.cpe_rows.specs.declared.statement.Mode.TheVariants.{Plain, Follow}
+use Rattle.cpe_rows.specs.declared.statement.Statement.{Statement}
+use Rattle.asked_names.specs.Asked.{leads}
+use Rattle.asked_names.proofs.Names.{sum_flat}
+use Rattle.cpe_applicability.specs.Board.{is_of, is_used, Judged, KeepsTruths, same_mode as uses_mode, statements_of, uses}
+use Rattle.cpe_applicability.specs.Entering.{among}
+use Rattle.cpe_applicability.proofs.StatementLemmas.{found_statement, statements-without}
+use Rattle.followed_facts.specs.Followed.{AreLinked, ends_at, Followed, has_end}
+use Rattle.kept_facts.specs.Kept.{AreSettled, AreSound, FitBoards, ShowRows}
+use Rattle.kept_verdicts.specs.Kept.{AreEnds, AreFollowed, IsNamed, Stands, Verdicts}
+use Rattle.kept_verdicts.specs.Putting.{AllFollowed, AreLast, OthersKept, StandsElse}
+
+-- ---- what is asked for facts
+
+module _ (entries : List Entry) (mode : Mode) (names facts : List Values) (same : SameElements names facts) where
+  themselves : (ns : List Values) → flat_map (leads entries Plain) ns ≡ ns
+  themselves [] = refl
+  themselves (n ∷ ns) = ap (λ (ms : List Values). n ∷ ms) (themselves ns)
+
+  pub asked_plain : mode ≡ Plain → SameElements names (flat_map (leads entries mode) facts)
+  asked_plain own f = same f ∙ sym (ap (sum_by f) (ap (λ (m : Mode). flat_map (leads entries m) facts) own ∙ themselves facts))
+
+  pub asked_follow : (asked : List Values) → mode ≡ Follow → asked ≡ flat_map (ends entries) names → SameElements asked (flat_map (leads entries mode) facts)
+  asked_follow asked own are f =
+      ap (sum_by f) are
+      ∙ sum_flat f (ends entries) names
+      ∙ same (λ n. sum_by f (ends entries n))
+      ∙ sym (sum_flat f (ends entries) facts)
+      ∙ sym (ap (λ (m : Mode). sum_by f (flat_map (leads entries m) facts)) own)
+
+-- ---- the statement that goes
+
+pub found_row : (id : List ℕ) (js : List Judged) (s : Statement) → find (has_id id) (statements_of js) ≡ Some s → (j : Judged) × (find (is_of id) js ≡ Some j) × (j.statement ≡ s)
+found_row id js s found = by (find (is_of id) js) refl
+  where
+    by : (o : Option Judged) → find (is_of id) js ≡ o → (j : Judged) × (find (is_of id) js ≡ Some j) × (j.statement ≡ s)
+    by None e = absurd (none-some s (sym (ap (option_map (λ (j : Judged). j.statement)) e) ∙ sym (found_statement id js) ∙ found))
+    by (Some j) e = (j, e, same_Some j.statement s (sym (ap (option_map (λ (k : Judged). k.statement)) e) ∙ sym (found_statement id js) ∙ found))
+
+module _ {A : Type 0} (t : A → Bool) where
+  pub any_without : (p : A → Bool) (xs : List A) → list_any p (without_first t xs) ≡ true → list_any p xs ≡ true
+  any_without p [] h = h
+  any_without p (x ∷ xs) h = by (t x) h (any_without p xs)
+    where
+      by : (b : Bool) → list_any p (cond b xs (x ∷ without_first t xs)) ≡ true → (list_any p (without_first t xs) ≡ true → list_any p xs ≡ true) → (p x || list_any p xs) ≡ true
+      by true g later = or_right (p x) (list_any p xs) g
+      by false g later = elim (or_cases (p x) (list_any p (without_first t xs)) g) [
+        | inl here ↦ or_left (p x) (list_any p xs) here
+        | inr rest ↦ or_right (p x) (list_any p xs) (later rest)
+      ]
+
+  pub any_left : (p : A → Bool) (xs : List A) (y : A) → find t xs ≡ Some y → p y ≡ false → list_any p xs ≡ true → list_any p (without_first t xs) ≡ true
+  any_left p [] y found not_it h = h
+  any_left p (x ∷ xs) y found not_it h = by (t x) found (any_left p xs y)
+    where
+      by : (b : Bool) → cond b (Some x) (find t xs) ≡ Some y → (find t xs ≡ Some y → p y ≡ false → list_any p xs ≡ true → list_any p (without_first t xs) ≡ true)
+          → list_any p (cond b xs (x ∷ without_first t xs)) ≡ true
+      by true e later = elim (or_cases (p x) (list_any p xs) h) [
+        | inl here ↦ absurd (true≢false (sym here ∙ ap p (same_Some x y e) ∙ not_it))
+        | inr rest ↦ rest
+      ]
+      by false e later = elim (or_cases (p x) (list_any p xs) h) [
+        | inl here ↦ or_left (p x) (list_any p (without_first t xs)) here
+        | inr rest ↦ or_right (p x) (list_any p (without_first t xs)) (later e not_it rest)
+      ]
+
+  pub all_without : (P : A → Type 0) (xs : List A) → AllByRecursion P xs → AllByRecursion P (without_first t xs)
+  all_without P [] all = tt
+  all_without P (x ∷ xs) all = by (t x) (all_without P xs all.1)
+    where
+      by : (b : Bool) → AllByRecursion P (without_first t xs) → AllByRecursion P (cond b xs (x ∷ without_first t xs))
+      by true later = all.1
+      by false later = (all.0, later)
+
+  pub found_all : (P : A → Type 0) (xs : List A) (y : A) → find t xs ≡ Some y → AllByRecursion P xs → P y
+  found_all P [] y found all = absurd (none-some y found)
+  found_all P (x ∷ xs) y found all = by (t x) found (λ later. found_all P xs y later all.1)
+    where
+      by : (b : Bool) → cond b (Some x) (find t xs) ≡ Some y → (find t xs ≡ Some y → P y) → P y
+      by true e later = subst P (same_Some x y e) all.0
+      by false e later = later e
+
+-- ---- what stands
+
+same_truth : (rows : Rows) (id : List ℕ) (mode : Mode) (n : Values) → fact_truth (after rows (edit.DropStatement id)) mode n ≡ fact_truth rows mode n
+same_truth rows id Plain n = refl
+same_truth rows id Follow n = refl
+
+module _ (names : Names) (old new : Verdicts) (rows : Rows) (id : List ℕ) where
+  pub drop_stands : Stands names old rows → new.board.rows ≡ without_first (is_of id) old.board.rows → KeepsTruths old.board new.board → new.board.checks ≡ old.board.checks
+      → ShowRows names new.facts (after rows (edit.DropStatement id)) → FitBoards new.facts names → AreSound new.facts → AreSettled new.facts
+      → StandsElse names new (after rows (edit.DropStatement id))
+  drop_stands stood are kept same shows fits sound settled = record {
+    statements = ap statements_of are ∙ statements-without id old.board.rows ∙ ap (without_first (has_id id)) stood.statements;
+    checks = same ∙ stood.checks;
+    named = subst (AllByRecursion (IsNamed names)) (sym are) (all_without (is_of id) (IsNamed names) old.board.rows stood.named);
+    truths = λ mode q used.
+        let before = any_without (is_of id) (uses mode q) old.board.rows (ap (λ (js : List Judged). is_used js mode q) (sym are) ∙ used) in
+        kept mode q before used ∙ stood.truths mode q before ∙ sym (same_truth rows id mode (kept_at names q).name);
+    shows = shows;
+    fits = fits;
+    sound = sound;
+    settled = settled;
+  }
+
+module _ (names : Names) (rows : List Judged) (id : List ℕ) (entries : List Entry) (old : Followed) (are : AreFollowed names rows entries old) where
+  abbrev pub rest : List Judged
+  rest = without_first (is_of id) rows
+
+  -- facts of mode plain aren't followed
+  pub drop_plain : (j : Judged) → find (is_of id) rows ≡ Some j → j.statement.mode ≡ Plain → AreFollowed names rest entries old
+  drop_plain j found own = record {
+    whole = λ q used. are.whole q (any_without (is_of id) (uses Follow q) rows used);
+    exact = λ q numbers is. any_left (is_of id) (uses Follow q) rows j found (ap (λ (m : Mode). cond (uses_mode Follow m) (among j.ids q) false) own) (are.exact q numbers is);
+    ends = are.ends;
+    linked = are.linked;
+  }
+
+  module _ (last : List NameId) (alone : AreLast rows id Follow last) where
+    pub last_followed : AllFollowed names old entries last
+    last_followed q at = by (ends_at old q) refl (are.whole q (alone.used q at))
+      where
+        by : (o : Option (List NameId)) → ends_at old q ≡ o → IsSome o → (numbers : List NameId) × (ends_at old q ≡ Some numbers) × AreEnds names entries q numbers
+        by None e some = absurd (true≢false (sym some))
+        by (Some numbers) e some = (numbers, e, are.ends q numbers e)
+
+    pub drop_follow : (new : Followed) → ((q : ℕ) → has_end last q ≡ true → ends_at new q ≡ None) → OthersKept old new last → (AreLinked old → AreLinked new) → AreFollowed names rest entries new
+    drop_follow new none others linked = record {
+      whole = whole;
+      exact = exact;
+      ends = λ q numbers is. are.ends q numbers (before q numbers is);
+      linked = linked are.linked;
+    }
+      where
+        not_last : (q : ℕ) (numbers : List NameId) → ends_at new q ≡ Some numbers → has_end last q ≡ false
+        not_last q numbers is = elim (cases_Bool (has_end last q)) [ inl t ↦ absurd (none-some numbers (sym (none q t) ∙ is)) | inr f ↦ f ]
+
+        before : (q : ℕ) (numbers : List NameId) → ends_at new q ≡ Some numbers → ends_at old q ≡ Some numbers
+        before q numbers is = sym (others q (not_last q numbers is)) ∙ is
+
+        whole : (q : ℕ) → is_used rest Follow q ≡ true → IsSome (ends_at new q)
+        whole q used = elim (cases_Bool (has_end last q)) [
+          | inl t ↦ absurd (true≢false (sym used ∙ alone.gone q t))
+          | inr f ↦ subst IsSome (sym (others q f)) (are.whole q (any_without (is_of id) (uses Follow q) rows used))
+        ]
+
+        exact : (q : ℕ) (numbers : List NameId) → ends_at new q ≡ Some numbers → is_used rest Follow q ≡ true
+        exact q numbers is = elim (cases_Bool (is_used rest Follow q)) [
+          | inl t ↦ t
+          | inr f ↦ absurd (true≢false (sym (alone.whole q (are.exact q numbers (before q numbers is)) f) ∙ not_last q numbers is))
+        ]

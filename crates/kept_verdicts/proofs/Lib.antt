@@ -1,0 +1,16 @@
+pub mod TellLemmas
+pub mod Used
+pub mod FlipLemmas
+pub mod StandLemmas
+pub mod StatementLemmas
+pub mod UseLemmas
+pub mod PutLemmas
+pub mod DropLemmas
+pub mod AskLemmas
+pub mod LoopLemmas
+pub mod FactLemmas
+pub mod LeadLemmas
+pub mod LedMoved
+pub mod Foreseen
+pub mod VerdictLemmas
+pub mod TableLemmas

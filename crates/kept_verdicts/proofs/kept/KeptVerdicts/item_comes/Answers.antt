@@ -1,0 +1,55 @@
+use Rattle.std.proofs.Common.{◌∷◌, [], length, refl, sym, ap, subst, arith}
+use Rattle.std.proofs.lemmas.List.{length-map}
+use Rattle.product_orders.specs.declared.products.Side.TheVariants as side
+use Rattle.cpe_rows.specs.After.{after}
+use Rattle.cpe_rows.specs.Rows.{Rows}
+use Rattle.cpe_rows.specs.declared.edit.Edit.TheVariants as edit
+use Rattle.cpe_rows.specs.declared.statement.Mode.TheVariants.{Plain, Follow}
+use Rattle.numbered_names.specs.Shown.{name_at}
+use Rattle.asked_names.specs.Asked.{asked}
+use Rattle.kept_facts.specs.Kept.{looks_by}
+use Rattle.kept_verdicts.specs.Kept.{Stands, Verdicts}
+use Rattle.kept_verdicts.proofs.StandLemmas.{moved_by}
+use Rattle.kept_verdicts.proofs.kept.KeptVerdicts.item_comes.Goals as goal
+
+pub returns-clause-stands : goal.returns-clause-stands
+returns-clause-stands g c rows stands ends =
+    let table = c.args.table.now in
+    let s = subst (λ (v : Verdicts). Stands table v rows) (sym c.self.view_is) stands in
+    let next : Rows = after rows (edit.Item (name_at table c.args.item)) in
+    c.tell.ensures.stands table next
+    (moved_by table c.lawful-2.ensures rows next (record { board = c.self.inside.board; facts = c.self.inside.facts; followed = c.self.inside.followed }) c.item_comes.new.self s refl refl refl
+    (c.item_comes.ensures.shows rows s.shows ends.names) c.item_comes.ensures.fits c.lawful-3.ensures c.item_comes.ensures.known)
+
+pub returns-clause-steps : goal.returns-clause-steps
+returns-clause-steps g c rows stands ends =
+    let table = c.args.table.now in
+    let s = subst (λ (v : Verdicts). Stands table v rows) (sym c.self.view_is) stands in (
+      c.item_comes.ensures.rise,
+      omega (
+        arith,
+        c.item_comes.ensures.steps,
+        c.looks_are_by_names.ensures.asked table c.self.inside.facts.plain rows Plain (c.args.item ∷ []) c.lawful-2.ensures (c.lawful.ensures.on Plain) s.shows.plain,
+        c.looks_are_by_names.ensures.asked table c.self.inside.facts.follow rows Follow c.args.ends.now c.lawful-2.ensures (c.lawful.ensures.on Follow) s.shows.follow,
+        ap (looks_by side.Target (asked rows Follow)) ends.names,
+      ),
+    )
+
+pub item_comes-requires-clause-few : goal.item_comes-requires-clause-few
+item_comes-requires-clause-few g c t =
+    let stood = c.requires.stood in
+    let s = subst (λ (v : Verdicts). Stands c.args.table.now v stood.0) (sym c.self.view_is) stood.2 in
+    omega (arith, c.few_stand.ensures.targets c.args.table.now c.self.inside.facts.plain stood.0 Plain t s.shows.plain stood.1)
+
+pub item_comes-requires-clause-few_follow : goal.item_comes-requires-clause-few_follow
+item_comes-requires-clause-few_follow g c t =
+    let stood = c.requires.stood in
+    let table = c.args.table.now in
+    let s = subst (λ (v : Verdicts). Stands table v stood.0) (sym c.self.view_is) stood.2 in
+    omega (
+      arith,
+      c.few_stand.ensures.targets table c.self.inside.facts.follow stood.0 Follow t s.shows.follow stood.1,
+      c.lawful_rows_ask_few.ensures.leads stood.0 Follow (name_at table c.args.item) stood.1,
+      ap length stood.3.names,
+      length-map c.args.ends.now (name_at table),
+    )

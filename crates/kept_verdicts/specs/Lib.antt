@@ -1,0 +1,5 @@
+pub mod Kept
+pub mod Looks
+pub mod Telling
+pub mod Putting
+pub mod Leading
