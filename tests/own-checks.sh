@@ -1180,11 +1180,11 @@ makes_what_is_accepted() {
     what='generated records are accepted, and one more statement is not: make'
     needs "$what" grep || return
     {
-        limited "$program" make 800000 | grep -v '"do":"\(search\|verdict\)"'
+        limited "$program" make 800000 | grep -v '"do":"\(check\|search\|verdict\)"'
         echo '{"do":"statement","id":"s","mode":"plain","test":{"op":"OR","of":[{"fact":"cpe:/a"}]}}'
     } | limited "$program" resolve > "$room/out" 2> "$room/error"
     status=$?
-    echo 'refused 650001 full statements' > "$room/wanted"
+    echo 'refused 550001 full statements' > "$room/wanted"
     judge "$what" "$status" 1 "$room/wanted"
 }
 

@@ -6,8 +6,8 @@ use cpe_engine::Engine;
 use cpe_fs::unbind_fs;
 use cpe_name::{Attribute, Wfn};
 use cpe_rows::{
-    BoxedName, Counts, Edit, EditFault, Entry, List, Mode, Operator, Provenance, Statement, Test,
-    Text, Which,
+    BoxedName, Changed, Counts, Edit, EditFault, Entry, List, Mode, Operator, Provenance,
+    Statement, Test, Text, Which,
 };
 use cpe_steps::Steps;
 use cpe_values::{Edge, Memory, Pattern, Value};
@@ -130,9 +130,9 @@ fn edit_of(alloc: Global, sample: Sample) -> Result<Edit, Memory> {
 
 // ---- their ends
 
-fn end_by(edited: &Result<(), EditFault>) -> End {
+fn end_by(edited: &Result<List<Changed>, EditFault>) -> End {
     match edited {
-        Ok(()) => End::Made,
+        Ok(_) => End::Made,
         Err(EditFault::Full(Which::Weight)) => End::TooHeavy,
         Err(EditFault::Unknown) => End::Unknown,
         Err(_) => End::Other,
@@ -144,7 +144,7 @@ fn end_of_valid<L: Ledger>(engine: &mut Engine, edit: Edit, steps: &mut Steps<L>
         drop(edit);
         return End::Other;
     }
-    let edited = engine.edit(edit, steps);
+    let edited = engine.apply(edit, steps);
     end_by(&edited)
 }
 

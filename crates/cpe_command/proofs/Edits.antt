@@ -1,4 +1,4 @@
--- The lines of records change the rows by their edits alone, and may look as often as their queries.
+-- The lines of records change the rows by their edits alone, and may look as often as these and their queries do.
 use Rattle.std.proofs.Common.{◌≡◌, ℕ, List, [], ◌∷◌, Some, None, Result, Ok, Err, ◌⊎◌, inl, inr, refl, ap}
 use Rattle.cpe_session.specs.Session.{state_of}
 use Rattle.cpe_session.specs.Folding.{ChangesBy, CostsBy}
@@ -13,8 +13,7 @@ use Rattle.cpe_members.specs.declared.member.RecordFault.{RecordFault}
 use Rattle.cpe_command.specs.declared.records.RecordCommand.{RecordCommand}
 use Rattle.cpe_command.specs.declared.records.RecordCommand.TheVariants.{Resolve, Evaluate}
 use Rattle.cpe_records.specs.Edited.{stepped, edited, line_edited}
-use Rattle.cpe_records.specs.Asked.{line_asked}
-use Rattle.cpe_engine.specs.Looks.{looks}
+use Rattle.cpe_drill.specs.Looks.{line_looks}
 use Rattle.cpe_command.specs.Records.{edit_text, by_step, by_record, record_session}
 
 step_state : (rows : Rows) (text : Rows → List ℕ) (result : Result Rows EditFault) → state_of rows (by_step text result) ≡ stepped rows result
@@ -31,7 +30,7 @@ edits-lines command rows number None = refl
 edits-lines command rows number (Some []) = refl
 edits-lines command rows number (Some (x ∷ xs)) = record_state command number rows (record_of (x ∷ xs))
 
-pub costs-lines : (command : RecordCommand) → CostsBy (record_session command) (line_asked looks)
+pub costs-lines : (command : RecordCommand) → CostsBy (record_session command) line_looks
 costs-lines command s None = refl
 costs-lines command s (Some []) = refl
 costs-lines command s (Some (x ∷ xs)) = refl

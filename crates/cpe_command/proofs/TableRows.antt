@@ -39,17 +39,15 @@ with_table rows count page page_then counted put =
     ∙ ap (λ (text : List ℕ). page ++ (head (length rows.statements) ++ text)) (row_each (statement_line rows) rows.statements)
 
 -- the lines were poured
-pub table-poured : (rows seen : Rows) (count : ℕ) (held held_now : Option (List ℕ)) (page page_then page_now : List ℕ)
-    → seen ≡ rows → count ≡ length seen.statements → page_then ≡ page ++ head count
-    → Pours held held_now page_then page_now (lines seen) → Pours held held_now page page_now (verdict_table rows)
-table-poured rows seen count held held_now page page_then page_now same counted put pours =
-    subst (λ (r : Rows). Pours held held_now page page_now (verdict_table r)) same
-    (record { front = pours.front; appends = pours.appends; splits = sym (with_table seen count page page_then counted put) ∙ pours.splits })
+pub table-poured : (rows : Rows) (count : ℕ) (held held_now : Option (List ℕ)) (page page_then page_now : List ℕ)
+    → count ≡ length rows.statements → page_then ≡ page ++ head count
+    → Pours held held_now page_then page_now (lines rows) → Pours held held_now page page_now (verdict_table rows)
+table-poured rows count held held_now page page_then page_now counted put pours =
+    record { front = pours.front; appends = pours.appends; splits = sym (with_table rows count page page_then counted put) ∙ pours.splits }
 
 -- or a front of them
-pub table-begun : (rows seen : Rows) (count : ℕ) (held held_now : Option (List ℕ)) (page page_then : List ℕ)
-    → seen ≡ rows → count ≡ length seen.statements → page_then ≡ page ++ head count
-    → AppendsFront held held_now (page_then ++ lines seen) → AppendsFront held held_now (page ++ verdict_table rows)
-table-begun rows seen count held held_now page page_then same counted put begun =
-    subst (λ (r : Rows). AppendsFront held held_now (page ++ verdict_table r)) same
-    (subst (λ (text : List ℕ). AppendsFront held held_now text) (with_table seen count page page_then counted put) begun)
+pub table-begun : (rows : Rows) (count : ℕ) (held held_now : Option (List ℕ)) (page page_then : List ℕ)
+    → count ≡ length rows.statements → page_then ≡ page ++ head count
+    → AppendsFront held held_now (page_then ++ lines rows) → AppendsFront held held_now (page ++ verdict_table rows)
+table-begun rows count held held_now page page_then counted put =
+    subst (λ (text : List ℕ). AppendsFront held held_now text) (with_table rows count page page_then counted put)

@@ -18,14 +18,13 @@ abbrev lines : ℕ → List Statement → Option (List ℕ) → List Changed →
 lines number statements dropped = flat_map (λ c. change_line number (changed_id statements dropped c) c)
 
 -- the lines of its changes were put, and its rows follow
-pub changes-said : (number : ℕ) (rows next : Rows) (e : Edit) (statements : List Statement) (dropped : Option (List ℕ)) (cs : List Changed) (page page_now : List ℕ)
-    → step rows e ≡ Ok next → cs ≡ changes rows e → statements ≡ next.statements → dropped ≡ dropped_id e → page_now ≡ page ++ lines number statements dropped cs
+pub changes-said : (number : ℕ) (rows next : Rows) (e : Edit) (dropped : Option (List ℕ)) (cs : List Changed) (page page_now : List ℕ)
+    → step rows e ≡ Ok next → cs ≡ changes rows e → dropped ≡ dropped_id e → page_now ≡ page ++ lines number next.statements dropped cs
     → IsSaid (by_step (edit_text Watch number rows e) (step rows e)) rows next page page_now None
-changes-said number rows next e statements dropped cs page page_now accepted are after drops put =
+changes-said number rows next e dropped cs page page_now accepted are drops put =
     subst (λ (stepped : Result Rows EditFault). IsSaid (by_step (edit_text Watch number rows e) stepped) rows next page page_now None) (sym accepted) (
       refl,
-      put ∙ ap (λ (ss : List Statement). page ++ lines number ss dropped cs) after
-          ∙ ap (λ (d : Option (List ℕ)). page ++ lines number next.statements d cs) drops
+      put ∙ ap (λ (d : Option (List ℕ)). page ++ lines number next.statements d cs) drops
           ∙ ap (λ (xs : List Changed). page ++ lines number next.statements (dropped_id e) xs) are,
       refl,
     )

@@ -10,9 +10,8 @@ use Rattle.cpe_session.specs.Task.{Task, Written, task}
 use Rattle.cpe_session.specs.Folding.{IsFolded, summed_by}
 use Rattle.cpe_rows.specs.Rows.{Rows, no_rows}
 use Rattle.cpe_records.specs.Edited.{line_edited}
-use Rattle.cpe_records.specs.Asked.{asked, line_asked}
-use Rattle.cpe_engine.specs.Looks.{looks as looks_of}
 use Rattle.cpe_drill.specs.Generated.{generated_line}
+use Rattle.cpe_drill.specs.Looks.{line_looks, record_looks}
 use Rattle.cpe_drill.specs.Outcome.{summed}
 use Rattle.cpe_drill.specs.Drill.{drill_transcript, LeavesRows}
 use Rattle.cpe_ranges.specs.Rows.{no_rows as no_advice}
@@ -49,7 +48,7 @@ meaning_of (Some (Records command)) = record {
   reads = true;
   task = task (record_session command) no_rows;
   keeps = IsFolded line_edited no_rows;
-  looks = λ taken. summed_by line_edited (line_asked looks_of) no_rows (lines taken);
+  looks = λ taken. summed_by line_edited line_looks no_rows (lines taken);
 }
 meaning_of (Some Advise) = record { reads = true; task = task advice_session no_advice; keeps = NoRows; looks = most_steps }
 meaning_of (Some (Make count)) = record {
@@ -62,7 +61,7 @@ meaning_of (Some (Drill count)) = record {
   reads = false;
   task = Written (drill_transcript count);
   keeps = λ rows taken status. LeavesRows count rows status;
-  looks = λ taken. summed (asked looks_of) count;
+  looks = λ taken. summed record_looks count;
 }
 meaning_of None = record { reads = false; task = Written (record { text = usage; status = Usage }); keeps = NoRows; looks = λ taken. 0 }
 

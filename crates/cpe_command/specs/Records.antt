@@ -10,11 +10,10 @@ use Rattle.cpe_rows.specs.Changes.{changes}
 use Rattle.cpe_rows.specs.declared.edit.Edit as edit
 use Rattle.cpe_rows.specs.declared.fault.EditFault.{EditFault}
 use Rattle.cpe_records.specs.Reading.{record_of}
-use Rattle.cpe_records.specs.Asked.{asked}
 use Rattle.cpe_records.specs.declared.read.Record.{Record}
 use Rattle.cpe_records.specs.declared.read.Record.TheVariants.{Edit, Query}
 use Rattle.cpe_members.specs.declared.member.RecordFault.{RecordFault}
-use Rattle.cpe_engine.specs.Looks.{looks}
+use Rattle.cpe_drill.specs.Looks.{record_looks}
 use Rattle.cpe_replies.specs.Replies.{reply_text, verdict_table, changes_text}
 use Rattle.cpe_replies.specs.Reasons.{record_fault_text, edit_fault_text}
 use Rattle.cpe_command.specs.declared.records.RecordCommand.{RecordCommand}
@@ -48,6 +47,6 @@ record_session command = record {
   says = λ rows number text. by_record command number rows (record_of text);
   quiet = false;
   ends = ending command;
-  cost = λ rows number text. asked looks rows (record_of text);
+  cost = λ rows number text. record_looks rows (record_of text);
   end_cost = λ rows. 0;
 }

@@ -6,6 +6,7 @@ ghost use Rattle.cpe_steps.specs.Within.{StepsWithin};
 ghost use Rattle.cpe_session.specs.Pages.{IsSaid};
 ghost use Rattle.cpe_rows.specs.Step.{step};
 ghost use Rattle.cpe_rows.specs.Valid.{is_valid_edit};
+ghost use Rattle.cpe_engine.specs.Looks.{edit_looks};
 ghost use Rattle.cpe_replies.specs.Replies.{change_line, changed_id, dropped_id, id_at};
 ghost use Rattle.cpe_replies.specs.Reasons.{reason_text};
 ghost use Rattle.cpe_command.specs.Records.{by_step, edit_text};
@@ -13,7 +14,7 @@ ghost use Rattle.cpe_command.specs.Records.{by_step, edit_text};
 use crate::records::RecordCommand;
 use cpe_engine::Engine;
 use cpe_replies::{RecordReason, push_change};
-use cpe_rows::{Changed, Edit, EditFault, Statement, Text};
+use cpe_rows::{Changed, Edit, EditFault, Text};
 use cpe_session::Page;
 use cpe_steps::Steps;
 use std::alloc::{AllocError, Global};
@@ -32,7 +33,7 @@ pub(crate) fn say_changes<L: Ledger>(
     requires { is_valid_edit edit ≡ true }
     ensures said { IfOk result (λ refused. IsSaid (by_step (edit_text RecordCommand.Watch number engine.old edit) (step engine.old edit))
         engine.old engine.new page.old page.new (option_map reason_text refused)) }
-    ensures counts { StepsWithin steps.old steps.new 0 }
+    ensures counts { StepsWithin steps.old steps.new (edit_looks engine.old edit) }
 {
     match copy_dropped_id(alloc, &edit) {
         Ok(dropped) => say_applied(engine, page, number, edit, &dropped, steps),
@@ -56,17 +57,11 @@ fn say_applied<L: Ledger>(
     requires drops { dropped.now ≡ dropped_id edit }
     ensures said { IfOk result (λ refused. IsSaid (by_step (edit_text RecordCommand.Watch number engine.old edit) (step engine.old edit))
         engine.old engine.new page.old page.new (option_map reason_text refused)) }
-    ensures counts { StepsWithin steps.old steps.new 0 }
+    ensures counts { StepsWithin steps.old steps.new (edit_looks engine.old edit) }
 {
     match engine.apply(edit, steps) {
         Ok(changes) => {
-            push_changes(
-                page,
-                number,
-                engine.statements(),
-                dropped,
-                changes.as_slice(),
-            )?;
+            push_changes(page, number, engine, dropped, changes.as_slice())?;
             Ok(None)
         }
         Err(EditFault::Memory) => Err(AllocError),
@@ -87,34 +82,30 @@ fn copy_dropped_id(alloc: Global, edit: &Edit) -> Result<Option<Text>, AllocErro
     }
 }
 
-// A line for each change. The statements are those after the edit.
+// A line for each change. The engine has made the edit.
 fn push_changes(
     page: &mut Page,
     number: u64,
-    statements: &[Statement],
+    engine: &Engine,
     dropped: &Option<Text>,
     changes: &[Changed],
 ) -> Result<(), AllocError>
     ensures { OnOk result (page.new ≡ page.old
-        ++ flat_map (λ c. change_line number (changed_id statements.now dropped.now c) c) changes.now) }
+        ++ flat_map (λ c. change_line number (changed_id engine.now.statements dropped.now c) c) changes.now) }
 {
     for change in changes {
-        let id = changed_id(statements, dropped, change);
+        let id = changed_id(engine, dropped, change);
         push_change(page, number, id, change)?;
     }
     Ok(())
 }
 
 // The id of a statement that changed.
-fn changed_id<'t>(
-    statements: &'t [Statement],
-    dropped: &'t Option<Text>,
-    change: &Changed,
-) -> &'t str
-    ensures { result.now ≡ changed_id statements.now dropped.now change.now }
+fn changed_id<'t>(engine: &'t Engine, dropped: &'t Option<Text>, change: &Changed) -> &'t str
+    ensures { result.now ≡ changed_id engine.now.statements dropped.now change.now }
 {
     if change.after.is_some() {
-        return id_at(statements, change.place as usize);
+        return id_at(engine, change.place as usize);
     }
     match dropped {
         Some(id) => id.as_str(),
@@ -123,11 +114,11 @@ fn changed_id<'t>(
 }
 
 // The id of the statement at a place from 0.
-fn id_at(statements: &[Statement], place: usize) -> &str
-    ensures { result.now ≡ id_at statements.now place }
+fn id_at(engine: &Engine, place: usize) -> &str
+    ensures { result.now ≡ id_at engine.now.statements place }
 {
-    match statements.get(place) {
-        Some(statement) => statement.id.as_str(),
+    match engine.statement_at(place) {
+        Some((statement, _)) => statement.id.as_str(),
         None => "",
     }
 }

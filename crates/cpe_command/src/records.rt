@@ -6,7 +6,7 @@ ghost use Rattle.cpe_session.specs.Pages.{IsSaid};
 ghost use Rattle.cpe_rows.specs.Step.{step};
 ghost use Rattle.cpe_rows.specs.Answers.{answer};
 ghost use Rattle.cpe_rows.specs.Valid.{is_valid_edit, is_valid_query};
-ghost use Rattle.cpe_engine.specs.Looks.{looks};
+ghost use Rattle.cpe_engine.specs.Looks.{edit_looks, looks};
 ghost use Rattle.cpe_replies.specs.Replies.{reply_text};
 ghost use Rattle.cpe_replies.specs.Reasons.{reason_text};
 ghost use Rattle.cpe_command.specs.Records.{by_step, edit_text, record_session};
@@ -92,7 +92,7 @@ impl RecordCommand {
         requires { is_valid_edit edit ≡ true }
         ensures said { IfOk result (λ refused. IsSaid (by_step (edit_text self.now number engine.old edit) (step engine.old edit))
             engine.old engine.new page.old page.new (option_map reason_text refused)) }
-        ensures counts { StepsWithin steps.old steps.new 0 }
+        ensures counts { StepsWithin steps.old steps.new (edit_looks engine.old edit) }
     {
         match self {
             RecordCommand::Resolve | RecordCommand::Evaluate => make_edit(engine, edit, steps),
@@ -111,10 +111,13 @@ fn make_edit<L: Ledger>(
     requires { is_valid_edit edit ≡ true }
     ensures said { IfOk result (λ refused.
         (page : List ℕ) → IsSaid (by_step (λ next. []) (step engine.old edit)) engine.old engine.new page page (option_map reason_text refused)) }
-    ensures counts { StepsWithin steps.old steps.new 0 }
+    ensures counts { StepsWithin steps.old steps.new (edit_looks engine.old edit) }
 {
-    match engine.edit(edit, steps) {
-        Ok(()) => Ok(None),
+    match engine.apply(edit, steps) {
+        Ok(changes) => {
+            drop(changes);
+            Ok(None)
+        }
         Err(EditFault::Memory) => Err(AllocError),
         Err(fault) => Ok(Some(RecordReason::Refused(fault))),
     }

@@ -7,31 +7,34 @@ ghost use Rattle.cpe_io.specs.Writes.{AppendsFront};
 ghost use Rattle.cpe_session.specs.Pages.{Pours};
 ghost use Rattle.cpe_replies.specs.Replies.{statement_line, verdict_table};
 
-use cpe_engine::{Engine, Verdicts};
+use cpe_engine::Engine;
 use cpe_io::{Sink, SinkFault};
 use cpe_replies::push_verdict;
 use cpe_session::{Page, Table, pour_table};
 use std::alloc::{AllocError, Global};
 
 // A row for each statement.
-#[derive(Drop)]
+#[derive(Clone, Copy)]
 struct Lines<'e> {
-    verdicts: Verdicts<'e>,
+    engine: &'e Engine,
 }
 
 impl Table for Lines<'_> {
-    ghost count = { λ lines. length lines.verdicts.statements };
+    ghost count = { λ lines. length lines.engine.now.statements };
 
-    ghost text = { λ lines k. option_map_or (statement_line lines.verdicts) (slice_get lines.verdicts.statements k) [] };
+    ghost text = { λ lines k. option_map_or (statement_line lines.engine.now) (slice_get lines.engine.now.statements k) [] };
 
     fn len(&self) -> usize {
-        self.verdicts.len()
+        let engine = self.engine;
+        engine.statements_len()
     }
 
     fn put(&self, alloc: Global, k: usize, page: &mut Page) -> Result<(), AllocError> {
-        match self.verdicts.at(alloc, k) {
-            Ok((id, truth)) => push_verdict(page, id, Some(truth)),
-            Err(_) => Err(AllocError),
+        let _ = alloc;
+        let engine = self.engine;
+        match engine.statement_at(k) {
+            Some((statement, truth)) => push_verdict(page, statement.id.as_str(), Some(truth)),
+            None => Ok(()),
         }
     }
 }
@@ -50,11 +53,8 @@ pub(crate) fn pour_verdicts<K: Sink>(
     ensures front { AppendsFront (K.held sink.old) (K.held sink.new) (page.old ++ verdict_table engine.now) }
     ensures cause { HasSinkCause (K.faults sink.old) (K.faults sink.new) result }
 {
-    let Ok(verdicts) = engine.verdicts(alloc) else {
-        return Err(SinkFault::Memory);
-    };
-    match push_head(page, verdicts.len()) {
-        Ok(()) => pour_table(alloc, &Lines { verdicts }, page, sink),
+    match push_head(page, engine.statements_len()) {
+        Ok(()) => pour_table(alloc, &Lines { engine }, page, sink),
         Err(_) => Err(SinkFault::Memory),
     }
 }

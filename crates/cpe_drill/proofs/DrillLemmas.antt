@@ -10,10 +10,9 @@ use Rattle.cpe_session.specs.Ran.{ReachedBy}
 use Rattle.cpe_session.proofs.SessionLemmas.{after-append, out_from-append, folded-append, costs-append}
 use Rattle.cpe_rows.specs.Rows.{Rows, no_rows}
 use Rattle.cpe_records.specs.Edited.{line_edited}
-use Rattle.cpe_records.specs.Asked.{asked}
-use Rattle.cpe_engine.specs.Looks.{looks}
 use Rattle.cpe_drill.specs.declared.drilled.Drilled.{Drilled}
 use Rattle.cpe_drill.specs.Generated.{generated}
+use Rattle.cpe_drill.specs.Looks.{record_looks}
 use Rattle.cpe_drill.specs.Outcome.{rows_behind, refusals, findings, for_line, summed}
 use Rattle.cpe_drill.specs.Summary.{summary, drill_text}
 use Rattle.cpe_drill.specs.Drill.{undrilled, drill_session, drill_transcript, LeavesRows}
@@ -85,31 +84,31 @@ module _ (count : ℕ) where
       ∙ ap (λ (text : List ℕ). text ++ (next_writes (drill_session count) (behind n) (Some (generated n)) ++ [])) (nothing_written n)
       ∙ ap (λ (text : List ℕ). text ++ []) (writes_nothing (behind n) (generated n))
 
-  costed : (d : Drilled) (number : ℕ) (text : List ℕ) → text_cost (drill_session count) d number text ≡ for_line (asked looks) d.engine text
+  costed : (d : Drilled) (number : ℕ) (text : List ℕ) → text_cost (drill_session count) d number text ≡ for_line record_looks d.engine text
   costed d number [] = refl
   costed d number (x ∷ xs) = refl
 
   abbrev cost_of_line : ℕ → ℕ
-  cost_of_line n = for_line (asked looks) (rows_behind n) (generated n)
+  cost_of_line n = for_line record_looks (rows_behind n) (generated n)
 
-  cost_more : (n : ℕ) → summed (asked looks) (suc n) ≡ summed (asked looks) n + cost_of_line n
+  cost_more : (n : ℕ) → summed record_looks (suc n) ≡ summed record_looks n + cost_of_line n
   unfolding summed
   cost_more n = refl
 
   line_costs : (n : ℕ) → text_cost (drill_session count) (behind n).state ((behind n).number + 1) (generated n) ≡ cost_of_line n
-  line_costs n = costed (behind n).state ((behind n).number + 1) (generated n) ∙ ap (λ (d : Drilled). for_line (asked looks) d.engine (generated n)) (comes_to n)
+  line_costs n = costed (behind n).state ((behind n).number + 1) (generated n) ∙ ap (λ (d : Drilled). for_line record_looks d.engine (generated n)) (comes_to n)
 
-  costs_nothing : 0 ≡ summed (asked looks) 0
+  costs_nothing : 0 ≡ summed record_looks 0
   unfolding summed
   costs_nothing = refl
 
-  cost : (n : ℕ) → costs (drill_session count) (start undrilled) (made_lines generated n) ≡ summed (asked looks) n
+  cost : (n : ℕ) → costs (drill_session count) (start undrilled) (made_lines generated n) ≡ summed record_looks n
   cost zero = costs_nothing
   cost (suc n) =
       omega (arith, costs-append (drill_session count) (start undrilled) (made_lines generated n) (Some (generated n) ∷ []), line_costs n, cost n, cost_more n)
 
 -- all lines take no more steps than the sum
-pub drill_cost : (n : ℕ) → total_cost (drill_session n) undrilled (made_lines generated n) ≡ summed (asked looks) n
+pub drill_cost : (n : ℕ) → total_cost (drill_session n) undrilled (made_lines generated n) ≡ summed record_looks n
 drill_cost n = omega (arith, cost n n)
 
 -- so the transcript is the summary of the outcome

@@ -7,11 +7,10 @@ use Rattle.cpe_session.specs.Task.{Transcript}
 use Rattle.cpe_rows.specs.Rows.{Rows, no_rows}
 use Rattle.cpe_records.specs.Reading.{record_of}
 use Rattle.cpe_records.specs.Edited.{edited}
-use Rattle.cpe_records.specs.Asked.{asked}
-use Rattle.cpe_engine.specs.Looks.{looks}
 use Rattle.cpe_records.specs.declared.read.Record.{Record}
 use Rattle.cpe_members.specs.declared.member.RecordFault.{RecordFault}
 use Rattle.cpe_drill.specs.declared.drilled.Drilled.{Drilled}
+use Rattle.cpe_drill.specs.Looks.{record_looks}
 use Rattle.cpe_drill.specs.Outcome.{rows_behind, refusals, findings}
 use Rattle.cpe_drill.specs.Summary.{summary, drill_text}
 
@@ -32,7 +31,7 @@ drill_session count = record {
   says = λ before number text. Ok ([], drilled before (record_of text));
   quiet = false;
   ends = λ behind. summary count behind.refused behind.found behind.engine;
-  cost = λ before number text. asked looks before.engine (record_of text);
+  cost = λ before number text. record_looks before.engine (record_of text);
   end_cost = λ behind. 0;
 }
 

@@ -9,7 +9,6 @@ use Rattle.cpe_rows.specs.declared.fault.EditFault.{EditFault}
 use Rattle.cpe_rows.specs.declared.reply.Reply.{Reply}
 use Rattle.cpe_rows.specs.declared.reply.Reply.TheVariants.{Lookup, Search, Items, Chain, Show, Verdict}
 use Rattle.cpe_records.specs.Reading.{record_of}
-use Rattle.cpe_records.specs.Asked.{asked}
 use Rattle.cpe_records.specs.Edited.{line_edited}
 use Rattle.cpe_records.specs.declared.read.Record.{Record}
 use Rattle.cpe_records.specs.declared.read.Record.TheVariants.{Edit, Query}
@@ -42,7 +41,9 @@ found_by (Verdict id truth) = 0
 
 -- how many entries the record finds, where it is a search
 abbrev pub findings : Rows → Result Record RecordFault → ℕ
-findings = asked (λ rows query. found_by (answer rows query))
+findings rows (Ok (Edit e)) = 0
+findings rows (Ok (Query query)) = found_by (answer rows query)
+findings rows (Err fault) = 0
 
 -- the number that a record has in these rows, for a line; one without bytes is no record
 abbrev pub for_line : (Rows → Result Record RecordFault → ℕ) → Rows → List ℕ → ℕ

@@ -9,6 +9,7 @@ use Rattle.cpe_rows.specs.Verdict.{verdict}
 use Rattle.cpe_rows.specs.declared.counts.Counts.{Counts}
 use Rattle.cpe_rows.specs.declared.truth.Truth.{Truth}
 use Rattle.cpe_rows.specs.declared.truth.Truth.TheVariants.{True, False, Error, Unknown}
+use Rattle.cpe_drill.specs.declared.tally.Tally.{Tally}
 use Rattle.cpe_drill.specs.Outcome.{rows_behind, refusals, findings, summed}
 
 -- a line of a word and a number
@@ -19,9 +20,13 @@ number_line word number = word ++ codes " " ++ decimal number ++ codes "\n"
 abbrev pub times : Truth → List Truth → ℕ
 times truth truths = count_by (same_truth truth) truths
 
--- the lines of these numbers and truths
-abbrev pub summary_of : (count refused found : ℕ) → Counts → List Truth → List ℕ
-summary_of count refused found counts truths =
+-- how many of the truths are each of the four
+abbrev pub tally_of : List Truth → Tally
+tally_of truths = record { trues = times True truths; falses = times False truths; errors = times Error truths; unknowns = times Unknown truths }
+
+-- the lines of these numbers
+abbrev pub summary_of : (count refused found : ℕ) → Counts → Tally → List ℕ
+summary_of count refused found counts tally =
     flat_map (λ (line : List ℕ × ℕ). number_line line.0 line.1) (
     (codes "drill", count)
     ∷ (codes "refused", refused)
@@ -31,19 +36,19 @@ summary_of count refused found counts truths =
     ∷ (codes "statements", counts.statements)
     ∷ (codes "checks", counts.checks)
     ∷ (codes "found", found)
-    ∷ (codes "TRUE", times True truths)
-    ∷ (codes "FALSE", times False truths)
-    ∷ (codes "ERROR", times Error truths)
-    ∷ (codes "UNKNOWN", times Unknown truths)
+    ∷ (codes "TRUE", tally.trues)
+    ∷ (codes "FALSE", tally.falses)
+    ∷ (codes "ERROR", tally.errors)
+    ∷ (codes "UNKNOWN", tally.unknowns)
     ∷ [])
 
 -- the verdicts of all statements
 abbrev pub verdicts : Rows → List Truth
 verdicts rows = map (verdict rows) rows.statements
 
--- the lines of these numbers and rows
+-- the lines of these numbers, and of rows
 unfoldable pub summary : (count refused found : ℕ) → Rows → List ℕ
-summary count refused found rows = summary_of count refused found (counts_of rows) (verdicts rows)
+summary count refused found rows = summary_of count refused found (counts_of rows) (tally_of (verdicts rows))
 
 -- what is written for the first n lines
 abbrev pub drill_text : ℕ → List ℕ

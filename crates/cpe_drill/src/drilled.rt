@@ -2,10 +2,10 @@
 ghost use Rattle.std.specs.Prelude.{◌≡◌, ◌+◌, Ok, OnOk, true};
 ghost use Rattle.cpe_steps.specs.Within.{StepsWithin};
 ghost use Rattle.cpe_rows.specs.Valid.{is_valid_edit, is_valid_query};
-ghost use Rattle.cpe_engine.specs.Looks.{looks};
+ghost use Rattle.cpe_engine.specs.Looks.{edit_looks, looks};
 ghost use Rattle.cpe_records.specs.Reading.{record_of};
-ghost use Rattle.cpe_records.specs.Asked.{asked};
 ghost use Rattle.cpe_drill.specs.Drill.{drilled};
+ghost use Rattle.cpe_drill.specs.Looks.{record_looks};
 ghost use Rattle.cpe_drill.specs.Outcome.{found_by};
 
 use cpe_engine::Engine;
@@ -58,7 +58,7 @@ impl Drilled {
         steps: &mut Steps<L>,
     ) -> Result<(), AllocError>
         ensures outcome { OnOk result (self.new ≡ drilled self.old (record_of text.now)) }
-        ensures counts { StepsWithin steps.old steps.new (asked looks self.old.engine (record_of text.now)) }
+        ensures counts { StepsWithin steps.old steps.new (record_looks self.old.engine (record_of text.now)) }
     {
         match read_record(alloc, text) {
             Ok(Record::Edit(edit)) => self.edit(edit, steps),
@@ -71,10 +71,13 @@ impl Drilled {
     fn edit<L: Ledger>(&mut self, edit: Edit, steps: &mut Steps<L>) -> Result<(), AllocError>
         requires { is_valid_edit edit ≡ true }
         ensures outcome { OnOk result (self.new ≡ drilled self.old (Ok (Record.Edit edit))) }
-        ensures counts { steps.new ≡ steps.old }
+        ensures counts { StepsWithin steps.old steps.new (edit_looks self.old.engine edit) }
     {
-        match self.engine.edit(edit, steps) {
-            Ok(()) => Ok(()),
+        match self.engine.apply(edit, steps) {
+            Ok(changes) => {
+                drop(changes);
+                Ok(())
+            }
             Err(EditFault::Memory) => Err(AllocError),
             Err(fault) => self.refuse_for(fault),
         }

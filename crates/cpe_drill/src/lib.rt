@@ -8,6 +8,7 @@ mod record;
 mod run;
 mod summary;
 mod tables;
+mod tally;
 
 pub use drilled::Drilled;
 pub use line::{MOST_LINES, generated};

@@ -6,8 +6,7 @@ ghost use Rattle.cpe_session.specs.Ran.{Ran, Counted};
 ghost use Rattle.cpe_session.specs.Task.{Written};
 ghost use Rattle.cpe_rows.specs.Rows.{no_rows};
 ghost use Rattle.cpe_steps.specs.Within.{StepsWithin};
-ghost use Rattle.cpe_engine.specs.Looks.{looks};
-ghost use Rattle.cpe_records.specs.Asked.{asked};
+ghost use Rattle.cpe_drill.specs.Looks.{record_looks};
 ghost use Rattle.cpe_drill.specs.Outcome.{summed};
 ghost use Rattle.cpe_drill.specs.Drill.{undrilled, drill_session, drill_transcript, LeavesRows};
 
@@ -60,9 +59,10 @@ impl Speaker for Drilling {
         sink: &mut K,
         steps: &mut Steps<L>,
     ) -> Result<(), SinkFault> {
+        let _ = alloc;
         let _ = sink;
         let _ = steps;
-        match push_summary(alloc, page, self.count, state) {
+        match push_summary(page, self.count, state) {
             Ok(()) => Ok(()),
             Err(_) => Err(SinkFault::Memory),
         }
@@ -80,7 +80,7 @@ pub fn drill<K: Sink, L: Ledger>(
     requires { engine.old ≡ no_rows }
     ensures ran { (left : Option (List ℕ)) → Ran left left (K.held sink.old) (K.held sink.new) (Written (drill_transcript count))
         (λ taken status. LeavesRows count engine.new status) result }
-    ensures steps { StepsWithin steps.old steps.new (summed (asked looks) count) }
+    ensures steps { StepsWithin steps.old steps.new (summed record_looks count) }
     ensures sink { Counted Status.WriteFault (K.faults sink.old) (K.faults sink.new) result }
     ensures read { ¬ (result ≡ Status.ReadFault) }
     ensures complete { ¬ Rose (K.faults sink.old) (K.faults sink.new) → (result ≡ Status.Done) ⊎ (result ≡ Status.Memory) }
@@ -107,7 +107,7 @@ fn drill_records<K: Sink, L: Ledger>(
     requires { drilled.old ≡ undrilled }
     ensures ran { (left : Option (List ℕ)) → Ran left left (K.held sink.old) (K.held sink.new) (Written (drill_transcript count))
         (λ taken status. LeavesRows count drilled.new.engine status) result }
-    ensures steps { StepsWithin steps.old steps.new (summed (asked looks) count) }
+    ensures steps { StepsWithin steps.old steps.new (summed record_looks count) }
     ensures sink { Counted Status.WriteFault (K.faults sink.old) (K.faults sink.new) result }
     ensures read { ¬ (result ≡ Status.ReadFault) }
     ensures complete { ¬ Rose (K.faults sink.old) (K.faults sink.new) → (result ≡ Status.Done) ⊎ (result ≡ Status.Memory) }

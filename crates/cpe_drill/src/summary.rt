@@ -1,15 +1,13 @@
 // What is written of all that records came to.
-ghost use Rattle.std.specs.Prelude.{◌≡◌, ◌++◌, IfOk, OnOk, map};
+ghost use Rattle.std.specs.Prelude.{◌≡◌, ◌++◌, OnOk};
 ghost use Rattle.std.specs.List.{flat_map};
-ghost use Rattle.cpe_rows.specs.Truth.{same_truth};
-ghost use Rattle.cpe_rows.specs.Verdict.{verdict};
-ghost use Rattle.cpe_drill.specs.Summary.{number_line, times, summary_of, summary, verdicts};
+ghost use Rattle.cpe_drill.specs.Summary.{number_line, summary_of, summary};
 
 use crate::drilled::Drilled;
-use cpe_engine::{Engine, Verdicts};
-use cpe_rows::{Counts, Truth};
+use crate::tally::{Tally, count_verdicts};
+use cpe_rows::Counts;
 use cpe_session::Page;
-use std::alloc::{AllocError, Global};
+use std::alloc::AllocError;
 
 // A word, and its number.
 #[derive(Clone, Copy)]
@@ -20,15 +18,10 @@ struct Line(&'static [u8], u64);
 /// # Errors
 /// Want of memory alone.
 #[tactic(auto, unfolding(crate::specs::Summary::summary))]
-pub fn push_summary(
-    alloc: Global,
-    page: &mut Page,
-    count: u32,
-    drilled: &Drilled,
-) -> Result<(), AllocError>
+pub fn push_summary(page: &mut Page, count: u32, drilled: &Drilled) -> Result<(), AllocError>
     ensures { OnOk result (page.new ≡ page.old ++ summary count drilled.now.refused drilled.now.found drilled.now.engine) }
 {
-    let truths = find_verdicts(alloc, &drilled.engine)?;
+    let told = count_verdicts(&drilled.engine);
     let counts = drilled.engine.counts();
     push_numbers(
         page,
@@ -36,7 +29,7 @@ pub fn push_summary(
         drilled.refused,
         drilled.found,
         &counts,
-        &truths,
+        told,
     )
 }
 
@@ -46,9 +39,9 @@ fn push_numbers(
     refused: u64,
     found: u64,
     counts: &Counts,
-    truths: &[Truth],
+    told: Tally,
 ) -> Result<(), AllocError>
-    ensures { OnOk result (page.new ≡ page.old ++ summary_of count refused found counts.now truths.now) }
+    ensures { OnOk result (page.new ≡ page.old ++ summary_of count refused found counts.now told) }
 {
     push_lines(
         page,
@@ -61,10 +54,10 @@ fn push_numbers(
             Line(b"statements", counts.statements),
             Line(b"checks", counts.checks),
             Line(b"found", found),
-            Line(b"TRUE", times(Truth::True, truths)),
-            Line(b"FALSE", times(Truth::False, truths)),
-            Line(b"ERROR", times(Truth::Error, truths)),
-            Line(b"UNKNOWN", times(Truth::Unknown, truths)),
+            Line(b"TRUE", told.trues),
+            Line(b"FALSE", told.falses),
+            Line(b"ERROR", told.errors),
+            Line(b"UNKNOWN", told.unknowns),
         ],
     )
 }
@@ -84,48 +77,4 @@ fn push_line(page: &mut Page, word: &[u8], number: u64) -> Result<(), AllocError
     page.push(word)?;
     page.push_numbered(b" ", number)?;
     page.push(b"\n")
-}
-
-// How many of the truths are this one.
-fn times(truth: Truth, truths: &[Truth]) -> u64
-    ensures { result ≡ times truth truths.now }
-{
-    let mut count: u64 = 0;
-    for other in truths {
-        if is_same(truth, *other) {
-            count += 1;
-        }
-    }
-    count
-}
-
-fn is_same(one: Truth, other: Truth) -> bool
-    ensures { result ≡ same_truth one other }
-{
-    one == other
-}
-
-// The verdicts of all statements.
-fn find_verdicts(alloc: Global, engine: &Engine) -> Result<Vec<Truth>, AllocError>
-    ensures { IfOk result (λ truths. truths.items ≡ verdicts engine.now) }
-{
-    match engine.verdicts(alloc) {
-        Ok(verdicts) => take_verdicts(alloc, &verdicts),
-        Err(_) => Err(AllocError),
-    }
-}
-
-// The same, where they can be asked for.
-fn take_verdicts(alloc: Global, verdicts: &Verdicts<'_>) -> Result<Vec<Truth>, AllocError>
-    ensures { IfOk result (λ truths. truths.items ≡ map (verdict verdicts.now) verdicts.now.statements) }
-{
-    let count = verdicts.len();
-    let mut truths = Vec::with_capacity(alloc, count)?;
-    for place in 0..count {
-        match verdicts.at(alloc, place) {
-            Ok((_, truth)) => truths.push(truth)?,
-            Err(_) => return Err(AllocError),
-        }
-    }
-    Ok(truths)
 }

@@ -1,14 +1,14 @@
 -- A change of a deprecation, and the edit that it is: whatever becomes of the deprecation.
-use Rattle.std.proofs.Common.{◌≡◌, ◌+◌, ◌∙◌, ℕ, Bool, true, false, not, if◌then◌else◌, List, [], ◌∷◌, ◌++◌, Option, Some, None, refl, ap, subst, arith}
+use Rattle.std.proofs.Common.{◌≡◌, ◌+◌, ◌∙◌, ℕ, Bool, true, false, not, if◌then◌else◌, List, [], ◌∷◌, ◌++◌, Option, Some, None, refl, ap, arith}
 use Rattle.std.specs.Option.{option_map_or}
 use Rattle.std.specs.List.{list_any}
 use Rattle.std.proofs.lemmas.Bool.{not-false}
-use Rattle.std.proofs.lemmas.Option.{none-some, same_Some}
-use Rattle.name_index.specs.declared.table.NameId.{NameId}
-use Rattle.name_index.specs.Table.{IsLive, Names}
+use Rattle.name_index.specs.Table.{Names}
+use Rattle.cpe_registry.specs.Registered.{AreLive}
 use Rattle.cpe_name.specs.declared.name.Values.{Values}
 use Rattle.cpe_rows.specs.After.{after, changed}
 use Rattle.cpe_rows.specs.Causes.{causes}
+use Rattle.cpe_rows.specs.Changes.{changes, others}
 use Rattle.cpe_rows.specs.Faults.{is_deprecated, successor_faults, too_wide, when}
 use Rattle.cpe_rows.specs.Rows.{is_entry, is_named, Rows}
 use Rattle.cpe_rows.specs.Step.{first_some}
@@ -20,6 +20,8 @@ use Rattle.cpe_weight.specs.Gain.{deprecated_weight, gain, loss, weight_of_first
 use Rattle.cpe_dictionary.specs.Causes.{change_causes}
 use Rattle.cpe_dictionary.specs.Kept.{rewritten, with_entries}
 use Rattle.cpe_dictionary.specs.declared.plans.Plan.{Plan}
+use Rattle.kept_verdicts.specs.Looks.{lead_looks}
+use Rattle.cpe_engine.specs.Looks.{edit_looks}
 use Rattle.cpe_engine.specs.Numbered.{coming, given, is_first, IsFound, note_of, turned}
 use Rattle.cpe_engine.specs.declared.numbered.Numbered.{Numbered}
 use Rattle.cpe_engine.specs.declared.numbered.Numbered.TheVariants as numbered
@@ -28,16 +30,16 @@ use Rattle.cpe_engine.specs.declared.numbered.Turn.{Turn}
 use Rattle.cpe_engine.specs.declared.numbered.Turn.TheVariants.{Give, Replace, TakeAway}
 use Rattle.cpe_engine.proofs.PartsLemmas.{none_here}
 
--- the name that comes with an edit is live
-pub coming_live : (table : Names) (e : Numbered) (id : NameId) → coming e ≡ Some id → IsFound table e → IsLive table id.0
-coming_live table (numbered.Entry i title provenance) id h found = subst (λ (x : NameId). IsLive table x.0) (same_Some i id h) found
-coming_live table (numbered.Item i) id h found = subst (λ (x : NameId). IsLive table x.0) (same_Some i id h) found
-coming_live table (numbered.DropItem i) id h found = absurd (none-some id h)
-coming_live table (numbered.Change c) id h found = absurd (none-some id h)
-coming_live table (numbered.PutStatement s) id h found = absurd (none-some id h)
-coming_live table (numbered.DropStatement i) id h found = absurd (none-some id h)
-coming_live table (numbered.SetCheck k t) id h found = absurd (none-some id h)
-coming_live table (numbered.DropCheck k) id h found = absurd (none-some id h)
+-- the names that come with an edit are live
+pub coming_live : (table : Names) (e : Numbered) → IsFound table e → AreLive table (coming e)
+coming_live table (numbered.Entry i title provenance) found = (found, tt)
+coming_live table (numbered.Item i) found = (found, tt)
+coming_live table (numbered.DropItem i) found = tt
+coming_live table (numbered.Change c) found = tt
+coming_live table (numbered.PutStatement s ids) found = found.live
+coming_live table (numbered.DropStatement i) found = tt
+coming_live table (numbered.SetCheck k t) found = tt
+coming_live table (numbered.DropCheck k) found = tt
 
 module _ (rows : Rows) (n : Values) (date comment : List ℕ) where
   pub causes_turned : (t : Turn) → causes rows (turned n t date comment) ≡ change_causes rows.entries n (is_first t) (given t) (Some (note_of t date comment))
@@ -83,3 +85,14 @@ module _ (rows : Rows) (n : Values) (date comment : List ℕ) where
   gain_turned (Give d) h = ap (λ (b : Bool). if b then note_weight (note_of (Give d) date comment) + deprecation_weight d else 0) (known_turned (Give d) h)
   gain_turned (Replace d) h = ap (λ (b : Bool). if b then note_weight (note_of (Replace d) date comment) + deprecation_weight d else 0) (known_turned (Replace d) h)
   gain_turned TakeAway h = ap (λ (b : Bool). if b then note_weight (note_of TakeAway date comment) else 0) (known_turned TakeAway h) ∙ omega (arith)
+
+  -- no statement comes or goes
+  pub changes_turned : (t : Turn) → changes rows (turned n t date comment) ≡ others rows (after rows (turned n t date comment)) rows.statements
+  changes_turned (Give d) = refl
+  changes_turned (Replace d) = refl
+  changes_turned TakeAway = refl
+
+  pub looks_turned : (t : Turn) → edit_looks rows (turned n t date comment) ≡ lead_looks rows (after rows (turned n t date comment)) n
+  looks_turned (Give d) = refl
+  looks_turned (Replace d) = refl
+  looks_turned TakeAway = refl

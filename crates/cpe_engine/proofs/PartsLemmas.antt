@@ -1,18 +1,27 @@
 -- What follows for the lists of rows where an edit has no fault.
-use Rattle.std.proofs.Common.{◌≡◌, ◌≤◌, ◌<◌, ◌+◌, ◌∙◌, ℕ, ap, sym, subst, zero-add, Bool, true, false, List, [], ◌∷◌, ◌++◌, length, arith, refl, Some, None}
+use Rattle.std.proofs.Common.{Bor, find, if◌then◌else◌, ◌||◌, map, ◌≡◌, ◌≤◌, ◌<◌, ◌+◌, ◌∙◌, ℕ, ap, sym, subst, zero-add, Bool, true, false, List, [], ◌∷◌, ◌++◌, length, arith, refl, Some, None}
 use Rattle.std.proofs.Math.Nat.{min-eq_left}
 use Rattle.std.proofs.lemmas.Bool.{le-ltb, lt-ltb, ltb-false}
-use Rattle.std.proofs.lemmas.List.{length-map}
-use Rattle.std.specs.Prelude.{Option, Result, Ok, Err, OnOk, OnErr}
-use Rattle.cpe_rows.specs.After.{after}
+use Rattle.std.proofs.lemmas.List.{append-nil, length-map}
+use Rattle.std.specs.List.{list_any}
+use Rattle.std.specs.Option.{option_copied}
+use Rattle.std.specs.Prelude.{is_some, Option, Result, Ok, Err, OnOk, OnErr}
+use Rattle.cpe_rows.specs.After.{after, without_first}
+use Rattle.cpe_rows.specs.Chains.{ends}
+use Rattle.cpe_rows.specs.Names.{is_same}
+use Rattle.cpe_rows.specs.declared.entry.Entry.{Entry}
+use Rattle.cpe_rows.specs.declared.edit.Edit.TheVariants as edit
 use Rattle.cpe_rows.specs.Causes.{heavy}
+use Rattle.cpe_rows.specs.Changes.{differing, others}
 use Rattle.cpe_rows.specs.Faults.{when}
 use Rattle.cpe_rows.specs.Limits.{AreWithin, most}
 use Rattle.cpe_rows.specs.declared.limits.TheConstants.{MOST_WEIGHT}
 use Rattle.cpe_rows.specs.Lawful.{IsLawful}
 use Rattle.cpe_rows.specs.Rows.{Rows}
 use Rattle.cpe_rows.specs.Step.{first_some}
+use Rattle.cpe_rows.specs.Verdict.{verdict}
 use Rattle.cpe_rows.specs.Weight.{weight}
+use Rattle.cpe_rows.specs.declared.reply.Changed.{Changed}
 use Rattle.cpe_rows.specs.declared.edit.Edit.{Edit}
 use Rattle.cpe_rows.specs.declared.fault.EditFault.{EditFault}
 use Rattle.cpe_rows.specs.declared.fault.EditFault.TheVariants as fault
@@ -20,15 +29,13 @@ use Rattle.cpe_rows.specs.declared.fault.Which.TheVariants as limit
 use Rattle.cpe_rows.proofs.Limited.{each_within}
 use Rattle.cpe_weight.specs.Capped.{capped}
 use Rattle.cpe_name.specs.declared.name.Values.{Values}
-use Rattle.cpe_rows.specs.declared.entry.Entry.{Entry}
-use Rattle.cpe_rows.specs.declared.statement.Statement.{Statement}
-use Rattle.cpe_rows.specs.declared.test.CheckKey.{CheckKey}
-use Rattle.cpe_rows.specs.declared.truth.Truth.{Truth}
-use Rattle.name_index.specs.Table.{kept_at}
-use Rattle.numbered_names.specs.Shown.{holds_in}
-use Rattle.cpe_dictionary.specs.Kept.{names_of}
-use Rattle.cpe_registry.specs.Registered.{AreHeld, Registered}
-use Rattle.cpe_engine.specs.Parts.{AreKept, rows_in}
+use Rattle.name_index.specs.Table.{kept_at, Names}
+use Rattle.name_index.specs.declared.table.NameId.{NameId}
+use Rattle.numbered_names.specs.Shown.{holds_in, name_at, names_at, Shows}
+use Rattle.asked_names.specs.Asked.{names_kept}
+use Rattle.cpe_registry.specs.Registered.{AreLive, Registered}
+use Rattle.kept_verdicts.specs.Kept.{AreEnds, checks_in, known_in, Stands, statements_in, Verdicts}
+use Rattle.cpe_engine.specs.Parts.{AreKept, AreOf, rows_in}
 use Rattle.cpe_engine.specs.declared.parts.Parts.{Parts}
 
 -- where there is no cause, this isn't one, and there is none behind it
@@ -51,6 +58,10 @@ counted n h = ap capped (zero-add n) ∙ min-eq_left (omega (arith, h))
 pub on_ok : {A B P Q : Type 0} (r : Result A B) → (P → Q) → OnOk r P → OnOk r Q
 on_ok (Ok x) f h = f h
 on_ok (Err e) f h = tt
+
+pub at_err : {A B P : Type 0} (r : Result A B) → P → OnErr r P
+at_err (Ok x) p = tt
+at_err (Err e) p = p
 
 pub on_err : {A B P Q : Type 0} (r : Result A B) → (P → Q) → OnErr r P → OnErr r Q
 on_err (Ok x) f h = tt
@@ -80,32 +91,103 @@ is_light next n counted below =
       exact = counted ∙ min-eq_left (omega (arith, within));
     }
 
+-- ---- registry and verdicts of rows
+
+pub rows_are : (p : Parts) (rows : Rows) (others : List Values) → AreOf p.registry p.verdicts rows others → rows_in p ≡ rows
+rows_are p rows others a = λ k. record { entries = a.entries k; items = a.items k; statements = a.stands.statements k; checks = a.stands.checks k }
+
 -- lawful rows, and the weight that they were found to have
-pub stay_kept : (made : Parts) (rows : Rows) (n : ℕ) → IsLawful rows → rows_in made ≡ rows → made.weight ≡ n → n ≡ weight rows → AreHeld made.registry [] → AreKept made
-stay_kept made rows n lawful same weighed weighs held = record {
-  lawful = subst IsLawful (sym same) lawful;
-  weight = weighed ∙ weighs ∙ ap weight (sym same);
-  held = held;
+pub stay_kept : (made : Parts) (rows : Rows) (n : ℕ) → IsLawful rows → made.weight ≡ n → n ≡ weight rows → AreOf made.registry made.verdicts rows [] → AreKept made
+stay_kept made rows n lawful weighed weighs are =
+    let same = rows_are made rows [] are in
+    record {
+      lawful = subst IsLawful (sym same) lawful;
+      weight = weighed ∙ weighs ∙ ap weight (sym same);
+      are = subst (λ (x : Rows). AreOf made.registry made.verdicts x []) (sym same) are;
+    }
+
+-- other verdicts of the same rows
+pub by_verdicts : (r : Registered) (v w : Verdicts) (rows : Rows) (others : List Values) → Stands r.table w rows → AreOf r v rows others → AreOf r w rows others
+by_verdicts r v w rows others stands a = record { entries = a.entries; items = a.items; held = a.held; stands = stands }
+
+-- the same table, of which other rows have these names
+pub by_lists : (old new : Registered) (v : Verdicts) (rows : Rows) (others : List Values) → new.table ≡ old.table → new.entries ≡ rows.entries → new.items ≡ rows.items
+    → Shows old.table (holds_in old.table) (others ++ names_kept rows) → Stands old.table v rows → AreOf new v rows others
+by_lists old new v rows others table entries items held stands = record {
+  entries = entries;
+  items = items;
+  held = subst (λ (t : Names). Shows t (holds_in t) (others ++ names_kept rows)) (sym table) held;
+  stands = subst (λ (t : Names). Stands t v rows) (sym table) stands;
 }
 
--- ---- rows, list by list
+-- one name more is held
+pub by_hold : (old new : Registered) (v : Verdicts) (rows : Rows) (others : List Values) (name : Values) → new.entries ≡ old.entries → new.items ≡ old.items
+    → Shows new.table (holds_in new.table) (name ∷ (others ++ names_kept rows)) → Stands new.table v rows → AreOf old v rows others → AreOf new v rows (name ∷ others)
+by_hold old new v rows others name entries items held stands a = record { entries = entries ∙ a.entries; items = items ∙ a.items; held = held; stands = stands }
 
-pub rows_by : (es fs : List Entry) (is js : List Values) (statements : List Statement) (checks : List (CheckKey × Truth)) → es ≡ fs → is ≡ js
-    → ◌≡◌ {A = Rows} (record { entries = es; items = is; statements = statements; checks = checks }) (record { entries = fs; items = js; statements = statements; checks = checks })
-rows_by es fs is js statements checks e i = λ k. record { entries = e k; items = i k; statements = statements; checks = checks }
+-- no others, one way or the other
+pub no_others : (r : Registered) (v : Verdicts) (rows : Rows) (names : List Values) → AreOf r v rows names → AreOf r v rows (names ++ [])
+no_others r v rows names a = subst (λ (ns : List Values). AreOf r v rows ns) (sym (append-nil names)) a
 
 -- ---- holds are few
 
-pub few_holds : (r : Registered) → ((id : ℕ) → holds_in r.table id ≤ length (names_of r.entries ++ r.items)) → length r.entries ≤ 2000000 → length r.items ≤ 1000000 → (id : ℕ) → (kept_at r.table id).holds < 4294967295
-few_holds r few entries items id = omega (arith, few id, length_append (names_of r.entries) r.items, length-map r.entries (λ (e : Entry). e.name), entries, items)
+pub few_holds : (table : Names) (rows : Rows) → length (names_kept rows) ≤ 4000000 → ((id : ℕ) → holds_in table id ≤ length (names_kept rows)) → (id : ℕ) → (kept_at table id).holds < 4294967295
+few_holds table rows kept few id = omega (arith, few id, kept)
+
+-- ---- what an edit leaves
+
+-- other rows with the same entries, items and names, and their verdicts
+pub by_moved : (r : Registered) (v w : Verdicts) (rows next : Rows) (others : List Values) → next.entries ≡ rows.entries → next.items ≡ rows.items → names_kept next ≡ names_kept rows
+    → Stands r.table w next → AreOf r v rows others → AreOf r w next others
+by_moved r v w rows next others entries items names stands a = record {
+  entries = a.entries ∙ sym entries;
+  items = a.items ∙ sym items;
+  held = subst (λ (ns : List Values). Shows r.table (holds_in r.table) (others ++ ns)) (sym names) a.held;
+  stands = stands;
+}
+
+-- the changes are told by what was known, where the statements are the same
+pub told : (rows next : Rows) (v : Verdicts) (cs : List Changed) → cs ≡ differing 0 (known_in v) (map (verdict next) next.statements) → known_in v ≡ map (verdict rows) rows.statements
+    → next.statements ≡ rows.statements → cs ≡ others rows next rows.statements
+told rows next v cs is known same = is ∙ (λ k. differing 0 (known k) (map (verdict next) (same k)))
+
+-- rows list by list, of which two lists are the same
+pub same_rows : (r : Registered) (v w : Verdicts) → statements_in w ≡ statements_in v → checks_in w ≡ checks_in v
+    → ◌≡◌ {A = Rows} (record { entries = r.entries; items = r.items; statements = statements_in v; checks = checks_in v }) (record { entries = r.entries; items = r.items; statements = statements_in w; checks = checks_in w })
+same_rows r v w statements checks = λ k. record { entries = r.entries; items = r.items; statements = sym statements k; checks = sym checks k }
+
+pub few_ends : (table : Names) (ids : List NameId) (ns : List Values) → names_at table ids ≡ ns → length ns ≤ 64 → length ids ≤ 64
+few_ends table ids ns e few = omega (arith, ap length e, length-map ids (name_at table), few)
+
+pub found_some : {A : Type 0} (p : A → Bool) (xs : List A) → list_any p xs ≡ true → (x : A) × (find p xs ≡ Some x)
+found_some {A = A} p [] h = let wrong : ⊥ = cc in absurd wrong
+found_some {A = A} p (x ∷ xs) h = by (p x) refl (found_some p xs)
   where
-    length_append : (xs ys : List Values) → length (xs ++ ys) ≡ length xs + length ys
-    length_append [] ys = omega arith
-    length_append (x ∷ xs) ys = omega (arith, length_append xs ys)
+    by : (b : Bool) → p x ≡ b → (list_any p xs ≡ true → (y : A) × (find p xs ≡ Some y)) → (y : A) × (find p (x ∷ xs) ≡ Some y)
+    by true e more = (x, ap (λ (c : Bool). if c then Some x else find p xs) e)
+    by false e more = let y = more (sym (ap (λ (c : Bool). c || list_any p xs) e) ∙ h) in (y.0, ap (λ (c : Bool). if c then Some x else find p xs) e ∙ y.1)
 
--- rows within their limits have so many
-pub entries_within : (rows : Rows) → AreWithin rows → length rows.entries ≤ 2000000
-entries_within rows h = ltb-false (most limit.Entries) (length rows.entries) (each_within rows h limit.Entries)
+pub some_found : {A : Type 0} (p : A → Bool) (xs : List A) → is_some (find p xs) ≡ list_any p xs
+some_found p [] = refl
+some_found p (x ∷ xs) = by (p x) (some_found p xs)
+  where
+    by : (b : Bool) → is_some (find p xs) ≡ list_any p xs → is_some (if b then Some x else find p xs) ≡ (b || list_any p xs)
+    by true h = refl
+    by false h = h
 
-pub items_within : (rows : Rows) → AreWithin rows → length rows.items ≤ 1000000
-items_within rows h = ltb-false (most limit.Items) (length rows.items) (each_within rows h limit.Items)
+pub some_copied : {A : Type 0} (o : Option (Bor A)) → is_some o ≡ is_some (option_copied o)
+some_copied None = refl
+some_copied (Some x) = refl
+
+pub are_ends : (table : Names) (es : List Entry) (id : ℕ) (ids numbers : List NameId) → numbers ≡ ids → AreLive table ids → names_at table ids ≡ ends es (kept_at table id).name → AreEnds table es id numbers
+are_ends table es id ids numbers same live names = subst (AreEnds table es id) (sym same) (record { live = live; names = names })
+
+-- an item that was dropped, whose name is held still
+pub item_dropped : (old new : Registered) (w : Verdicts) (rows : Rows) (id : NameId) (t : Names) → new.table ≡ old.table → new.entries ≡ rows.entries → new.items ≡ without_first (is_same (name_at old.table id)) rows.items
+    → Shows old.table (holds_in old.table) (name_at old.table id ∷ names_kept (after rows (edit.DropItem (name_at old.table id)))) → t ≡ old.table → Stands t w (after rows (edit.DropItem (name_at t id)))
+    → AreOf new w (after rows (edit.DropItem (name_at old.table id))) (name_at new.table id ∷ [])
+item_dropped old new w rows id t table entries items held at stands =
+    let n = name_at old.table id in
+    let next = after rows (edit.DropItem n) in
+    subst (λ (x : Names). AreOf new w next (name_at x id ∷ [])) (sym table)
+    (by_lists old new w next (n ∷ []) table entries items held (subst (λ (x : Names). Stands x w (after rows (edit.DropItem (name_at x id)))) at stands))

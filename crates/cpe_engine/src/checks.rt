@@ -1,44 +1,56 @@
 // Results that are kept for checks, and dropped.
-ghost use Rattle.std.specs.Prelude.{◌≡◌, IfOk, Some};
-ghost use Rattle.cpe_rows.specs.Prelude.{after, changes, IsAccepted};
-ghost use Rattle.cpe_engine.specs.Changing.{check_given};
-ghost use Rattle.cpe_engine.specs.Parts.{edit_in, rows_in};
+ghost use Rattle.std.specs.Prelude.{◌≡◌, [], IfOk, OnErr, OnOk};
+ghost use Rattle.cpe_rows.specs.Prelude.{after, changes};
+ghost use Rattle.cpe_engine.specs.Parts.{AreOf, edit_in, rows_in};
+ghost use Rattle.cpe_engine.specs.Ready.{IsReady};
 
 use crate::numbered::Numbered;
 use crate::parts::Parts;
-use crate::prospect::Prospect;
-use crate::scene::Scene;
-use crate::touch::Touch;
-use cpe_changes::{checks_touch, find_changes};
-use cpe_rows::{Changed, CheckKey, List, Truth, checks_after_edits};
+use cpe_rows::{Changed, CheckKey, List, Room, Truth};
 use cpe_values::Memory;
-use std::alloc::Global;
 
 impl Parts {
-    /// The verdicts that change with a key that gets a result, or loses it and is unknown.
+    /// Keeps the result of a check.
     ///
     /// # Errors
-    /// Want of memory alone.
-    pub(crate) fn check_changes(
-        &self,
-        alloc: Global,
-        numbered: &Numbered,
-        key: &CheckKey,
+    /// Want of memory alone; all is then as it was.
+    pub(crate) fn set_check(
+        &mut self,
+        key: CheckKey,
         truth: Truth,
+        room: Room<Changed>,
     ) -> Result<List<Changed>, Memory>
-        requires accepted { IsAccepted (rows_in self.now) (edit_in self.now numbered.now) (after (rows_in self.now) (edit_in self.now numbered.now)) }
-        requires given { check_given (edit_in self.now numbered.now) ≡ Some (key.now, truth) }
-        ensures { IfOk result (λ cs. cs ≡ changes (rows_in self.now) (edit_in self.now numbered.now)) }
+        requires { IsReady self.old (Numbered.SetCheck key truth) room }
+        ensures ok { OnOk result (AreOf self.new.registry self.new.verdicts (after (rows_in self.old) (edit_in self.old (Numbered.SetCheck key truth))) []) }
+        ensures err { OnErr result (AreOf self.new.registry self.new.verdicts (rows_in self.old) []) }
+        ensures weight { self.new.weight ≡ self.old.weight }
+        ensures changes { IfOk result (λ cs. cs ≡ changes (rows_in self.old) (edit_in self.old (Numbered.SetCheck key truth))) }
     {
-        checks_touch();
-        checks_after_edits();
-        let trails = self.trails();
-        let before = self.scene(&trails);
-        let after = Scene {
-            results: self.checks.results_with(key, truth),
-            ..before
-        };
-        let mut prospect = Prospect::new(self, numbered, before, after, Touch::Check(key));
-        find_changes(alloc, self.statements.as_slice(), &mut prospect)
+        match self.verdicts.set_check(key, truth) {
+            Ok(()) => Ok(self.verdicts.changes(room)),
+            Err(memory) => {
+                drop(room);
+                Err(memory)
+            }
+        }
+    }
+
+    /// Drops the result of a check, which is there.
+    ///
+    /// # Errors
+    /// None.
+    pub(crate) fn drop_check(
+        &mut self,
+        key: CheckKey,
+        room: Room<Changed>,
+    ) -> Result<List<Changed>, Memory>
+        requires { IsReady self.old (Numbered.DropCheck key) room }
+        ensures ok { OnOk result (AreOf self.new.registry self.new.verdicts (after (rows_in self.old) (edit_in self.old (Numbered.DropCheck key))) []) }
+        ensures err { OnErr result (AreOf self.new.registry self.new.verdicts (rows_in self.old) []) }
+        ensures weight { self.new.weight ≡ self.old.weight }
+        ensures changes { IfOk result (λ cs. cs ≡ changes (rows_in self.old) (edit_in self.old (Numbered.DropCheck key))) }
+    {
+        self.verdicts.drop_check(&key);
+        Ok(self.verdicts.changes(room))
     }
 }

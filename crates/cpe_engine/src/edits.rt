@@ -1,28 +1,24 @@
 // An edit on its way: it gets its numbers, is looked at, and is made or let go.
-ghost use Rattle.std.specs.Prelude.{◌≡◌, ◌≤◌, ◌+◌, ◌∷◌, [], IfErr, IfOk, None, OnErr, OnOk, not, true};
-ghost use Rattle.cpe_rows.specs.Prelude.{after, causes, changes, first_some, is_valid_edit, IsAccepted, IsCause, IsLawful, most, Refuses, step, when};
+ghost use Rattle.std.specs.Prelude.{◌≡◌, ◌≤◌, ◌+◌, ◌∷◌, [], IfErr, IfOk, None, OnErr, not, true};
+ghost use Rattle.cpe_rows.specs.Prelude.{after, causes, changes, first_some, is_valid_edit, IsCause, most, Refuses, step, when};
 ghost use Rattle.std.specs.Option.{option_map_or};
 ghost use Rattle.cpe_rows.specs.Weight.{deprecation_weight, note_weight, weight as weight_of};
 ghost use Rattle.cpe_rows.specs.declared.fault.Which.TheVariants as limit;
 ghost use Rattle.cpe_weight.specs.Capped.{capped};
 ghost use Rattle.cpe_weight.specs.Gain.{gain, loss};
-ghost use Rattle.cpe_registry.specs.Registered.{AreHeld};
 ghost use Rattle.cpe_engine.specs.Checked.{IsChecked};
 ghost use Rattle.cpe_engine.specs.Numbered.{given, IsFound, names_coming, note_of};
-ghost use Rattle.cpe_engine.specs.Parts.{AreBeside, AreKept, edit_in, rows_in};
+ghost use Rattle.cpe_engine.specs.Parts.{AreBeside, AreKept, AreOf, edit_in, rows_in};
 ghost use Rattle.cpe_engine.specs.Planned.{IsPlanned};
 
 use crate::checked::Checked;
+use crate::holds::release_coming;
 use crate::numbered::{Change, Numbered, Turn};
 use crate::parts::Parts;
-use cpe_changes::entries_change_nothing;
 use cpe_dictionary::Plan;
-use cpe_inventory::{check_fault, statement_fault};
 use cpe_rows::{
-    Changed, Edit, EditFault, List, MOST_WEIGHT, Truth, Which, causes_are_faults, causes_refuse,
-    rows_stay_lawful,
+    Edit, EditFault, MOST_WEIGHT, Which, causes_are_faults, causes_refuse, rows_stay_lawful,
 };
-use cpe_values::Memory;
 use cpe_weight::{
     edits_weigh, losses_are_known, with_active_entry, with_deprecation, with_key, with_name,
     with_note, with_statement,
@@ -36,10 +32,11 @@ impl Parts {
     ///
     /// # Errors
     /// That there is no such name, or want of memory. All is then as it was.
-    pub(crate) fn number(&mut self, edit: Edit) -> Result<Numbered, EditFault>
+    pub(crate) fn number(&mut self, alloc: Global, edit: Edit) -> Result<Numbered, EditFault>
         requires kept { AreKept self.old }
         requires valid { is_valid_edit edit ≡ true }
         ensures rows { rows_in self.new ≡ rows_in self.old }
+        ensures verdicts { self.new.verdicts ≡ self.old.verdicts }
         ensures beside { IfOk result (AreBeside self.new) }
         ensures edit { IfOk result (λ n. edit_in self.new n ≡ edit) }
         ensures left { OnErr result (AreKept self.new) }
@@ -47,19 +44,20 @@ impl Parts {
     {
         edit.formed();
         causes_refuse();
-        self.find_numbers(edit)
+        self.find_numbers(alloc, edit)
     }
 
     // The same, by kind.
-    fn find_numbers(&mut self, edit: Edit) -> Result<Numbered, EditFault>
+    fn find_numbers(&mut self, alloc: Global, edit: Edit) -> Result<Numbered, EditFault>
         requires kept { AreKept self.old }
         requires valid { is_valid_edit edit ≡ true }
         ensures rows { rows_in self.new ≡ rows_in self.old }
+        ensures verdicts { self.new.verdicts ≡ self.old.verdicts }
         ensures weight { self.new.weight ≡ self.old.weight }
         ensures edit { IfOk result (λ n. edit_in self.new n ≡ edit) }
         ensures found { IfOk result (IsFound self.new.registry.table) }
-        ensures held { IfOk result (λ n. AreHeld self.new.registry (names_coming self.new.registry.table n)) }
-        ensures left { OnErr result (AreHeld self.new.registry []) }
+        ensures are { IfOk result (λ n. AreOf self.new.registry self.new.verdicts (rows_in self.old) (names_coming self.new.registry.table n)) }
+        ensures left { OnErr result (AreOf self.new.registry self.new.verdicts (rows_in self.old) []) }
         ensures err { IfErr result (λ f. IsCause f (first_some (causes (rows_in self.old) edit))) }
     {
         match edit {
@@ -83,7 +81,7 @@ impl Parts {
                 date,
                 comment,
             } => self.number_change(name, Turn::TakeAway, date, comment),
-            Edit::PutStatement(statement) => Ok(Numbered::PutStatement(statement)),
+            Edit::PutStatement(statement) => self.number_statement(alloc, statement),
             Edit::DropStatement(id) => Ok(Numbered::DropStatement(id)),
             Edit::SetCheck { key, result } => Ok(Numbered::SetCheck { key, result }),
             Edit::DropCheck(key) => Ok(Numbered::DropCheck(key)),
@@ -96,12 +94,7 @@ impl Parts {
         ensures rows { rows_in self.new ≡ rows_in self.old }
         ensures kept { AreKept self.new }
     {
-        let coming = numbered.coming();
-        drop(numbered);
-        match coming {
-            Some(id) => self.registry.release(id),
-            None => {}
-        }
+        release_coming(&mut self.registry, numbered.into_coming());
     }
 
     /// The fault for which an edit isn't made, which is let go.
@@ -154,12 +147,12 @@ impl Parts {
             Numbered::Item(id) => unplanned(self.registry.item_fault(*id)),
             Numbered::DropItem(id) => known(self.registry.has_item(*id)),
             Numbered::Change(change) => self.plan_change(change),
-            Numbered::PutStatement(statement) => {
-                unplanned(statement_fault(&self.statements, statement))
+            Numbered::PutStatement { statement, .. } => {
+                unplanned(self.verdicts.statement_fault(statement))
             }
-            Numbered::DropStatement(id) => known(self.statements.has(id)),
-            Numbered::SetCheck { key, .. } => unplanned(check_fault(&self.checks, key)),
-            Numbered::DropCheck(key) => known(self.checks.has(key)),
+            Numbered::DropStatement(id) => known(self.has_statement(id)),
+            Numbered::SetCheck { key, .. } => unplanned(self.verdicts.check_fault(key)),
+            Numbered::DropCheck(key) => known(self.verdicts.has_check(key)),
         }
     }
 }
@@ -211,138 +204,15 @@ impl Parts {
             } => with_active_entry(weight, self.registry.name(*id), title, provenance),
             Numbered::Item(id) => with_name(weight, self.registry.name(*id)),
             Numbered::Change(change) => with_change(weight, change),
-            Numbered::PutStatement(statement) => with_statement(weight, statement),
-            Numbered::SetCheck { key, .. } if !self.checks.has(key) => with_key(weight, key),
+            Numbered::PutStatement { statement, .. } => with_statement(weight, statement),
+            Numbered::SetCheck { key, .. } if !self.verdicts.has_check(key) => with_key(
+                weight, key,
+            ),
             _ => weight,
         }
     }
 }
 
-// ---- changes of verdicts
-
-impl Parts {
-    /// Looks at an edit, and at the verdicts that it will change; it changes nothing.
-    ///
-    /// # Errors
-    /// The first fault of the edit, or want of memory.
-    pub(crate) fn foresee(
-        &self,
-        alloc: Global,
-        numbered: &Numbered,
-    ) -> Result<(Checked, List<Changed>), EditFault>
-        requires { AreBeside self.now numbered.now }
-        ensures checked { IfOk result (λ r. IsChecked (rows_in self.now) (edit_in self.now numbered.now) r.0) }
-        ensures changes { IfOk result (λ r. r.1 ≡ changes (rows_in self.now) (edit_in self.now numbered.now)) }
-        ensures err { IfErr result (λ f. Refuses f (step (rows_in self.now) (edit_in self.now numbered.now))) }
-    {
-        let checked = self.check(numbered)?;
-        let changes = self.changes(alloc, numbered, &checked.plan)?;
-        Ok((checked, changes))
-    }
-
-    // The verdicts that an edit will change, in the order of the statements. It evaluates those alone that the edit touches.
-    //
-    // # Errors
-    // Want of memory alone.
-    fn changes(
-        &self,
-        alloc: Global,
-        numbered: &Numbered,
-        plan: &Option<Plan>,
-    ) -> Result<List<Changed>, Memory>
-        requires found { IsFound self.now.registry.table numbered.now }
-        requires accepted { IsAccepted (rows_in self.now) (edit_in self.now numbered.now) (after (rows_in self.now) (edit_in self.now numbered.now)) }
-        requires planned { IsPlanned (rows_in self.now).entries (edit_in self.now numbered.now) plan.now }
-        ensures { IfOk result (λ cs. cs ≡ changes (rows_in self.now) (edit_in self.now numbered.now)) }
-    {
-        entries_change_nothing();
-        let items = self.registry.items();
-        match numbered {
-            Numbered::Entry { .. } => Ok(List::new(alloc)),
-            Numbered::Item(id) => {
-                let name = self.registry.name(*id);
-                self.item_changes(alloc, numbered, name, items.names_with(name))
-            }
-            Numbered::DropItem(id) => {
-                let name = self.registry.name(*id);
-                self.item_changes(alloc, numbered, name, items.names_without(name))
-            }
-            Numbered::Change(change) => {
-                let name = self.registry.name(change.id);
-                self.plan_changes(alloc, numbered, name, plan)
-            }
-            Numbered::PutStatement(statement) => self.put_change(alloc, statement),
-            Numbered::DropStatement(id) => self.dropped_change(alloc, id),
-            Numbered::SetCheck { key, result } => {
-                self.check_changes(alloc, numbered, key, *result)
-            }
-            Numbered::DropCheck(key) => { self.check_changes(alloc, numbered, key, Truth::Unknown) }
-        }
-    }
-}
-
-// ---- changes that are made
-
-impl Parts {
-    /// Makes an edit that has no fault.
-    ///
-    /// # Errors
-    /// Want of memory alone; the rows are then as they were.
-    pub(crate) fn commit(
-        &mut self,
-        alloc: Global,
-        numbered: Numbered,
-        checked: Checked,
-    ) -> Result<(), Memory>
-        requires beside { AreBeside self.old numbered }
-        requires checked { IsChecked (rows_in self.old) (edit_in self.old numbered) checked }
-        ensures ok { OnOk result (rows_in self.new ≡ after (rows_in self.old) (edit_in self.old numbered)) }
-        ensures err { OnErr result (rows_in self.new ≡ rows_in self.old) }
-        ensures kept { AreKept self.new }
-    {
-        rows_stay_lawful();
-        self.make(alloc, numbered, &checked.plan)?;
-        self.weight = checked.weight;
-        Ok(())
-    }
-
-    // Makes the edit, and leaves the weight.
-    fn make(&mut self, alloc: Global, numbered: Numbered, plan: &Option<Plan>) -> Result<(), Memory>
-        requires found { IsFound self.old.registry.table numbered }
-        requires held { AreHeld self.old.registry (names_coming self.old.registry.table numbered) }
-        requires none { first_some (causes (rows_in self.old) (edit_in self.old numbered)) ≡ None }
-        requires lawful { IsLawful (after (rows_in self.old) (edit_in self.old numbered)) }
-        requires planned { IsPlanned (rows_in self.old).entries (edit_in self.old numbered) plan.now }
-        ensures held { AreHeld self.new.registry [] }
-        ensures ok { OnOk result (rows_in self.new ≡ after (rows_in self.old) (edit_in self.old numbered)) }
-        ensures weight { self.new.weight ≡ self.old.weight }
-        ensures err { OnErr result (rows_in self.new ≡ rows_in self.old) }
-    {
-        match numbered {
-            Numbered::Entry {
-                id,
-                title,
-                provenance,
-            } => self.add_entry(id, title, provenance),
-            Numbered::Item(id) => self.add_item(id),
-            Numbered::DropItem(id) => {
-                self.drop_item(id);
-                Ok(())
-            }
-            Numbered::Change(change) => self.change(change, plan),
-            Numbered::PutStatement(statement) => self.statements.put(alloc, statement),
-            Numbered::DropStatement(id) => {
-                self.statements.remove(&id);
-                Ok(())
-            }
-            Numbered::SetCheck { key, result } => self.checks.set(key, result),
-            Numbered::DropCheck(key) => {
-                self.checks.remove(&key);
-                Ok(())
-            }
-        }
-    }
-}
 // Whether there is such a row; a drop has no other fault.
 fn known(found: bool) -> Result<Option<Plan>, EditFault>
     ensures plan { IfOk result (λ p. p ≡ None) }

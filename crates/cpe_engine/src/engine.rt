@@ -1,16 +1,17 @@
 // The engine, its edits and its answers.
-ghost use Rattle.std.specs.Prelude.{◌≡◌, IfOk, true};
-ghost use Rattle.cpe_rows.specs.Prelude.{answer, Applied, changes, is_valid_edit, IsLawful, no_rows};
+ghost use Rattle.std.specs.Prelude.{◌≡◌, IfOk, length, slice_get, true};
+ghost use Rattle.std.specs.Option.{option_map};
+ghost use Rattle.cpe_rows.specs.Prelude.{answer, Applied, changes, is_valid_edit, IsLawful, no_rows, verdict};
 ghost use Rattle.cpe_rows.specs.Counts.{counts_of};
 ghost use Rattle.cpe_rows.specs.Names.{is_lower};
 ghost use Rattle.cpe_rows.specs.Valid.{is_valid_query};
 ghost use Rattle.cpe_steps.specs.Within.{StepsWithin};
-ghost use Rattle.cpe_engine.specs.Looks.{looks};
+ghost use Rattle.cpe_engine.specs.Looks.{edit_looks, looks};
 
 use crate::parts::Parts;
 use cpe_name::Wfn;
 use cpe_rows::{
-    Changed, Counts, Edit, EditFault, List, Query, Reply, Statement, Text, names_are_equal,
+    Changed, Counts, Edit, EditFault, List, Query, Reply, Statement, Text, Truth, names_are_equal,
     rows_stay_lawful,
 };
 use cpe_steps::Steps;
@@ -68,42 +69,36 @@ impl Engine {
             entries: self.parts.registry.dictionary().len() as u64,
             deprecated: self.parts.registry.dictionary().count_deprecated() as u64,
             items: self.parts.registry.items().len() as u64,
-            statements: self.parts.statements.len() as u64,
-            facts: self.parts.statements.facts() as u64,
-            checks: self.parts.checks.len() as u64,
+            statements: self.parts.verdicts.len() as u64,
+            facts: self.parts.verdicts.facts() as u64,
+            checks: self.parts.verdicts.checks_len() as u64,
             weight: self.parts.weight,
         }
     }
 
-    /// The statements, in their order.
-    pub fn statements(&self) -> &[Statement]
-        ensures { result.now ≡ self.now.statements }
+    /// How many statements there are.
+    pub fn statements_len(&self) -> usize
+        ensures { result ≡ length self.now.statements }
     {
-        self.parts.statements.as_slice()
+        self.parts.verdicts.len()
     }
 
-    /// Makes an edit, and doesn't tell which verdicts it changes, so it evaluates nothing: the rows are then those that it leaves.
-    /// What it brings is moved in. It takes no step.
+    /// The statement at a place from 0, with its verdict (NIST IR 7698), which is kept. There is none exactly where the place is the
+    /// number of statements or more.
+    pub fn statement_at(&self, k: usize) -> Option<(&Statement, Truth)>
+        ensures statement { option_map (λ p. p.0.now) result ≡ slice_get self.now.statements k }
+        ensures verdict { option_map (λ p. p.1) result ≡ option_map (verdict self.now) (slice_get self.now.statements k) }
+    {
+        self.parts.verdicts.at(k)
+    }
+
+    /// Makes an edit, and answers which verdicts it changes, in the order of the statements. What it brings is moved in.
+    ///
+    /// A step is a look at a name through an index. An edit takes those that keep the verdicts: an item, or a fact reference of a
+    /// statement that is put, looks for what is near it and its ends, a change of a deprecation for what is near the ends, before and
+    /// after it, of all that leads to the entry, and each other edit for nothing.
     ///
     /// The edit is in order ([`Edit::valid`]), so the rows stay lawful ([`rows_stay_lawful`]).
-    ///
-    /// # Errors
-    /// The first fault of the edit in the order of [`EditFault`], or want of memory. After either the rows are as they were.
-    pub fn edit<L: Ledger>(&mut self, edit: Edit, steps: &mut Steps<L>) -> Result<(), EditFault>
-        requires { is_valid_edit edit ≡ true }
-        ensures applied { Applied self.old self.new edit result }
-        ensures counts { steps.new ≡ steps.old }
-    {
-        let _ = steps;
-        let numbered = self.parts.number(edit)?;
-        match self.parts.check(&numbered) {
-            Ok(checked) => Ok(self.parts.commit(self.alloc, numbered, checked)?),
-            Err(fault) => Err(self.parts.refuse(numbered, fault)),
-        }
-    }
-
-    /// Makes an edit as [`edit`](Self::edit) does, and answers which verdicts it changes, in the order of the statements. It
-    /// evaluates the statements that the edit touches, before and after.
     ///
     /// # Errors
     /// The first fault of the edit in the order of [`EditFault`], or want of memory. After either the rows are as they were.
@@ -115,14 +110,16 @@ impl Engine {
         requires { is_valid_edit edit ≡ true }
         ensures applied { Applied self.old self.new edit result }
         ensures changes { IfOk result (λ cs. cs ≡ changes self.old edit) }
-        ensures counts { steps.new ≡ steps.old }
+        ensures steps { StepsWithin steps.old steps.new (edit_looks self.old edit) }
     {
-        let _ = steps;
-        let numbered = self.parts.number(edit)?;
+        self.parts.forget_changes();
+        let numbered = self.parts.number(self.alloc, edit)?;
         match self.parts.foresee(self.alloc, &numbered) {
-            Ok((checked, changes)) => {
-                self.parts.commit(self.alloc, numbered, checked)?;
-                Ok(changes)
+            Ok((checked, room)) => {
+                Ok(
+                    self.parts
+                        .commit(self.alloc, numbered, checked, room, steps)?,
+                )
             }
             Err(fault) => Err(self.parts.refuse(numbered, fault)),
         }
@@ -130,8 +127,8 @@ impl Engine {
 
     /// The answer to a query. That there is no entry or statement of a name or id is an answer too. The name or id is moved
     /// into it. A step is a look at a name through an index: a search takes at most as many as there are entries to whose product
-    /// the asked one is near, a query for items as many as there are items so, and each other query none. A verdict compares the
-    /// items themselves, which is no step.
+    /// the asked one is near, a query for items as many as there are items so, and each other query none. A verdict is kept, and
+    /// none is evaluated.
     ///
     /// The query is in order ([`Query::valid`]).
     ///
@@ -153,7 +150,7 @@ impl Engine {
             Query::Items(name) => self.items_covered(alloc, name, steps),
             Query::Chain(name) => self.chain(alloc, name),
             Query::Show(name) => self.show(alloc, name),
-            Query::Verdict(id) => self.verdict_of(alloc, id),
+            Query::Verdict(id) => Ok(self.verdict_of(id)),
         }
     }
 
@@ -218,14 +215,11 @@ impl Engine {
         }
     }
 
-    fn verdict_of(&self, alloc: Global, id: Text) -> Result<Reply, Memory>
-        ensures { IfOk result (λ r. r ≡ answer self.now (Query.Verdict id)) }
+    fn verdict_of(&self, id: Text) -> Reply
+        ensures { result ≡ answer self.now (Query.Verdict id) }
     {
-        let truth = match self.parts.statements.find(&id) {
-            Some(statement) => Some(self.verdict(alloc, statement)?),
-            None => None,
-        };
-        Ok(Reply::Verdict { id, truth })
+        let truth = self.parts.verdicts.verdict(&id);
+        Reply::Verdict { id, truth }
     }
 }
 

@@ -1,34 +1,39 @@
 // Entries that come, and changes of their deprecations.
-ghost use Rattle.std.specs.Prelude.{◌≡◌, ◌≤◌, ◌∷◌, [], IfErr, IfOk, List, None, OnErr, OnOk, Some, true};
-ghost use Rattle.cpe_name.specs.declared.name.Values.{Values};
-ghost use Rattle.cpe_rows.specs.Prelude.{after, causes, changed, changes, first_some, is_named, is_valid_edit, IsAccepted, IsCause, IsDictionary, IsLawful, most};
+ghost use Rattle.std.specs.Prelude.{◌≡◌, ◌≤◌, [], IfErr, IfOk, None, OnErr, OnOk, true};
+ghost use Rattle.cpe_steps.specs.Within.{StepsWithin};
+ghost use Rattle.cpe_rows.specs.Prelude.{after, causes, changes, first_some, is_named, is_valid_edit, IsCause, IsLawful, most};
 ghost use Rattle.cpe_rows.specs.declared.edit.Edit.TheVariants as edit;
 ghost use Rattle.cpe_rows.specs.declared.fault.Which.TheVariants as limit;
 ghost use Rattle.name_index.specs.Table.{IsLive};
 ghost use Rattle.cpe_weight.specs.Gain.{deprecated_weight, weight_of_first};
-ghost use Rattle.cpe_dictionary.specs.Kept.{new_entry, rewritten, with_entries};
-ghost use Rattle.cpe_registry.specs.Registered.{AreHeld, name_in};
-ghost use Rattle.cpe_engine.specs.Followed.{ends_led};
-ghost use Rattle.cpe_engine.specs.Numbered.{given, IsFound, names_coming, note_of, turned};
-ghost use Rattle.cpe_engine.specs.Parts.{AreKept, edit_in, rows_in};
-ghost use Rattle.cpe_engine.specs.Planned.{HasPlan, IsPlanned};
-ghost use Rattle.cpe_changes.specs.Touching.{deprecation_changed};
+ghost use Rattle.cpe_dictionary.specs.Plans.{IsPlan};
+ghost use Rattle.cpe_registry.specs.Registered.{name_in};
+ghost use Rattle.kept_verdicts.specs.Kept.{IsLead, known_in};
+ghost use Rattle.cpe_engine.specs.Looks.{edit_looks};
+ghost use Rattle.cpe_engine.specs.Numbered.{given, IsFound, names_coming, turned};
+ghost use Rattle.cpe_engine.specs.Parts.{AreKept, AreOf, edit_in, rows_in};
+ghost use Rattle.cpe_engine.specs.Planned.{HasPlan};
+ghost use Rattle.cpe_engine.specs.Ready.{IsReady};
 
-use crate::led::find_ends_led;
+use crate::holds::release_all;
 use crate::numbered::{Change, Numbered, Turn};
 use crate::parts::Parts;
-use crate::prospect::Prospect;
-use crate::touch::Touch;
-use crate::trails::Trails;
-use cpe_changes::{deprecations_touch, find_changes};
-use cpe_dictionary::{Plan, Sources, edits_by_number, plans_lead};
+use asked_names::{deprecations_lead_elsewhere, entries_lead_to_themselves, lawful_rows_ask_few};
+use cpe_changes::{deprecations_touch, entries_change_nothing};
+use cpe_dictionary::{Plan, edits_by_number};
 use cpe_name::Wfn;
-use cpe_rows::{Changed, Date, EditFault, Entry, List, Provenance, Text, names_are_equal};
+use cpe_rows::{
+    Changed, Date, EditFault, Entry, List, Provenance, Room, Text, names_are_equal,
+    rows_stay_lawful,
+};
+use cpe_steps::Steps;
 use cpe_values::Memory;
 use cpe_weight::with_deprecation;
+use kept_verdicts::{Lead, verdicts_stand};
 use name_index::NameId;
-use numbered_names::lists_are_shown;
+use numbered_names::{lists_are_shown, tables_are_lists};
 use std::alloc::Global;
+use std::sync::ledger::Ledger;
 
 // ---- numbers
 
@@ -41,14 +46,18 @@ impl Parts {
         requires kept { AreKept self.old }
         requires valid { is_valid_edit (edit.Entry entry) ≡ true }
         ensures rows { rows_in self.new ≡ rows_in self.old }
+        ensures verdicts { self.new.verdicts ≡ self.old.verdicts }
         ensures weight { self.new.weight ≡ self.old.weight }
         ensures edit { IfOk result (λ n. edit_in self.new n ≡ edit.Entry entry) }
         ensures found { IfOk result (IsFound self.new.registry.table) }
-        ensures held { IfOk result (λ n. AreHeld self.new.registry (names_coming self.new.registry.table n)) }
-        ensures err { OnErr result (AreHeld self.new.registry []) }
+        ensures are { IfOk result (λ n. AreOf self.new.registry self.new.verdicts (rows_in self.old) (names_coming self.new.registry.table n)) }
+        ensures err { OnErr result (AreOf self.new.registry self.new.verdicts (rows_in self.old) []) }
     {
         names_are_equal();
         lists_are_shown();
+        tables_are_lists();
+        verdicts_stand();
+        lawful_rows_ask_few();
         let Entry {
             name,
             title,
@@ -99,7 +108,7 @@ impl Parts {
     }
 }
 
-// ---- faults, weight and changes
+// ---- faults and weight
 
 impl Parts {
     /// The plan of a change of a deprecation.
@@ -136,69 +145,12 @@ impl Parts {
             None => 0,
         }
     }
-
-    /// The verdicts that change with the deprecation of the entry of a name, by its plan.
-    ///
-    /// # Errors
-    /// Want of memory alone.
-    pub(crate) fn plan_changes<'e>(
-        &'e self,
-        alloc: Global,
-        numbered: &'e Numbered,
-        name: &'e Wfn,
-        plan: &'e Option<Plan>,
-    ) -> Result<List<Changed>, Memory>
-        requires accepted { IsAccepted (rows_in self.now) (edit_in self.now numbered.now) (after (rows_in self.now) (edit_in self.now numbered.now)) }
-        requires planned { IsPlanned (rows_in self.now).entries (edit_in self.now numbered.now) plan.now }
-        requires changed { deprecation_changed (edit_in self.now numbered.now) ≡ Some name.now }
-        ensures { IfOk result (λ cs. cs ≡ changes (rows_in self.now) (edit_in self.now numbered.now)) }
-    {
-        deprecations_touch();
-        edits_by_number();
-        plans_lead();
-        let Some(plan) = plan else {
-            unreachable!();
-        };
-        let trails = self.trails();
-        let before = self.scene(&trails);
-        let trails_after = Trails::after(self.registry.dictionary(), plan);
-        let after = self.scene(&trails_after);
-        let sources = self
-            .registry
-            .dictionary()
-            .sources(alloc, name, plan.number)?;
-        let touch = Touch::Deprecation {
-            trails: &trails,
-            sources: &sources,
-            ends: self.ends_led(alloc, &trails, &trails_after, &sources)?,
-        };
-        let mut prospect = Prospect::new(self, numbered, before, after, touch);
-        find_changes(alloc, self.statements.as_slice(), &mut prospect)
-    }
-
-    // The ends, by both trails, of the items that lead to an entry.
-    fn ends_led(
-        &self,
-        alloc: Global,
-        trails: &Trails,
-        later: &Trails,
-        sources: &Sources,
-    ) -> Result<List<Wfn>, Memory>
-        requires trails { trails.now.0 ≡ (rows_in self.now).entries }
-        requires later { later.now.0 ≡ (rows_in self.now).entries }
-        requires sources { sources.now.0 ≡ (rows_in self.now).entries }
-        ensures { IfOk result (λ ends. ends ≡ ends_led (rows_in self.now).entries trails.now.1 later.now.1 (rows_in self.now).items sources.now.1) }
-    {
-        let table = self.registry.table();
-        let slots = self.registry.item_slots();
-        find_ends_led(alloc, table, slots, trails, later, sources)
-    }
 }
 
 // ---- changes that are made
 
 impl Parts {
-    /// Puts an entry last that has no fault, or lets its name go.
+    /// Puts an entry last that has no fault, or lets its name go. It changes no verdict.
     ///
     /// # Errors
     /// Want of memory alone; the rows are then as they were.
@@ -207,20 +159,24 @@ impl Parts {
         id: NameId,
         title: Text,
         provenance: Provenance,
-    ) -> Result<(), Memory>
-        requires live { IsLive self.old.registry.table id.0 }
-        requires held { AreHeld self.old.registry (name_in self.old.registry.table id ∷ []) }
-        requires none { first_some (causes (rows_in self.old) (edit.Entry (new_entry (name_in self.old.registry.table id) title provenance))) ≡ None }
-        requires lawful { IsLawful (after (rows_in self.old) (edit.Entry (new_entry (name_in self.old.registry.table id) title provenance))) }
-        ensures held { AreHeld self.new.registry [] }
-        ensures ok { OnOk result (rows_in self.new ≡ after (rows_in self.old) (edit.Entry (new_entry (name_in self.old.registry.table id) title provenance))) }
+        room: Room<Changed>,
+    ) -> Result<List<Changed>, Memory>
+        requires { IsReady self.old (Numbered.Entry id title provenance) room }
+        ensures ok { OnOk result (AreOf self.new.registry self.new.verdicts (after (rows_in self.old) (edit_in self.old (Numbered.Entry id title provenance))) []) }
+        ensures err { OnErr result (AreOf self.new.registry self.new.verdicts (rows_in self.old) []) }
         ensures weight { self.new.weight ≡ self.old.weight }
-        ensures err { OnErr result (rows_in self.new ≡ rows_in self.old) }
+        ensures changes { IfOk result (λ cs. cs ≡ changes (rows_in self.old) (edit_in self.old (Numbered.Entry id title provenance))) }
     {
+        entries_change_nothing();
+        entries_lead_to_themselves();
+        lists_are_shown();
+        rows_stay_lawful();
+        verdicts_stand();
         match self.registry.add_entry(id, title, provenance) {
-            Ok(()) => Ok(()),
+            Ok(()) => Ok(room.into_list()),
             Err(memory) => {
-                self.registry.release(id);
+                drop(room);
+                release_all(&mut self.registry, &[id]);
                 Err(memory)
             }
         }
@@ -230,21 +186,100 @@ impl Parts {
     ///
     /// # Errors
     /// Want of memory alone; the rows are then as they were.
-    pub(crate) fn change(&mut self, change: Change, plan: &Option<Plan>) -> Result<(), Memory>
-        requires held { AreHeld self.old.registry [] }
+    pub(crate) fn change<L: Ledger>(
+        &mut self,
+        alloc: Global,
+        change: Change,
+        plan: &Option<Plan>,
+        room: Room<Changed>,
+        steps: &mut Steps<L>,
+    ) -> Result<List<Changed>, Memory>
+        requires ready { IsReady self.old (Numbered.Change change) room }
         requires planned { HasPlan (rows_in self.old).entries (name_in self.old.registry.table change.id) (given change.turn) plan.now }
-        requires lawful { IsDictionary (changed (rewritten (given change.turn) (Some (note_of change.turn change.date change.comment))) (name_in self.old.registry.table change.id) (rows_in self.old).entries) }
-        ensures held { AreHeld self.new.registry [] }
-        ensures ok { OnOk result (rows_in self.new ≡ with_entries (rows_in self.old) (changed (rewritten (given change.turn) (Some (note_of change.turn change.date change.comment))) (name_in self.old.registry.table change.id) (rows_in self.old).entries)) }
+        ensures ok { OnOk result (AreOf self.new.registry self.new.verdicts (after (rows_in self.old) (edit_in self.old (Numbered.Change change))) []) }
+        ensures err { OnErr result (AreOf self.new.registry self.new.verdicts (rows_in self.old) []) }
         ensures weight { self.new.weight ≡ self.old.weight }
-        ensures err { OnErr result (rows_in self.new ≡ rows_in self.old) }
+        ensures changes { IfOk result (λ cs. cs ≡ changes (rows_in self.old) (edit_in self.old (Numbered.Change change))) }
+        ensures steps { StepsWithin steps.old steps.new (edit_looks (rows_in self.old) (edit_in self.old (Numbered.Change change))) }
     {
-        edits_by_number();
+        rows_stay_lawful();
         let Some(plan) = plan else {
             unreachable!();
         };
+        match self.make_change(alloc, change, plan, steps) {
+            Ok(()) => Ok(self.verdicts.changes(room)),
+            Err(memory) => {
+                drop(room);
+                Err(memory)
+            }
+        }
+    }
+
+    // The same, without the changes of verdicts: what it moves is found before it is made.
+    fn make_change<L: Ledger>(
+        &mut self,
+        alloc: Global,
+        change: Change,
+        plan: &Plan,
+        steps: &mut Steps<L>,
+    ) -> Result<(), Memory>
+        requires live { IsLive self.old.registry.table change.id.0 }
+        requires lawful { IsLawful (rows_in self.old) }
+        requires are { AreOf self.old.registry self.old.verdicts (rows_in self.old) [] }
+        requires plan { IsPlan (rows_in self.old).entries (name_in self.old.registry.table change.id) (given change.turn) plan.now }
+        requires left { IsLawful (after (rows_in self.old) (edit_in self.old (Numbered.Change change))) }
+        ensures ok { OnOk result (AreOf self.new.registry self.new.verdicts (after (rows_in self.old) (edit_in self.old (Numbered.Change change))) []) }
+        ensures err { OnErr result (AreOf self.new.registry self.new.verdicts (rows_in self.old) []) }
+        ensures known { known_in self.new.verdicts ≡ known_in self.old.verdicts }
+        ensures weight { self.new.weight ≡ self.old.weight }
+        ensures steps { StepsWithin steps.old steps.new (edit_looks (rows_in self.old) (edit_in self.old (Numbered.Change change))) }
+    {
+        edits_by_number();
+        match self
+            .verdicts
+            .foresee(alloc, &self.registry, change.id, plan)
+        {
+            Ok(lead) => self.lead_change(change, plan, lead, steps),
+            Err(memory) => {
+                drop(change);
+                Err(memory)
+            }
+        }
+    }
+
+    // Makes it, and moves what was found.
+    fn lead_change<L: Ledger>(
+        &mut self,
+        change: Change,
+        plan: &Plan,
+        lead: Lead,
+        steps: &mut Steps<L>,
+    ) -> Result<(), Memory>
+        requires lawful { IsLawful (rows_in self.old) }
+        requires are { AreOf self.old.registry self.old.verdicts (rows_in self.old) [] }
+        requires plan { IsPlan (rows_in self.old).entries (name_in self.old.registry.table change.id) (given change.turn) plan.now }
+        requires left { IsLawful (after (rows_in self.old) (edit_in self.old (Numbered.Change change))) }
+        requires lead { IsLead self.old.registry.table self.old.verdicts (rows_in self.old) (after (rows_in self.old) (edit_in self.old (Numbered.Change change))).entries (name_in self.old.registry.table change.id) lead }
+        ensures ok { OnOk result (AreOf self.new.registry self.new.verdicts (after (rows_in self.old) (edit_in self.old (Numbered.Change change))) []) }
+        ensures err { OnErr result (AreOf self.new.registry self.new.verdicts (rows_in self.old) []) }
+        ensures known { known_in self.new.verdicts ≡ known_in self.old.verdicts }
+        ensures weight { self.new.weight ≡ self.old.weight }
+        ensures steps { StepsWithin steps.old steps.new (edit_looks (rows_in self.old) (edit_in self.old (Numbered.Change change))) }
+    {
+        edits_by_number();
+        deprecations_touch();
+        deprecations_lead_elsewhere();
         let (deprecation, note) = change.into_parts();
-        self.registry.change(plan, deprecation, Some(note))
+        match self.registry.change(plan, deprecation, Some(note)) {
+            Ok(()) => {
+                self.verdicts.lead(self.registry.table(), lead, steps);
+                Ok(())
+            }
+            Err(memory) => {
+                drop(lead);
+                Err(memory)
+            }
+        }
     }
 }
 

@@ -1,27 +1,32 @@
 // Items that come and go.
-ghost use Rattle.std.specs.Prelude.{◌≡◌, ◌∷◌, [], IfErr, IfOk, None, OnErr, OnOk, Some, true};
-ghost use Rattle.cpe_inventory.specs.Asked.{all_names};
-ghost use Rattle.cpe_rows.specs.Prelude.{after, causes, changes, first_some, is_valid_edit, IsAccepted, IsCause, IsLawful};
+ghost use Rattle.std.specs.Prelude.{◌≡◌, ◌∷◌, [], IfErr, IfOk, OnErr, OnOk, false, true};
+ghost use Rattle.std.specs.List.{list_any};
+ghost use Rattle.cpe_steps.specs.Within.{StepsWithin};
+ghost use Rattle.cpe_rows.specs.Names.{is_same};
+ghost use Rattle.cpe_rows.specs.Prelude.{after, causes, changes, first_some, is_valid_edit, IsCause, IsLawful};
 ghost use Rattle.cpe_rows.specs.declared.edit.Edit.TheVariants as edit;
 ghost use Rattle.name_index.specs.Table.{IsLive};
-ghost use Rattle.cpe_registry.specs.Registered.{AreHeld, name_in};
-ghost use Rattle.cpe_engine.specs.Changing.{item_moved};
+ghost use Rattle.cpe_registry.specs.Registered.{name_in};
+ghost use Rattle.kept_verdicts.specs.Kept.{known_in};
+ghost use Rattle.kept_verdicts.specs.Looks.{item_looks};
+ghost use Rattle.cpe_engine.specs.Looks.{edit_looks};
 ghost use Rattle.cpe_engine.specs.Numbered.{IsFound, names_coming};
-ghost use Rattle.cpe_engine.specs.Parts.{AreKept, edit_in, rows_in};
+ghost use Rattle.cpe_engine.specs.Parts.{AreKept, AreOf, edit_in, rows_in};
+ghost use Rattle.cpe_engine.specs.Ready.{IsReady};
 
+use crate::holds::release_all;
 use crate::numbered::Numbered;
 use crate::parts::Parts;
-use crate::prospect::Prospect;
-use crate::scene::Scene;
-use crate::touch::Touch;
-use cpe_changes::{find_changes, items_touch};
-use cpe_inventory::Names;
+use asked_names::{items_arrive, lawful_rows_ask_few};
 use cpe_name::Wfn;
-use cpe_rows::{Changed, EditFault, List, names_are_equal};
+use cpe_rows::{Changed, EditFault, List, Room, names_are_equal};
+use cpe_steps::Steps;
 use cpe_values::Memory;
+use kept_verdicts::verdicts_stand;
 use name_index::NameId;
-use numbered_names::lists_are_shown;
+use numbered_names::{lists_are_shown, tables_are_lists};
 use std::alloc::Global;
+use std::sync::ledger::Ledger;
 
 impl Parts {
     /// An item that comes: its name is held.
@@ -32,14 +37,18 @@ impl Parts {
         requires kept { AreKept self.old }
         requires valid { is_valid_edit (edit.Item name) ≡ true }
         ensures rows { rows_in self.new ≡ rows_in self.old }
+        ensures verdicts { self.new.verdicts ≡ self.old.verdicts }
         ensures weight { self.new.weight ≡ self.old.weight }
         ensures edit { IfOk result (λ n. edit_in self.new n ≡ edit.Item name) }
         ensures found { IfOk result (IsFound self.new.registry.table) }
-        ensures held { IfOk result (λ n. AreHeld self.new.registry (names_coming self.new.registry.table n)) }
-        ensures err { OnErr result (AreHeld self.new.registry []) }
+        ensures are { IfOk result (λ n. AreOf self.new.registry self.new.verdicts (rows_in self.old) (names_coming self.new.registry.table n)) }
+        ensures err { OnErr result (AreOf self.new.registry self.new.verdicts (rows_in self.old) []) }
     {
         names_are_equal();
         lists_are_shown();
+        tables_are_lists();
+        verdicts_stand();
+        lawful_rows_ask_few();
         let id = self.registry.hold(name)?;
         Ok(Numbered::Item(id))
     }
@@ -62,72 +71,113 @@ impl Parts {
         }
     }
 
-    /// The verdicts that change with an item that comes or goes; `names` are those of the items behind that.
-    ///
-    /// # Errors
-    /// Want of memory alone.
-    pub(crate) fn item_changes(
-        &self,
-        alloc: Global,
-        numbered: &Numbered,
-        item: &Wfn,
-        names: Names,
-    ) -> Result<List<Changed>, Memory>
-        requires accepted { IsAccepted (rows_in self.now) (edit_in self.now numbered.now) (after (rows_in self.now) (edit_in self.now numbered.now)) }
-        requires moved { item_moved (edit_in self.now numbered.now) ≡ Some item.now }
-        requires names { all_names names ≡ (after (rows_in self.now) (edit_in self.now numbered.now)).items }
-        ensures { IfOk result (λ cs. cs ≡ changes (rows_in self.now) (edit_in self.now numbered.now)) }
-    {
-        items_touch();
-        let trails = self.trails();
-        let before = self.scene(&trails);
-        let mut ends = List::new(alloc);
-        trails.push_ends(alloc, item, &mut ends)?;
-        let touch = Touch::Item {
-            trails: &trails,
-            item,
-            ends,
-        };
-        let after = Scene {
-            items: names,
-            ..before
-        };
-        let mut prospect = Prospect::new(self, numbered, before, after, touch);
-        find_changes(alloc, self.statements.as_slice(), &mut prospect)
-    }
-
     /// Puts an item last that has no fault, or lets its name go.
     ///
     /// # Errors
     /// Want of memory alone; the rows are then as they were.
-    pub(crate) fn add_item(&mut self, id: NameId) -> Result<(), Memory>
-        requires live { IsLive self.old.registry.table id.0 }
-        requires held { AreHeld self.old.registry (name_in self.old.registry.table id ∷ []) }
-        requires none { first_some (causes (rows_in self.old) (edit.Item (name_in self.old.registry.table id))) ≡ None }
-        ensures held { AreHeld self.new.registry [] }
-        ensures ok { OnOk result (rows_in self.new ≡ after (rows_in self.old) (edit.Item (name_in self.old.registry.table id))) }
+    pub(crate) fn add_item<L: Ledger>(
+        &mut self,
+        alloc: Global,
+        id: NameId,
+        room: Room<Changed>,
+        steps: &mut Steps<L>,
+    ) -> Result<List<Changed>, Memory>
+        requires { IsReady self.old (Numbered.Item id) room }
+        ensures ok { OnOk result (AreOf self.new.registry self.new.verdicts (after (rows_in self.old) (edit_in self.old (Numbered.Item id))) []) }
+        ensures err { OnErr result (AreOf self.new.registry self.new.verdicts (rows_in self.old) []) }
         ensures weight { self.new.weight ≡ self.old.weight }
-        ensures err { OnErr result (rows_in self.new ≡ rows_in self.old) }
+        ensures changes { IfOk result (λ cs. cs ≡ changes (rows_in self.old) (edit_in self.old (Numbered.Item id))) }
+        ensures steps { StepsWithin steps.old steps.new (edit_looks (rows_in self.old) (edit_in self.old (Numbered.Item id))) }
     {
-        match self.registry.add_item(id) {
-            Ok(()) => Ok(()),
+        match self.bring_item(alloc, id, steps) {
+            Ok(()) => Ok(self.verdicts.changes(room)),
             Err(memory) => {
-                self.registry.release(id);
+                drop(room);
+                release_all(&mut self.registry, &[id]);
                 Err(memory)
             }
         }
     }
 
-    /// Drops an item, which is there, and lets its name go. It takes no memory.
-    pub(crate) fn drop_item(&mut self, id: NameId)
+    // Puts an item last that has no fault. Its name is held still where memory is wanting.
+    fn bring_item<L: Ledger>(
+        &mut self,
+        alloc: Global,
+        id: NameId,
+        steps: &mut Steps<L>,
+    ) -> Result<(), Memory>
         requires live { IsLive self.old.registry.table id.0 }
-        requires held { AreHeld self.old.registry [] }
-        requires none { first_some (causes (rows_in self.old) (edit.DropItem (name_in self.old.registry.table id))) ≡ None }
-        ensures held { AreHeld self.new.registry [] }
-        ensures rows { rows_in self.new ≡ after (rows_in self.old) (edit.DropItem (name_in self.old.registry.table id)) }
+        requires lawful { IsLawful (rows_in self.old) }
+        requires are { AreOf self.old.registry self.old.verdicts (rows_in self.old) (name_in self.old.registry.table id ∷ []) }
+        requires absent { list_any (is_same (name_in self.old.registry.table id)) (rows_in self.old).items ≡ false }
+        ensures ok { OnOk result (AreOf self.new.registry self.new.verdicts (after (rows_in self.old) (edit.Item (name_in self.old.registry.table id))) []) }
+        ensures table { self.new.registry.table ≡ self.old.registry.table }
+        ensures err { OnErr result (AreOf self.new.registry self.new.verdicts (rows_in self.old) (name_in self.old.registry.table id ∷ [])) }
+        ensures known { known_in self.new.verdicts ≡ known_in self.old.verdicts }
         ensures weight { self.new.weight ≡ self.old.weight }
+        ensures steps { StepsWithin steps.old steps.new (item_looks (rows_in self.old) (name_in self.old.registry.table id)) }
     {
+        items_arrive();
+        lawful_rows_ask_few();
+        lists_are_shown();
+        let ends = self.registry.ends_of(alloc, id)?;
+        self.verdicts.reserve_item(self.registry.table(), &ends)?;
+        self.registry.add_item(id)?;
+        self.verdicts
+            .item_comes(self.registry.table(), id, &ends, steps);
+        Ok(())
+    }
+
+    /// Drops an item, which is there, and lets its name go.
+    ///
+    /// # Errors
+    /// Want of memory alone; all is then as it was.
+    pub(crate) fn drop_item<L: Ledger>(
+        &mut self,
+        alloc: Global,
+        id: NameId,
+        room: Room<Changed>,
+        steps: &mut Steps<L>,
+    ) -> Result<List<Changed>, Memory>
+        requires { IsReady self.old (Numbered.DropItem id) room }
+        ensures ok { OnOk result (AreOf self.new.registry self.new.verdicts (after (rows_in self.old) (edit_in self.old (Numbered.DropItem id))) []) }
+        ensures err { OnErr result (AreOf self.new.registry self.new.verdicts (rows_in self.old) []) }
+        ensures weight { self.new.weight ≡ self.old.weight }
+        ensures changes { IfOk result (λ cs. cs ≡ changes (rows_in self.old) (edit_in self.old (Numbered.DropItem id))) }
+        ensures steps { StepsWithin steps.old steps.new (edit_looks (rows_in self.old) (edit_in self.old (Numbered.DropItem id))) }
+    {
+        match self.take_item(alloc, id, steps) {
+            Ok(()) => Ok(self.verdicts.changes(room)),
+            Err(memory) => {
+                drop(room);
+                Err(memory)
+            }
+        }
+    }
+
+    // The same, without the changes.
+    fn take_item<L: Ledger>(
+        &mut self,
+        alloc: Global,
+        id: NameId,
+        steps: &mut Steps<L>,
+    ) -> Result<(), Memory>
+        requires live { IsLive self.old.registry.table id.0 }
+        requires are { AreOf self.old.registry self.old.verdicts (rows_in self.old) [] }
+        requires has { list_any (is_same (name_in self.old.registry.table id)) (rows_in self.old).items ≡ true }
+        ensures ok { OnOk result (AreOf self.new.registry self.new.verdicts (after (rows_in self.old) (edit.DropItem (name_in self.old.registry.table id))) []) }
+        ensures err { OnErr result (AreOf self.new.registry self.new.verdicts (rows_in self.old) []) }
+        ensures known { known_in self.new.verdicts ≡ known_in self.old.verdicts }
+        ensures weight { self.new.weight ≡ self.old.weight }
+        ensures steps { StepsWithin steps.old steps.new (item_looks (rows_in self.old) (name_in self.old.registry.table id)) }
+    {
+        items_arrive();
+        lists_are_shown();
+        let ends = self.registry.ends_of(alloc, id)?;
+        self.verdicts
+            .item_goes(self.registry.table(), id, &ends, steps);
         self.registry.drop_item(id);
-        self.registry.release(id);
+        release_all(&mut self.registry, &[id]);
+        Ok(())
     }
 }

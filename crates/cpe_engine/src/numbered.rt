@@ -1,7 +1,7 @@
 // Edits whose names are numbers of the engine's table.
 ghost use Rattle.std.specs.Prelude.{◌≡◌};
 ghost use Rattle.std.specs.Option.{option_copied};
-ghost use Rattle.cpe_engine.specs.Numbered.{coming, given, is_first, note_kind, note_of};
+ghost use Rattle.cpe_engine.specs.Numbered.{coming, given, is_first, note_kind, note_of, numbers_of};
 
 use cpe_rows::{CheckKey, Date, Deprecation, Note, NoteKind, Provenance, Statement, Text, Truth};
 use name_index::NameId;
@@ -21,8 +21,11 @@ pub(crate) enum Numbered {
     DropItem(NameId),
     /// Changes the deprecation of an entry.
     Change(Change),
-    /// Adds a statement.
-    PutStatement(Statement),
+    /// Adds a statement, of whose fact references these are the numbers, in the order of its test.
+    PutStatement {
+        statement: Statement,
+        ids: Vec<NameId>,
+    },
     /// Drops the statement of this id.
     DropStatement(Text),
     /// Keeps the result of a check.
@@ -32,6 +35,17 @@ pub(crate) enum Numbered {
     },
     /// Drops the result that is kept for a key.
     DropCheck(CheckKey),
+}
+
+/// The numbers of the names that are held for an edit.
+#[derive(Drop)]
+pub(crate) enum Coming {
+    /// None.
+    Nothing,
+    /// That of an entry or of an item.
+    One(NameId),
+    /// Those of the fact references of a statement.
+    Many(Vec<NameId>),
 }
 
 /// What becomes of the deprecation of an entry, with a note of this date and comment.
@@ -55,13 +69,14 @@ pub(crate) enum Turn {
 }
 
 impl Numbered {
-    /// The number of the name that is held for the edit, if one comes with it.
-    pub(crate) fn coming(&self) -> Option<NameId>
-        ensures { result ≡ coming self.now }
+    /// The numbers of the names that are held for the edit; the rest of it is let go.
+    pub(crate) fn into_coming(self) -> Coming
+        ensures { numbers_of result ≡ coming self }
     {
         match self {
-            Numbered::Entry { id, .. } | Numbered::Item(id) => Some(*id),
-            _ => None,
+            Numbered::Entry { id, .. } | Numbered::Item(id) => Coming::One(id),
+            Numbered::PutStatement { ids, .. } => Coming::Many(ids),
+            _ => Coming::Nothing,
         }
     }
 }

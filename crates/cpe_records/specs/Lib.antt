@@ -3,4 +3,3 @@ pub mod Kinds
 pub mod Reading
 pub mod Taken
 pub mod Edited
-pub mod Asked

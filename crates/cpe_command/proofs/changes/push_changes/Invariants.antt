@@ -5,4 +5,4 @@ use Rattle.cpe_command.proofs.changes.push_changes.Given as goal
 
 abbrev pub invariant-loop-change : goal.invariant-loop-change
 invariant-loop-change l =
-    l.page ≡ l.fn.page ++ flat_map (λ c. change_line l.number (changed_id l.statements l.dropped c) c) (take l.change-index l.changes)
+    l.page ≡ l.fn.page ++ flat_map (λ c. change_line l.number (changed_id l.engine.statements l.dropped c) c) (take l.change-index l.changes)

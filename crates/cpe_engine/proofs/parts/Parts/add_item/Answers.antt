@@ -1,9 +1,23 @@
-use Rattle.std.proofs.Common.{◌∷◌, [], sym, subst}
-use Rattle.cpe_registry.specs.Registered.{AreHeld, name_in, Registered}
+use Rattle.std.proofs.Common.{◌∷◌, [], refl, sym, subst, ◌∙◌}
+use Rattle.cpe_rows.specs.After.{after}
+use Rattle.cpe_rows.specs.declared.edit.Edit.TheVariants as edit
+use Rattle.name_index.specs.Table.{Names}
+use Rattle.cpe_registry.specs.Registered.{name_in}
+use Rattle.cpe_engine.specs.Parts.{AreOf, rows_in}
+use Rattle.cpe_engine.proofs.PartsLemmas.{told}
 use Rattle.cpe_engine.proofs.parts.Parts.add_item.Goals as goal
 
-pub returns-in-Ok-clause-held : goal.returns-in-Ok-clause-held
-returns-in-Ok-clause-held c = c.in-Ok.ensures.others [] c.requires.held
+pub returns-in-Ok-clause-changes : goal.returns-in-Ok-clause-changes
+returns-in-Ok-clause-changes g c =
+    let p = c.args.self.now in
+    let rows = rows_in p in
+    let next = after rows (edit.Item (name_in p.registry.table c.args.id)) in
+    let new = c.bring_item.new.self in
+    told rows next new.verdicts c.changes.result (c.changes.ensures new.registry.table next c.in-Ok.ensures.ok.stands) (c.in-Ok.ensures.known ∙ c.requires.known) refl
 
-pub returns-in-Err-clause-held : goal.returns-in-Err-clause-held
-returns-in-Err-clause-held c = c.release.ensures.others [] (subst (λ (x : Registered). AreHeld x (name_in x.table c.args.id ∷ [])) (sym c.in-Err.ensures.err) c.requires.held)
+pub returns-in-Err-clause-err : goal.returns-in-Err-clause-err
+returns-in-Err-clause-err g c =
+    let p = c.args.self.now in
+    let rows = rows_in p in
+    let new = c.bring_item.new.self in
+    c.release_all.ensures new.verdicts rows [] (subst (λ (t : Names). AreOf new.registry new.verdicts rows (name_in t c.args.id ∷ [])) (sym c.in-Err.ensures.table) c.in-Err.ensures.err)

@@ -1,45 +1,29 @@
-use Rattle.std.proofs.Common.{[], Some, sym, subst, ◌∙◌}
-use Rattle.std.specs.Prelude.{Option}
-use Rattle.cpe_rows.specs.After.{changed}
-use Rattle.cpe_rows.specs.Lawful.{IsDictionary}
-use Rattle.cpe_dictionary.specs.Kept.{rewritten, written}
-use Rattle.cpe_dictionary.specs.declared.plans.Plan.{Plan}
-use Rattle.cpe_dictionary.proofs.DictionaryLemmas.{written_changed}
+use Rattle.std.proofs.Common.{sym, ap, ◌∙◌}
+use Rattle.cpe_rows.specs.After.{after}
+use Rattle.cpe_rows.specs.Rows.{Rows}
 use Rattle.cpe_registry.specs.Registered.{name_in}
-use Rattle.cpe_engine.specs.Numbered.{given, note_of}
+use Rattle.cpe_engine.specs.Numbered.{turned}
 use Rattle.cpe_engine.specs.Parts.{rows_in}
-use Rattle.cpe_engine.specs.Planned.{HasPlan}
-use Rattle.cpe_engine.proofs.PartsLemmas.{on_ok, rows_by}
+use Rattle.cpe_engine.proofs.NumberedLemmas.{after_turned, changes_turned}
+use Rattle.cpe_engine.proofs.PartsLemmas.{told}
 use Rattle.cpe_engine.proofs.parts.Parts.change.Goals as goal
 
-pub change-requires-clause-lawful : goal.change-requires-clause-lawful
-change-requires-clause-lawful c =
+pub make_change-requires-clause-left : goal.make_change-requires-clause-left
+make_change-requires-clause-left g c =
     let p = c.args.self.now in
-    let es = (rows_in p).entries in
+    let rows = rows_in p in
+    let change = c.args.change in
+    let e = turned (name_in p.registry.table change.id) change.turn change.date change.comment in
+    c.rows_stay_lawful.ensures.kept rows (after rows e) e c.requires.ready.accepted
+
+pub returns-in-Ok-clause-changes : goal.returns-in-Ok-clause-changes
+returns-in-Ok-clause-changes g c =
+    let p = c.args.self.now in
+    let rows = rows_in p in
     let change = c.args.change in
     let n = name_in p.registry.table change.id in
-    let k = c.in-Some.plan.number in
-    let d = given change.turn in
-    let note = note_of change.turn change.date change.comment in
-    let parts = c.into_parts-deprecation.ensures in
-    let plan = subst (λ (o : Option Plan). HasPlan es n d o) c.in-Some.is c.requires.planned in
-    let written_is = (λ i. written (rewritten (parts.deprecation i) (Some (parts.note i))) k es) ∙ written_changed es n k d (Some note) c.edits_by_number.ensures.writes plan.place in
-    subst IsDictionary (sym written_is) c.requires.lawful
-
-pub returns-clause-held : goal.returns-clause-held
-returns-clause-held c = c.change.ensures.others [] c.requires.held
-
-pub returns-clause-ok : goal.returns-clause-ok
-returns-clause-ok c =
-    let p = c.args.self.now in
-    let es = (rows_in p).entries in
-    let change = c.args.change in
-    let n = name_in p.registry.table change.id in
-    let k = c.in-Some.plan.number in
-    let d = given change.turn in
-    let note = note_of change.turn change.date change.comment in
-    let parts = c.into_parts-deprecation.ensures in
-    let plan = subst (λ (o : Option Plan). HasPlan es n d o) c.in-Some.is c.requires.planned in
-    let written_is = (λ i. written (rewritten (parts.deprecation i) (Some (parts.note i))) k es) ∙ written_changed es n k d (Some note) c.edits_by_number.ensures.writes plan.place in
-    let new = c.change.new.self in
-    on_ok c.change.result (λ h. rows_by new.entries (changed (rewritten d (Some note)) n es) new.items p.registry.items p.statements p.checks (h ∙ written_is) c.change.ensures.items) c.change.ensures.ok
+    let next = after rows (turned n change.turn change.date change.comment) in
+    let new = c.make_change.new.self in
+    told rows next new.verdicts c.changes.result (c.changes.ensures new.registry.table next c.in-Ok.ensures.ok.stands) (c.in-Ok.ensures.known ∙ c.requires.ready.known)
+    (ap (λ (r : Rows). r.statements) (after_turned rows n change.date change.comment change.turn))
+    ∙ sym (changes_turned rows n change.date change.comment change.turn)

@@ -1,17 +1,21 @@
-use Rattle.std.proofs.Common.{refl}
+use Rattle.std.proofs.Common.{[], refl}
 use Rattle.cpe_rows.specs.After.{after}
 use Rattle.cpe_engine.specs.Parts.{edit_in, rows_in}
-use Rattle.cpe_engine.proofs.PartsLemmas.{stay_kept}
+use Rattle.cpe_engine.proofs.PartsLemmas.{rows_are, stay_kept}
 use Rattle.cpe_engine.proofs.parts.Parts.commit.Goals as goal
 
-pub make-requires-clause-lawful : goal.make-requires-clause-lawful
-make-requires-clause-lawful c =
-    let rows = rows_in c.args.self.now in
-    let e = edit_in c.args.self.now c.args.numbered in
-    c.rows_stay_lawful.ensures.kept rows (after rows e) e c.requires.checked.accepted
+pub make-requires-clause-ready : goal.make-requires-clause-ready
+make-requires-clause-ready g c = record { beside = c.requires.beside; accepted = c.requires.checked.accepted; none = c.requires.checked.none; known = c.requires.known; empty = c.requires.empty; spare = c.requires.spare }
+
+pub returns-clause-ok : goal.returns-clause-ok
+returns-clause-ok g c =
+    let p = c.args.self.now in
+    let new = c.make.new.self in
+    rows_are (record { registry = new.registry; verdicts = new.verdicts; weight = c.args.checked.weight }) (after (rows_in p) (edit_in p c.args.numbered)) [] c.in_ok-changes.ensures.ok
 
 pub returns-clause-kept : goal.returns-clause-kept
-returns-clause-kept c =
-    let rows = rows_in c.args.self.now in
-    let e = edit_in c.args.self.now c.args.numbered in
-    stay_kept _ (after rows e) c.args.checked.weight (c.rows_stay_lawful.ensures.kept rows (after rows e) e c.requires.checked.accepted) c.in_ok-make.ensures.ok refl c.requires.checked.weight c.make.ensures.held
+returns-clause-kept g c =
+    let p = c.args.self.now in
+    let rows = rows_in p in
+    let e = edit_in p c.args.numbered in
+    stay_kept _ (after rows e) c.args.checked.weight (c.rows_stay_lawful.ensures.kept rows (after rows e) e c.requires.checked.accepted) refl c.requires.checked.weight c.in_ok-changes.ensures.ok

@@ -1,10 +1,15 @@
-use Rattle.std.proofs.Common.{◌∷◌, [], sym, subst}
-use Rattle.name_index.specs.Table.{Names}
-use Rattle.cpe_registry.specs.Registered.{AreHeld, name_in}
+use Rattle.std.proofs.Common.{refl, ◌∙◌}
+use Rattle.cpe_rows.specs.After.{after}
+use Rattle.cpe_rows.specs.declared.edit.Edit.TheVariants as edit
+use Rattle.cpe_registry.specs.Registered.{name_in}
+use Rattle.cpe_engine.specs.Parts.{rows_in}
+use Rattle.cpe_engine.proofs.PartsLemmas.{told}
 use Rattle.cpe_engine.proofs.parts.Parts.drop_item.Goals as goal
 
-pub release-requires-clause-held : goal.release-requires-clause-held
-release-requires-clause-held c = ([], subst (λ (t : Names). AreHeld c.drop_item.new.self (name_in t c.args.id ∷ [])) (sym c.drop_item.ensures.table) (c.drop_item.ensures.others [] c.requires.held))
-
-pub returns-clause-held : goal.returns-clause-held
-returns-clause-held c = c.release.ensures.others [] (subst (λ (t : Names). AreHeld c.drop_item.new.self (name_in t c.args.id ∷ [])) (sym c.drop_item.ensures.table) (c.drop_item.ensures.others [] c.requires.held))
+pub returns-in-Ok-clause-changes : goal.returns-in-Ok-clause-changes
+returns-in-Ok-clause-changes g c =
+    let p = c.args.self.now in
+    let rows = rows_in p in
+    let next = after rows (edit.DropItem (name_in p.registry.table c.args.id)) in
+    let new = c.take_item.new.self in
+    told rows next new.verdicts c.changes.result (c.changes.ensures new.registry.table next c.in-Ok.ensures.ok.stands) (c.in-Ok.ensures.known ∙ c.requires.known) refl

@@ -1,0 +1,15 @@
+use Rattle.cpe_drill.proofs.Tallies.{first, few-first, tally-next, none-below}
+use Rattle.cpe_drill.proofs.tally.with_next.Goals as goal
+
+pub with-requires : goal.with-requires
+with-requires c =
+    (first c.args.engine.now c.args.place, few-first c.args.engine.now c.args.place c.requires.below c.requires.few, c.requires.told)
+
+pub returns-in-Some : goal.returns-in-Some
+returns-in-Some c =
+    tally-next c.args.engine.now c.args.place c.requires.below c.in-Some.truth c.with.result c.in-Some.ensures.verdict
+    (c.with.ensures (first c.args.engine.now c.args.place) c.requires.told)
+
+-- the place is one of a statement
+pub returns-in-None : goal.returns-in-None
+returns-in-None c = absurd (none-below c.args.engine.now c.args.place c.requires.below c.in-None.ensures.verdict)

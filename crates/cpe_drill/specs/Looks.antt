@@ -1,0 +1,20 @@
+-- How many looks at names a record may take.
+use Rattle.std.specs.Prelude.{ℕ, List, [], ◌∷◌, Option, Some, None, Result, Ok, Err}
+use Rattle.cpe_rows.specs.Rows.{Rows}
+use Rattle.cpe_records.specs.Reading.{record_of}
+use Rattle.cpe_records.specs.declared.read.Record.{Record}
+use Rattle.cpe_records.specs.declared.read.Record.TheVariants.{Edit, Query}
+use Rattle.cpe_members.specs.declared.member.RecordFault.{RecordFault}
+use Rattle.cpe_engine.specs.Looks.{edit_looks, looks}
+
+-- as many as its edit takes, accepted or refused, or its query, in these rows; what is no record takes none
+abbrev pub record_looks : Rows → Result Record RecordFault → ℕ
+record_looks rows (Ok (Edit e)) = edit_looks rows e
+record_looks rows (Ok (Query query)) = looks rows query
+record_looks rows (Err fault) = 0
+
+-- the same of a line; one without bytes, or one that is too long, is no record
+abbrev pub line_looks : Rows → Option (List ℕ) → ℕ
+line_looks rows None = 0
+line_looks rows (Some []) = 0
+line_looks rows (Some (x ∷ xs)) = record_looks rows (record_of (x ∷ xs))

@@ -1,0 +1,75 @@
+// How often each verdict is told.
+ghost use Rattle.std.specs.Prelude.{◌≡◌, ◌+◌, ◌<◌, ◌^◌, ◌-◌, ◌++◌, ◌∷◌, [], cond, length, map, take, List};
+ghost use Rattle.cpe_rows.specs.Truth.{same_truth};
+ghost use Rattle.cpe_rows.specs.Verdict.{verdict};
+ghost use Rattle.cpe_rows.specs.declared.truth.Truth.{Truth as TruthOf};
+ghost use Rattle.cpe_drill.specs.Summary.{tally_of, verdicts};
+
+use cpe_engine::Engine;
+use cpe_rows::Truth;
+
+/// How many of some verdicts are each of the four.
+#[derive(Clone, Copy)]
+pub struct Tally {
+    pub trues: u64,
+    pub falses: u64,
+    pub errors: u64,
+    pub unknowns: u64,
+}
+
+impl Tally {
+    // With one verdict more.
+    fn with(self, truth: Truth) -> Tally
+        requires { (truths : List TruthOf) × (length truths < 2 ^ 64 - 1) × (self ≡ tally_of truths) }
+        ensures { (truths : List TruthOf) → self ≡ tally_of truths → result ≡ tally_of (truths ++ truth ∷ []) }
+    {
+        Tally {
+            trues: plus(self.trues, is_same(Truth::True, truth)),
+            falses: plus(self.falses, is_same(Truth::False, truth)),
+            errors: plus(self.errors, is_same(Truth::Error, truth)),
+            unknowns: plus(self.unknowns, is_same(Truth::Unknown, truth)),
+        }
+    }
+}
+
+fn plus(count: u64, is_one: bool) -> u64
+    requires { count < 2 ^ 64 - 1 }
+    ensures { result ≡ count + cond is_one 1 0 }
+{
+    if is_one { count + 1 } else { count }
+}
+
+fn is_same(one: Truth, other: Truth) -> bool
+    ensures { result ≡ same_truth one other }
+{
+    one == other
+}
+
+/// How many statements have each verdict. It takes no memory.
+pub fn count_verdicts(engine: &Engine) -> Tally
+    ensures { result ≡ tally_of (verdicts engine.now) }
+{
+    let mut told = Tally {
+        trues: 0,
+        falses: 0,
+        errors: 0,
+        unknowns: 0,
+    };
+    for place in 0..engine.statements_len() {
+        told = with_next(engine, place, told);
+    }
+    told
+}
+
+// With the verdict of the statement at this place.
+fn with_next(engine: &Engine, place: usize, told: Tally) -> Tally
+    requires below { place < length engine.now.statements }
+    requires few { place < 2 ^ 64 - 1 }
+    requires told { told ≡ tally_of (map (verdict engine.now) (take place engine.now.statements)) }
+    ensures { result ≡ tally_of (map (verdict engine.now) (take (place + 1) engine.now.statements)) }
+{
+    match engine.statement_at(place) {
+        Some((_, truth)) => told.with(truth),
+        None => told,
+    }
+}

@@ -1,0 +1,54 @@
+-- A statement that comes or goes.
+use Rattle.std.proofs.Common.{◌≡◌, ℕ, ◌+◌, ◌≤◌, List, [], ◌∷◌, ◌++◌, length, Some, None, refl, ap, ◌∙◌, arith}
+use Rattle.std.specs.Prelude.{Option, slice_get, nat_lt}
+use Rattle.std.specs.List.{flat_map, list_any}
+use Rattle.std.specs.Option.{option_map}
+use Rattle.std.proofs.lemmas.Bool.{ltb-false}
+use Rattle.std.proofs.lemmas.List.Concat.{flat_map-append}
+use Rattle.cpe_rows.specs.Causes.{statement_causes}
+use Rattle.cpe_rows.specs.Changes.{change, dropped}
+use Rattle.cpe_rows.specs.FactNames.{fact_names, number_of_facts}
+use Rattle.cpe_rows.specs.Limits.{most}
+use Rattle.cpe_rows.specs.Faults.{when}
+use Rattle.cpe_rows.specs.Rows.{has_id, Rows}
+use Rattle.cpe_rows.specs.Step.{first_some}
+use Rattle.cpe_rows.specs.Verdict.{verdict}
+use Rattle.cpe_rows.specs.declared.fault.EditFault.TheVariants as fault
+use Rattle.cpe_rows.specs.declared.fault.Which.TheVariants as limit
+use Rattle.cpe_rows.specs.declared.statement.Statement.{Statement}
+use Rattle.cpe_rows.specs.declared.truth.Truth.{Truth}
+use Rattle.cpe_name.specs.declared.name.Values.{Values}
+use Rattle.cpe_engine.specs.Told.{dropped_by, put_by}
+use Rattle.cpe_engine.proofs.PartsLemmas.{none_behind, none_here}
+
+pub last_at : {A : Type 0} (xs : List A) (x : A) → slice_get (xs ++ x ∷ []) (length xs) ≡ Some x
+last_at [] x = refl
+last_at (y ∷ ys) x = last_at ys x
+
+pub dropped_told : (rows : Rows) (place : Option ℕ) (s : Option Statement) → dropped rows place s ≡ dropped_by place (option_map (verdict rows) s)
+dropped_told rows None None = refl
+dropped_told rows None (Some s) = refl
+dropped_told rows (Some k) None = refl
+dropped_told rows (Some k) (Some s) = refl
+
+length_both : (xs ys : List Values) → length (xs ++ ys) ≡ length xs + length ys
+length_both [] ys = omega arith
+length_both (x ∷ xs) ys = omega (arith, length_both xs ys)
+
+-- a statement without a fault has no more fact references than all may have
+pub few_facts : (statements : List Statement) (s : Statement) → first_some (statement_causes statements s) ≡ None → length (fact_names s.test) ≤ most limit.Facts
+few_facts statements s none =
+    let last = when (nat_lt (most limit.Facts) (number_of_facts (statements ++ s ∷ []))) (fault.Full limit.Facts) ∷ [] in
+    let second = none_behind (list_any (has_id s.id) statements) fault.Exists (when (nat_lt (most limit.Statements) (length statements + 1)) (fault.Full limit.Statements) ∷ last) none in
+    let third = none_behind (nat_lt (most limit.Statements) (length statements + 1)) (fault.Full limit.Statements) last second in
+    let few = none_here (nat_lt (most limit.Facts) (number_of_facts (statements ++ s ∷ []))) (fault.Full limit.Facts) [] third in
+    let facts = λ (x : Statement). fact_names x.test in
+    let sum = ap length (flat_map-append facts statements (s ∷ [])) in
+    omega (arith, ltb-false (most limit.Facts) (number_of_facts (statements ++ s ∷ [])) few, sum, length_both (flat_map facts statements) (fact_names s.test ++ []), length_both (fact_names s.test) [])
+
+-- a statement that is put has the verdict at the place behind all others
+pub put_told : (rows next : Rows) (s : Statement) (place : ℕ) (truth : Option Truth) → place ≡ length rows.statements → next.statements ≡ rows.statements ++ s ∷ []
+    → truth ≡ option_map (verdict next) (slice_get next.statements place) → put_by place truth ≡ change (length rows.statements) None (Some (verdict next s)) ∷ []
+put_told rows next s place truth at same is =
+    let there = (λ k. slice_get (same k) (at k)) ∙ last_at rows.statements s in
+    λ k. put_by (at k) ((is ∙ ap (option_map (verdict next)) there) k)

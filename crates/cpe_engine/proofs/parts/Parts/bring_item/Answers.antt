@@ -1,0 +1,87 @@
+use Rattle.std.proofs.Common.{◌∷◌, ◌≤◌, List, [], length, sym, subst, ◌∙◌}
+use Rattle.cpe_rows.specs.After.{after}
+use Rattle.cpe_rows.specs.declared.edit.Edit.TheVariants as edit
+use Rattle.name_index.specs.declared.table.NameId.{NameId}
+use Rattle.name_index.specs.Table.{Names}
+use Rattle.numbered_names.specs.Shown.{holds_in, name_at}
+use Rattle.asked_names.specs.Asked.{names_kept}
+use Rattle.cpe_steps.specs.Within.{StepsWithin}
+use Rattle.cpe_registry.specs.Registered.{name_in, Registered}
+use Rattle.kept_verdicts.specs.Kept.{AreEnds, Stands}
+use Rattle.kept_verdicts.specs.Looks.{item_looks}
+use Rattle.cpe_engine.specs.Parts.{AreOf, rows_in}
+use Rattle.cpe_rows.specs.declared.statement.Mode.TheVariants.{Follow}
+use Rattle.cpe_rows.specs.Chains.{ends as ends_of_name}
+use Rattle.cpe_engine.proofs.PartsLemmas.{are_ends, at_err, by_lists, by_verdicts, few_ends}
+use Rattle.cpe_engine.proofs.parts.Parts.bring_item.Goals as goal
+
+pub reserve_item-requires-clause-few : goal.reserve_item-requires-clause-few
+reserve_item-requires-clause-few g c =
+    let p = c.args.self.now in
+    let rows = rows_in p in
+    let old = p.registry.table in
+    let id = c.args.id in
+    let n = name_in old id in
+    let are = c.requires.are in
+    subst (λ (xs : List NameId). length xs ≤ 64) (sym c.deref.ensures.value)
+    (few_ends old c.in_ok-ends.ends.items (ends_of_name rows.entries n) c.in_ok-ends.ensures.names (c.lawful_rows_ask_few.ensures.leads rows Follow n c.requires.lawful))
+
+pub returns-clause-ok : goal.returns-clause-ok
+returns-clause-ok g c =
+    let p = c.args.self.now in
+    let rows = rows_in p in
+    let old = p.registry.table in
+    let id = c.args.id in
+    let n = name_in old id in
+    let are = c.requires.are in
+    let at = c.table-2.ensures ∙ c.in_ok-add_item.ensures.table in
+    let ends : AreEnds old rows.entries id.0 c.deref-2.result.now = are_ends old rows.entries id.0 c.in_ok-ends.ends.items c.deref-2.result.now c.deref-2.ensures.value c.in_ok-ends.ensures.live c.in_ok-ends.ensures.names in
+    let there = subst (λ (t : Names). AreEnds t rows.entries id.0 c.deref-2.result.now) (sym at) ends in
+    let stood = subst (λ (t : Names). Stands t c.reserve_item.new.self rows) (sym at) (c.in_ok-reserve_item.ensures.stands old rows are.stands) in
+    let next = after rows (edit.Item n) in
+    by_lists p.registry c.add_item.new.self c.item_comes.new.self next [] c.in_ok-add_item.ensures.table c.in_ok-add_item.ensures.entries c.in_ok-add_item.ensures.ok
+    (c.lists_are_shown.ensures.order old (holds_in old) (n ∷ names_kept rows) (names_kept next) (c.items_arrive.ensures.kept rows n) are.held)
+    (subst (λ (t : Names). Stands t c.item_comes.new.self (after rows (edit.Item (name_at t id)))) at (c.item_comes.ensures.stands rows stood there))
+
+pub returns-clause-steps : goal.returns-clause-steps
+returns-clause-steps g c =
+    let p = c.args.self.now in
+    let rows = rows_in p in
+    let old = p.registry.table in
+    let id = c.args.id in
+    let n = name_in old id in
+    let are = c.requires.are in
+    let at = c.table-2.ensures ∙ c.in_ok-add_item.ensures.table in
+    let ends : AreEnds old rows.entries id.0 c.deref-2.result.now = are_ends old rows.entries id.0 c.in_ok-ends.ends.items c.deref-2.result.now c.deref-2.ensures.value c.in_ok-ends.ensures.live c.in_ok-ends.ensures.names in
+    let there = subst (λ (t : Names). AreEnds t rows.entries id.0 c.deref-2.result.now) (sym at) ends in
+    let stood = subst (λ (t : Names). Stands t c.reserve_item.new.self rows) (sym at) (c.in_ok-reserve_item.ensures.stands old rows are.stands) in
+    subst (λ (t : Names). StepsWithin c.args.steps.now c.item_comes.new.steps (item_looks rows (name_at t id))) at (c.item_comes.ensures.steps rows stood there)
+
+pub item_comes-requires-clause-stood : goal.item_comes-requires-clause-stood
+item_comes-requires-clause-stood g c =
+    let p = c.args.self.now in
+    let rows = rows_in p in
+    let old = p.registry.table in
+    let id = c.args.id in
+    let are = c.requires.are in
+    let at = c.table-2.ensures ∙ c.in_ok-add_item.ensures.table in
+    let ends : AreEnds old rows.entries id.0 c.deref-2.result.now = are_ends old rows.entries id.0 c.in_ok-ends.ends.items c.deref-2.result.now c.deref-2.ensures.value c.in_ok-ends.ensures.live c.in_ok-ends.ensures.names in
+    let there = subst (λ (t : Names). AreEnds t rows.entries id.0 c.deref-2.result.now) (sym at) ends in
+    let stood = subst (λ (t : Names). Stands t c.reserve_item.new.self rows) (sym at) (c.in_ok-reserve_item.ensures.stands old rows are.stands) in
+    (rows, c.requires.lawful, stood, there)
+
+pub returns-in_err-reserve_item-clause-err : goal.returns-in_err-reserve_item-clause-err
+returns-in_err-reserve_item-clause-err g c =
+    let p = c.args.self.now in
+    let rows = rows_in p in
+    let others = name_in p.registry.table c.args.id ∷ [] in
+    at_err c.from_residual-in_err-reserve_item.result (by_verdicts p.registry p.verdicts c.reserve_item.new.self rows others (c.in_err-reserve_item.ensures.stands p.registry.table rows c.requires.are.stands) c.requires.are)
+
+pub returns-in_err-add_item-clause-err : goal.returns-in_err-add_item-clause-err
+returns-in_err-add_item-clause-err g c =
+    let p = c.args.self.now in
+    let rows = rows_in p in
+    let others = name_in p.registry.table c.args.id ∷ [] in
+    let w = c.reserve_item.new.self in
+    at_err c.from_residual-in_err-add_item.result
+    (subst (λ (r : Registered). AreOf r w rows others) (sym c.in_err-add_item.ensures.err) (by_verdicts p.registry p.verdicts w rows others (c.in_ok-reserve_item.ensures.stands p.registry.table rows c.requires.are.stands) c.requires.are))
