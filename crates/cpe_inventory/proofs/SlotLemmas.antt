@@ -1,10 +1,8 @@
 -- The names of slots, beside the table of their numbers.
-use Rattle.std.proofs.Common.{◌≡◌, zero, suc, Bool, true, false, cond, ◌||◌, List, [], ◌∷◌, ◌++◌, Option, Some, None, refl, sym, ap, subst, ◌∙◌, append-nil}
+use Rattle.std.proofs.Common.{◌≡◌, suc, Bool, true, false, cond, ◌||◌, List, [], ◌∷◌, Option, Some, None, refl, sym, ap, subst, ◌∙◌}
 use Rattle.std.specs.Prelude.{option_map}
 use Rattle.std.specs.List.{cons_option, list_any}
 use Rattle.std.specs.Option.{option_map_or}
-use Rattle.std.proofs.lemmas.List.{map-append}
-use Rattle.std.proofs.lemmas.Option.{none-some}
 use Rattle.cpe_name.specs.declared.name.Values.{Values}
 use Rattle.cpe_name.specs.Equal.{same_name}
 use Rattle.cpe_relation.specs.NameRelation.{covers}
@@ -12,9 +10,8 @@ use Rattle.cpe_rows.specs.After.{without_first}
 use Rattle.cpe_rows.specs.Names.{is_same}
 use Rattle.name_index.specs.declared.table.NameId.{NameId}
 use Rattle.name_index.specs.Table.{Names as Table, Kept, kept_at, kept_or, IsLive}
-use Rattle.names_in_order.specs.InOrder.{AreLive, names_numbered, same_id}
+use Rattle.names_in_order.specs.InOrder.{AreLive, names_numbered}
 use Rattle.names_in_order.specs.Marked.{numbers_in, without_first as without_number}
-use Rattle.names_in_order.proofs.ChangeLemmas.{was_there}
 use Rattle.names_in_order.proofs.OrderLemmas.{kept_live}
 use Rattle.cpe_inventory.specs.Slots.{slot_name, slot_names, slot_covered, names_kept}
 
@@ -39,16 +36,6 @@ kept_numbered table (id ∷ ids) live =
     let head = live_name table id (live 0 id refl) in
     let rest = kept_numbered table ids (λ k x at. live (suc k) x at) in
     λ i. cons_option (head i) (rest i)
-
--- numbers in two pieces
-pub live_front : (table : Table) (xs ys : List NameId) → AreLive table (xs ++ ys) → AreLive table xs
-live_front table [] ys live k x at = absurd (none-some x at)
-live_front table (y ∷ xs) ys live zero x at = live 0 x at
-live_front table (y ∷ xs) ys live (suc k) x at = live_front table xs ys (λ j z here. live (suc j) z here) k x at
-
-pub live_back : (table : Table) (xs ys : List NameId) → AreLive table (xs ++ ys) → AreLive table ys
-live_back table [] ys live = live
-live_back table (y ∷ xs) ys live = live_back table xs ys (λ j z here. live (suc j) z here)
 
 -- ---- the first that passes is left out
 
@@ -83,21 +70,7 @@ covered_slots table name (slot ∷ slots) = ap (λ (b : Bool). slot_covered tabl
     step None = refl
     step (Some n) = refl
 
--- ---- the names of slots in pieces
+-- ---- the names of all slots
 
 pub all_slots : (table : Table) (slots : List (Option NameId)) (numbers : List NameId) → numbers_in slots ≡ numbers → AreLive table numbers → slot_names table slots ≡ names_numbered table numbers
 all_slots table slots numbers is live = slots_numbered table slots (subst (AreLive table) (sym is) live) ∙ ap (names_numbered table) is
-
-pub two_pieces : (table : Table) (front back : List (Option NameId)) (numbers : List NameId) → numbers_in front ++ numbers_in back ≡ numbers → AreLive table numbers
-    → slot_names table front ++ (slot_names table back ++ []) ≡ names_numbered table numbers
-two_pieces table front back numbers is live =
-    let all = subst (AreLive table) (sym is) live in
-    let f = slots_numbered table front (live_front table (numbers_in front) (numbers_in back) all) in
-    let b = slots_numbered table back (live_back table (numbers_in front) (numbers_in back) all) in
-    ap (λ (ys : List Values). slot_names table front ++ ys) (append-nil (slot_names table back))
-    ∙ (λ i. f i ++ b i)
-    ∙ sym (map-append (λ (id : NameId). (kept_at table id.0).name) (numbers_in front) (numbers_in back))
-    ∙ ap (names_numbered table) is
-
-pub left_live : (table : Table) (numbers : List NameId) (id : NameId) → AreLive table numbers → AreLive table (without_number (same_id id) numbers)
-left_live table numbers id live k x at = let r = was_there numbers id x k at in live r.0 x r.1

@@ -1,9 +1,9 @@
--- Names and check results as they are kept or as an edit would leave them, and verdicts by them.
-use Rattle.std.specs.Prelude.{◌≡◌, ◌++◌, [], List, if◌then◌else◌}
+-- Names and check results that are lent, and verdicts by them.
+use Rattle.std.specs.Prelude.{◌≡◌, ◌++◌, [], List}
 use Rattle.std.specs.List.{cons_option}
-use Rattle.std.specs.Option.{option_copied, option_map_or}
+use Rattle.std.specs.Option.{option_copied}
 use Rattle.cpe_name.specs.declared.name.Values.{Values}
-use Rattle.cpe_rows.specs.Rows.{Rows, same_key}
+use Rattle.cpe_rows.specs.Rows.{Rows}
 use Rattle.cpe_rows.specs.Verdict.{check_truth, verdict}
 use Rattle.cpe_rows.specs.declared.statement.Mode.TheVariants.{Plain}
 use Rattle.cpe_rows.specs.declared.statement.Statement.{Statement}
@@ -18,12 +18,9 @@ use Rattle.cpe_inventory.specs.declared.results.Results.{Results}
 abbrev pub all_names : Names → List Values
 all_names n = slot_names n.table.now n.front.now ++ (slot_names n.table.now n.back.now ++ cons_option (option_copied n.last) [])
 
--- the truth that an edit gives this key, and else the kept one
-abbrev pub given_truth : List (CheckKey × Truth) → CheckKey → Truth → CheckKey → Truth
-given_truth checks k t key = if same_key key k then t else kept_truth checks key
-
+-- the kept truth
 abbrev pub result_truth : Results → CheckKey → Truth
-result_truth r key = option_map_or (λ g. given_truth r.kept.now g.key.now g.truth key) r.given (kept_truth r.kept.now key)
+result_truth r key = kept_truth r.kept.now key
 
 -- the verdict of a statement in mode plain, in all rows that have these items, and in which checks have these truths
 abbrev pub IsPlainVerdict : List Values → (CheckKey → Truth) → Statement → Truth → Type 0

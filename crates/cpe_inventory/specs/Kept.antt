@@ -1,10 +1,9 @@
 -- What an inventory keeps, and what it says of facts and checks.
 use Rattle.std.specs.Prelude.{◌≡◌, ◌≤◌, ℕ, List, find}
-use Rattle.std.specs.List.{list_any, AllByRecursion}
+use Rattle.std.specs.List.{list_any}
 use Rattle.std.specs.Option.{option_map_or}
 use Rattle.cpe_name.specs.declared.name.Values.{Values}
 use Rattle.cpe_relation.specs.NameRelation.{covers}
-use Rattle.std.specs.Map.{values_of}
 use Rattle.cpe_rows.specs.Rows.{has_key}
 use Rattle.cpe_rows.specs.Limits.{most}
 use Rattle.cpe_rows.specs.Verdict.{truth}
@@ -23,14 +22,6 @@ plain_truth items fact = truth (list_any (covers fact) items)
 abbrev pub kept_truth : List (CheckKey × Truth) → CheckKey → Truth
 kept_truth checks key = option_map_or (λ c. c.1) (find (has_key key) checks) Unknown
 
--- each statement stands by its id
-abbrev pub AreByIds : List (List ℕ × Statement) → Type 0
-AreByIds = AllByRecursion (λ e. e.0 ≡ e.1.id)
-
 -- the number is theirs, and no greater than its limit
 abbrev pub IsCounted : ℕ → List Statement → Type 0
 IsCounted n statements = (n ≡ number_of_facts statements) × (n ≤ most Facts)
-
--- the statements that are kept by their ids
-abbrev pub facts_by_id : List (List ℕ × Statement) → ℕ
-facts_by_id es = number_of_facts (values_of es)

@@ -5,9 +5,9 @@ ghost use Rattle.std.specs.List.{list_any};
 ghost use Rattle.cpe_rows.specs.Prelude.{has_key, with_check, without_first};
 ghost use Rattle.cpe_rows.specs.declared.test.CheckKey.{CheckKey};
 ghost use Rattle.cpe_inventory.specs.Kept.{kept_truth};
-ghost use Rattle.cpe_inventory.specs.Asked.{given_truth, result_truth};
+ghost use Rattle.cpe_inventory.specs.Asked.{result_truth};
 
-use crate::{Given, Results};
+use crate::Results;
 use cpe_rows::{CheckKey, Truth};
 use cpe_values::Memory;
 use indexmap::IndexMap;
@@ -91,17 +91,6 @@ impl Checks {
     pub fn results(&self) -> Results<'_>
         ensures { (key : CheckKey) → result_truth result key ≡ kept_truth self.now key }
     {
-        Results {
-            kept: self,
-            given: None,
-        }
-    }
-
-    /// The results as they stand once that of a key is set to a truth, or dropped, where the truth is [`Truth::Unknown`].
-    pub fn results_with<'c>(&'c self, key: &'c CheckKey, truth: Truth) -> Results<'c>
-        ensures { (other : CheckKey) → result_truth result other ≡ given_truth self.now key.now truth other }
-    {
-        let given = Some(Given { key, truth });
-        Results { kept: self, given }
+        Results { kept: self }
     }
 }

@@ -5,8 +5,7 @@ use crate::{Names, Results};
 use cpe_name::Wfn;
 use cpe_rows::{CheckKey, Facts, Statement, Truth, evaluate};
 
-/// Facts and checks as an inventory has them, or as an edit would leave them, by the names as they stand. Deprecations are not
-/// followed.
+/// Facts and checks as an inventory has them, by the names as they stand. Deprecations are not followed.
 #[derive(Clone, Copy)]
 pub struct PlainFacts<'i> {
     /// What facts are asked of.

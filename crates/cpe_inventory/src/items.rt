@@ -1,19 +1,14 @@
 // The items of an inventory.
-ghost use Rattle.std.specs.Prelude.{◌≡◌, ◌∷◌, ◌++◌, [], IfOk, filter, length, true};
+ghost use Rattle.std.specs.Prelude.{◌≡◌, IfOk, filter, length};
 ghost use Rattle.std.specs.List.{list_any};
 ghost use Rattle.cpe_name.specs.Lower.{IsLower};
 ghost use Rattle.cpe_relation.specs.NameRelation.{covers};
 ghost use Rattle.cpe_rows.specs.Names.{is_same};
-ghost use Rattle.cpe_rows.specs.Prelude.{without_first};
 ghost use Rattle.cpe_steps.specs.Within.{StepsWithin};
-ghost use Rattle.name_index.specs.Table.{kept_at};
-ghost use Rattle.names_in_order.specs.InOrder.{AreInOrder, names_numbered, same_id};
+ghost use Rattle.names_in_order.specs.InOrder.{AreInOrder, names_numbered};
 ghost use Rattle.names_in_order.specs.Places.{near_count};
-ghost use Rattle.cpe_inventory.specs.Asked.{all_names};
 ghost use Rattle.cpe_inventory.specs.Slots.{names_kept};
 
-use crate::names::covers_any;
-use crate::{Names, item_laws};
 use cpe_name::Wfn;
 use cpe_rows::List;
 use cpe_steps::Steps;
@@ -57,60 +52,6 @@ fn names_of(alloc: Global, table: &NameTable, ids: &[NameId]) -> Result<List<Wfn
     Ok(found)
 }
 
-// The names of the slots before that of a number, and of those behind it.
-fn names_around<'n>(table: &'n NameTable, names: &'n ChangingNames, id: NameId) -> Names<'n>
-    requires order { AreInOrder table.now names.now.held names.now.numbers }
-    requires has { list_any (same_id id) names.now.numbers ≡ true }
-    ensures { all_names result ≡ without_first (is_same (kept_at table.now id.0).name) (names_numbered table.now names.now.numbers) }
-{
-    item_laws();
-    table.lawful();
-    let (front, back) = names.around(id);
-    Names {
-        table,
-        front,
-        back,
-        last: None,
-    }
-}
-
-// The names of all slots.
-fn names_by<'n>(table: &'n NameTable, names: &'n ChangingNames) -> Names<'n>
-    requires { AreInOrder table.now names.now.held names.now.numbers }
-    ensures { all_names result ≡ names_numbered table.now names.now.numbers }
-{
-    Names {
-        table,
-        front: names.slots(),
-        back: &[],
-        last: None,
-    }
-}
-
-// The names of all slots, and then a name.
-fn names_and<'n>(table: &'n NameTable, names: &'n ChangingNames, name: &'n Wfn) -> Names<'n>
-    requires { AreInOrder table.now names.now.held names.now.numbers }
-    ensures { all_names result ≡ names_numbered table.now names.now.numbers ++ name.now ∷ [] }
-{
-    Names {
-        table,
-        front: names.slots(),
-        back: &[],
-        last: Some(name),
-    }
-}
-
-// The names of all slots but that of the number of a name, if there is one.
-fn names_but<'n>(table: &'n NameTable, names: &'n ChangingNames, name: &Wfn) -> Names<'n>
-    requires { AreInOrder table.now names.now.held names.now.numbers }
-    ensures { all_names result ≡ without_first (is_same name.now) (names_numbered table.now names.now.numbers) }
-{
-    match names.find(table, name) {
-        Some(id) => names_around(table, names, id),
-        None => names_by(table, names),
-    }
-}
-
 impl<'t> Items<'t> {
     /// Items beside the table of their names.
     pub fn new(table: &'t NameTable, names: &'t ChangingNames) -> Items<'t>
@@ -152,33 +93,5 @@ impl<'t> Items<'t> {
     {
         let ids = self.names.covered(alloc, self.table, name, steps)?;
         names_of(alloc, self.table, &ids)
-    }
-
-    /// Whether a name covers an item (NIST IR 7696). The first that it covers decides. It takes no memory.
-    pub fn is_covered(&self, name: &Wfn) -> bool
-        ensures { result ≡ list_any (covers name.now) self.now }
-    {
-        covers_any(self.table, name, self.names.slots())
-    }
-
-    /// Their names.
-    pub fn names(&self) -> Names<'t>
-        ensures { all_names result ≡ self.now }
-    {
-        names_by(self.table, self.names)
-    }
-
-    /// Their names as they stand once an item of this name is added.
-    pub fn names_with(&self, name: &'t Wfn) -> Names<'t>
-        ensures { all_names result ≡ self.now ++ name.now ∷ [] }
-    {
-        names_and(self.table, self.names, name)
-    }
-
-    /// Their names as they stand once the item of this name is dropped, if there is one.
-    pub fn names_without(&self, name: &Wfn) -> Names<'t>
-        ensures { all_names result ≡ without_first (is_same name.now) self.now }
-    {
-        names_but(self.table, self.names, name)
     }
 }

@@ -1,4 +1,4 @@
-// Names of items, as they are or as an edit would leave them.
+// Names of items.
 ghost use Rattle.std.specs.Prelude.{◌≡◌, false};
 ghost use Rattle.std.specs.List.{list_any};
 ghost use Rattle.std.specs.Option.{option_copied, option_map_or};
@@ -10,8 +10,7 @@ use cpe_name::Wfn;
 use cpe_relation::covers;
 use name_index::{NameId, NameTable};
 
-/// The names of items, as they are or as an edit would leave them: those of the slots in front, those of the slots behind, and then
-/// the last. [`Items`](crate::Items) gives them.
+/// The names of items: those of the slots in front, those of the slots behind, and then the last.
 #[derive(Clone, Copy)]
 pub struct Names<'n> {
     /// The table of the names.
@@ -45,8 +44,8 @@ impl Names<'_> {
     }
 }
 
-/// The name of the number in a slot. A mark has none, and neither has a number that isn't live. It is no step.
-pub fn name_of_slot(table: &NameTable, slot: Option<NameId>) -> Option<&Wfn>
+// The name of the number in a slot. A mark has none, and neither has a number that isn't live. It is no step.
+fn name_of_slot(table: &NameTable, slot: Option<NameId>) -> Option<&Wfn>
     ensures { option_copied result ≡ slot_name table.now slot }
 {
     match slot {
@@ -72,8 +71,8 @@ fn has_covered(table: &NameTable, name: &Wfn, slots: &[Option<NameId>]) -> bool
     slots.iter().any(|slot| covers_slot(table, name, *slot))
 }
 
-/// Whether a name covers that of one of these slots.
-pub(crate) fn covers_any(table: &NameTable, name: &Wfn, slots: &[Option<NameId>]) -> bool
+// Whether a name covers that of one of these slots.
+fn covers_any(table: &NameTable, name: &Wfn, slots: &[Option<NameId>]) -> bool
     ensures { result ≡ list_any (covers name.now) (slot_names table.now slots.now) }
 {
     has_covered(table, name, slots)
