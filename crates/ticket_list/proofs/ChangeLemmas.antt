@@ -1,15 +1,14 @@
 -- What a change of the element of a ticket, or a mark in its place, makes of the slots.
-use Rattle.std.proofs.Common.{◌≡◌, ℕ, zero, suc, ◌+◌, ◌<◌, ◌≤◌, Bool, true, false, not, cond, List, [], ◌∷◌, ◌++◌, length, map, refl, sym, ap, ◌∙◌, arith, subst}
+use Rattle.std.proofs.Common.{◌≡◌, ℕ, zero, suc, ◌+◌, ◌<◌, Bool, true, false, not, cond, List, [], ◌∷◌, ◌++◌, length, map, refl, sym, ap, ◌∙◌, arith, subst}
 use Rattle.std.specs.Prelude.{nat_eq, nat_lt, set, get_or}
 use Rattle.std.specs.List.{AllByRecursion, filter}
 use Rattle.std.proofs.lemmas.Bool.Decides.{nat_tests}
 use Rattle.ticket_list.specs.declared.slots.Slot.{Slot}
 use Rattle.ticket_list.specs.declared.slots.Slot.TheVariants.{Element, Mark}
 use Rattle.ticket_list.specs.Rising.{IsRisingBy}
-use Rattle.ticket_list.specs.TicketList.{has_ticket, with_change, without_ticket}
+use Rattle.ticket_list.specs.TicketList.{with_change, without_ticket}
 use Rattle.ticket_list.specs.Marks.{put_in}
 use Rattle.ticket_list.specs.Slots.{AreSlots, changed_slot, elements, ends_with_element, is_element, marks_from, slot_for, slot_ticket, stands_at, with_element}
-use Rattle.ticket_list.proofs.MarkLemmas.{beyond, up_to}
 use Rattle.ticket_list.proofs.SlotLemmas.{at_or_above, below, ends_with_last, last_marks}
 use Rattle.ticket_list.proofs.RisingLemmas.{rising_last}
 use Rattle.ticket_list.proofs.FoundLemmas.{differs_below, others_behind, others_change, others_without}

@@ -1,12 +1,11 @@
 -- The element of a ticket: its slot, its place, and what it says that there is none.
-use Rattle.std.proofs.Common.{◌≡◌, ℕ, zero, suc, ◌+◌, ◌<◌, ◌≤◌, Bool, true, false, not, cond, List, [], ◌∷◌, length, map, refl, sym, ap, ◌∙◌, arith}
-use Rattle.std.specs.Prelude.{nat_eq, nat_lt, find, position, slice_get, Option, Some, None}
-use Rattle.std.specs.List.{AllByRecursion, filter, position_or_len}
-use Rattle.std.specs.Option.{option_map_or}
+use Rattle.std.proofs.Common.{◌≡◌, ℕ, zero, suc, ◌+◌, ◌<◌, Bool, true, false, not, cond, List, [], ◌∷◌, length, refl, sym, ap, ◌∙◌, arith}
+use Rattle.std.specs.Prelude.{nat_eq, nat_lt, find, position, Some, None}
+use Rattle.std.specs.List.{AllByRecursion, position_or_len}
 use Rattle.std.proofs.lemmas.Bool.Decides.{nat_tests}
 use Rattle.ticket_list.specs.declared.slots.Slot.{Slot}
 use Rattle.ticket_list.specs.declared.slots.Slot.TheVariants.{Element, Mark}
-use Rattle.ticket_list.specs.Rising.{IsRisingBy, front}
+use Rattle.ticket_list.specs.Rising.{IsRisingBy}
 use Rattle.ticket_list.specs.TicketList.{has_ticket, with_change, without_ticket}
 use Rattle.ticket_list.specs.Slots.{element_at, elements, rank, slot_for, slot_ticket, stands_at}
 
@@ -147,3 +146,24 @@ module _ {X : Type 0} (ticket_of : X → ℕ) (t : ℕ) where
   pub place_here : (slots : List (Slot X)) (k n : ℕ) → k ≡ slot_for ticket_of t slots → stands_at ticket_of slots k t ≡ true → n ≡ rank k slots → Some n ≡ position (has_ticket ticket_of t) (elements slots)
   place_here slots k n e h same =
       ap (λ (m : ℕ). Some m) (same ∙ ap (λ (m : ℕ). rank m slots) e) ∙ found_place slots (found_here slots k e h)
+
+  -- an element of the ticket stands nowhere but in its slot
+  same_ticket : (x : ℕ) → nat_eq x t ≡ true → nat_lt x t ≡ false
+  same_ticket x h = grind (arith, nat_tests)
+
+  above_ticket : (n x : ℕ) → n < x → nat_eq x t ≡ true → nat_lt n t ≡ true
+  above_ticket n x lt h = grind (arith, nat_tests)
+
+  stands_above : (n : ℕ) (slots : List (Slot X)) (k : ℕ) → AllByRecursion (λ s. n < slot_ticket ticket_of s) slots → stands_at ticket_of slots k t ≡ true → nat_lt n t ≡ true
+  stands_above n [] k above h = let wrong : false ≡ true = h in absurd (cc)
+  stands_above n (Element x ∷ slots) zero above h = above_ticket n (ticket_of x) above.0 h
+  stands_above n (Mark u ∷ slots) zero above h = let wrong : false ≡ true = h in absurd (cc)
+  stands_above n (slot ∷ slots) (suc k) above h = stands_above n slots k above.1 h
+
+  pub stands_once : (slots : List (Slot X)) (k : ℕ) → IsRisingBy (slot_ticket ticket_of) slots → stands_at ticket_of slots k t ≡ true → k ≡ slot_for ticket_of t slots
+  stands_once [] k rising h = let wrong : false ≡ true = h in absurd (cc)
+  stands_once (Element x ∷ slots) zero rising h = ap (λ (b : Bool). cond b (suc (slot_for ticket_of t slots)) 0) (sym (same_ticket (ticket_of x) h))
+  stands_once (Mark u ∷ slots) zero rising h = let wrong : false ≡ true = h in absurd (cc)
+  stands_once (slot ∷ slots) (suc k) rising h =
+      ap suc (stands_once slots k rising.1 h)
+      ∙ ap (λ (b : Bool). cond b (suc (slot_for ticket_of t slots)) 0) (sym (stands_above (slot_ticket ticket_of slot) slots k rising.0 h))

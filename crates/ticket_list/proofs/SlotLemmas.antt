@@ -1,13 +1,13 @@
 -- Slots and their marks: how many stand before a slot, and where the element of a place stands.
 use Rattle.std.proofs.Common.{◌≡◌, ℕ, zero, suc, ◌+◌, ◌-◌, ◌<◌, ◌≤◌, Bool, true, false, cond, List, [], ◌∷◌, ◌++◌, length, take, refl, sym, ap, ◌∙◌, arith}
-use Rattle.std.specs.Prelude.{nat_le, nat_lt, slice_get, Option, Some, None}
+use Rattle.std.specs.Prelude.{nat_le, nat_lt, slice_get}
 use Rattle.std.specs.List.{AllByRecursion, filter, slice_index_or}
 use Rattle.std.proofs.lemmas.Bool.Decides.{nat_tests}
 use Rattle.ticket_list.specs.declared.slots.Slot.{Slot}
 use Rattle.ticket_list.specs.declared.slots.Slot.TheVariants.{Element, Mark}
-use Rattle.ticket_list.specs.Rising.{IsRisingBy, front}
+use Rattle.ticket_list.specs.Rising.{front}
 use Rattle.ticket_list.specs.Marks.{IsRising}
-use Rattle.ticket_list.specs.Slots.{element_at, elements, ends_with_element, is_element, marks_from, rank, skipped, slot_ticket}
+use Rattle.ticket_list.specs.Slots.{element_at, elements, ends_with_element, is_element, marks_from, rank, skipped}
 use Rattle.ticket_list.proofs.MarkLemmas.{beyond, up_to}
 
 pub at_or_above : (j n : ℕ) → j ≤ n → nat_lt n j ≡ false

@@ -1,5 +1,5 @@
 -- A list of elements with tickets, as contracts see it.
-use Rattle.std.specs.Prelude.{◌≡◌, ℕ, Bool, not, cond, nat_eq, List, map, refl}
+use Rattle.std.specs.Prelude.{ℕ, Bool, not, cond, nat_eq, List, map, refl}
 use Rattle.std.specs.List.{filter}
 use Rattle.std.specs.Coded.{Coded, code_by, coded×, coded_bool, coded_list}
 

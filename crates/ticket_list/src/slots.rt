@@ -66,13 +66,25 @@ fn stands_at<T: Ticketed>(slots: &[Slot<T>], slot: usize, ticket: u64) -> bool
     }
 }
 
-// The slot of the element of a ticket.
+// The slot of a ticket where none is missing between the first one and it.
+fn unbroken_slot<T: Ticketed>(slots: &[Slot<T>], ticket: u64) -> usize {
+    match slots {
+        [] => 0,
+        [first, ..] => ticket.saturating_sub(slot_ticket(first)) as usize,
+    }
+}
+
+// The slot of the element of a ticket. Where no ticket is missing before it, that takes no search.
 pub(crate) fn slot_of<T: Ticketed>(slots: &[Slot<T>], ticket: u64) -> Option<usize>
     requires { IsRisingBy (slot_ticket T.ticket_of) slots.now }
     ensures slot { IfSome result (λ k. k ≡ slot_for T.ticket_of ticket slots.now) }
     ensures stands { IfSome result (λ k. stands_at T.ticket_of slots.now k ticket ≡ true) }
     ensures absent { IfNone result (stands_at T.ticket_of slots.now (slot_for T.ticket_of ticket slots.now) ticket ≡ false) }
 {
+    let unbroken = unbroken_slot(slots, ticket);
+    if stands_at(slots, unbroken, ticket) {
+        return Some(unbroken);
+    }
     let slot = count_below(slots, ticket);
     if stands_at(slots, slot, ticket) {
         Some(slot)

@@ -1,7 +1,6 @@
 use Rattle.std.proofs.Common.{ap, ◌∙◌, sym, subst}
-use Rattle.std.specs.Prelude.{length, true, false}
+use Rattle.std.specs.Prelude.{length}
 use Rattle.ticket_list.specs.Slots.{AreSlots, elements, slot_for, stands_at}
-use Rattle.ticket_list.specs.TicketList.{with_change}
 use Rattle.ticket_list.proofs.FoundLemmas.{absent_others, others_change}
 use Rattle.ticket_list.proofs.ChangeLemmas.{AreSlots-changed, change_length, changed_here}
 use Rattle.ticket_list.proofs.list.change_element.Goals as goal

@@ -1,4 +1,4 @@
-use Rattle.std.proofs.Common.{◌≡◌, ℕ, ◌-◌, List, length, take, arith, ap, ◌∙◌, sym, subst}
+use Rattle.std.proofs.Common.{ℕ, ◌-◌, List, length, take, ap, ◌∙◌, sym, subst}
 use Rattle.ticket_list.specs.Rising.{IsRisingBy}
 use Rattle.ticket_list.specs.Slots.{elements, marks_from, slot_ticket}
 use Rattle.ticket_list.proofs.RisingLemmas.{rising_take}

@@ -1,4 +1,4 @@
-use Rattle.std.proofs.Common.{◌≡◌, ◌+◌, ◌∙◌, ap, arith, sym, subst}
+use Rattle.std.proofs.Common.{◌∙◌, ap, arith, sym, subst}
 use Rattle.std.specs.Prelude.{nat_lt, ℕ, List}
 use Rattle.ticket_list.specs.Rising.{front}
 use Rattle.ticket_list.specs.Marks.{IsRising}

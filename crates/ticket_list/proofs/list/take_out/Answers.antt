@@ -1,8 +1,8 @@
-use Rattle.std.proofs.Common.{◌∙◌, ap, refl, sym, subst}
-use Rattle.std.specs.Prelude.{List, ℕ, filter}
+use Rattle.std.proofs.Common.{◌∙◌, ap, sym, subst}
+use Rattle.std.specs.Prelude.{List, ℕ}
 use Rattle.ticket_list.specs.Rising.{IsRisingBy}
 use Rattle.ticket_list.specs.Marks.{IsRising, put_in}
-use Rattle.ticket_list.specs.Slots.{AreSlots, elements, ends_with_element, is_element, marks_from, slot_ticket}
+use Rattle.ticket_list.specs.Slots.{elements, ends_with_element, marks_from, slot_ticket}
 use Rattle.ticket_list.proofs.SlotLemmas.{closed_elements, closed_ends, closed_marks, marks_rise}
 use Rattle.ticket_list.proofs.FoundLemmas.{element_here}
 use Rattle.ticket_list.proofs.ChangeLemmas.{marked_here, marks_put, rising_closed, rising_marked}

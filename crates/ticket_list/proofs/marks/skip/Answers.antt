@@ -1,8 +1,8 @@
-use Rattle.std.proofs.Common.{rules, ◌≡◌, ◌+◌, ◌<◌, ◌/◌, ◌^◌, ap, arith, sym, subst}
+use Rattle.std.proofs.Common.{rules, ◌≡◌, ◌+◌, ◌<◌, ◌/◌, ◌^◌, sym, subst}
 use Rattle.std.specs.Prelude.{length}
 use Rattle.ticket_list.specs.Marks.{IsRising}
 use Rattle.ticket_list.specs.Slots.{skipped}
-use Rattle.ticket_list.proofs.MarkLemmas.{IsLeft, goes_before, goes_behind}
+use Rattle.ticket_list.proofs.MarkLemmas.{goes_before, goes_behind}
 use Rattle.ticket_list.proofs.marks.skip.Goals as goal
 
 pub loop-rest-preserved-then-mark_at-slot : goal.loop-rest-preserved-then-mark_at-slot

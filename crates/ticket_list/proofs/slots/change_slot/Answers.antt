@@ -1,6 +1,6 @@
-use Rattle.std.proofs.Common.{sym, ap, ◌∙◌}
+use Rattle.std.proofs.Common.{ap, ◌∙◌}
 use Rattle.std.specs.Prelude.{set}
-use Rattle.ticket_list.specs.declared.slots.Slot.TheVariants.{Element, Mark}
+use Rattle.ticket_list.specs.declared.slots.Slot.TheVariants.{Element}
 use Rattle.ticket_list.proofs.ChangeLemmas.{changed_read, kept_read}
 use Rattle.ticket_list.proofs.slots.change_slot.Goals as goal
 
