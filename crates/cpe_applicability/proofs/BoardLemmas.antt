@@ -18,7 +18,6 @@ use Rattle.cpe_applicability.specs.Users.{askers_at, users_at}
 use Rattle.cpe_applicability.specs.Board.{is_used, known, same_mode}
 use Rattle.cpe_applicability.specs.Held.{asks, at_tickets, has_row_id, is_changed, is_plain, refreshed, settled, ticket_of, tickets, truths_by, uses_follow, uses_plain, verdict_now}
 use Rattle.cpe_applicability.specs.Invariant.{IsBoard, judged, one_or_none, part_verdict, state_of}
-use Rattle.cpe_applicability.specs.Told.{check_keys}
 use Rattle.cpe_applicability.specs.Truths.{truth_in}
 use Rattle.cpe_applicability.proofs.EnteringLemmas.{nat_decides}
 use Rattle.cpe_applicability.proofs.RowLemmas.{rising-at_all, rising-map, passing-map, tickets-at_all, length-map, members, still_room}
@@ -79,9 +78,6 @@ module _ (a b : Parts) (h : IsBoard a) (ts : List ℕ)
     judged = subst (AllByRecursion (λ r. r.verdict ≡ part_verdict b r)) (sym rows)
         (all_at_tickets (refreshed (part_verdict b)) (λ r. (r.verdict ≡ part_verdict a r) × (among ts (ticket_of r) ≡ false → part_verdict a r ≡ part_verdict b r)) (λ r. r.verdict ≡ part_verdict b r) ts
         (λ r p. refl) (λ r e p. p.0 ∙ p.1 e) a.rows.items (all_both (λ r. r.verdict ≡ part_verdict a r) (λ r. among ts (ticket_of r) ≡ false → part_verdict a r ≡ part_verdict b r) a.rows.items h.judged cover));
-    keyed = subst (AllByRecursion (λ r. r.held.value.keys.items ≡ check_keys r.held.value.statement.test)) (sym rows)
-        (all_at_tickets (refreshed (part_verdict b)) (λ r. r.held.value.keys.items ≡ check_keys r.held.value.statement.test) (λ r. r.held.value.keys.items ≡ check_keys r.held.value.statement.test) ts
-        (λ r e. e) (λ r no_ e. e) a.rows.items h.keyed);
   }
 
 -- rows that pass are among the tickets
@@ -180,8 +176,6 @@ module _ (a b : Parts) (h : IsBoard a) (rows : b.rows.items ≡ map settled a.ro
     judged = subst (AllByRecursion (λ r. r.verdict ≡ part_verdict b r)) (sym rows)
         (all_map settled (λ r. r.verdict ≡ part_verdict a r) (λ r. r.verdict ≡ part_verdict b r)
         (λ r e. e ∙ sym (λ i. verdict_now (plain i).truths.entries (follow i).truths.entries (results i) r)) a.rows.items h.judged);
-    keyed = subst (AllByRecursion (λ r. r.held.value.keys.items ≡ check_keys r.held.value.statement.test)) (sym rows)
-        (all_map settled (λ r. r.held.value.keys.items ≡ check_keys r.held.value.statement.test) (λ r. r.held.value.keys.items ≡ check_keys r.held.value.statement.test) (λ r e. e) a.rows.items h.keyed);
   }
 
 -- where one truth is replaced, a truth is kept where one was

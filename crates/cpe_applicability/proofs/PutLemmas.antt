@@ -101,7 +101,6 @@ some_is o v e = subst IsSome (sym e) yes_some where
   yes_some = search rules
 
 module _ (a b : Parts) (h : IsBoard a) (given : Mode → ℕ → Truth) (r : Row) (ticket : r.ticket ≡ a.next) (was : r.verdict ≡ r.was) (verdict : r.verdict ≡ part_verdict b r)
-    (keys : r.held.value.keys.items ≡ check_keys r.held.value.statement.test)
     (rows : b.rows.items ≡ a.rows.items ++ r ∷ [])
     (new : tickets (has_row_id r.held.value.statement.id) a.rows.items ≡ [])
     (by_id : (q : List ℕ) → lookup (bytes_eq q) b.by_id.entries ≡ cond (bytes_eq r.held.value.statement.id q) (Some r.ticket) (lookup (bytes_eq q) a.by_id.entries))
@@ -145,8 +144,6 @@ module _ (a b : Parts) (h : IsBoard a) (given : Mode → ℕ → Truth) (r : Row
         (judged_kept a b a.rows.items a.rows.items results
         (λ q used. plain_truths q (ap is_empty (h.plain q) ∙ used)) (λ q used. follow_truths q (ap is_empty (h.follow q) ∙ used))
         (all_used uses_plain a.rows.items) (all_used uses_follow a.rows.items) h.judged) verdict);
-    keyed = subst (AllByRecursion (λ x. x.held.value.keys.items ≡ check_keys x.held.value.statement.test)) (sym rows)
-        (all_last (λ x. x.held.value.keys.items ≡ check_keys x.held.value.statement.test) a.rows.items r h.keyed keys);
   }
 
   own_use : (uses : Row → Bool) → list_any uses a.rows.items ≡ false → list_any uses b.rows.items ≡ true → uses r ≡ true
@@ -197,12 +194,11 @@ IsBoard-same a b h rows by_id plain follow asked plain_truths follow_truths chan
       (judged_kept a b a.rows.items a.rows.items results
       (λ q used. plain_truths q (ap is_empty (h.plain q) ∙ used)) (λ q used. follow_truths q (ap is_empty (h.follow q) ∙ used))
       (all_used uses_plain a.rows.items) (all_used uses_follow a.rows.items) h.judged);
-  keyed = subst (AllByRecursion (λ x. x.held.value.keys.items ≡ check_keys x.held.value.statement.test)) (sym rows) h.keyed;
 }
 
 -- ---- a statement that was entered, and whose row was put last
 
-module _ (a m b : Parts) (h : IsBoard a) (given : Mode → ℕ → Truth) (held : Box Held Global) (keys : held.value.keys.items ≡ check_keys held.value.statement.test)
+module _ (a m b : Parts) (h : IsBoard a) (given : Mode → ℕ → Truth) (held : Box Held Global)
     (fresh_id : list_any (is_of held.value.statement.id) (map judged a.rows.items) ≡ false)
     (same : HasSameRows a m) (ready : IsReady m) (into : IsEntered a m held.value given)
     (rows : b.rows.items ≡ m.rows.items ++ new_row m held ∷ [])
@@ -223,8 +219,8 @@ module _ (a m b : Parts) (h : IsBoard a) (given : Mode → ℕ → Truth) (held 
   follow_are : (q : ℕ) → users_at b.follow.users.entries q ≡ entered (follow_use q held.value) m.next (users_at a.follow.users.entries q)
   follow_are q = ap (λ (f : Facts). users_at f.users.entries q) follow ∙ (into.follow q ∙ ap (λ (t : ℕ). entered (follow_use q held.value) t (users_at a.follow.users.entries q)) (sym same.next))
 
-  asked_are : (key : CheckKey) → askers_at b.askers.entries key ≡ entered (is_asked held.value.keys.items key) m.next (askers_at a.askers.entries key)
-  asked_are key = ap (λ v. askers_at v.entries key) askers ∙ (into.asked key ∙ ap (λ (t : ℕ). entered (is_asked held.value.keys.items key) t (askers_at a.askers.entries key)) (sym same.next))
+  asked_are : (key : CheckKey) → askers_at b.askers.entries key ≡ entered (is_asked (check_keys held.value.statement.test) key) m.next (askers_at a.askers.entries key)
+  asked_are key = ap (λ v. askers_at v.entries key) askers ∙ (into.asked key ∙ ap (λ (t : ℕ). entered (is_asked (check_keys held.value.statement.test) key) t (askers_at a.askers.entries key)) (sym same.next))
 
   plain_truths_are : (q : ℕ) → is_empty (users_at a.plain.users.entries q) ≡ false → lookup (nat_eq q) b.plain.truths.entries ≡ lookup (nat_eq q) a.plain.truths.entries
   plain_truths_are q used = ap (λ (f : Facts). lookup (nat_eq q) f.truths.entries) plain ∙ same.plain_kept q used
@@ -243,12 +239,12 @@ module _ (a m b : Parts) (h : IsBoard a) (given : Mode → ℕ → Truth) (held 
 
   pub board_after_put : IsBoard b
   board_after_put =
-      IsBoard-put a b h given (new_row m held) same.next refl verdict_is keys rows_are (new_id held.value.statement.id a.rows.items fresh_id) ids_are plain_are follow_are asked_are
+      IsBoard-put a b h given (new_row m held) same.next refl verdict_is rows_are (new_id held.value.statement.id a.rows.items fresh_id) ids_are plain_are follow_are asked_are
       plain_truths_are follow_truths_are plain_fresh_are follow_fresh_are (ap (λ v. v.items) changed ∙ same.changed) room_is (results ∙ same.results) (next ∙ ap (λ (n : ℕ). n + 1) same.next)
 
   pub takes_after_put : TakesTruths (state_of a) (state_of b) given
   takes_after_put =
-      takes_given a b h given (new_row m held) same.next refl verdict_is keys rows_are (new_id held.value.statement.id a.rows.items fresh_id) ids_are plain_are follow_are asked_are
+      takes_given a b h given (new_row m held) same.next refl verdict_is rows_are (new_id held.value.statement.id a.rows.items fresh_id) ids_are plain_are follow_are asked_are
       plain_truths_are follow_truths_are plain_fresh_are follow_fresh_are (ap (λ v. v.items) changed ∙ same.changed) room_is (results ∙ same.results) (next ∙ ap (λ (n : ℕ). n + 1) same.next)
 
   pub keeps_after_put : KeepsTruths (state_of a) (state_of b)

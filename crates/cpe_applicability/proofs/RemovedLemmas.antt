@@ -20,7 +20,6 @@ use Rattle.cpe_applicability.specs.Held.{asks, has_row_id, is_changed, is_plain,
 use Rattle.cpe_applicability.specs.Invariant.{IsBoard, one_or_none, part_verdict, state_of}
 use Rattle.cpe_applicability.specs.Tickets.{without}
 use Rattle.ticket_list.specs.Rising.{IsRisingBy}
-use Rattle.cpe_applicability.specs.Told.{check_keys}
 use Rattle.cpe_applicability.specs.Truths.{truth_in, truth_or_unknown}
 use Rattle.cpe_applicability.specs.Users.{askers_at, users_at}
 use Rattle.cpe_applicability.proofs.BoardLemmas.{all_weaker, used_follow, used_plain}
@@ -191,8 +190,6 @@ module _ (a b : Parts) (h : IsBoard a) (k : ℕ) (r : Row) (at : slice_get a.row
         (λ q used. plain_truths q (ap is_empty (still_plain q) ∙ used)) (λ q used. follow_truths q (ap is_empty (still_follow q) ∙ used))
         (all_used uses_plain b.rows.items) (all_used uses_follow b.rows.items)
         (subst (AllByRecursion (λ r. r.verdict ≡ part_verdict a r)) (sym rows) (all_removed (λ r. r.verdict ≡ part_verdict a r) k a.rows.items h.judged));
-    keyed = subst (AllByRecursion (λ r. r.held.value.keys.items ≡ check_keys r.held.value.statement.test)) (sym rows)
-        (all_removed (λ r. r.held.value.keys.items ≡ check_keys r.held.value.statement.test) k a.rows.items h.keyed);
   }
 
 -- ---- the list without the first that passes

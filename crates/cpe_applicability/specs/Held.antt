@@ -14,7 +14,7 @@ use Rattle.cpe_applicability.specs.Entering.{among, is_asked}
 use Rattle.ticket_list.specs.TicketList.{has_ticket}
 use Rattle.cpe_inventory.specs.Kept.{kept_truth}
 use Rattle.cpe_applicability.specs.Tickets.{first_place, put_in, without}
-use Rattle.cpe_applicability.specs.Told.{told}
+use Rattle.cpe_applicability.specs.Told.{check_keys, told}
 use Rattle.cpe_applicability.specs.Truths.{truth_in}
 
 abbrev pub truths_by : Mode → List (ℕ × Truth) → List (ℕ × Truth) → List (ℕ × Truth)
@@ -56,7 +56,7 @@ uses_follow id r = follow_use id r.held.value
 
 -- the row asks for the check
 abbrev pub asks : CheckKey → Row → Bool
-asks key r = is_asked r.held.value.keys.items key
+asks key r = is_asked (check_keys r.held.value.statement.test) key
 
 -- the tickets of those that pass
 abbrev pub tickets : (Row → Bool) → List Row → List ℕ

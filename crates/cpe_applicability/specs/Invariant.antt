@@ -47,9 +47,8 @@ pub record IsBoard (b : Parts) : Type 0 where
   pub follow_kept : (q : ℕ) → is_empty (users_at b.follow.users.entries q) ≡ false → IsSome (lookup (nat_eq q) b.follow.truths.entries)
   pub changed : b.changed.items ≡ tickets is_changed b.rows.items
   pub room : length b.rows.items ≤ vec_capacity b.changed
-  -- each row has its verdict, and the keys of its test
+  -- each row has its verdict
   pub judged : AllByRecursion (λ r. r.verdict ≡ part_verdict b r) b.rows.items
-  pub keyed : AllByRecursion (λ r. r.held.value.keys.items ≡ check_keys r.held.value.statement.test) b.rows.items
 
 -- there is room for one row more
 pub record IsReady (b : Parts) : Type 0 where
@@ -81,7 +80,7 @@ pub record HasSameUsers (a b : Parts) : Type 0 where
 pub record IsEntered (a b : Parts) (h : Held) (given : Mode → ℕ → Truth) : Type 0 where
   pub plain : (q : ℕ) → users_at b.plain.users.entries q ≡ entered (plain_use q h) a.next (users_at a.plain.users.entries q)
   pub follow : (q : ℕ) → users_at b.follow.users.entries q ≡ entered (follow_use q h) a.next (users_at a.follow.users.entries q)
-  pub asked : (k : CheckKey) → askers_at b.askers.entries k ≡ entered (is_asked h.keys.items k) a.next (askers_at a.askers.entries k)
+  pub asked : (k : CheckKey) → askers_at b.askers.entries k ≡ entered (is_asked (check_keys h.statement.test) k) a.next (askers_at a.askers.entries k)
   pub plain_fresh : (q : ℕ) → plain_use q h ≡ true → is_empty (users_at a.plain.users.entries q) ≡ true → lookup (nat_eq q) b.plain.truths.entries ≡ Some (given Plain q)
   pub follow_fresh : (q : ℕ) → follow_use q h ≡ true → is_empty (users_at a.follow.users.entries q) ≡ true → lookup (nat_eq q) b.follow.truths.entries ≡ Some (given Follow q)
 

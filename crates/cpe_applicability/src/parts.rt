@@ -15,7 +15,6 @@ ghost use Rattle.cpe_applicability.specs.Held.{has_row_id, is_changed};
 ghost use Rattle.cpe_applicability.specs.Entering.{left_out};
 ghost use Rattle.cpe_applicability.specs.Tickets.{IsRising};
 ghost use Rattle.cpe_applicability.specs.Invariant.{HasSameRows, HasSameUsers, IsBoard, IsEntered, IsReady, new_row, state_of};
-ghost use Rattle.cpe_applicability.specs.Told.{check_keys};
 ghost use Rattle.std.specs.HashMap.{spare};
 
 use crate::askers::askers_of;
@@ -444,7 +443,6 @@ impl Parts {
     ) -> Result<(), Memory>
         requires board { IsBoard self.old }
         requires new { list_any (is_of held.value.statement.id) (state_of self.old).rows ≡ false }
-        requires keys { held.value.keys.items ≡ check_keys held.value.statement.test }
         ensures board { IsBoard self.new }
         ensures ok { OnOk result ((state_of self.new).rows ≡ (state_of self.old).rows ++ put_row (state_of self.new) held.value.statement held.value.ids.items ∷ []) }
         ensures err { OnErr result ((state_of self.new).rows ≡ (state_of self.old).rows) }

@@ -1,14 +1,13 @@
-// A statement that is held, with the numbers and keys that its test asks.
+// A statement that is held, with the numbers of its fact references.
 
-use cpe_rows::{CheckKey, Statement, Truth};
+use cpe_rows::{Statement, Truth};
 use ticket_list::{Change, Ticketed};
 
-// A statement, the numbers of its fact references and the keys of its check references.
+// A statement, and the numbers of its fact references.
 #[derive(Drop)]
 pub(crate) struct Held {
     pub(crate) statement: Statement,
     pub(crate) ids: Vec<u32>,
-    pub(crate) keys: Vec<CheckKey>,
 }
 
 // What is held, its verdict, and the one that callers know. Tickets rise from row to row.

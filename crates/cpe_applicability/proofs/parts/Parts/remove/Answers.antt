@@ -8,6 +8,7 @@ use Rattle.cpe_applicability.specs.declared.row.Row.{Row}
 use Rattle.cpe_applicability.specs.Entering.{is_asked, left_out}
 use Rattle.cpe_applicability.specs.Held.{asks, follow_use, is_changed, plain_use, ticket_of, uses_follow, uses_plain}
 use Rattle.cpe_applicability.specs.Tickets.{IsRising}
+use Rattle.cpe_applicability.specs.Told.{check_keys}
 use Rattle.cpe_applicability.specs.Users.{askers_at, users_at}
 use Rattle.cpe_applicability.proofs.RowLemmas.{rising-filter}
 use Rattle.cpe_applicability.proofs.RemovedLemmas.{IsBoard-removed, keeps_used}
@@ -39,7 +40,7 @@ returns-clause-board c =
     (λ q. c.forget_id.ensures q ∙ ap (λ (h : Held). cond (bytes_eq h.statement.id q) None (lookup (bytes_eq q) a.by_id.entries)) c.deref.ensures)
     (λ q. c.leave_held.ensures.plain_users q ∙ ap (λ (h : Held). left_out (plain_use q h) r.ticket (users_at a.plain.users.entries q)) c.deref-2.ensures)
     (λ q. c.leave_held.ensures.follow_users q ∙ ap (λ (h : Held). left_out (follow_use q h) r.ticket (users_at a.follow.users.entries q)) c.deref-2.ensures)
-    (λ q. c.leave_held.ensures.asked q ∙ ap (λ (h : Held). left_out (is_asked h.keys.items q) r.ticket (askers_at a.askers.entries q)) c.deref-2.ensures)
+    (λ q. c.leave_held.ensures.asked q ∙ ap (λ (h : Held). left_out (is_asked (check_keys h.statement.test) q) r.ticket (askers_at a.askers.entries q)) c.deref-2.ensures)
     c.leave_held.ensures.plain_kept c.leave_held.ensures.follow_kept c.strike.ensures.items c.strike.ensures.capacity refl refl
 
 pub returns-clause-truths : goal.returns-clause-truths
