@@ -58,7 +58,7 @@ judge() {
 }
 
 # answers_sessions WHAT: of a text that comes in, the sessions, in lines that are indented by four spaces: what stands behind a
-# dollar sign is run, and the lines below it are what it writes.
+# dollar sign is run, and the lines below it are what it writes. An empty line between two of these is one of them.
 answers_sessions() {
     what=$1
     needs "$what" awk || return
@@ -67,15 +67,16 @@ answers_sessions() {
     chmod +x "$room/bin/cpe"
     awk -v sent="$room/sent" -v wanted="$room/wanted" '
         BEGIN { printf "" > sent; printf "" > wanted }
-        !/^    / { is_session = 0; next }
+        /^$/ { empty++; next }
+        !/^    / { is_session = empty = 0; next }
         { text = substr($0, 5) }
         is_input { print text > sent; if (text == "END") is_input = 0; next }
-        text ~ /^\$ / { is_session = 1; is_input = text ~ /<</; print substr(text, 3) > sent; next }
-        is_session { print text > wanted }
+        text ~ /^\$ / { is_session = 1; empty = 0; is_input = text ~ /<</; print substr(text, 3) > sent; next }
+        is_session { for (; empty > 0; empty--) print "" > wanted; print text > wanted }
         END { print "true" > sent }'
     (PATH="$room/bin:$PATH" limited sh "$room/sent") > "$room/out" 2> "$room/error"
     status=$?
-    grep -c -e '^cpe ' -e '| cpe ' -e 'sh recipes/' "$room/sent" > "$room/count"
+    grep -c -e '^cpe ' -e '| cpe ' -e 'sh recipes/' -e 'python3 ' "$room/sent" > "$room/count"
     judge "$what, $(cat "$room/count") of them" "$status" 0 "$room/wanted"
 }
 

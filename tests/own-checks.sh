@@ -170,6 +170,52 @@ answers_usage() {
     answers 'half of a command' examples/names.txt "$room/usage.out" 2 bind
 }
 
+# answers_pages PAGE..: the sessions of each page, where it has any. Those of a page that calls Python need it.
+answers_pages() {
+    for page in "$@"; do
+        grep -q '^    \$ ' "$page" || continue
+        what="the sessions of $page"
+        if grep -q '^    .*python3' "$page"; then needs "$what" python3 || continue; fi
+        answers_sessions "$what" < "$page"
+    done
+}
+
+# answers_table PAGE: its table of words, of which each row has what is given and what is written then, or the first lines of
+# it where two dots stand behind them.
+answers_table() {
+    what="the table of words in $1"
+    needs "$what" awk || return
+    rm -f "$room"/row.*
+    awk -v room="$room" '
+        function lines(cell, file) {
+            sub(/ \|$/, "", cell)
+            if (sub(/<br>\.\.$/, "", cell)) print "first" > (file ".part")
+            gsub(/`<br>`/, "\n", cell)
+            gsub(/`/, "", cell)
+            if (cell != "nothing") print cell > file
+            else printf "" > file
+        }
+        /^## / { is_table = $0 == "## The words" }
+        is_table && /^\| `/ {
+            row = room "/row." (10 + count++)
+            split($0, cell, " \\| ")
+            sub(/^\| /, "", cell[1])
+            lines(cell[1], row)
+            lines(cell[3], row ".given")
+            lines(cell[4], row ".writes")
+        }' "$1"
+    for row in "$room"/row.??; do
+        # shellcheck disable=SC2046 # a word each
+        limited "$program" $(cat "$row") < "$row.given" > "$room/out" 2> "$room/error"
+        status=$?
+        if [ -f "$row.writes.part" ]; then
+            head -n "$(wc -l < "$row.writes")" "$room/out" > "$room/part"
+            mv "$room/part" "$room/out"
+        fi
+        judge "$what: $(cat "$row")" "$status" 0 "$row.writes"
+    done
+}
+
 # answers_at_once INPUT OUTPUT STATUS WORD..: of two lines the next is sent only when the answer to the one before is there.
 # A table comes behind the last.
 answers_at_once() {
@@ -1266,7 +1312,8 @@ answers_vectors bind-fs bind fs
 answers_vectors bind-uri bind uri
 answers_vectors compare compare
 answers_usage
-answers_sessions 'the sessions of the README' < README.md
+answers_pages README.md docs/*.md
+answers_table README.md
 answers_at_once examples/names.txt examples/names.out 0 unbind
 each answers_at_volume
 fails_on_a_full_device examples/names.txt unbind
