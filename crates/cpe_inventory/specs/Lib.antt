@@ -1,3 +1,4 @@
 pub mod Kept
 pub mod Slots
 pub mod Asked
+pub mod Results

@@ -1,10 +1,11 @@
 use Rattle.std.proofs.Common.{◌∙◌, ap}
 use Rattle.std.specs.List.{list_any}
-use Rattle.cpe_rows.specs.Rows.{same_key, has_key}
-use Rattle.cpe_inventory.proofs.KeptLemmas.{there_by_key}
+use Rattle.cpe_rows.specs.Rows.{has_key}
+use Rattle.cpe_inventory.proofs.ResultLemmas.{has_by_key}
 use Rattle.cpe_inventory.proofs.checks.Checks.has.Goals as goal
 
 pub returns : goal.returns
 returns c =
-    c.contains_key.ensures ∙ (there_by_key (same_key c.args.key.now) c.self.inside.results.entries
-    ∙ ap (list_any (has_key c.args.key.now)) c.self.view_is)
+    let s = c.self.inside in
+    let key = c.args.key.now in
+    c.contains_key.ensures ∙ (has_by_key s.results.items s.by_key.entries s.next c.self.invariant key ∙ ap (list_any (has_key key)) c.self.view_is)

@@ -1,17 +1,44 @@
-use Rattle.std.proofs.Common.{◌∙◌, ap}
-use Rattle.std.specs.Prelude.{is_some}
+use Rattle.std.proofs.Common.{ap, is_some, subst, sym, ◌∙◌, List, map}
 use Rattle.std.specs.List.{list_any}
-use Rattle.cpe_rows.specs.Rows.{same_key, has_key}
+use Rattle.cpe_rows.specs.Rows.{has_key}
 use Rattle.cpe_rows.specs.After.{without_first}
-use Rattle.cpe_inventory.proofs.KeptLemmas.{there_by_key, removed_by_key}
+use Rattle.cpe_inventory.specs.Results.{AreKept, seen}
+use Rattle.cpe_inventory.specs.declared.kept.KeptResult.{KeptResult}
+use Rattle.cpe_inventory.proofs.ResultLemmas.{AreKept-left, has_by_key, left_by_ticket, left_whole}
 use Rattle.cpe_inventory.proofs.checks.Checks.remove.Goals as goal
 
-pub returns-clause-found : goal.returns-clause-found
-returns-clause-found c =
-    let there = there_by_key (same_key c.args.key.now) c.self.inside.results.entries in
-    c.is_some.ensures ∙ (ap is_some c.shift_remove.ensures.value ∙ (there ∙ ap (list_any (has_key c.args.key.now)) c.self.view_is))
+pub invariant_of-self : goal.invariant_of-self
+invariant_of-self c =
+    let s = c.self.inside in
+    let key = c.args.key.now in
+    let entries = c.forget.new.by_key.entries in
+    subst (λ (rs : List KeptResult). AreKept rs entries s.next) (sym c.take_out.ensures.results)
+    (AreKept-left key s.results.items s.by_key.entries entries s.next c.self.invariant c.forget.ensures.left c.in-Some.ticket c.take_out.ensures.rising (sym c.in-Some.ensures.ticket))
 
-pub returns-clause-results : goal.returns-clause-results
-returns-clause-results c =
-    let removed = removed_by_key (same_key c.args.key.now) c.self.inside.results.entries in
-    c.shift_remove.ensures.entries ∙ (removed ∙ ap (without_first (has_key c.args.key.now)) c.self.view_is)
+pub returns-in-Some-clause-found : goal.returns-in-Some-clause-found
+returns-in-Some-clause-found c =
+    let s = c.self.inside in
+    let key = c.args.key.now in
+    ap is_some c.in-Some.ensures.ticket
+    ∙ (has_by_key s.results.items s.by_key.entries s.next c.self.invariant key ∙ ap (list_any (has_key key)) c.self.view_is)
+
+pub returns-in-Some-clause-results : goal.returns-in-Some-clause-results
+returns-in-Some-clause-results c =
+    let s = c.self.inside in
+    let key = c.args.key.now in
+    ap (λ (rs : List KeptResult). map seen rs) c.take_out.ensures.results
+    ∙ (left_by_ticket s.results.items s.by_key.entries s.next c.self.invariant key c.in-Some.ticket c.take_out.ensures.rising (sym c.in-Some.ensures.ticket)
+    ∙ ap (without_first (has_key key)) c.self.view_is)
+
+pub returns-in-None-clause-found : goal.returns-in-None-clause-found
+returns-in-None-clause-found c =
+    let s = c.self.inside in
+    let key = c.args.key.now in
+    ap is_some c.in-None.ensures.ticket
+    ∙ (has_by_key s.results.items s.by_key.entries s.next c.self.invariant key ∙ ap (list_any (has_key key)) c.self.view_is)
+
+pub returns-in-None-clause-results : goal.returns-in-None-clause-results
+returns-in-None-clause-results c =
+    let s = c.self.inside in
+    let key = c.args.key.now in
+    left_whole s.results.items s.by_key.entries s.next c.self.invariant key (sym c.in-None.ensures.ticket) ∙ ap (without_first (has_key key)) c.self.view_is

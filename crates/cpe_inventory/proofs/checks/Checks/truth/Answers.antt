@@ -1,14 +1,18 @@
-use Rattle.std.proofs.Common.{◌∙◌, ap}
+use Rattle.std.proofs.Common.{◌∙◌, ap, sym}
 use Rattle.cpe_inventory.specs.Kept.{kept_truth}
-use Rattle.cpe_inventory.proofs.KeptLemmas.{truth_found, truth_absent}
+use Rattle.cpe_inventory.proofs.ResultLemmas.{truth_by_ticket, truth_unknown}
 use Rattle.cpe_inventory.proofs.checks.Checks.truth.Goals as goal
 
 pub returns-in-Some : goal.returns-in-Some
 returns-in-Some c =
-    truth_found c.args.key.now c.in-Some.result.now c.self.inside.results.entries c.in-Some.ensures.value
-    ∙ ap (λ cs. kept_truth cs c.args.key.now) c.self.view_is
+    let s = c.self.inside in
+    let key = c.args.key.now in
+    c.truth_of.ensures.truth
+    ∙ (truth_by_ticket s.results.items s.by_key.entries s.next c.self.invariant key c.in-Some.ticket c.truth_of.ensures.rising (sym c.in-Some.ensures)
+    ∙ ap (λ cs. kept_truth cs key) c.self.view_is)
 
 pub returns-in-None : goal.returns-in-None
 returns-in-None c =
-    truth_absent c.args.key.now c.self.inside.results.entries c.in-None.ensures.value
-    ∙ ap (λ cs. kept_truth cs c.args.key.now) c.self.view_is
+    let s = c.self.inside in
+    let key = c.args.key.now in
+    truth_unknown s.results.items s.by_key.entries s.next c.self.invariant key (sym c.in-None.ensures) ∙ ap (λ cs. kept_truth cs key) c.self.view_is
