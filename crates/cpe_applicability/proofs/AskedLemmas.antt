@@ -1,19 +1,22 @@
 -- A ticket that is entered for the checks of a test, one after the other, and taken out again.
-use Rattle.std.proofs.Common.{◌≡◌, ℕ, zero, suc, ◌+◌, ◌<◌, ◌≤◌, ◌||◌, Bool, true, false, cond, List, [], ◌∷◌, ◌++◌, length, map, take, get_or, refl, sym, ap, ◌∙◌, arith}
-use Rattle.std.specs.List.{flat_map}
+use Rattle.std.proofs.Common.{◌≡◌, ℕ, zero, suc, ◌+◌, ◌<◌, ◌≤◌, ◌||◌, ◌&&◌, Bool, true, false, cond, List, [], ◌∷◌, ◌++◌, length, map, take, get_or, refl, sym, ap, ◌∙◌, arith}
+use Rattle.std.specs.Prelude.{slice_get, Some, None}
+use Rattle.std.specs.List.{flat_map, list_all}
 use Rattle.std.proofs.lemmas.List.{take_more}
-use Rattle.std.proofs.lemmas.List.Folds.{list_any-append}
+use Rattle.std.proofs.lemmas.List.Folds.{list_all-append, list_any-append}
 use Rattle.cpe_rows.specs.Rows.{same_key}
 use Rattle.cpe_rows.specs.declared.test.CheckKey.{CheckKey}
 use Rattle.cpe_rows.specs.Shape.{depth_of, largest}
 use Rattle.cpe_rows.specs.declared.test.Operator.{Operator}
 use Rattle.cpe_rows.specs.declared.test.Test.{Test, Logic}
 use Rattle.cpe_rows.proofs.Within.{depth-logic}
+use Rattle.cpe_applicability.specs.ByResult.{asks_one}
 use Rattle.cpe_applicability.specs.Entering.{entered, entered_once, is_asked, left_out}
 use Rattle.cpe_applicability.specs.Tickets.{IsBelow, ends_with, with_last}
 use Rattle.cpe_applicability.specs.Told.{check_keys}
 use Rattle.cpe_applicability.proofs.EnteringLemmas.{last-again, last-new, without-twice}
 use Rattle.cpe_applicability.proofs.UndoLemmas.{not_last}
+use Rattle.cpe_applicability.proofs.VerdictLemmas.{key_same}
 
 last_twice : (t : ℕ) (xs : List ℕ) → with_last t (with_last t xs) ≡ with_last t xs
 last_twice t xs = go (ends_with t xs) refl where
@@ -38,24 +41,26 @@ entered_new false t xs h = refl
 
 -- ---- the checks of the children of a test
 
+append_none : (ks : List CheckKey) → ks ++ [] ≡ ks
+append_none [] = refl
+append_none (k ∷ ks) = ap (λ (u : List CheckKey). k ∷ u) (append_none ks)
+
+append_three : (xs bs cs : List CheckKey) → xs ++ (bs ++ cs) ≡ (xs ++ bs) ++ cs
+append_three [] bs cs = refl
+append_three (x ∷ xs) bs cs = ap (λ (u : List CheckKey). x ∷ u) (append_three xs bs cs)
+
+keys_last : (ts : List Test) (t : Test) → flat_map check_keys (ts ++ t ∷ []) ≡ flat_map check_keys ts ++ check_keys t
+keys_last [] t = append_none (check_keys t)
+keys_last (u ∷ ts) t = ap (λ (ks : List CheckKey). check_keys u ++ ks) (keys_last ts t) ∙ append_three (check_keys u) (flat_map check_keys ts) (check_keys t)
+
+keys_more : (of : List Test) (i : ℕ) (d : Test) → i < length of → flat_map check_keys (take (i + 1) of) ≡ flat_map check_keys (take i of) ++ check_keys (get_or of i d)
+keys_more of i d lt = ap (flat_map check_keys) (take_more of i d lt) ∙ keys_last (take i of) (get_or of i d)
+
 pub asked_more : (of : List Test) (i : ℕ) (d : Test) (q : CheckKey) → i < length of
     → is_asked (flat_map check_keys (take (i + 1) of)) q ≡ (is_asked (flat_map check_keys (take i of)) q || is_asked (check_keys (get_or of i d)) q)
 asked_more of i d q lt =
-    ap (λ (ts : List Test). is_asked (flat_map check_keys ts) q) (take_more of i d lt)
-    ∙ (ap (λ (ks : List CheckKey). is_asked ks q) (flat_last (take i of) (get_or of i d))
-    ∙ list_any-append (λ key. same_key key q) (flat_map check_keys (take i of)) (check_keys (get_or of i d)))
-  where
-    append_none : (ks : List CheckKey) → ks ++ [] ≡ ks
-    append_none [] = refl
-    append_none (k ∷ ks) = ap (λ (u : List CheckKey). k ∷ u) (append_none ks)
-
-    append_three : (xs bs cs : List CheckKey) → xs ++ (bs ++ cs) ≡ (xs ++ bs) ++ cs
-    append_three [] bs cs = refl
-    append_three (x ∷ xs) bs cs = ap (λ (u : List CheckKey). x ∷ u) (append_three xs bs cs)
-
-    flat_last : (ts : List Test) (t : Test) → flat_map check_keys (ts ++ t ∷ []) ≡ flat_map check_keys ts ++ check_keys t
-    flat_last [] t = append_none (check_keys t)
-    flat_last (u ∷ ts) t = ap (λ (ks : List CheckKey). check_keys u ++ ks) (flat_last ts t) ∙ append_three (check_keys u) (flat_map check_keys ts) (check_keys t)
+    ap (λ (ks : List CheckKey). is_asked ks q) (keys_more of i d lt)
+    ∙ list_any-append (λ key. same_key key q) (flat_map check_keys (take i of)) (check_keys (get_or of i d))
 
 asked_front : (of : List Test) (k : ℕ) (q : CheckKey) → is_asked (flat_map check_keys (take k of)) q ≡ true → is_asked (flat_map check_keys of) q ≡ true
 asked_front of zero q h = absurd (let wrong : false ≡ true = h in cc)
@@ -88,3 +93,56 @@ child_depth (t ∷ of) (suc i) d lt = let more = child_depth of i d (omega (arit
 
 pub depth_falls : (operator : Operator) (negate : Bool) (of : List Test) (i : ℕ) (d : Test) → i < length of → depth_of (get_or of i d) < depth_of (Logic operator negate of)
 depth_falls operator negate of i d lt = omega (arith, depth-logic operator negate of, child_depth of i d lt)
+
+-- ---- the first check that is asked for, and whether it is the only one
+
+pub none_first : (ks : List CheckKey) → slice_get ks 0 ≡ None → ks ≡ []
+none_first [] h = refl
+none_first (k ∷ ks) h = let wrong : ⊥ = cc in absurd wrong
+
+-- where none stands in front, and none in the next, none stands up to it
+pub none_more : (of : List Test) (i : ℕ) (d : Test) → i < length of → flat_map check_keys (take i of) ≡ [] → check_keys (get_or of i d) ≡ []
+    → flat_map check_keys (take (i + 1) of) ≡ []
+none_more of i d lt front next = keys_more of i d lt ∙ (λ j. front j ++ next j)
+
+-- where none stands in front, the first of the next is the first of all
+pub first_next : (of : List Test) (i : ℕ) (d : Test) (k : CheckKey) → i < length of → flat_map check_keys (take i of) ≡ [] → Some k ≡ slice_get (check_keys (get_or of i d)) 0
+    → Some k ≡ slice_get (flat_map check_keys of) 0
+first_next [] i d k lt front next = absurd (omega (arith, lt))
+first_next (t ∷ of) zero d k lt front next = go (check_keys t) next where
+  go : (ks : List CheckKey) → Some k ≡ slice_get ks 0 → Some k ≡ slice_get (ks ++ flat_map check_keys of) 0
+  go [] h = let wrong : ⊥ = cc in absurd wrong
+  go (x ∷ ks) h = h
+first_next (t ∷ of) (suc i) d k lt front next = go (check_keys t) front (λ h. first_next of i d k (omega (arith, lt)) h next) where
+  go : (ks : List CheckKey) → ks ++ flat_map check_keys (take i of) ≡ [] → (flat_map check_keys (take i of) ≡ [] → Some k ≡ slice_get (flat_map check_keys of) 0)
+      → Some k ≡ slice_get (ks ++ flat_map check_keys of) 0
+  go [] h more = more h
+  go (x ∷ ks) h more = let wrong : ⊥ = cc in absurd wrong
+
+pub all_more : (p : CheckKey → Bool) (of : List Test) (i : ℕ) (d : Test) → i < length of → list_all p (flat_map check_keys (take i of)) ≡ true → list_all p (check_keys (get_or of i d)) ≡ true
+    → list_all p (flat_map check_keys (take (i + 1) of)) ≡ true
+all_more p of i d lt front next =
+    ap (list_all p) (keys_more of i d lt)
+    ∙ list_all-append p (flat_map check_keys (take i of)) (check_keys (get_or of i d))
+    ∙ (λ j. front j && next j)
+
+pub all_fail : (p : CheckKey → Bool) (of : List Test) (i : ℕ) (d : Test) → i < length of → list_all p (check_keys (get_or of i d)) ≡ false → list_all p (flat_map check_keys of) ≡ false
+all_fail p [] i d lt next = absurd (omega (arith, lt))
+all_fail p (t ∷ of) zero d lt next = list_all-append p (check_keys t) (flat_map check_keys of) ∙ ap (λ (b : Bool). b && list_all p (flat_map check_keys of)) next
+all_fail p (t ∷ of) (suc i) d lt next =
+    list_all-append p (check_keys t) (flat_map check_keys of) ∙ go (list_all p (check_keys t)) (all_fail p of i d (omega (arith, lt)) next)
+  where
+    go : (b : Bool) → list_all p (flat_map check_keys of) ≡ false → (b && list_all p (flat_map check_keys of)) ≡ false
+    go true h = h
+    go false h = refl
+
+-- the first is like itself
+pub one_of_all : (ks : List CheckKey) (k : CheckKey) → Some k ≡ slice_get ks 0 → list_all (same_key k) ks ≡ asks_one ks
+one_of_all [] k h = let wrong : ⊥ = cc in absurd wrong
+one_of_all (x ∷ ks) k h =
+    let is : k ≡ x = cc in
+    ap (λ (y : CheckKey). list_all (same_key y) (x ∷ ks)) is ∙ ap (λ (b : Bool). b && list_all (same_key x) ks) (key_same x)
+
+pub none_of_all : (ks : List CheckKey) → None ≡ slice_get ks 0 → false ≡ asks_one ks
+none_of_all [] h = refl
+none_of_all (x ∷ ks) h = let wrong : ⊥ = cc in absurd wrong

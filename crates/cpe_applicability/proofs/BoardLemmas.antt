@@ -7,27 +7,33 @@ use Rattle.std.specs.Str.{bytes_eq}
 use Rattle.cpe_rows.specs.Truth.{same_truth}
 use Rattle.cpe_rows.specs.declared.truth.Truth.{Truth}
 use Rattle.cpe_rows.specs.declared.truth.Truth.TheVariants.{True, False, Error, Unknown}
+use Rattle.cpe_rows.specs.declared.test.CheckKey.{CheckKey}
 use Rattle.cpe_rows.specs.declared.statement.Mode.{Mode}
 use Rattle.cpe_rows.specs.declared.statement.Mode.TheVariants.{Plain, Follow}
 use Rattle.cpe_applicability.specs.declared.facts.Facts.{Facts}
 use Rattle.cpe_applicability.specs.declared.parts.Parts.{Parts}
 use Rattle.cpe_applicability.specs.declared.row.Row.{Row}
 use Rattle.ticket_list.specs.Rising.{IsRisingBy}
+use Rattle.cpe_applicability.specs.declared.by_result.ByResult.{ByResult}
+use Rattle.cpe_applicability.specs.declared.row.Cause.{Cause}
+use Rattle.cpe_applicability.specs.declared.row.Cause.TheVariants.{Check, Fact}
+use Rattle.cpe_applicability.specs.ByResult.{asks_one}
 use Rattle.cpe_applicability.specs.Entering.{among, is_empty}
 use Rattle.cpe_applicability.specs.Users.{askers_at, users_at}
 use Rattle.cpe_applicability.specs.Board.{is_used, known, same_mode}
-use Rattle.cpe_applicability.specs.Held.{asks, at_tickets, has_row_id, is_changed, is_plain, refreshed, settled, ticket_of, tickets, truths_by, uses_follow, uses_plain, verdict_now}
-use Rattle.cpe_applicability.specs.Invariant.{IsBoard, judged, one_or_none, part_verdict, state_of}
+use Rattle.cpe_applicability.specs.Held.{anew, asks, at_tickets, each_verdict, has_row_id, is_changed, is_plain, settled, ticket_of, tickets, truths_by, uses_follow, uses_plain, verdict_after, verdict_now}
+use Rattle.cpe_applicability.specs.Invariant.{IsBoard, TellsEach, judged, one_or_none, part_verdict, state_of}
+use Rattle.cpe_applicability.specs.Told.{check_keys}
 use Rattle.cpe_applicability.specs.Truths.{truth_in}
 use Rattle.cpe_applicability.proofs.EnteringLemmas.{nat_decides}
 use Rattle.cpe_applicability.proofs.RowLemmas.{rising-at_all, rising-map, passing-map, tickets-at_all, length-map, members, still_room}
 
-module _ (f : Row → Row) (P Q : Row → Type 0) (ts : List ℕ) (here : (r : Row) → P r → Q (f r)) (else_ : (r : Row) → among ts (ticket_of r) ≡ false → P r → Q r) where
+module _ (f : Row → Row) (P Q : Row → Type 0) (ts : List ℕ) (here : (r : Row) → among ts (ticket_of r) ≡ true → P r → Q (f r)) (else_ : (r : Row) → among ts (ticket_of r) ≡ false → P r → Q r) where
   pub all_at_tickets : (rows : List Row) → AllByRecursion P rows → AllByRecursion Q (at_tickets ts f rows)
   all_at_tickets [] h = tt
   all_at_tickets (r ∷ rows) h = (go (among ts (ticket_of r)) refl, all_at_tickets rows h.1) where
     go : (b : Bool) → among ts (ticket_of r) ≡ b → Q (cond b (f r) r)
-    go true e = here r h.0
+    go true e = here r e h.0
     go false e = else_ r e h.0
 
 pub all_both : {X : Type 0} (P Q : X → Type 0) (xs : List X) → AllByRecursion P xs → AllByRecursion Q xs → AllByRecursion (λ x. P x × Q x) xs
@@ -38,34 +44,47 @@ pub all_weaker : {X : Type 0} (P Q : X → Type 0) → ((x : X) → P x → Q x)
 all_weaker P Q w [] h = tt
 all_weaker P Q w (x ∷ xs) h = (w x h.0, all_weaker P Q w xs h.1)
 
-pub judged-at : (ts : List ℕ) (v : Row → Truth) (rows : List Row) → map judged (at_tickets ts (refreshed v) rows) ≡ map judged rows
-judged-at ts v [] = refl
-judged-at ts v (r ∷ rows) = λ i. go (among ts (ticket_of r)) i ∷ judged-at ts v rows i where
-  go : (b : Bool) → judged (cond b (refreshed v r) r) ≡ judged r
+pub judged-at : (ts : List ℕ) (cause : Cause) (plain follow : List (ℕ × Truth)) (checks : List (CheckKey × Truth)) (rows : List Row)
+    → map judged (at_tickets ts (anew cause plain follow checks) rows) ≡ map judged rows
+judged-at ts cause plain follow checks [] = refl
+judged-at ts cause plain follow checks (r ∷ rows) = λ i. go (among ts (ticket_of r)) i ∷ judged-at ts cause plain follow checks rows i where
+  go : (b : Bool) → judged (cond b (anew cause plain follow checks r) r) ≡ judged r
   go true = refl
   go false = refl
 
--- what the lists of tickets tell, where rows were refreshed and no list but that of the changed ones differs
-module _ (a b : Parts) (h : IsBoard a) (ts : List ℕ)
-    (rows : b.rows.items ≡ at_tickets ts (refreshed (part_verdict b)) a.rows.items)
+-- the row of a ticket, told anew by the parts
+abbrev pub retold : Cause → Parts → Row → Row
+retold cause b = anew cause b.plain.truths.entries b.follow.truths.entries b.results
+
+abbrev pub verdict_told : Cause → Parts → Row → Truth
+verdict_told cause b = verdict_after cause b.plain.truths.entries b.follow.truths.entries b.results
+
+-- what the lists of tickets tell, where rows were told anew and no list but that of the changed ones differs
+module _ (cause : Cause) (a b : Parts) (h : IsBoard a) (ts : List ℕ)
+    (rows : b.rows.items ≡ at_tickets ts (retold cause b) a.rows.items)
     (changed : b.changed.items ≡ tickets is_changed b.rows.items)
     (capacity : vec_capacity b.changed ≡ vec_capacity a.changed)
     (by_id : b.by_id ≡ a.by_id) (plain : b.plain.users ≡ a.plain.users) (follow : b.follow.users ≡ a.follow.users) (askers : b.askers ≡ a.askers) (next : b.next ≡ a.next)
     (plain_kept : (q : ℕ) → is_empty (users_at b.plain.users.entries q) ≡ false → IsSome (lookup (nat_eq q) b.plain.truths.entries))
     (follow_kept : (q : ℕ) → is_empty (users_at b.follow.users.entries q) ≡ false → IsSome (lookup (nat_eq q) b.follow.truths.entries))
-    (cover : AllByRecursion (λ r. among ts (ticket_of r) ≡ false → part_verdict a r ≡ part_verdict b r) a.rows.items) where
-  f : Row → Row
-  f = refreshed (part_verdict b)
+    (cover : AllByRecursion (λ r. among ts (ticket_of r) ≡ false → part_verdict a r ≡ part_verdict b r) a.rows.items)
+    (told : AllByRecursion (λ r. among ts (ticket_of r) ≡ true → verdict_told cause b r ≡ part_verdict b r) a.rows.items)
+    (each : AllByRecursion (TellsEach b) b.rows.items) where
+  abbrev Covered : Row → Type 0
+  Covered r = (among ts (ticket_of r) ≡ false → part_verdict a r ≡ part_verdict b r) × (among ts (ticket_of r) ≡ true → verdict_told cause b r ≡ part_verdict b r)
 
-  same : (p : Row → Bool) → ((r : Row) → p (refreshed (part_verdict b) r) ≡ p r) → tickets p a.rows.items ≡ tickets p b.rows.items
-  same p h = sym (tickets-at_all (refreshed (part_verdict b)) (λ r. refl) p h ts a.rows.items) ∙ ap (tickets p) (sym rows)
+  abbrev Stays : Row → Type 0
+  Stays r = (r.verdict ≡ part_verdict a r) × Covered r
+
+  same : (p : Row → Bool) → ((r : Row) → p (retold cause b r) ≡ p r) → tickets p a.rows.items ≡ tickets p b.rows.items
+  same p h = sym (tickets-at_all (retold cause b) (λ r. refl) p h ts a.rows.items) ∙ ap (tickets p) (sym rows)
 
   pub IsBoard-refreshed : IsBoard b
   IsBoard-refreshed = record {
-    rising = subst (IsRisingBy ticket_of) (sym rows) (rising-at_all (refreshed (part_verdict b)) (λ r. refl) ts a.rows.items h.rising);
+    rising = subst (IsRisingBy ticket_of) (sym rows) (rising-at_all (retold cause b) (λ r. refl) ts a.rows.items h.rising);
     below = subst (AllByRecursion (λ r. ticket_of r < b.next)) (sym rows)
-        (all_at_tickets (refreshed (part_verdict b)) (λ r. ticket_of r < a.next) (λ r. ticket_of r < b.next) ts
-        (λ r lt. subst (λ (n : ℕ). ticket_of r < n) (sym next) lt) (λ r e lt. subst (λ (n : ℕ). ticket_of r < n) (sym next) lt) a.rows.items h.below);
+        (all_at_tickets (retold cause b) (λ r. ticket_of r < a.next) (λ r. ticket_of r < b.next) ts
+        (λ r e lt. subst (λ (n : ℕ). ticket_of r < n) (sym next) lt) (λ r e lt. subst (λ (n : ℕ). ticket_of r < n) (sym next) lt) a.rows.items h.below);
     ids = λ id. ap (λ m. one_or_none (lookup (bytes_eq id) m.entries)) by_id ∙ (h.ids id ∙ same (has_row_id id) (λ r. refl));
     plain = λ q. ap (λ m. users_at m.entries q) plain ∙ (h.plain q ∙ same (uses_plain q) (λ r. refl));
     follow = λ q. ap (λ m. users_at m.entries q) follow ∙ (h.follow q ∙ same (uses_follow q) (λ r. refl));
@@ -74,11 +93,39 @@ module _ (a b : Parts) (h : IsBoard a) (ts : List ℕ)
     follow_kept = follow_kept;
     changed = changed;
     room = still_room (length b.rows.items) (length a.rows.items) (vec_capacity a.changed) (vec_capacity b.changed)
-        (ap length rows ∙ length-map (λ (r : Row). cond (among ts r.ticket) (refreshed (part_verdict b) r) r) a.rows.items) capacity h.room;
+        (ap length rows ∙ length-map (λ (r : Row). cond (among ts r.ticket) (retold cause b r) r) a.rows.items) capacity h.room;
     judged = subst (AllByRecursion (λ r. r.verdict ≡ part_verdict b r)) (sym rows)
-        (all_at_tickets (refreshed (part_verdict b)) (λ r. (r.verdict ≡ part_verdict a r) × (among ts (ticket_of r) ≡ false → part_verdict a r ≡ part_verdict b r)) (λ r. r.verdict ≡ part_verdict b r) ts
-        (λ r p. refl) (λ r e p. p.0 ∙ p.1 e) a.rows.items (all_both (λ r. r.verdict ≡ part_verdict a r) (λ r. among ts (ticket_of r) ≡ false → part_verdict a r ≡ part_verdict b r) a.rows.items h.judged cover));
+        (all_at_tickets (retold cause b) Stays (λ r. r.verdict ≡ part_verdict b r) ts (λ r e p. p.1.1 e) (λ r e p. p.0 ∙ p.1.0 e) a.rows.items
+        (all_both (λ r. r.verdict ≡ part_verdict a r) Covered a.rows.items h.judged
+        (all_both (λ r. among ts (ticket_of r) ≡ false → part_verdict a r ≡ part_verdict b r) (λ r. among ts (ticket_of r) ≡ true → verdict_told cause b r ≡ part_verdict b r) a.rows.items cover told)));
+    alone = subst (AllByRecursion (λ r. r.alone ≡ asks_one (check_keys r.held.value.statement.test))) (sym rows)
+        (all_at_tickets (retold cause b) (λ r. r.alone ≡ asks_one (check_keys r.held.value.statement.test)) (λ r. r.alone ≡ asks_one (check_keys r.held.value.statement.test)) ts (λ r yes_ e. e) (λ r no_ e. e) a.rows.items h.alone);
+    each = each;
   }
+
+-- what a row tells by results, where truths of facts changed
+abbrev pub each_now : Parts → Row → ByResult
+each_now b r = each_verdict b.plain.truths.entries b.follow.truths.entries r.held.value.statement r.held.value.ids.items
+
+pub each_retold : (a b : Parts) (ts : List ℕ) → b.rows.items ≡ at_tickets ts (retold Fact b) a.rows.items → AllByRecursion (TellsEach a) a.rows.items
+    → AllByRecursion (λ r. among ts (ticket_of r) ≡ false → each_now a r ≡ each_now b r) a.rows.items → AllByRecursion (TellsEach b) b.rows.items
+each_retold a b ts rows each cover =
+    subst (AllByRecursion (TellsEach b)) (sym rows)
+    (all_at_tickets (retold Fact b) Known (TellsEach b) ts (λ r e p one. ap (λ (c : Bool). cond c (each_now b r) r.by_result) one) (λ r e p one. p.0 one ∙ p.1 e) a.rows.items
+    (all_both (TellsEach a) (λ r. among ts (ticket_of r) ≡ false → each_now a r ≡ each_now b r) a.rows.items each cover))
+  where
+    Known : Row → Type 0
+    Known r = TellsEach a r × (among ts (ticket_of r) ≡ false → each_now a r ≡ each_now b r)
+
+-- the same, where the result of a check did
+pub each_rechecked : (t : Truth) (a b : Parts) (ts : List ℕ) → b.rows.items ≡ at_tickets ts (retold (Check t) b) a.rows.items
+    → b.plain.truths ≡ a.plain.truths → b.follow.truths ≡ a.follow.truths → AllByRecursion (TellsEach a) a.rows.items → AllByRecursion (TellsEach b) b.rows.items
+each_rechecked t a b ts rows plain follow each =
+    subst (AllByRecursion (TellsEach b)) (sym rows)
+    (all_at_tickets (retold (Check t) b) (TellsEach a) (TellsEach b) ts (λ r e h one. h one ∙ same r) (λ r e h one. h one ∙ same r) a.rows.items each)
+  where
+    same : (r : Row) → each_now a r ≡ each_now b r
+    same r = λ i. each_verdict (sym plain i).entries (sym follow i).entries r.held.value.statement r.held.value.ids.items
 
 -- rows that pass are among the tickets
 pub outside : (p : Row → Bool) (rows : List Row) → AllByRecursion (λ r. among (tickets p rows) (ticket_of r) ≡ false → p r ≡ false) rows
@@ -176,6 +223,10 @@ module _ (a b : Parts) (h : IsBoard a) (rows : b.rows.items ≡ map settled a.ro
     judged = subst (AllByRecursion (λ r. r.verdict ≡ part_verdict b r)) (sym rows)
         (all_map settled (λ r. r.verdict ≡ part_verdict a r) (λ r. r.verdict ≡ part_verdict b r)
         (λ r e. e ∙ sym (λ i. verdict_now (plain i).truths.entries (follow i).truths.entries (results i) r)) a.rows.items h.judged);
+    alone = subst (AllByRecursion (λ r. r.alone ≡ asks_one (check_keys r.held.value.statement.test))) (sym rows) (all_map settled (λ r. r.alone ≡ asks_one (check_keys r.held.value.statement.test)) (λ r. r.alone ≡ asks_one (check_keys r.held.value.statement.test)) (λ r e. e) a.rows.items h.alone);
+    each = subst (AllByRecursion (TellsEach b)) (sym rows)
+        (all_map settled (TellsEach a) (TellsEach b)
+        (λ r e one. e one ∙ sym (λ i. each_verdict (plain i).truths.entries (follow i).truths.entries r.held.value.statement r.held.value.ids.items)) a.rows.items h.each);
   }
 
 -- where one truth is replaced, a truth is kept where one was

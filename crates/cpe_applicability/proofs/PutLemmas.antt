@@ -13,20 +13,22 @@ use Rattle.cpe_rows.specs.declared.statement.Mode.TheVariants.{Plain, Follow}
 use Rattle.cpe_rows.specs.declared.test.CheckKey.{CheckKey}
 use Rattle.cpe_applicability.specs.declared.parts.Parts.{Parts}
 use Rattle.std.proofs.Common.{Box, Global}
+use Rattle.cpe_applicability.specs.declared.by_result.ByResult.{ByResult}
 use Rattle.cpe_applicability.specs.declared.facts.Facts.{Facts}
 use Rattle.cpe_applicability.specs.declared.row.Held.{Held}
 use Rattle.cpe_applicability.specs.declared.row.Row.{Row}
 use Rattle.cpe_applicability.specs.Board.{KeepsTruths, TakesTruths, is_of}
+use Rattle.cpe_applicability.specs.ByResult.{asks_one, each_result}
 use Rattle.cpe_applicability.specs.Entering.{entered, is_asked, is_empty}
-use Rattle.cpe_applicability.specs.Held.{asks, follow_use, has_row_id, is_changed, plain_use, ticket_of, tickets, uses_follow, uses_plain, verdict_by}
-use Rattle.cpe_applicability.specs.Invariant.{HasSameRows, IsBoard, IsEntered, IsReady, judged, new_row, one_or_none, part_verdict, state_of}
+use Rattle.cpe_applicability.specs.Held.{asks, each_verdict, follow_use, has_row_id, is_changed, plain_use, ticket_of, tickets, uses_follow, uses_plain, verdict_by}
+use Rattle.cpe_applicability.specs.Invariant.{HasSameRows, IsBoard, IsEntered, IsReady, TellsEach, judged, new_row, one_or_none, part_verdict, state_of}
 use Rattle.cpe_applicability.specs.Tickets.{IsBelow}
 use Rattle.ticket_list.specs.Rising.{IsRisingBy}
 use Rattle.cpe_applicability.specs.Told.{check_keys}
 use Rattle.cpe_applicability.specs.Truths.{truth_or_unknown}
 use Rattle.cpe_applicability.specs.Users.{askers_at, users_at}
 use Rattle.cpe_applicability.proofs.BoardLemmas.{all_weaker, any_follow, any_plain, same_self, used_follow, used_plain}
-use Rattle.cpe_applicability.proofs.RemovedLemmas.{all_used, judged_kept}
+use Rattle.cpe_applicability.proofs.RemovedLemmas.{all_used, each_kept, judged_kept}
 use Rattle.cpe_applicability.proofs.RowLemmas.{rising-filter}
 use Rattle.cpe_applicability.proofs.UndoLemmas.{rising-last}
 
@@ -101,6 +103,7 @@ some_is o v e = subst IsSome (sym e) yes_some where
   yes_some = search rules
 
 module _ (a b : Parts) (h : IsBoard a) (given : Mode → ℕ → Truth) (r : Row) (ticket : r.ticket ≡ a.next) (was : r.verdict ≡ r.was) (verdict : r.verdict ≡ part_verdict b r)
+    (one : r.alone ≡ asks_one (check_keys r.held.value.statement.test)) (each : TellsEach b r)
     (rows : b.rows.items ≡ a.rows.items ++ r ∷ [])
     (new : tickets (has_row_id r.held.value.statement.id) a.rows.items ≡ [])
     (by_id : (q : List ℕ) → lookup (bytes_eq q) b.by_id.entries ≡ cond (bytes_eq r.held.value.statement.id q) (Some r.ticket) (lookup (bytes_eq q) a.by_id.entries))
@@ -144,6 +147,12 @@ module _ (a b : Parts) (h : IsBoard a) (given : Mode → ℕ → Truth) (r : Row
         (judged_kept a b a.rows.items a.rows.items results
         (λ q used. plain_truths q (ap is_empty (h.plain q) ∙ used)) (λ q used. follow_truths q (ap is_empty (h.follow q) ∙ used))
         (all_used uses_plain a.rows.items) (all_used uses_follow a.rows.items) h.judged) verdict);
+    alone = subst (AllByRecursion (λ x. x.alone ≡ asks_one (check_keys x.held.value.statement.test))) (sym rows) (all_last (λ x. x.alone ≡ asks_one (check_keys x.held.value.statement.test)) a.rows.items r h.alone one);
+    each = subst (AllByRecursion (TellsEach b)) (sym rows)
+        (all_last (TellsEach b) a.rows.items r
+        (each_kept a b a.rows.items a.rows.items
+        (λ q used. plain_truths q (ap is_empty (h.plain q) ∙ used)) (λ q used. follow_truths q (ap is_empty (h.follow q) ∙ used))
+        (all_used uses_plain a.rows.items) (all_used uses_follow a.rows.items) h.each) each);
   }
 
   own_use : (uses : Row → Bool) → list_any uses a.rows.items ≡ false → list_any uses b.rows.items ≡ true → uses r ≡ true
@@ -194,6 +203,11 @@ IsBoard-same a b h rows by_id plain follow asked plain_truths follow_truths chan
       (judged_kept a b a.rows.items a.rows.items results
       (λ q used. plain_truths q (ap is_empty (h.plain q) ∙ used)) (λ q used. follow_truths q (ap is_empty (h.follow q) ∙ used))
       (all_used uses_plain a.rows.items) (all_used uses_follow a.rows.items) h.judged);
+  alone = subst (AllByRecursion (λ x. x.alone ≡ asks_one (check_keys x.held.value.statement.test))) (sym rows) h.alone;
+  each = subst (AllByRecursion (TellsEach b)) (sym rows)
+      (each_kept a b a.rows.items a.rows.items
+      (λ q used. plain_truths q (ap is_empty (h.plain q) ∙ used)) (λ q used. follow_truths q (ap is_empty (h.follow q) ∙ used))
+      (all_used uses_plain a.rows.items) (all_used uses_follow a.rows.items) h.each);
 }
 
 -- ---- a statement that was entered, and whose row was put last
@@ -206,6 +220,14 @@ module _ (a m b : Parts) (h : IsBoard a) (given : Mode → ℕ → Truth) (held 
     (next : b.next ≡ m.next + 1) (changed : b.changed ≡ m.changed) (plain : b.plain ≡ m.plain) (follow : b.follow ≡ m.follow) (askers : b.askers ≡ m.askers) (results : b.results ≡ m.results) where
   verdict_is : (new_row m held).verdict ≡ part_verdict b (new_row m held)
   verdict_is = λ i. verdict_by (sym plain i).truths.entries (sym follow i).truths.entries (sym results i) held.value.statement held.value.ids.items
+
+  each_is : TellsEach b (new_row m held)
+  each_is one =
+      ap (λ (c : Bool). cond c now (each_result (λ t. (new_row m held).verdict))) one
+      ∙ (λ i. each_verdict (sym plain i).truths.entries (sym follow i).truths.entries held.value.statement held.value.ids.items)
+    where
+      now : ByResult
+      now = each_verdict m.plain.truths.entries m.follow.truths.entries held.value.statement held.value.ids.items
 
   rows_are : b.rows.items ≡ a.rows.items ++ new_row m held ∷ []
   rows_are = rows ∙ ap (λ (rs : List Row). rs ++ new_row m held ∷ []) same.rows
@@ -239,12 +261,12 @@ module _ (a m b : Parts) (h : IsBoard a) (given : Mode → ℕ → Truth) (held 
 
   pub board_after_put : IsBoard b
   board_after_put =
-      IsBoard-put a b h given (new_row m held) same.next refl verdict_is rows_are (new_id held.value.statement.id a.rows.items fresh_id) ids_are plain_are follow_are asked_are
+      IsBoard-put a b h given (new_row m held) same.next refl verdict_is refl each_is rows_are (new_id held.value.statement.id a.rows.items fresh_id) ids_are plain_are follow_are asked_are
       plain_truths_are follow_truths_are plain_fresh_are follow_fresh_are (ap (λ v. v.items) changed ∙ same.changed) room_is (results ∙ same.results) (next ∙ ap (λ (n : ℕ). n + 1) same.next)
 
   pub takes_after_put : TakesTruths (state_of a) (state_of b) given
   takes_after_put =
-      takes_given a b h given (new_row m held) same.next refl verdict_is rows_are (new_id held.value.statement.id a.rows.items fresh_id) ids_are plain_are follow_are asked_are
+      takes_given a b h given (new_row m held) same.next refl verdict_is refl each_is rows_are (new_id held.value.statement.id a.rows.items fresh_id) ids_are plain_are follow_are asked_are
       plain_truths_are follow_truths_are plain_fresh_are follow_fresh_are (ap (λ v. v.items) changed ∙ same.changed) room_is (results ∙ same.results) (next ∙ ap (λ (n : ℕ). n + 1) same.next)
 
   pub keeps_after_put : KeepsTruths (state_of a) (state_of b)

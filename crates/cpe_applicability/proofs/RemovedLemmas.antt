@@ -15,17 +15,19 @@ use Rattle.cpe_applicability.specs.declared.parts.Parts.{Parts}
 use Rattle.cpe_applicability.specs.declared.row.Row.{Row}
 use Rattle.cpe_applicability.specs.Board.{KeepsTruths}
 use Rattle.cpe_applicability.specs.Tickets.{first_place}
+use Rattle.cpe_applicability.specs.ByResult.{asks_one}
 use Rattle.cpe_applicability.specs.Entering.{among, is_empty, left_out}
 use Rattle.cpe_applicability.specs.Held.{asks, has_row_id, is_changed, is_plain, ticket_of, tickets, truths_by, uses_follow, uses_plain, verdict_by}
-use Rattle.cpe_applicability.specs.Invariant.{IsBoard, one_or_none, part_verdict, state_of}
+use Rattle.cpe_applicability.specs.Invariant.{IsBoard, TellsEach, one_or_none, part_verdict, state_of}
 use Rattle.cpe_applicability.specs.Tickets.{without}
 use Rattle.ticket_list.specs.Rising.{IsRisingBy}
+use Rattle.cpe_applicability.specs.Told.{check_keys}
 use Rattle.cpe_applicability.specs.Truths.{truth_in, truth_or_unknown}
 use Rattle.cpe_applicability.specs.Users.{askers_at, users_at}
 use Rattle.cpe_applicability.proofs.BoardLemmas.{all_weaker, used_follow, used_plain}
 use Rattle.cpe_applicability.proofs.EnteringLemmas.{nat_decides, used-left}
 use Rattle.cpe_applicability.proofs.RowLemmas.{all_at, all_keys, higher_differs, lower_differs, members, nat_same, no_element, without_lowest}
-use Rattle.cpe_applicability.proofs.VerdictLemmas.{verdict_same}
+use Rattle.cpe_applicability.proofs.VerdictLemmas.{each_same, verdict_same}
 
 abbrev pub removed : {X : Type 0} → ℕ → List X → List X
 removed k xs = take k xs ++ drop (k + 1) xs
@@ -133,6 +135,22 @@ judged_kept a b rows (r ∷ part) results plain follow used used_too h = (
   judged_kept a b rows part results plain follow used.1 used_too.1 h.1,
 )
 
+-- and what they tell by results
+pub each_kept : (a b : Parts) (rows part : List Row)
+    → ((q : ℕ) → is_empty (tickets (uses_plain q) rows) ≡ false → lookup (nat_eq q) b.plain.truths.entries ≡ lookup (nat_eq q) a.plain.truths.entries)
+    → ((q : ℕ) → is_empty (tickets (uses_follow q) rows) ≡ false → lookup (nat_eq q) b.follow.truths.entries ≡ lookup (nat_eq q) a.follow.truths.entries)
+    → AllByRecursion (λ r. (q : ℕ) → uses_plain q r ≡ true → is_empty (tickets (uses_plain q) rows) ≡ false) part
+    → AllByRecursion (λ r. (q : ℕ) → uses_follow q r ≡ true → is_empty (tickets (uses_follow q) rows) ≡ false) part
+    → AllByRecursion (TellsEach a) part → AllByRecursion (TellsEach b) part
+each_kept a b rows [] plain follow used used_too h = tt
+each_kept a b rows (r ∷ part) plain follow used used_too h = (
+  (λ one. h.0 one
+      ∙ each_same a.plain.truths.entries b.plain.truths.entries a.follow.truths.entries b.follow.truths.entries r.held.value.statement r.held.value.ids.items
+      (own_truths a.plain.truths.entries b.plain.truths.entries a.follow.truths.entries b.follow.truths.entries r.held.value.statement.mode r.held.value.ids.items
+      (λ q e. plain q (used.0 q e)) (λ q e. follow q (used_too.0 q e)))),
+  each_kept a b rows part plain follow used.1 used_too.1 h.1,
+)
+
 -- ---- the board without a row
 
 -- a list of one at most without the ticket that is there
@@ -190,6 +208,12 @@ module _ (a b : Parts) (h : IsBoard a) (k : ℕ) (r : Row) (at : slice_get a.row
         (λ q used. plain_truths q (ap is_empty (still_plain q) ∙ used)) (λ q used. follow_truths q (ap is_empty (still_follow q) ∙ used))
         (all_used uses_plain b.rows.items) (all_used uses_follow b.rows.items)
         (subst (AllByRecursion (λ r. r.verdict ≡ part_verdict a r)) (sym rows) (all_removed (λ r. r.verdict ≡ part_verdict a r) k a.rows.items h.judged));
+    alone = subst (AllByRecursion (λ r. r.alone ≡ asks_one (check_keys r.held.value.statement.test))) (sym rows) (all_removed (λ r. r.alone ≡ asks_one (check_keys r.held.value.statement.test)) k a.rows.items h.alone);
+    each =
+        each_kept a b b.rows.items b.rows.items
+        (λ q used. plain_truths q (ap is_empty (still_plain q) ∙ used)) (λ q used. follow_truths q (ap is_empty (still_follow q) ∙ used))
+        (all_used uses_plain b.rows.items) (all_used uses_follow b.rows.items)
+        (subst (AllByRecursion (TellsEach a)) (sym rows) (all_removed (TellsEach a) k a.rows.items h.each));
   }
 
 -- ---- the list without the first that passes

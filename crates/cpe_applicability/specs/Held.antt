@@ -8,8 +8,12 @@ use Rattle.cpe_rows.specs.declared.statement.Mode.TheVariants.{Plain, Follow}
 use Rattle.cpe_rows.specs.declared.statement.Statement.{Statement}
 use Rattle.cpe_rows.specs.declared.test.CheckKey.{CheckKey}
 use Rattle.cpe_rows.specs.declared.truth.Truth.{Truth}
+use Rattle.cpe_applicability.specs.declared.by_result.ByResult.{ByResult}
+use Rattle.cpe_applicability.specs.declared.row.Cause.{Cause}
+use Rattle.cpe_applicability.specs.declared.row.Cause.TheVariants.{Check, Fact}
 use Rattle.cpe_applicability.specs.declared.row.Held.{Held}
 use Rattle.cpe_applicability.specs.declared.row.Row.{Row}
+use Rattle.cpe_applicability.specs.ByResult.{at_result, each_result, told_with}
 use Rattle.cpe_applicability.specs.Entering.{among, is_asked}
 use Rattle.ticket_list.specs.TicketList.{has_ticket}
 use Rattle.cpe_inventory.specs.Kept.{kept_truth}
@@ -27,6 +31,10 @@ verdict_by plain follow checks s ids = (told (kept_truth checks) s.test (map (tr
 
 abbrev pub verdict_now : List (ℕ × Truth) → List (ℕ × Truth) → List (CheckKey × Truth) → Row → Truth
 verdict_now plain follow checks r = verdict_by plain follow checks r.held.value.statement r.held.value.ids.items
+
+-- what it tells by the result that every check of it has
+abbrev pub each_verdict : List (ℕ × Truth) → List (ℕ × Truth) → Statement → List ℕ → ByResult
+each_verdict plain follow s ids = each_result (told_with s.test (map (truth_in (truths_by s.mode plain follow)) ids))
 
 abbrev pub ticket_of : Row → ℕ
 ticket_of r = r.ticket
@@ -79,8 +87,18 @@ at_ticket t f rows = map (λ r. cond (nat_eq t r.ticket) (f r) r) rows
 abbrev pub at_tickets : List ℕ → (Row → Row) → List Row → List Row
 at_tickets ts f rows = map (λ r. cond (among ts r.ticket) (f r) r) rows
 
-abbrev pub refreshed : (Row → Truth) → Row → Row
-refreshed verdict r = record r { verdict = verdict r }
+-- the verdict of a row: read off it by the result, where it asks for that check alone
+abbrev pub verdict_after : Cause → List (ℕ × Truth) → List (ℕ × Truth) → List (CheckKey × Truth) → Row → Truth
+verdict_after (Check t) plain follow checks r = cond r.alone (at_result r.by_result t) (verdict_now plain follow checks r)
+verdict_after Fact plain follow checks r = verdict_now plain follow checks r
+
+abbrev pub by_result_after : Cause → List (ℕ × Truth) → List (ℕ × Truth) → Row → ByResult
+by_result_after (Check t) plain follow r = r.by_result
+by_result_after Fact plain follow r = cond r.alone (each_verdict plain follow r.held.value.statement r.held.value.ids.items) r.by_result
+
+-- the row tells anew
+abbrev pub anew : Cause → List (ℕ × Truth) → List (ℕ × Truth) → List (CheckKey × Truth) → Row → Row
+anew cause plain follow checks r = record r { verdict = verdict_after cause plain follow checks r; by_result = by_result_after cause plain follow r }
 
 abbrev pub settled : Row → Row
 settled r = record r { was = r.verdict }

@@ -1,5 +1,5 @@
 -- How the parts of a board belong together.
-use Rattle.std.specs.Prelude.{◌≡◌, ◌≤◌, ◌<◌, ℕ, List, [], ◌∷◌, map, length, Option, Some, None, IsSome, nat_eq, ◌+◌, true, false, vec_capacity}
+use Rattle.std.specs.Prelude.{◌≡◌, ◌≤◌, ◌<◌, ℕ, List, [], ◌∷◌, map, length, Option, Some, None, IsSome, nat_eq, ◌+◌, true, false, cond, vec_capacity}
 use Rattle.std.specs.List.{AllByRecursion}
 use Rattle.std.specs.Map.{lookup}
 use Rattle.std.specs.Str.{bytes_eq}
@@ -13,8 +13,9 @@ use Rattle.cpe_rows.specs.declared.truth.Truth.{Truth}
 use Rattle.cpe_applicability.specs.declared.parts.Parts.{Parts}
 use Rattle.cpe_applicability.specs.declared.row.Row.{Row}
 use Rattle.cpe_applicability.specs.Board.{Judged, State}
+use Rattle.cpe_applicability.specs.ByResult.{asks_one, each_result}
 use Rattle.cpe_applicability.specs.Entering.{entered, is_asked, is_empty}
-use Rattle.cpe_applicability.specs.Held.{asks, follow_use, has_row_id, is_changed, plain_use, ticket_of, tickets, uses_follow, uses_plain, verdict_by, verdict_now}
+use Rattle.cpe_applicability.specs.Held.{asks, each_verdict, follow_use, has_row_id, is_changed, plain_use, ticket_of, tickets, uses_follow, uses_plain, verdict_by, verdict_now}
 use Rattle.ticket_list.specs.Rising.{IsRisingBy}
 use Rattle.cpe_applicability.specs.Told.{check_keys}
 use Rattle.cpe_applicability.specs.Users.{askers_at, users_at}
@@ -28,6 +29,10 @@ state_of b = record { rows = map judged b.rows.items; plain = b.plain.truths.ent
 abbrev pub one_or_none : Option ℕ → List ℕ
 one_or_none None = []
 one_or_none (Some t) = t ∷ []
+
+-- where the row asks for one check alone, it tells what its statement comes to by each result
+abbrev pub TellsEach : Parts → Row → Type 0
+TellsEach b r = r.alone ≡ true → r.by_result ≡ each_verdict b.plain.truths.entries b.follow.truths.entries r.held.value.statement r.held.value.ids.items
 
 -- the verdict of a row by the parts
 abbrev pub part_verdict : Parts → Row → Truth
@@ -49,6 +54,8 @@ pub record IsBoard (b : Parts) : Type 0 where
   pub room : length b.rows.items ≤ vec_capacity b.changed
   -- each row has its verdict
   pub judged : AllByRecursion (λ r. r.verdict ≡ part_verdict b r) b.rows.items
+  pub alone : AllByRecursion (λ r. r.alone ≡ asks_one (check_keys r.held.value.statement.test)) b.rows.items
+  pub each : AllByRecursion (TellsEach b) b.rows.items
 
 -- there is room for one row more
 pub record IsReady (b : Parts) : Type 0 where
@@ -88,4 +95,5 @@ pub record IsEntered (a b : Parts) (h : Held) (given : Mode → ℕ → Truth) :
 abbrev pub new_row : Parts → Box Held Global → Row
 new_row b h =
     let v = verdict_by b.plain.truths.entries b.follow.truths.entries b.results h.value.statement h.value.ids.items in
-    record { ticket = b.next; verdict = v; was = v; held = h }
+    let one = asks_one (check_keys h.value.statement.test) in
+    record { ticket = b.next; verdict = v; was = v; alone = one; by_result = cond one (each_verdict b.plain.truths.entries b.follow.truths.entries h.value.statement h.value.ids.items) (each_result (λ t. v)); held = h }

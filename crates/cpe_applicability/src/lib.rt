@@ -4,6 +4,7 @@
 
 mod askers;
 mod board;
+mod by_result;
 mod changes;
 mod count;
 mod facts;

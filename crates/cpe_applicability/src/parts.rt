@@ -18,11 +18,14 @@ ghost use Rattle.cpe_applicability.specs.Invariant.{HasSameRows, HasSameUsers, I
 ghost use Rattle.std.specs.HashMap.{spare};
 
 use crate::askers::askers_of;
+use crate::by_result::{ByResult, asks_one};
 use crate::count::with_facts_of;
 use crate::facts::{FactTruth, Facts, change_truth};
 use crate::held::{enter_held, hold, leave_held};
-use crate::row::{Held, Row};
-use crate::rows::{differ, place_of, refresh_rows, settle_rows, take_row, verdict_of};
+use crate::row::{Cause, Held, Row};
+use crate::rows::{
+    by_result_of, differ, place_of, refresh_rows, settle_rows, take_row, verdict_of,
+};
 use crate::tickets::take_out;
 use crate::told::truth_of;
 use crate::users::users_of;
@@ -154,6 +157,7 @@ impl Parts {
             &mut self.rows,
             &mut self.changed,
             users_of(&self.plain.users, id),
+            Cause::Fact,
             &self.plain.truths,
             &self.follow.truths,
             &self.results,
@@ -172,6 +176,7 @@ impl Parts {
             &mut self.rows,
             &mut self.changed,
             users_of(&self.follow.users, id),
+            Cause::Fact,
             &self.plain.truths,
             &self.follow.truths,
             &self.results,
@@ -206,6 +211,7 @@ impl Parts {
             &mut self.rows,
             &mut self.changed,
             list,
+            Cause::Check(truth),
             &self.plain.truths,
             &self.follow.truths,
             &self.results,
@@ -228,6 +234,7 @@ impl Parts {
             &mut self.rows,
             &mut self.changed,
             askers_of(&self.askers, key),
+            Cause::Check(self.results.truth(key)),
             &self.plain.truths,
             &self.follow.truths,
             &self.results,
@@ -516,11 +523,21 @@ impl Parts {
             &self.follow.truths,
             &self.results,
         );
+        let alone = asks_one(&held.statement.test);
+        let by_result = by_result_of(
+            alone,
+            ByResult::same(verdict),
+            &held,
+            &self.plain.truths,
+            &self.follow.truths,
+        );
         insert_id(&mut self.by_id, id, self.next);
         self.rows.push(Row {
             ticket: self.next,
             verdict,
             was: verdict,
+            alone,
+            by_result,
             held,
         });
         self.next += 1;

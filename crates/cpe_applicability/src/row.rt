@@ -1,5 +1,6 @@
 // A statement that is held, with the numbers of its fact references.
 
+use crate::by_result::ByResult;
 use cpe_rows::{Statement, Truth};
 use ticket_list::{Change, Ticketed};
 
@@ -10,13 +11,23 @@ pub(crate) struct Held {
     pub(crate) ids: Vec<u32>,
 }
 
-// What is held, its verdict, and the one that callers know. Tickets rise from row to row.
+// What is held, its verdict, and the one that callers know. Tickets rise from row to row. Where the test asks for one check alone,
+// the row tells its verdict for each result of it, so that a new result needs no look at what is held.
 #[derive(Drop)]
 pub(crate) struct Row {
     pub(crate) ticket: u64,
     pub(crate) verdict: Truth,
     pub(crate) was: Truth,
+    pub(crate) alone: bool,
+    pub(crate) by_result: ByResult,
     pub(crate) held: Box<Held>,
+}
+
+// Why rows are told anew: a fact that they use has another truth, or the check that they ask for has this result.
+#[derive(Clone, Copy)]
+pub(crate) enum Cause {
+    Fact,
+    Check(Truth),
 }
 
 impl Ticketed for Row {
@@ -27,17 +38,19 @@ impl Ticketed for Row {
     }
 }
 
-// Another verdict.
+// Another verdict, and other ones by the result of the check.
 #[derive(Drop)]
 pub(crate) struct Refresh {
     pub(crate) verdict: Truth,
+    pub(crate) by_result: ByResult,
 }
 
 impl Change<Row> for Refresh {
-    ghost changed = { λ refresh r. record r { verdict = refresh.verdict } };
+    ghost changed = { λ refresh r. record r { verdict = refresh.verdict; by_result = refresh.by_result } };
 
     fn change(&self, row: &mut Row) {
         row.verdict = self.verdict;
+        row.by_result = self.by_result;
     }
 }
 

@@ -1,12 +1,14 @@
 // The rows of a board, and which of them are changed.
-ghost use Rattle.std.specs.Prelude.{◌≡◌, ◌≤◌, ◌<◌, ◌+◌, ◌++◌, [], map, Bool, drop, false, not, length, slice_get, take, vec_capacity};
+ghost use Rattle.std.specs.Prelude.{◌≡◌, ◌≤◌, ◌<◌, ◌+◌, ◌++◌, [], cond, map, Bool, drop, false, not, length, slice_get, take, vec_capacity};
 ghost use Rattle.std.specs.Option.{option_map};
 ghost use Rattle.cpe_rows.specs.Truth.{same_truth};
 ghost use Rattle.cpe_applicability.specs.Tickets.{IsRising};
+ghost use Rattle.cpe_applicability.specs.declared.row.Cause.TheVariants.{Check};
 ghost use Rattle.ticket_list.specs.Rising.{IsRisingBy};
-ghost use Rattle.cpe_applicability.specs.Held.{at_ticket, at_tickets, is_changed, moved, place_in, refreshed, settled, ticket_of, tickets, verdict_by, verdict_now};
+ghost use Rattle.cpe_applicability.specs.Held.{anew, at_ticket, at_tickets, by_result_after, each_verdict, is_changed, moved, place_in, settled, ticket_of, tickets, verdict_after, verdict_by};
 
-use crate::row::{Held, Refresh, Row, Settle};
+use crate::by_result::{ByResult, tell_each};
+use crate::row::{Cause, Held, Refresh, Row, Settle};
 use crate::tickets::{put_in, take_out};
 use crate::told::tell;
 use cpe_inventory::Checks;
@@ -70,6 +72,72 @@ pub(crate) fn verdict_of(
     }
 }
 
+// What is held tells by the result of its check, where it asks for one alone; else what was told.
+pub(crate) fn by_result_of(
+    alone: bool,
+    told: ByResult,
+    held: &Held,
+    plain: &HashMap<u32, Truth>,
+    follow: &HashMap<u32, Truth>,
+) -> ByResult
+    ensures { result ≡ cond alone (each_verdict plain.now.entries follow.now.entries held.now.statement held.now.ids.items) told }
+{
+    if alone {
+        verdicts_of(held, plain, follow)
+    } else {
+        told
+    }
+}
+
+fn verdicts_of(held: &Held, plain: &HashMap<u32, Truth>, follow: &HashMap<u32, Truth>) -> ByResult
+    ensures { result ≡ each_verdict plain.now.entries follow.now.entries held.now.statement held.now.ids.items }
+{
+    match held.statement.mode {
+        Mode::Plain => tell_each(&held.statement.test, &held.ids, plain).truths,
+        Mode::Follow => tell_each(&held.statement.test, &held.ids, follow).truths,
+    }
+}
+
+// The verdict of a row whose check has this result.
+fn verdict_at(
+    row: &Row,
+    truth: Truth,
+    plain: &HashMap<u32, Truth>,
+    follow: &HashMap<u32, Truth>,
+    results: &Checks,
+) -> Truth
+    ensures { result ≡ verdict_after (Check truth) plain.now.entries follow.now.entries results.now row.now }
+{
+    if row.alone {
+        row.by_result.at(truth)
+    } else {
+        verdict_of(&row.held, plain, follow, results)
+    }
+}
+
+// What a row tells anew.
+fn retell(
+    row: &Row,
+    cause: Cause,
+    plain: &HashMap<u32, Truth>,
+    follow: &HashMap<u32, Truth>,
+    results: &Checks,
+) -> Refresh
+    ensures verdict { result.verdict ≡ verdict_after cause plain.now.entries follow.now.entries results.now row.now }
+    ensures by_result { result.by_result ≡ by_result_after cause plain.now.entries follow.now.entries row.now }
+{
+    match cause {
+        Cause::Fact => Refresh {
+            verdict: verdict_of(&row.held, plain, follow, results),
+            by_result: by_result_of(row.alone, row.by_result, &row.held, plain, follow),
+        },
+        Cause::Check(truth) => Refresh {
+            verdict: verdict_at(row, truth, plain, follow, results),
+            by_result: row.by_result,
+        },
+    }
+}
+
 // Puts a ticket in or takes it out where what is so of its row changes.
 fn move_ticket(changed: &mut Vec<u64>, ticket: u64, before: bool, after: bool)
     requires rising { IsRising changed.old.items }
@@ -89,6 +157,7 @@ fn refresh(
     rows: &mut TicketList<Row>,
     changed: &mut Vec<u64>,
     ticket: u64,
+    cause: Cause,
     plain: &HashMap<u32, Truth>,
     follow: &HashMap<u32, Truth>,
     results: &Checks,
@@ -96,15 +165,15 @@ fn refresh(
     requires rising { IsRisingBy ticket_of rows.old.items }
     requires changed { changed.old.items ≡ tickets is_changed rows.old.items }
     requires room { length rows.old.items ≤ vec_capacity changed.old }
-    ensures rows { rows.new.items ≡ at_ticket ticket (refreshed (verdict_now plain.now.entries follow.now.entries results.now)) rows.old.items }
+    ensures rows { rows.new.items ≡ at_ticket ticket (anew cause plain.now.entries follow.now.entries results.now) rows.old.items }
     ensures changed { changed.new.items ≡ tickets is_changed rows.new.items }
     ensures capacity { vec_capacity changed.new ≡ vec_capacity changed.old }
 {
     if let Some(row) = rows.find(ticket) {
-        let verdict = verdict_of(&row.held, plain, follow, results);
+        let told = retell(row, cause, plain, follow, results);
         let before = differ(row.verdict, row.was);
-        let after = differ(verdict, row.was);
-        rows.change(ticket, &Refresh { verdict });
+        let after = differ(told.verdict, row.was);
+        rows.change(ticket, &told);
         move_ticket(changed, ticket, before, after);
     }
 }
@@ -114,6 +183,7 @@ pub(crate) fn refresh_rows(
     rows: &mut TicketList<Row>,
     changed: &mut Vec<u64>,
     list: &[u64],
+    cause: Cause,
     plain: &HashMap<u32, Truth>,
     follow: &HashMap<u32, Truth>,
     results: &Checks,
@@ -121,12 +191,12 @@ pub(crate) fn refresh_rows(
     requires rising { IsRisingBy ticket_of rows.old.items }
     requires changed { changed.old.items ≡ tickets is_changed rows.old.items }
     requires room { length rows.old.items ≤ vec_capacity changed.old }
-    ensures rows { rows.new.items ≡ at_tickets list.now (refreshed (verdict_now plain.now.entries follow.now.entries results.now)) rows.old.items }
+    ensures rows { rows.new.items ≡ at_tickets list.now (anew cause plain.now.entries follow.now.entries results.now) rows.old.items }
     ensures changed { changed.new.items ≡ tickets is_changed rows.new.items }
     ensures capacity { vec_capacity changed.new ≡ vec_capacity changed.old }
 {
     for ticket in list {
-        refresh(rows, changed, *ticket, plain, follow, results);
+        refresh(rows, changed, *ticket, cause, plain, follow, results);
     }
 }
 

@@ -1,9 +1,7 @@
 use Rattle.std.proofs.Common.{length, refl, sym, ap, subst, ◌∙◌, vec_capacity}
-use Rattle.cpe_rows.specs.declared.truth.Truth.{Truth}
-use Rattle.cpe_applicability.specs.declared.row.Held.{Held}
 use Rattle.cpe_applicability.specs.declared.row.Row.{Row}
 use Rattle.cpe_applicability.specs.Tickets.{IsRising}
-use Rattle.cpe_applicability.specs.Held.{is_changed, moved, refreshed, ticket_of, tickets, verdict_by, verdict_now}
+use Rattle.cpe_applicability.specs.Held.{anew, is_changed, moved, ticket_of, tickets}
 use Rattle.cpe_applicability.proofs.RowLemmas.{changed_rows, fewer, found_row, moved_is, not_found, placed_row, rising-filter, room_for, same_at}
 use Rattle.cpe_applicability.proofs.rows.refresh.Goals as goal
 
@@ -23,15 +21,14 @@ returns-in-Some-clause-rows c =
     let rows = c.args.rows.now.items in
     let t = c.args.ticket in
     let r : Row = c.in-Some.row.now in
-    let f = λ (r : Row). record r { verdict = c.verdict_of-verdict.result } in
-    let now = refreshed (verdict_now c.args.plain.now.entries c.args.follow.now.entries c.args.results.now) in
+    let told = c.retell-told in
+    let f = λ (r : Row). record r { verdict = told.result.verdict; by_result = told.result.by_result } in
+    let now = anew c.args.cause c.args.plain.now.entries c.args.follow.now.entries c.args.results.now in
     let at = found_row t r rows (sym c.in-Some.ensures) in
-    let verdict = c.verdict_of-verdict.ensures
-    ∙ ap (λ (h : Held). verdict_by c.args.plain.now.entries c.args.follow.now.entries c.args.results.now h.statement h.ids.items) c.deref.ensures in
     c.change.ensures.items
     ∙ (changed_rows f t rows
     ∙ (sym (placed_row f t at.0 r rows c.requires.rising at.1 at.2)
-    ∙ (same_at f now at.0 r rows at.1 (ap (λ (u : Truth). record r { verdict = u }) verdict)
+    ∙ (same_at f now at.0 r rows at.1 (λ i. record r { verdict = told.ensures.verdict i; by_result = told.ensures.by_result i })
     ∙ placed_row now t at.0 r rows c.requires.rising at.1 at.2)))
 
 pub returns-in-Some-clause-changed : goal.returns-in-Some-clause-changed
@@ -39,7 +36,8 @@ returns-in-Some-clause-changed c =
     let rows = c.args.rows.now.items in
     let t = c.args.ticket in
     let r : Row = c.in-Some.row.now in
-    let f = λ (r : Row). record r { verdict = c.verdict_of-verdict.result } in
+    let told = c.retell-told.result in
+    let f = λ (r : Row). record r { verdict = told.verdict; by_result = told.by_result } in
     let at = found_row t r rows (sym c.in-Some.ensures) in
     c.move_ticket.ensures.items
     ∙ ((λ i. moved (c.differ-before.ensures i) (c.differ-after.ensures i) (sym at.2 i) (c.requires.changed i))
@@ -48,4 +46,4 @@ returns-in-Some-clause-changed c =
 
 pub returns-in_default-clause-rows : goal.returns-in_default-clause-rows
 returns-in_default-clause-rows c =
-    not_found (refreshed (verdict_now c.args.plain.now.entries c.args.follow.now.entries c.args.results.now)) c.args.ticket c.args.rows.now.items (sym c.in_default.ensures)
+    not_found (anew c.args.cause c.args.plain.now.entries c.args.follow.now.entries c.args.results.now) c.args.ticket c.args.rows.now.items (sym c.in_default.ensures)

@@ -1,0 +1,23 @@
+use Rattle.std.proofs.Common.{cond, ap, sym, ◌∙◌}
+use Rattle.cpe_applicability.specs.declared.row.Cause.{Cause}
+use Rattle.cpe_applicability.specs.declared.row.Held.{Held}
+use Rattle.cpe_applicability.specs.Held.{by_result_after, each_verdict, verdict_after, verdict_by}
+use Rattle.cpe_applicability.proofs.rows.retell.Goals as goal
+
+pub returns-in-Fact-clause-verdict : goal.returns-in-Fact-clause-verdict
+returns-in-Fact-clause-verdict c =
+    let plain = c.args.plain.now.entries in
+    let follow = c.args.follow.now.entries in
+    let results = c.args.results.now in
+    c.verdict_of.ensures
+    ∙ (ap (λ (h : Held). verdict_by plain follow results h.statement h.ids.items) c.deref.ensures
+    ∙ ap (λ (x : Cause). verdict_after x plain follow results c.args.row.now) (sym c.in-Fact.is))
+
+pub returns-in-Fact-clause-by_result : goal.returns-in-Fact-clause-by_result
+returns-in-Fact-clause-by_result c =
+    let plain = c.args.plain.now.entries in
+    let follow = c.args.follow.now.entries in
+    let row = c.args.row.now in
+    c.by_result_of.ensures
+    ∙ (ap (λ (h : Held). cond row.alone (each_verdict plain follow h.statement h.ids.items) row.by_result) c.deref-in-Fact.ensures
+    ∙ ap (λ (x : Cause). by_result_after x plain follow row) (sym c.in-Fact.is))
