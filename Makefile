@@ -14,7 +14,8 @@ help:
 	@echo '              machines (that needs python3)'
 	@echo 'make test     the gate: rt ci, what each crate took, then checks of the program as rt ci built it, of the manual'
 	@echo '              page, and of the recipes'
-	@echo 'make limits   builds it, and fills it up to its limits: minutes, and 6 GB of memory; not in the gate'
+	@echo 'make limits   builds it, fills it up to its limits, and refuses each allocation of short sessions: minutes, and 6 GB of'
+	@echo '              memory; not in the gate'
 	@echo 'make install  builds it, and puts it into PREFIX/bin, and its manual page into PREFIX/share/man (PREFIX=$(PREFIX))'
 	@echo 'make bench    builds it, and measures it against unproved Rust, and the whole way by itself (needs python3)'
 	@echo 'make clean    removes all that was built'
@@ -49,10 +50,11 @@ test: need_rt
 limits: build
 	sh tests/limits.sh build/cpe
 	@if command -v python3 > /dev/null; then \
-	for it in 'memory.py build/cpe --most 3' 'deprecations.py build/cpe' 'drops.py build/cpe'; do \
-		echo "python3 bench/$$it"; python3 bench/$$it || exit 1; \
+	for it in 'tests/refused-memory.py build/cpe' 'bench/memory.py build/cpe --most 3' 'bench/deprecations.py build/cpe' \
+		'bench/drops.py build/cpe'; do \
+		echo "python3 $$it"; python3 $$it || exit 1; \
 	done; \
-	else echo 'SKIPPED: what rows take of memory, and how what edits cost grows: there is no python3'; fi
+	else echo 'SKIPPED: each allocation refused in turn, what rows take of memory, how what edits cost grows: there is no python3'; fi
 
 install: build
 	mkdir -p '$(DESTDIR)$(PREFIX)/bin'

@@ -1,0 +1,151 @@
+#!/usr/bin/env python3
+"""Refuses each allocation of short sessions in turn: refused-memory.py [PROGRAM]. PROGRAM is build/cpe if left out.
+
+A session is a command on one of the vectors beside this file. The allocations of a whole run are counted, and then it is run once for
+each of them, which is refused alone, and once where all behind it are refused too; each with its input as reads give it, and in single
+bytes, where every answer is written before the next line is read. A run must end with status 5 and a front of the output, in whole
+lines; or with status 7 and no output, where the words of the command line find no memory; or, where the program does without what it was
+refused, as the whole run ended. Standard error must be empty. The status is 0 where all do. Without a C compiler all is SKIPPED, which is
+said, and counts as no pass.
+"""
+import collections
+import concurrent.futures
+import itertools
+import os
+import pathlib
+import shutil
+import subprocess
+import sys
+import tempfile
+
+TOP = pathlib.Path(__file__).resolve().parent.parent
+# Between them they have each kind of edit and question, the table of verdicts, and edits that are refused.
+SESSIONS = (
+    "resolve/a-chain-that-is-edited",
+    "watch/one-statement",
+    "watch/a-name-that-is-deprecated",
+    "evaluate/dictionary-and-advisories",
+    "watch/deprecate-amend-restore",
+    "watch/statements-put-and-dropped",
+    "advise/nothing-is-left",
+)
+SOME_REFUSED, MEMORY, NO_WORDS = 1, 5, 7
+LONGEST = 60
+READS = {"as they come": {}, "in single bytes": {"READ_MOST": "1"}}
+MODES = {"alone": {}, "and all behind it": {"REFUSE_ON": "1"}}
+
+Ended = collections.namedtuple("Ended", "status output error seen refused")
+
+
+class Session:
+    """A command on its vector, and what it should write."""
+
+    def __init__(self, program, shim, vector):
+        self.words = [program, vector.split("/")[0]]
+        self.path = TOP / "tests" / "vectors" / f"{vector}.in"
+        self.shim, self.wanted = shim, self.path.with_suffix(".out").read_bytes()
+
+    def run(self, **told):
+        """How a run ends of which the shim is told this."""
+        source, end = os.pipe()
+        with open(self.path, "rb") as lines, open(source, "rb") as counts:
+            try:
+                child = subprocess.Popen(
+                    self.words,
+                    stdin=lines,
+                    stdout=subprocess.PIPE,
+                    stderr=subprocess.PIPE,
+                    pass_fds=[end],
+                    env={"LD_PRELOAD": self.shim, "REFUSE_TELL": str(end), **told},
+                )
+            finally:
+                os.close(end)
+            output, error = child.communicate(timeout=LONGEST)
+            seen, refused = (counts.read().split() + [b"0", b"0"])[:2]
+        return Ended(child.returncode, output, error, int(seen), int(refused))
+
+    def kind(self, ended, whole):
+        """How a run ended of which something was refused; none of the ways in which it may is None."""
+        if ended.error or not ended.refused:
+            return None
+        if ended.status == MEMORY and self.wanted.startswith(ended.output) and (not ended.output or ended.output.endswith(b"\n")):
+            return "out of memory"
+        if ended.status == NO_WORDS and not ended.output:
+            return "without words"
+        if (ended.status, ended.output) == (whole.status, self.wanted):
+            return "done without it"
+        return None
+
+
+def judge_whole(session, whole):
+    """What is wrong with a run of which nothing is refused, or None."""
+    wanted = SOME_REFUSED if any(line.startswith(b"refused ") for line in session.wanted.splitlines()) else 0
+    if (whole.status, whole.output, whole.error) != (wanted, session.wanted, b""):
+        return f"with all memory it ends with status {whole.status} and other output"
+    return None
+
+
+def tried(session, pool):
+    """How often the runs ended in each way, and which ended in another."""
+    kinds, fronts, wrong, count = collections.Counter(), set(), [], 0
+    for (way, most), (mode, stays) in itertools.product(READS.items(), MODES.items()):
+        whole = session.run(**most)
+        found = judge_whole(session, whole)
+        if found:
+            return kinds, fronts, [found], whole.seen
+        count = max(count, whole.seen)
+        runs = pool.map(lambda number, most=most, stays=stays: session.run(REFUSE_AT=str(number), **most, **stays), range(1, whole.seen + 1))
+        for number, ended in enumerate(runs, 1):
+            kind = session.kind(ended, whole)
+            kinds[kind] += 1
+            fronts.add(ended.output)
+            if not kind:
+                wrong.append(f"allocation {number} refused {mode}, bytes {way}: status {ended.status}, {ended.output[-200:]!r}, {ended.error[-200:]!r}")
+    return kinds, fronts, wrong, count
+
+
+def tell(vector, kinds, fronts, wrong, count):
+    if wrong:
+        print(f"FAILED: {vector}: {wrong[0]}" + (f"; {len(wrong) - 1} more" if wrong[1:] else ""), flush=True)
+        return
+    ways = ", ".join(f"{number} {kind}" for kind, number in sorted(kinds.items()))
+    print(f"ok: {vector}: {count} allocations, {sum(kinds.values())} runs: {ways}; {len(fronts)} fronts of the output", flush=True)
+
+
+def skip(why):
+    print(f"REFUSED MEMORY SKIPPED, all of it: {why}")
+    sys.exit(0)
+
+
+def compiled(room):
+    """The shim that refuses allocations."""
+    compiler = shutil.which(os.environ.get("CC", "cc"))
+    if not compiler:
+        skip("there is no C compiler")
+    shim = os.path.join(room, "refuse_allocation.so")
+    subprocess.run([compiler, "-O2", "-shared", "-fPIC", "-o", shim, TOP / "tests" / "refuse_allocation.c"], check=True)
+    return shim
+
+
+def main(words):
+    if len(words) > 1:
+        sys.exit(__doc__)
+    program = pathlib.Path(words[0] if words else TOP / "build" / "cpe").resolve()
+    if not os.access(program, os.X_OK) or not program.is_file():
+        sys.exit(f"{program} is no program: run make build first")
+    os.makedirs(TOP / "build", exist_ok=True)
+    is_wrong = False
+    with tempfile.TemporaryDirectory(dir=TOP / "build") as room, concurrent.futures.ThreadPoolExecutor(os.cpu_count()) as pool:
+        shim = compiled(room)
+        for vector in SESSIONS:
+            session = Session(program, shim, vector)
+            if not session.run().seen:
+                skip("the program's allocations are not those of the GNU C library")
+            kinds, fronts, wrong, count = tried(session, pool)
+            tell(vector, kinds, fronts, wrong, count)
+            is_wrong = is_wrong or bool(wrong)
+    return 1 if is_wrong else 0
+
+
+if __name__ == "__main__":
+    sys.exit(main(sys.argv[1:]))
