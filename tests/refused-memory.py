@@ -1,12 +1,14 @@
 #!/usr/bin/env python3
-"""Refuses each allocation of short sessions in turn: refused-memory.py [PROGRAM]. PROGRAM is build/cpe if left out.
+"""Refuses each allocation of short sessions in turn: refused-memory.py [PROGRAM [TESTS]].
 
-A session is a command on one of the vectors beside this file. The allocations of a whole run are counted, and then it is run once for
-each of them, which is refused alone, and once where all behind it are refused too; each with its input as reads give it, and in single
-bytes, where every answer is written before the next line is read. A run must end with status 5 and a front of the output, in whole
-lines; or with status 7 and no output, where the words of the command line find no memory; or, where the program does without what it was
-refused, as the whole run ended. Standard error must be empty. The status is 0 where all do. Without a C compiler all is SKIPPED, which is
-said, and counts as no pass.
+PROGRAM is build/cpe if left out, and TESTS the program of the tests in crates/command_tests, as the gate leaves it. A session is a
+command on one of the vectors beside this file. The allocations of a whole run are counted, and then it is run once for each of them,
+which is refused alone, and once where all behind it are refused too; each with its input as reads give it, and in single bytes, where
+every answer is written before the next line is read. A run must end with status 5 and a front of the output, in whole lines; or with
+status 7 and no output, where the words of the command line find no memory; or, where the program does without what it was refused, as
+the whole run ended. Standard error must be empty. Of TESTS, the test of an engine that goes on must pass whichever allocation is
+refused alone. The status is 0 where all is so. Without a C compiler all is SKIPPED, and without TESTS that test, which is said, and
+counts as no pass.
 """
 import collections
 import concurrent.futures
@@ -19,6 +21,8 @@ import sys
 import tempfile
 
 TOP = pathlib.Path(__file__).resolve().parent.parent
+# The program and the tests where none are named.
+FOUND = (TOP / "build" / "cpe", TOP / "crates" / "command_tests" / "out" / "command_tests_tests")
 # Between them they have each kind of edit and question, the table of verdicts, and edits that are refused.
 SESSIONS = (
     "resolve/a-chain-that-is-edited",
@@ -29,12 +33,28 @@ SESSIONS = (
     "watch/statements-put-and-dropped",
     "advise/nothing-is-left",
 )
+# The test of an engine that gets each record once more for which it found no memory.
+GOES_ON = "again::an_engine_goes_on_after_memory_ran_out"
 SOME_REFUSED, MEMORY, NO_WORDS = 1, 5, 7
 LONGEST = 60
 READS = {"as they come": {}, "in single bytes": {"READ_MOST": "1"}}
 MODES = {"alone": {}, "and all behind it": {"REFUSE_ON": "1"}}
 
 Ended = collections.namedtuple("Ended", "status output error seen refused")
+
+
+def run(words, shim, lines, told):
+    """How a run over these lines ends, of which the shim is told this."""
+    source, end = os.pipe()
+    with open(source, "rb") as counts:
+        environment = {"LD_PRELOAD": shim, "REFUSE_TELL": str(end), **told}
+        try:
+            child = subprocess.Popen(words, stdin=lines, stdout=subprocess.PIPE, stderr=subprocess.PIPE, pass_fds=[end], env=environment)
+        finally:
+            os.close(end)
+        output, error = child.communicate(timeout=LONGEST)
+        seen, refused = (counts.read().split() + [b"0", b"0"])[:2]
+    return Ended(child.returncode, output, error, int(seen), int(refused))
 
 
 class Session:
@@ -46,23 +66,8 @@ class Session:
         self.shim, self.wanted = shim, self.path.with_suffix(".out").read_bytes()
 
     def run(self, **told):
-        """How a run ends of which the shim is told this."""
-        source, end = os.pipe()
-        with open(self.path, "rb") as lines, open(source, "rb") as counts:
-            try:
-                child = subprocess.Popen(
-                    self.words,
-                    stdin=lines,
-                    stdout=subprocess.PIPE,
-                    stderr=subprocess.PIPE,
-                    pass_fds=[end],
-                    env={"LD_PRELOAD": self.shim, "REFUSE_TELL": str(end), **told},
-                )
-            finally:
-                os.close(end)
-            output, error = child.communicate(timeout=LONGEST)
-            seen, refused = (counts.read().split() + [b"0", b"0"])[:2]
-        return Ended(child.returncode, output, error, int(seen), int(refused))
+        with open(self.path, "rb") as lines:
+            return run(self.words, self.shim, lines, told)
 
     def kind(self, ended, whole):
         """How a run ended of which something was refused; none of the ways in which it may is None."""
@@ -100,7 +105,7 @@ def tried(session, pool):
             kinds[kind] += 1
             fronts.add(ended.output)
             if not kind:
-                wrong.append(f"allocation {number} refused {mode}, bytes {way}: status {ended.status}, {ended.output[-200:]!r}, {ended.error[-200:]!r}")
+                wrong.append(f"allocation {number} refused {mode}, bytes {way}: status {ended.status}, {ended.output[-200:]!r}")
     return kinds, fronts, wrong, count
 
 
@@ -110,6 +115,22 @@ def tell(vector, kinds, fronts, wrong, count):
         return
     ways = ", ".join(f"{number} {kind}" for kind, number in sorted(kinds.items()))
     print(f"ok: {vector}: {count} allocations, {sum(kinds.values())} runs: {ways}; {len(fronts)} fronts of the output", flush=True)
+
+
+def goes_on(tests, shim, pool):
+    """Whether the test passes whichever of its allocations is refused alone."""
+    if not tests.is_file():
+        print(f"SKIPPED: {GOES_ON}: there is no {tests}: run make test first")
+        return True
+    words = [tests, GOES_ON]
+    whole = run(words, shim, subprocess.DEVNULL, {})
+    runs = pool.map(lambda number: run(words, shim, subprocess.DEVNULL, {"REFUSE_AT": str(number)}), range(1, whole.seen + 1))
+    failed = [number for number, ended in enumerate(runs, 1) if ended.status or ended.refused != 1]
+    if whole.status or not whole.seen or failed:
+        print(f"FAILED: {GOES_ON}: status {whole.status} with all memory; allocations whose refusal it doesn't pass: {failed[:10]}")
+        return False
+    print(f"ok: {GOES_ON}: {whole.seen} allocations, each refused alone", flush=True)
+    return True
 
 
 def skip(why):
@@ -128,9 +149,9 @@ def compiled(room):
 
 
 def main(words):
-    if len(words) > 1:
+    if len(words) > 2:
         sys.exit(__doc__)
-    program = pathlib.Path(words[0] if words else TOP / "build" / "cpe").resolve()
+    program, tests = [pathlib.Path(it).resolve() for it in (*words, *FOUND[len(words) :])]
     if not os.access(program, os.X_OK) or not program.is_file():
         sys.exit(f"{program} is no program: run make build first")
     os.makedirs(TOP / "build", exist_ok=True)
@@ -144,6 +165,7 @@ def main(words):
             kinds, fronts, wrong, count = tried(session, pool)
             tell(vector, kinds, fronts, wrong, count)
             is_wrong = is_wrong or bool(wrong)
+        is_wrong = not goes_on(tests, shim, pool) or is_wrong
     return 1 if is_wrong else 0
 
 

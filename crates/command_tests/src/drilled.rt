@@ -18,6 +18,16 @@ const RECORDS: [&[u8]; 6] = [
     b"{\"do\":\"search\",\"name\":\"cpe:/a\"}",
 ];
 
+// Whether a text was read. (No test but through this asks so: what calls such a method is slow to prove.)
+pub fn reads<L: Ledger>(
+    alloc: Global,
+    drilled: &mut Drilled,
+    text: &[u8],
+    steps: &mut Steps<L>,
+) -> bool {
+    drilled.read(alloc, text, steps).is_ok()
+}
+
 // Whether all of the texts were read.
 fn read_all<L: Ledger>(
     alloc: Global,
@@ -26,7 +36,7 @@ fn read_all<L: Ledger>(
     steps: &mut Steps<L>,
 ) -> bool {
     for text in texts {
-        if drilled.read(alloc, text, steps).is_err() {
+        if !reads(alloc, drilled, text, steps) {
             return false;
         }
     }

@@ -160,7 +160,7 @@ fn end_of<L: Ledger>(
     }
 }
 
-fn counts_of(engine: &Engine) -> Counts {
+pub fn counts_of(engine: &Engine) -> Counts {
     engine.counts()
 }
 
