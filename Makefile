@@ -17,7 +17,8 @@ help:
 	@echo 'make limits   builds it, fills it up to its limits, and refuses each allocation of short sessions: minutes, and 6 GB of'
 	@echo '              memory; not in the gate'
 	@echo 'make install  builds it, and puts it into PREFIX/bin, and its manual page into PREFIX/share/man (PREFIX=$(PREFIX))'
-	@echo 'make bench    builds it, and measures it against unproved Rust, and the whole way by itself (needs python3)'
+	@echo 'make bench    builds it, and measures it against unproved Rust and OpenSCAP, and edits and the whole way by themselves'
+	@echo '              (needs python3)'
 	@echo 'make clean    removes all that was built'
 
 # rt has no command that builds a program without running it. Over an empty input this one writes
@@ -67,6 +68,8 @@ bench: need_python3 build
 	python3 bench/index.py build/cpe
 	python3 bench/advise.py build/cpe
 	python3 bench/scan.py build/cpe
+	python3 bench/near.py build/cpe
+	python3 bench/openscap.py build/cpe
 
 clean:
 	rm -rf build crates/*/out

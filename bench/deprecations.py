@@ -2,17 +2,18 @@
 """Measures what an edit of a deprecation takes of `cpe resolve` where many entries hang together, by how many they are: in
 layers, in chains, and where many have one successor.
 
-Prints a table, and says of each shape whether its growth is within the target. README.md beside this file says how to read it.
+All times are of the processor. Prints a table, and says of each shape whether its growth is within the target. README.md beside this
+file says how to read it.
 """
 import argparse
 import os
 import pathlib
 import random
-import subprocess
 import sys
 
 sys.dont_write_bytecode = True
 import make_lines
+import near
 import run
 
 SIZES = (1_600, 3_200, 6_400, 12_800)
@@ -96,51 +97,28 @@ SHAPES = {
 }
 
 
-def written(path, lines):
-    path.write_bytes(b"".join(it + b"\n" for it in lines))
-    return path
-
-
 def inputs(shape, count):
-    """A file of what stands before the edits that are timed, and one of that and the edits; how many edits there are."""
+    """The lines of what stands before the edits that are timed, those of the edits, and how many these are."""
     before, edits = SHAPES[shape](count)
-    stem = f"deprecations-{shape.replace(', ', '-').replace(' ', '-')}-{count}"
-    lines = entries(count) + before
-    return written(run.BUILD / f"{stem}-before.txt", lines), written(run.BUILD / f"{stem}.txt", lines + edits), len(edits)
+    return near.text(entries(count) + before), near.text(edits), len(edits)
 
 
-def seconds(words, path):
-    """The processor time that the program takes over this input, its output dropped: what else runs here adds little to it."""
-    with open(path, "rb") as source:
-        child = subprocess.Popen(words, stdin=source, stdout=subprocess.DEVNULL)
-        _, status, used = os.wait4(child.pid, 0)
-        child.returncode = os.waitstatus_to_exitcode(status)
-    if child.returncode:
-        sys.exit(f"{words[0]} ended with status {child.returncode} on {path.name}")
-    return used.ru_utime + used.ru_stime
+def seconds(program, before, edits):
+    """The processor time for the edits, each of which is accepted, behind what stands before them."""
+    with near.Session(program, "resolve") as session:
+        session.accepts(before)
+        return session.accepts(edits)
 
 
-def check(words, path):
-    """Each edit is to be accepted, which writes nothing."""
-    with open(path, "rb") as source:
-        done = subprocess.run(words, stdin=source, stdout=subprocess.PIPE, stderr=subprocess.PIPE)
-    if done.returncode or done.stdout or done.stderr:
-        sys.exit(f"{path.name}: an edit is refused: {(done.stdout + done.stderr)[:200]!r}, status {done.returncode}")
-
-
-def measure(words, shape, rounds):
+def measure(program, shape, rounds):
     """The microseconds of an edit among the most entries beside one among the fewest; short runs are made more often."""
     each = []
     for count in SIZES:
-        before, path, edits = inputs(shape, count)
-        check(words, path)
-        turns = [(seconds(words, before), seconds(words, path)) for _ in range(rounds * SIZES[-1] // count)]
-        without, took = [min(it) for it in zip(*turns, strict=True)]
-        each.append((took - without) / edits * 1e6)
+        before, edits, edited = inputs(shape, count)
+        took = min(seconds(program, before, edits) for _ in range(rounds * SIZES[-1] // count))
+        each.append(took / edited * 1e6)
         growth = f"{each[-1] / each[-2]:>8.2f}" if len(each) > 1 else ""
         print(f"{shape:<24}{count:>8,}{took:>10.3f}{each[-1]:>14.2f}{growth}", flush=True)
-        before.unlink()
-        path.unlink()
     return each[-1] / each[0]
 
 
@@ -158,15 +136,14 @@ def said():
 
 def main():
     given = said()
-    words = [given.program.resolve(), "resolve"]
-    if not run.knows(words):
+    program = given.program.resolve()
+    if not run.knows([program, "resolve"]):
         print(f"the program has no command {run.RESOLVE}: nothing is measured")
         return
-    run.BUILD.mkdir(parents=True, exist_ok=True)
     print(f"load before: {os.getloadavg()[0]:.1f} on {os.cpu_count()} processors")
-    print(f"\n{run.RESOLVE}, processor time, best of {given.rounds}; of an edit, what the run takes without the edits is taken off")
+    print(f"\n{run.RESOLVE}, processor time of the edits alone, best of {given.rounds} and more")
     print(f"{'shape':<24}{'entries':>8}{'seconds':>10}{'us an edit':>14}{'growth':>8}")
-    found = {shape: measure(words, shape, given.rounds) for shape in SHAPES}
+    found = {shape: measure(program, shape, given.rounds) for shape in SHAPES}
     print(f"\n{'target: an edit among the most, by the fewest':<40}{'most':>6}{'measured':>10}")
     for shape, growth in found.items():
         print(f"{shape:<40}{MOST_GROWTH:>6}{growth:>10.2f}  {'met' if growth <= MOST_GROWTH else 'MISSED'}")

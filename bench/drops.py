@@ -1,21 +1,21 @@
 #!/usr/bin/env python3
 """Measures what drops from the front take of `cpe resolve` by how many rows there are: items, statements, results of checks.
 
-Half of the rows are dropped, the first one first. Prints a table, and says of each kind whether its growth is within the target: what
-a line costs is to be about the same for few and for many. README.md beside this file says how to read it.
+Half of the rows are dropped, the first one first. All times are of the processor. Prints a table, and says of each kind whether its
+growth is within the target: what a line costs is to be about the same for few and for many. README.md beside this file says how to read it.
 
 usage: drops.py PROGRAM
 """
 import json
-import subprocess
 import sys
-import tempfile
-import time
+
+sys.dont_write_bytecode = True
+import near
 
 SIZES = (5_000, 10_000, 20_000, 40_000)
 # The target: what a line takes among most rows beside one among fewest.
 MOST_GROWTH = 1.3
-TIMES = 3
+TIMES = 5
 
 
 def name(number):
@@ -40,27 +40,21 @@ def check(number, word):
 KINDS = {"item": item, "statement": statement, "check": check}
 
 
-def seconds(program, lines):
-    """The least time of several runs over the lines, each of which is accepted."""
-    with tempfile.TemporaryFile("w+") as source:
-        source.writelines(json.dumps(line) + "\n" for line in lines)
-        found = []
-        for _ in range(TIMES):
-            source.seek(0)
-            begun = time.perf_counter()
-            done = subprocess.run([program, "resolve"], stdin=source, stdout=subprocess.PIPE, check=False)
-            found.append(time.perf_counter() - begun)
-            if done.returncode or done.stdout:
-                sys.exit(f"{program}: status {done.returncode}, {done.stdout[:200]!r}")
-    return min(found)
+def lines_of(records):
+    return near.text(json.dumps(it).encode() for it in records)
 
 
 def drops(program, kind, count):
-    """The seconds for half of so many rows to be dropped."""
+    """The processor time for half of so many rows to be dropped, in seconds."""
     row = KINDS[kind]
-    put = [row(number, kind) for number in range(count)]
-    dropped = [row(number, f"drop-{kind}") for number in range(count // 2)]
-    return seconds(program, put + dropped) - seconds(program, put)
+    put = lines_of(row(number, kind) for number in range(count))
+    dropped = lines_of(row(number, f"drop-{kind}") for number in range(count // 2))
+    found = []
+    for _ in range(TIMES):
+        with near.Session(program, "resolve") as session:
+            session.accepts(put)
+            found.append(session.accepts(dropped))
+    return min(found)
 
 
 def main(words):
