@@ -1,7 +1,9 @@
 // Where deprecations lead: the ends of names, as they are and as a planned change would leave them.
 ghost use Rattle.std.specs.Prelude.{◌≡◌, IfOk, Some, position};
 ghost use Rattle.cpe_rows.specs.Prelude.{ends, is_named};
+ghost use Rattle.deprecation_graph.specs.Graph.{changed, ends_in};
 ghost use Rattle.cpe_dictionary.specs.Kept.{names_at};
+ghost use Rattle.cpe_dictionary.specs.Numbers.{nodes_of_entries};
 ghost use Rattle.cpe_dictionary.specs.Plans.{IsAllowed, ends_by};
 
 use crate::by_number::{chains_by_number, entries_are_numbered};
@@ -12,13 +14,14 @@ use cpe_values::Memory;
 use std::alloc::Global;
 
 impl Dictionary<'_> {
-    /// The numbers of the ends of an entry. It searches the entry's chain.
+    /// The numbers of the ends of an entry, rising. It searches the entry's chain.
     ///
     /// # Errors
     /// Want of memory alone.
     pub fn ends(&self, alloc: Global, name: &Wfn, number: u32) -> Result<Vec<u32>, Memory>
         requires { position (is_named name.now) self.now ≡ Some number }
-        ensures { IfOk result (λ ks. names_at self.now ks.items ≡ ends self.now name.now) }
+        ensures numbers { IfOk result (λ ks. ks.items ≡ ends_in (nodes_of_entries self.now) number) }
+        ensures names { IfOk result (λ ks. names_at self.now ks.items ≡ ends self.now name.now) }
     {
         chains_by_number();
         entries_are_numbered();
@@ -42,7 +45,8 @@ impl Dictionary<'_> {
     ) -> Result<Vec<u32>, Memory>
         requires number { position (is_named name.now) self.now ≡ Some number }
         requires plan { IsAllowed self.now plan.now.number plan.now.next }
-        ensures { IfOk result (λ ks. names_at self.now ks.items ≡ ends_by self.now (Some plan.now) name.now) }
+        ensures numbers { IfOk result (λ ks. ks.items ≡ ends_in (changed (nodes_of_entries self.now) plan.now.number plan.now.next) number) }
+        ensures names { IfOk result (λ ks. names_at self.now ks.items ≡ ends_by self.now (Some plan.now) name.now) }
     {
         match self
             .graph

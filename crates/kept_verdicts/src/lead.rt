@@ -78,43 +78,6 @@ impl KeptVerdicts {
         if registry.items().len() == 0 && self.board.len() == 0 {
             return self.foresee_nothing(alloc, registry.table());
         }
-        self.foresee_moves(alloc, registry, id, plan)
-    }
-
-    // What a change moves where there are neither items nor statements: nothing, however many entries lead to the one.
-    fn foresee_nothing(&mut self, alloc: Global, table: &NameTable) -> Result<Lead, Memory>
-        requires stood { (rows : Rows) × IsLawful rows × Stands table.now self.old rows }
-        ensures stands { (names : Names) (rows : Rows) → Stands names self.old rows → Stands names self.new rows }
-        ensures same { SameStatements self.old self.new }
-        ensures lead { (rows : Rows) (left : List Entry) (n : Values) → rows.items ≡ [] → rows.statements ≡ [] → Stands table.now self.old rows → IfOk result (IsLead table.now self.new rows left n) }
-    {
-        reserve_lead(&mut self.facts, table, &[], &[])?;
-        Ok(Lead {
-            items_from: Vec::new(alloc),
-            items_to: Vec::new(alloc),
-            facts_from: Vec::new(alloc),
-            facts_to: Vec::new(alloc),
-            facts: Vec::new(alloc),
-        })
-    }
-
-    // What it moves otherwise.
-    fn foresee_moves(
-        &mut self,
-        alloc: Global,
-        registry: &Registry,
-        id: NameId,
-        plan: &Plan,
-    ) -> Result<Lead, Memory>
-        requires live { IsLive registry.now.table id.0 }
-        requires number { position (is_named (name_in registry.now.table id)) registry.now.entries ≡ Some plan.now.number }
-        requires allowed { IsAllowed registry.now.entries plan.now.number plan.now.next }
-        requires stood { (rows : Rows) × IsLawful rows × Stands registry.now.table self.old rows × (rows.entries ≡ registry.now.entries) × (rows.items ≡ registry.now.items) }
-        ensures stands { (names : Names) (rows : Rows) → Stands names self.old rows → Stands names self.new rows }
-        ensures same { SameStatements self.old self.new }
-        ensures lead { (rows : Rows) (left : List Entry) → IsLawful rows → Stands registry.now.table self.old rows → rows.entries ≡ registry.now.entries → rows.items ≡ registry.now.items → AreLeftBy rows.entries plan.now left
-            → IfOk result (IsLead registry.now.table self.new rows left (name_in registry.now.table id)) }
-    {
         plans_lead();
         let table = registry.table();
         table.lawful();
@@ -133,6 +96,23 @@ impl KeptVerdicts {
             facts_from,
             facts_to,
             facts,
+        })
+    }
+
+    // What a change moves where there are neither items nor statements: nothing, however many entries lead to the one.
+    fn foresee_nothing(&mut self, alloc: Global, table: &NameTable) -> Result<Lead, Memory>
+        requires stood { (rows : Rows) × IsLawful rows × Stands table.now self.old rows }
+        ensures stands { (names : Names) (rows : Rows) → Stands names self.old rows → Stands names self.new rows }
+        ensures same { SameStatements self.old self.new }
+        ensures lead { (rows : Rows) (left : List Entry) (n : Values) → rows.items ≡ [] → rows.statements ≡ [] → Stands table.now self.old rows → IfOk result (IsLead table.now self.new rows left n) }
+    {
+        reserve_lead(&mut self.facts, table, &[], &[])?;
+        Ok(Lead {
+            items_from: Vec::new(alloc),
+            items_to: Vec::new(alloc),
+            facts_from: Vec::new(alloc),
+            facts_to: Vec::new(alloc),
+            facts: Vec::new(alloc),
         })
     }
 

@@ -11,6 +11,6 @@ pub returns-clause-names : goal.returns-clause-names
 returns-clause-names c =
     let r = c.args.self.now in
     let found =
-    subst (λ (es : List Entry). entry_names_at es c.in_ok-numbers.numbers.items ≡ ends es c.name.result.now) c.dictionary.ensures c.in_ok-numbers.ensures
+    subst (λ (es : List Entry). entry_names_at es c.in_ok-numbers.numbers.items ≡ ends es c.name.result.now) c.dictionary.ensures c.in_ok-numbers.ensures.names
     ∙ ap (ends r.entries) c.name.ensures in
     subst (λ (ns : List Values). IfOk c.ids_at.result (λ v. names_at r.table v.items ≡ ns)) (ap (entry_names_at r.entries) c.deref.ensures.value ∙ found) c.ids_at.ensures.names

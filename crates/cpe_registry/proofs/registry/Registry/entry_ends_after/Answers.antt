@@ -12,6 +12,6 @@ returns-clause-names c =
     let r = c.args.self.now in
     let p = c.args.plan.now in
     let found =
-    subst (λ (es : List Entry). entry_names_at es c.in_ok-numbers.numbers.items ≡ ends_by es (Some p) c.name.result.now) c.dictionary.ensures c.in_ok-numbers.ensures
+    subst (λ (es : List Entry). entry_names_at es c.in_ok-numbers.numbers.items ≡ ends_by es (Some p) c.name.result.now) c.dictionary.ensures c.in_ok-numbers.ensures.names
     ∙ ap (ends_by r.entries (Some p)) c.name.ensures in
     subst (λ (ns : List Values). IfOk c.ids_at.result (λ v. names_at r.table v.items ≡ ns)) (ap (entry_names_at r.entries) c.deref.ensures.value ∙ found) c.ids_at.ensures.names
