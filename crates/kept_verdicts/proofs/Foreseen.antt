@@ -2,7 +2,7 @@
 use Rattle.std.proofs.Common.{◌≡◌, ◌⊎◌, ◌≤◌, ℕ, Bool, true, false, cond, ◌||◌, List, [], ◌∷◌, ◌++◌, filter, length, map, Some, refl, sym, ap, subst, ◌∙◌, inl, inr, arith, eq-eqb}
 use Rattle.std.specs.Prelude.{IsSome, is_some, nat_eq, nat_lt, count_by}
 use Rattle.std.specs.List.{AllByRecursion, flat_map, list_any, sum_by}
-use Rattle.std.proofs.lemmas.Bool.{both_ways, cases_Bool, lt-ltb, ne_eqb, or_left, or_right, true≢false}
+use Rattle.std.proofs.lemmas.Bool.{both_ways, cases_Bool, lt-ltb, ne_eqb, or_left, or_right}
 use Rattle.std.proofs.lemmas.List.{map-append}
 use Rattle.std.proofs.lemmas.List.Sums.{sum_by-cons}
 use Rattle.cpe_name.specs.declared.name.Values.{Values}
@@ -37,6 +37,7 @@ use Rattle.kept_verdicts.specs.Leading.{ends_or_none, HasLeadRoom, is_in_use, is
 use Rattle.kept_verdicts.specs.declared.lead.Lead.{Lead}
 use Rattle.kept_verdicts.specs.declared.lead.Led.{Led}
 use Rattle.kept_verdicts.proofs.LeadLemmas.{all_both, some_there}
+use Rattle.kept_verdicts.proofs.StatementLemmas.{live_filtered, names_filtered}
 use Rattle.kept_verdicts.proofs.Used.{used_live, used_referred}
 
 -- ---- verdicts stand where there is only more room
@@ -90,24 +91,12 @@ in_facts mode statements n = by (list_any (is_same n) (facts_in mode statements)
     by false true e = absurd (omega (arith, e))
     by false false e = refl
 
-pub live_passing : (names : Names) (t : NameId → Bool) (ids : List NameId) → AreLive names ids → AreLive names (filter t ids)
-live_passing names t [] live = tt
-live_passing names t (x ∷ ids) live = by (t x) (live_passing names t ids live.1)
-  where
-    by : (a : Bool) → AreLive names (filter t ids) → AreLive names (cond a (x ∷ filter t ids) (filter t ids))
-    by true later = (live.0, later)
-    by false later = later
-
 names_passing : (names : Names) (t : NameId → Bool) (p : Values → Bool) → ((x : NameId) → IsLive names x.0 → t x ≡ p (name_at names x)) → (ids : List NameId) → AreLive names ids → names_at names (filter t ids) ≡ filter p (names_at names ids)
-names_passing names t p same [] live = refl
-names_passing names t p same (x ∷ ids) live = by (t x) (p (name_at names x)) (same x live.0) (names_passing names t p same ids live.1)
+names_passing names t p same ids live = names_filtered names t p ids (all ids live)
   where
-    by : (a b : Bool) → a ≡ b → names_at names (filter t ids) ≡ filter p (names_at names ids)
-        → names_at names (cond a (x ∷ filter t ids) (filter t ids)) ≡ cond b (name_at names x ∷ filter p (names_at names ids)) (filter p (names_at names ids))
-    by true true e later = ap (λ (ns : List Values). name_at names x ∷ ns) later
-    by true false e later = absurd (true≢false e)
-    by false true e later = absurd (true≢false (sym e))
-    by false false e later = later
+    all : (xs : List NameId) → AreLive names xs → AllByRecursion (λ (x : NameId). t x ≡ p (name_at names x)) xs
+    all [] h = tt
+    all (x ∷ xs) h = (same x h.0, all xs h.1)
 
 -- the numbers in use have the names of the facts in mode follow
 pub used_names : (names : Names) → AreNames names → (rows : List Judged) → AllByRecursion (IsNamed names) rows → (statements : List Statement) → statements_of rows ≡ statements → (ids : List NameId) → AreLive names ids
@@ -259,7 +248,7 @@ module _ (names : Names) (are : AreNames names) (v : Verdicts) (rows : Rows) (le
       ∙ sources_led rows.entries n (facts_in Follow rows.statements) lawful.dictionary.names_differ few_facts g
 
   live_used : AreLive names (map (λ (x : Led). x.fact) lead.facts.items)
-  live_used = subst (AreLive names) (sym (are_facts ∙ are_used)) (live_passing names (is_in_use v.board.rows) sources live)
+  live_used = subst (AreLive names) (sym (are_facts ∙ are_used)) (live_filtered names (is_in_use v.board.rows) sources live)
 
   pub foreseen : IsLead names (record { board = v.board; facts = boards; followed = f }) rows left n lead
   foreseen = record {

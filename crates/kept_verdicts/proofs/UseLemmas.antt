@@ -19,6 +19,7 @@ use Rattle.followed_facts.specs.Followed.{has_end}
 use Rattle.kept_facts.specs.Kept.{AreLive}
 use Rattle.kept_verdicts.specs.Kept.{IsNamed}
 use Rattle.kept_verdicts.specs.Putting.{AreLast, AreUnused}
+use Rattle.kept_verdicts.proofs.PutLemmas.{same_among}
 use Rattle.kept_verdicts.proofs.Used.{used_referred}
 
 -- ---- tests and counts
@@ -151,10 +152,6 @@ module _ (rows : List Judged) (mode : Mode) (ids once : List NameId) (each : (id
 module _ (rows : List Judged) (id : List ℕ) (j : Judged) (found : find (is_of id) rows ≡ Some j) (mode : Mode) (own : j.statement.mode ≡ mode) (ids : List NameId) (are_ids : map (λ (x : NameId). x.0) ids ≡ j.ids) where
   abbrev pub rest : List Judged
   rest = without_first (is_of id) rows
-
-  same_among : (xs : List NameId) (q : ℕ) → among (map (λ (x : NameId). x.0) xs) q ≡ has_end xs q
-  same_among [] q = refl
-  same_among (x ∷ xs) q = ap (λ (b : Bool). nat_eq x.0 q || b) (same_among xs q)
 
   uses_own : (q : ℕ) → uses mode q j ≡ has_end ids q
   uses_own q = ap (λ (m : Mode). cond (uses_mode mode m) (among j.ids q) false) own ∙ by mode ∙ ap (λ (ns : List ℕ). among ns q) (sym are_ids) ∙ same_among ids q

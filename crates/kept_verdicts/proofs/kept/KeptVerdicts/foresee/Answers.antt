@@ -14,14 +14,15 @@ use Rattle.followed_facts.specs.Followed.{ends_at}
 use Rattle.kept_verdicts.specs.Kept.{AreFollowed, Stands, Verdicts}
 use Rattle.kept_verdicts.specs.Leading.{ends_or_none, HasLeadRoom, is_in_use}
 use Rattle.kept_verdicts.specs.declared.lead.Led.{Led}
-use Rattle.kept_verdicts.proofs.Foreseen.{all_passing, boards_same, foreseen, kept_names, live_passing, stands_still}
+use Rattle.kept_verdicts.proofs.Foreseen.{all_passing, boards_same, foreseen, kept_names, stands_still}
+use Rattle.kept_verdicts.proofs.StatementLemmas.{live_filtered}
 use Rattle.kept_verdicts.proofs.kept.KeptVerdicts.foresee.Goals as goal
 
 pub link_all-requires-clause-live : goal.link_all-requires-clause-live
 link_all-requires-clause-live c =
     let used = is_in_use c.self-2.inside.board.rows in
     let is = c.deref-6.ensures.value ∙ c.in_ok-used.ensures ∙ ap (filter used) c.deref-4.ensures.value in
-    subst (AreLive c.args.registry.now.table) (sym is) (live_passing c.args.registry.now.table used c.in_ok-sources.sources.items c.in_ok-sources.ensures.live)
+    subst (AreLive c.args.registry.now.table) (sym is) (live_filtered c.args.registry.now.table used c.in_ok-sources.sources.items c.in_ok-sources.ensures.live)
 
 pub returns-in_err-facts-clause-stands : goal.returns-in_err-facts-clause-stands
 returns-in_err-facts-clause-stands c names rows stood =
