@@ -1,5 +1,5 @@
 -- A change of a deprecation, and the edit that it is: whatever becomes of the deprecation.
-use Rattle.std.proofs.Common.{◌≡◌, ◌+◌, ◌∙◌, ℕ, Bool, true, false, not, if◌then◌else◌, List, [], ◌∷◌, ◌++◌, Option, Some, None, refl, ap, arith}
+use Rattle.std.proofs.Common.{◌≡◌, ◌+◌, ◌∙◌, ℕ, Bool, true, false, not, if◌then◌else◌, List, [], ◌∷◌, ◌++◌, Option, Some, None, refl, sym, ap, arith}
 use Rattle.std.specs.Option.{option_map_or}
 use Rattle.std.specs.List.{list_any}
 use Rattle.std.proofs.lemmas.Bool.{not-false}
@@ -14,11 +14,13 @@ use Rattle.cpe_rows.specs.Rows.{is_entry, is_named, Rows}
 use Rattle.cpe_rows.specs.Step.{first_some}
 use Rattle.cpe_rows.specs.Weight.{deprecation_weight, note_weight}
 use Rattle.cpe_rows.specs.declared.edit.Edit.TheVariants as edit
+use Rattle.cpe_rows.specs.declared.entry.Deprecation.{Deprecation}
+use Rattle.cpe_rows.specs.declared.entry.Note.{Note}
 use Rattle.cpe_rows.specs.declared.fault.EditFault.TheVariants as fault
 use Rattle.cpe_changes.specs.Touching.{deprecation_changed}
 use Rattle.cpe_weight.specs.Gain.{deprecated_weight, gain, loss, weight_of_first}
 use Rattle.cpe_dictionary.specs.Causes.{change_causes}
-use Rattle.cpe_dictionary.specs.Kept.{rewritten, with_entries}
+use Rattle.cpe_dictionary.specs.Kept.{rewritten, with_entries, written}
 use Rattle.cpe_dictionary.specs.declared.plans.Plan.{Plan}
 use Rattle.kept_verdicts.specs.Looks.{lead_looks}
 use Rattle.cpe_engine.specs.Looks.{edit_looks}
@@ -51,6 +53,15 @@ module _ (rows : Rows) (n : Values) (date comment : List ℕ) where
   after_turned (Give d) = refl
   after_turned (Replace d) = refl
   after_turned TakeAway = refl
+
+  -- and its entries are those that are written for it
+  pub written_turned : (t : Turn) (k : ℕ) (d : Option Deprecation) (note : Note) → d ≡ given t → note ≡ note_of t date comment
+      → written (rewritten (given t) (Some (note_of t date comment))) k rows.entries ≡ changed (rewritten (given t) (Some (note_of t date comment))) n rows.entries
+      → written (rewritten d (Some note)) k rows.entries ≡ (after rows (turned n t date comment)).entries
+  written_turned t k d note gives notes writes =
+      (λ i. written (rewritten (gives i) (Some (notes i))) k rows.entries)
+      ∙ writes
+      ∙ sym (ap (λ (r : Rows). r.entries) (after_turned t))
 
   pub planned_turned : (t : Turn) (o : Option Plan) → HasPlan rows.entries n (given t) o ≡ IsPlanned rows.entries (turned n t date comment) o
   planned_turned (Give d) o = refl

@@ -120,14 +120,15 @@ by_lists old new v rows others table entries items held stands = record {
   stands = subst (λ (t : Names). Stands t v rows) (sym table) stands;
 }
 
--- one name more is held
-pub by_hold : (old new : Registered) (v : Verdicts) (rows : Rows) (others : List Values) (name : Values) → new.entries ≡ old.entries → new.items ≡ old.items
-    → Shows new.table (holds_in new.table) (name ∷ (others ++ names_kept rows)) → Stands new.table v rows → AreOf old v rows others → AreOf new v rows (name ∷ others)
-by_hold old new v rows others name entries items held stands a = record { entries = entries ∙ a.entries; items = items ∙ a.items; held = held; stands = stands }
+-- one name is held beside the rows
+pub by_hold : (old new : Registered) (v : Verdicts) (rows : Rows) (id : NameId) (name : Values) → name_at new.table id ≡ name → new.entries ≡ old.entries → new.items ≡ old.items
+    → Shows new.table (holds_in new.table) (name ∷ names_kept rows) → Stands new.table v rows → AreOf old v rows [] → AreOf new v rows (name_at new.table id ∷ [])
+by_hold old new v rows id name named entries items held stands a =
+    subst (λ (n : Values). AreOf new v rows (n ∷ [])) (sym named) (record { entries = entries ∙ a.entries; items = items ∙ a.items; held = held; stands = stands })
 
--- no others, one way or the other
-pub no_others : (r : Registered) (v : Verdicts) (rows : Rows) (names : List Values) → AreOf r v rows names → AreOf r v rows (names ++ [])
-no_others r v rows names a = subst (λ (ns : List Values). AreOf r v rows ns) (sym (append-nil names)) a
+-- no others but those of the numbers that are lent
+pub no_others : (r : Registered) (v : Verdicts) (rows : Rows) (ids lent : List NameId) → lent ≡ ids → AreOf r v rows (names_at r.table ids) → AreOf r v rows (names_at r.table lent ++ [])
+no_others r v rows ids lent same a = subst (λ (ns : List Values). AreOf r v rows ns) (sym (ap (λ (xs : List NameId). names_at r.table xs ++ []) same ∙ append-nil (names_at r.table ids))) a
 
 -- ---- holds are few
 
@@ -179,8 +180,10 @@ pub some_copied : {A : Type 0} (o : Option (Bor A)) → is_some o ≡ is_some (o
 some_copied None = refl
 some_copied (Some x) = refl
 
-pub are_ends : (table : Names) (es : List Entry) (id : ℕ) (ids numbers : List NameId) → numbers ≡ ids → AreLive table ids → names_at table ids ≡ ends es (kept_at table id).name → AreEnds table es id numbers
-are_ends table es id ids numbers same live names = subst (AreEnds table es id) (sym same) (record { live = live; names = names })
+-- the ends of a name, of the names as they are lent
+pub are_ends : (table lent : Names) (es : List Entry) (id : ℕ) (ids numbers : List NameId) → lent ≡ table → numbers ≡ ids → AreLive table ids → names_at table ids ≡ ends es (kept_at table id).name
+    → AreEnds lent es id numbers
+are_ends table lent es id ids numbers at same live names = subst (λ (t : Names). AreEnds t es id numbers) (sym at) (subst (AreEnds table es id) (sym same) (record { live = live; names = names }))
 
 -- an item that was dropped, whose name is held still
 pub item_dropped : (old new : Registered) (w : Verdicts) (rows : Rows) (id : NameId) (t : Names) → new.table ≡ old.table → new.entries ≡ rows.entries → new.items ≡ without_first (is_same (name_at old.table id)) rows.items

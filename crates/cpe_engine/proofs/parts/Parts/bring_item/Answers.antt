@@ -13,16 +13,29 @@ use Rattle.cpe_engine.specs.Parts.{AreOf, rows_in}
 use Rattle.cpe_rows.specs.declared.statement.Mode.TheVariants.{Follow}
 use Rattle.cpe_rows.specs.Chains.{ends as ends_of_name}
 use Rattle.cpe_engine.proofs.PartsLemmas.{are_ends, at_err, by_lists, by_verdicts, few_ends}
+use Rattle.cpe_engine.proofs.parts.Parts.bring_item.Given.{Over}
 use Rattle.cpe_engine.proofs.parts.Parts.bring_item.Goals as goal
+use Rattle.cpe_engine.proofs.parts.Parts.bring_item.Goals.{After-deref-2}
+
+-- what the verdicts are asked, of the names that the registry lends
+module _ (g : Over) (c : After-deref-2 g) where
+  there : AreEnds c.table-2.result.now (rows_in c.args.self.now).entries c.args.id.0 c.deref-2.result.now
+  there =
+      let p = c.args.self.now in
+      let ends = c.in_ok-ends.ensures in
+      are_ends p.registry.table c.table-2.result.now (rows_in p).entries c.args.id.0 c.in_ok-ends.ends.items c.deref-2.result.now (c.table-2.ensures ∙ c.in_ok-add_item.ensures.table) c.deref-2.ensures.value ends.live ends.names
+
+  stood : Stands c.table-2.result.now c.reserve_item.new.self (rows_in c.args.self.now)
+  stood =
+      let p = c.args.self.now in
+      subst (λ (t : Names). Stands t c.reserve_item.new.self (rows_in p)) (sym (c.table-2.ensures ∙ c.in_ok-add_item.ensures.table)) (c.in_ok-reserve_item.ensures.stands p.registry.table (rows_in p) c.requires.are.stands)
 
 pub reserve_item-requires-clause-few : goal.reserve_item-requires-clause-few
 reserve_item-requires-clause-few g c =
     let p = c.args.self.now in
     let rows = rows_in p in
     let old = p.registry.table in
-    let id = c.args.id in
-    let n = name_in old id in
-    let are = c.requires.are in
+    let n = name_in old c.args.id in
     subst (λ (xs : List NameId). length xs ≤ 64) (sym c.deref.ensures.value)
     (few_ends old c.in_ok-ends.ends.items (ends_of_name rows.entries n) c.in_ok-ends.ensures.names (c.lawful_rows_ask_few.ensures.leads rows Follow n c.requires.lawful))
 
@@ -33,42 +46,24 @@ returns-clause-ok g c =
     let old = p.registry.table in
     let id = c.args.id in
     let n = name_in old id in
-    let are = c.requires.are in
-    let at = c.table-2.ensures ∙ c.in_ok-add_item.ensures.table in
-    let ends : AreEnds old rows.entries id.0 c.deref-2.result.now = are_ends old rows.entries id.0 c.in_ok-ends.ends.items c.deref-2.result.now c.deref-2.ensures.value c.in_ok-ends.ensures.live c.in_ok-ends.ensures.names in
-    let there = subst (λ (t : Names). AreEnds t rows.entries id.0 c.deref-2.result.now) (sym at) ends in
-    let stood = subst (λ (t : Names). Stands t c.reserve_item.new.self rows) (sym at) (c.in_ok-reserve_item.ensures.stands old rows are.stands) in
     let next = after rows (edit.Item n) in
-    by_lists p.registry c.add_item.new.self c.item_comes.new.self next [] c.in_ok-add_item.ensures.table c.in_ok-add_item.ensures.entries c.in_ok-add_item.ensures.ok
-    (c.lists_are_shown.ensures.order old (holds_in old) (n ∷ names_kept rows) (names_kept next) (c.items_arrive.ensures.kept rows n) are.held)
-    (subst (λ (t : Names). Stands t c.item_comes.new.self (after rows (edit.Item (name_at t id)))) at (c.item_comes.ensures.stands rows stood there))
+    let add = c.in_ok-add_item.ensures in
+    let at = (goal.at.returns-clause-ok g c).After-deref-2 in
+    by_lists p.registry c.add_item.new.self c.item_comes.new.self next [] add.table add.entries add.ok
+    (c.lists_are_shown.ensures.order old (holds_in old) (n ∷ names_kept rows) (names_kept next) (c.items_arrive.ensures.kept rows n) c.requires.are.held)
+    (subst (λ (t : Names). Stands t c.item_comes.new.self (after rows (edit.Item (name_at t id)))) (c.table-2.ensures ∙ add.table) (c.item_comes.ensures.stands rows (stood g at) (there g at)))
 
 pub returns-clause-steps : goal.returns-clause-steps
 returns-clause-steps g c =
-    let p = c.args.self.now in
-    let rows = rows_in p in
-    let old = p.registry.table in
-    let id = c.args.id in
-    let n = name_in old id in
-    let are = c.requires.are in
-    let at = c.table-2.ensures ∙ c.in_ok-add_item.ensures.table in
-    let ends : AreEnds old rows.entries id.0 c.deref-2.result.now = are_ends old rows.entries id.0 c.in_ok-ends.ends.items c.deref-2.result.now c.deref-2.ensures.value c.in_ok-ends.ensures.live c.in_ok-ends.ensures.names in
-    let there = subst (λ (t : Names). AreEnds t rows.entries id.0 c.deref-2.result.now) (sym at) ends in
-    let stood = subst (λ (t : Names). Stands t c.reserve_item.new.self rows) (sym at) (c.in_ok-reserve_item.ensures.stands old rows are.stands) in
-    subst (λ (t : Names). StepsWithin c.args.steps.now c.item_comes.new.steps (item_looks rows (name_at t id))) at (c.item_comes.ensures.steps rows stood there)
+    let rows = rows_in c.args.self.now in
+    let at = (goal.at.returns-clause-steps g c).After-deref-2 in
+    subst (λ (t : Names). StepsWithin c.args.steps.now c.item_comes.new.steps (item_looks rows (name_at t c.args.id))) (c.table-2.ensures ∙ c.in_ok-add_item.ensures.table)
+    (c.item_comes.ensures.steps rows (stood g at) (there g at))
 
 pub item_comes-requires-clause-stood : goal.item_comes-requires-clause-stood
 item_comes-requires-clause-stood g c =
-    let p = c.args.self.now in
-    let rows = rows_in p in
-    let old = p.registry.table in
-    let id = c.args.id in
-    let are = c.requires.are in
-    let at = c.table-2.ensures ∙ c.in_ok-add_item.ensures.table in
-    let ends : AreEnds old rows.entries id.0 c.deref-2.result.now = are_ends old rows.entries id.0 c.in_ok-ends.ends.items c.deref-2.result.now c.deref-2.ensures.value c.in_ok-ends.ensures.live c.in_ok-ends.ensures.names in
-    let there = subst (λ (t : Names). AreEnds t rows.entries id.0 c.deref-2.result.now) (sym at) ends in
-    let stood = subst (λ (t : Names). Stands t c.reserve_item.new.self rows) (sym at) (c.in_ok-reserve_item.ensures.stands old rows are.stands) in
-    (rows, c.requires.lawful, stood, there)
+    let at = (goal.at.item_comes-requires-clause-stood g c).After-deref-2 in
+    (rows_in c.args.self.now, c.requires.lawful, stood g at, there g at)
 
 pub returns-in_err-reserve_item-clause-err : goal.returns-in_err-reserve_item-clause-err
 returns-in_err-reserve_item-clause-err g c =
