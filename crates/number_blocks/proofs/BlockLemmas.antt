@@ -84,6 +84,35 @@ module _ (p : ℕ → Bool) where
   none_behind (b ∷ c ∷ bs) zero e = absurd (omega (arith, e))
   none_behind (b ∷ bs) (suc i) e = none_behind bs i (omega (arith, e))
 
+  -- where the last number passes, all do, and where the first fails, none does
+  pub all_passing : (bs : List Block) (last : ℕ) → length bs ≡ suc last → AreFilled bs → IsParted p (flat bs) → last_passes p (block_at bs last) ≡ true → AllAre p true (flat bs)
+  all_passing [] last e some s h = tt
+  all_passing (b ∷ []) zero e some s h = all_append (λ y. p y ≡ true) b.items [] (last_true p b.items (parted_front p b.items [] s) h) tt
+  all_passing (b ∷ []) (suc last) e some s h = absurd (omega (arith, e))
+  all_passing (b ∷ c ∷ bs) zero e some s h = absurd (omega (arith, e))
+  all_passing (b ∷ c ∷ bs) (suc last) e some s h =
+      let rest = all_passing (c ∷ bs) last (omega (arith, e)) some.1 (parted_back p b.items (flat (c ∷ bs)) s) h in
+      all_append (λ y. p y ≡ true) b.items (flat (c ∷ bs)) (last_true p b.items (parted_front p b.items (flat (c ∷ bs)) s) (passes rest)) rest
+    where
+      not_both : (xs : List ℕ) → 0 < length xs → AllAre p true xs → AllAre p false xs → ⊥
+      not_both [] some h k = absurd (omega (arith, some))
+      not_both (x ∷ xs) some h k = both_ways _ k.0 h.0
+
+      passes : AllAre p true (flat (c ∷ bs)) → last_passes p b.items ≡ true
+      passes rest = elim (cases_Bool (last_passes p b.items)) [
+        | inl yes_ ↦ yes_
+        | inr no_ ↦
+            absurd (not_both c.items some.1.0 (all_front (λ y. p y ≡ true) c.items (flat bs) rest) (all_front (λ y. p y ≡ false) c.items (flat bs) (last_false p b.items (flat (c ∷ bs)) some.0 s no_)))
+      ]
+
+  pub none_passing : (bs : List Block) → 1 ≤ length (block_at bs 0) → IsParted p (flat bs) → p (slice_index_or (block_at bs 0) 0 0) ≡ false → AllAre p false (flat bs)
+  none_passing [] some s h = tt
+  none_passing (b ∷ bs) some s h = by b.items some s h
+    where
+      by : (xs : List ℕ) → 1 ≤ length xs → IsParted p (xs ++ flat bs) → p (slice_index_or xs 0 0) ≡ false → AllAre p false (xs ++ flat bs)
+      by [] some s h = absurd (omega (arith, some))
+      by (x ∷ xs) some s h = (h, s.0 h)
+
   pub place_passing : (bs : List Block) (i at : ℕ) → AllAre p true (before bs i 0) → AllAre p true (take at (block_at bs i)) → AllAre p true (before bs i at)
   place_passing [] i at h k = tt
   place_passing (b ∷ bs) zero at h k = k

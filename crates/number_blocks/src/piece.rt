@@ -4,7 +4,7 @@ ghost use Rattle.std.specs.Iterator.{YieldsFirst, item_count};
 ghost use Rattle.number_blocks.specs.Blocks.{IsParted};
 ghost use Rattle.number_blocks.specs.Places.{flat, AreFilled, block_at, before, behind, stands_before};
 
-use crate::search::{Place, Test, back_of, block_of, find};
+use crate::search::{Place, Test, all_pass, back_of, block_of, find, none_pass};
 use std::marker::Model;
 
 /// Numbers of a list that stand side by side, from the first on. Contracts see those that are left. A step takes no memory.
@@ -34,6 +34,17 @@ impl<'a> Piece<'a> {
     {
         Piece {
             here: &[],
+            whole: &[],
+            last: &[],
+        }
+    }
+
+    /// The numbers of a slice.
+    pub fn of(numbers: &'a [u32]) -> Piece<'a>
+        ensures { result ≡ numbers.now }
+    {
+        Piece {
+            here: numbers,
             whole: &[],
             last: &[],
         }
@@ -192,6 +203,10 @@ pub(crate) fn piece_between<'a, A: Test, B: Test>(
     requires second { IsParted (B.passes second.now) (flat blocks.now) }
     ensures { result ≡ filter (λ n. not (A.passes first.now n) && B.passes second.now n) (flat blocks.now) }
 {
+    // Often none is asked for that is there, and an end of the list tells so.
+    if all_pass(blocks, first) || none_pass(blocks, second) {
+        return Piece::none();
+    }
     let from = find(blocks, first);
     let to = find(blocks, second);
     if !is_before(from, to) {

@@ -1,4 +1,5 @@
 // Where a test ends, by binary searches.
+ghost use Rattle.std.specs.Bool.{OnTrue};
 ghost use Rattle.std.specs.Prelude.{◌≡◌, ℕ, ◌≤◌, ◌<◌, Bool, true, false, length, take, drop};
 ghost use Rattle.std.specs.List.Sorted.{IsPartitionPoint};
 ghost use Rattle.number_blocks.specs.Blocks.{AllAre, IsParted};
@@ -81,6 +82,28 @@ pub(crate) fn find_block<T: Test>(blocks: &[Vec<u32>], test: &T) -> usize
         block - 1
     } else {
         block
+    }
+}
+
+// Whether all numbers pass: the last one does.
+pub(crate) fn all_pass<T: Test>(blocks: &[Vec<u32>], test: &T) -> bool
+    requires some { 0 < length blocks.now }
+    requires filled { AreFilled blocks.now }
+    requires parted { IsParted (T.passes test.now) (flat blocks.now) }
+    ensures { OnTrue result (AllAre (T.passes test.now) true (flat blocks.now)) }
+{
+    last_passes(block_of(blocks, blocks.len() - 1), test)
+}
+
+// Whether no number passes: the first one fails.
+pub(crate) fn none_pass<T: Test>(blocks: &[Vec<u32>], test: &T) -> bool
+    requires some { 0 < length blocks.now }
+    requires parted { IsParted (T.passes test.now) (flat blocks.now) }
+    ensures { OnTrue result (AllAre (T.passes test.now) false (flat blocks.now)) }
+{
+    match block_of(blocks, 0) {
+        [first, ..] => !test.test(*first),
+        [] => false,
     }
 }
 

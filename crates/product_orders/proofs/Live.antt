@@ -1,15 +1,17 @@
 -- The numbers that have a product, as a product comes and goes.
 use Rattle.std.proofs.Common.{◌≡◌, ◌≢◌, ℕ, zero, suc, ◌+◌, ◌<◌, ◌≤◌, Bool, true, false, cond, List, [], ◌∷◌, ◌++◌, length, Option, Some, None, refl, sym, ap, subst, ◌∙◌, inl, inr, is_lt, arith, eqb-true}
 use Rattle.std.specs.Prelude.{nat_eq, is_some, IsSome}
-use Rattle.std.specs.List.{AllByRecursion, Contains, sum_by, range_with_len}
+use Rattle.std.specs.List.{AllByRecursion, Contains, filter, sum_by, range_with_len}
 use Rattle.std.specs.List.Sorted.{IsPermutation}
-use Rattle.std.proofs.lemmas.Bool.{cases_Bool, cases_eq, cases_lt, both_ways, eq-eqb}
+use Rattle.std.proofs.lemmas.Bool.{cases_Bool, cases_eq, cases_lt, both_ways, eq-eqb, false_from_ne_true}
 use Rattle.std.proofs.lemmas.Option.{same_Some, none-some}
 use Rattle.std.proofs.lemmas.List.{get_or_past}
 use Rattle.std.proofs.lemmas.List.Sums.{sum_by-cons, sum_by-append}
 use Rattle.std.proofs.lemmas.List.Sorted.{sum_by-IsPermutation}
 use Rattle.cpe_values.specs.declared.value.Value.{Value}
+use Rattle.cpe_values.specs.Equal.{same_value-Decides}
 use Rattle.cpe_values.specs.Lower.{lower_value}
+use Rattle.cpe_values.specs.Same.{same_value}
 use Rattle.number_blocks.specs.Blocks.{IsTaken}
 use Rattle.product_orders.specs.declared.keys.End.{End}
 use Rattle.product_orders.specs.declared.keys.End.TheVariants as end
@@ -17,7 +19,7 @@ use Rattle.product_orders.specs.Elements.{SameElements}
 use Rattle.product_orders.specs.Keys.{text_order, key, NotAbove, Rises, Ordered}
 use Rattle.product_orders.specs.Listed.{Listed, product_at, value_or, value_at, numbers, live, Adds, Removes}
 use Rattle.product_orders.specs.Near.{AreOrders}
-use Rattle.product_orders.proofs.Sums.{sum_filter}
+use Rattle.product_orders.proofs.Sums.{if_passes, sum_filter}
 
 -- ---- sums over numbers
 
@@ -86,6 +88,41 @@ one_more_live fewer more n v none some others f =
     let same : sum_by (counts more f) (numbers m) ≡ counts more f n + sum_by (counts fewer f) (numbers m) =
     range_point (counts more f) (counts fewer f) n 0 m (counts_none fewer f n none) (λ k ne. ap {B = ℕ} (λ (o : Option Value). cond (is_some o) (f k) 0) (others k ne)) (omega arith) (omega (arith, known more n v some)) in
     omega (arith, live_sum more f m (omega arith), live_sum fewer f m (omega arith), same, counts_some more f n v some)
+
+-- the numbers that have a product: one, or none
+module _ (products : Listed) (v : Value) where
+  abbrev has : ℕ → Bool
+  has k = same_value v (value_at products k)
+
+  found : (f : ℕ → ℕ) → sum_by f (filter has (live products)) ≡ sum_by (counts products (if_passes has f)) (numbers (length products))
+  found f = sum_filter f has (live products) ∙ live_sum products (if_passes has f) (length products) (omega arith)
+
+  -- a number that doesn't have the product adds nothing
+  adds_none : (f : ℕ → ℕ) (k : ℕ) → (product_at products k ≡ Some v → ⊥) → counts products (if_passes has f) k ≡ 0
+  adds_none f k not_it = by (product_at products k) refl
+    where
+      by : (p : Option Value) → product_at products k ≡ p → counts products (if_passes has f) k ≡ 0
+      by None e = counts_none products (if_passes has f) k e
+      by (Some w) e =
+          let other : same_value v w ≡ false = false_from_ne_true _ (λ same. not_it (e ∙ ap Some (sym ((same_value-Decides v w).0 same)))) in
+          counts_some products (if_passes has f) k w e ∙ ap {B = ℕ} (λ (x : Value). cond (same_value v x) (f k) 0) (ap value_or e) ∙ ap {B = ℕ} (λ (b : Bool). cond b (f k) 0) other
+
+  pub has_one : (n : ℕ) → product_at products n ≡ Some v → ((k : ℕ) → product_at products k ≡ Some v → k ≡ n) → SameElements (filter has (live products)) (n ∷ [])
+  has_one n here one f =
+      let adds = counts products (if_passes has f) in
+      let it : adds n ≡ f n =
+      counts_some products (if_passes has f) n v here ∙ ap {B = ℕ} (λ (x : Value). cond (same_value v x) (f n) 0) (ap value_or here) ∙ ap {B = ℕ} (λ (b : Bool). cond b (f n) 0) ((same_value-Decides v v).1 refl) in
+      omega (
+        arith,
+        found f,
+        range_point adds (λ k. 0) n 0 (length products) refl (λ k ne. adds_none f k (λ h. ne (one k h))) (omega arith) (omega (arith, known products n v here)),
+        range_none (λ k. 0) 0 (length products) (λ k low. refl),
+        it,
+        sum_by-cons f n [],
+      )
+
+  pub has_none : ((k : ℕ) → product_at products k ≡ Some v → ⊥) → SameElements (filter has (live products)) []
+  has_none none f = found f ∙ range_none (counts products (if_passes has f)) 0 (length products) (λ k low. adds_none f k (none k))
 
 -- ---- whether a number stands in a list
 

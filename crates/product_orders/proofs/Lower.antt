@@ -6,6 +6,9 @@ use Rattle.std.specs.Char.{to_ascii_lowercase}
 use Rattle.std.proofs.lemmas.List.{take_all}
 use Rattle.std.proofs.lemmas.Bool.{leb-true, le-leb, false_from_ne_true, both_ways}
 use lib.Pointwise.{pointwise}
+use Rattle.cpe_values.specs.declared.value.Edge.{Edge}
+use Rattle.cpe_values.specs.declared.value.Edge.TheVariants as edge
+use Rattle.cpe_values.specs.Same.{same_edge, same_value}
 use Rattle.cpe_values.specs.declared.value.Value.{Value}
 use Rattle.cpe_values.specs.declared.value.Value.TheVariants as value
 use Rattle.cpe_values.specs.Parts.{Parts, is_nothing, has_special}
@@ -119,6 +122,33 @@ edges_back true true = refl
 edges_back true false = refl
 edges_back false true = refl
 edges_back false false = refl
+
+-- a plain text against a product: they are the same
+nothing_same : (a e : Edge) → is_nothing a ≡ true → same_edge a e ≡ is_nothing e
+nothing_same edge.None edge.None h = refl
+nothing_same edge.None edge.Star h = refl
+nothing_same edge.None (edge.Marks n) h = refl
+nothing_same edge.Star e h = absurd cc
+nothing_same (edge.Marks m) e h = absurd cc
+
+pub same_plain : (v w : Value) → shape_of v ≡ shape.Plain → in_run end.Front shape.Plain (body_of v) true w ≡ same_value v w
+same_plain value.Any w h = absurd (omega (arith, ap rank h))
+same_plain value.Na w h = absurd (omega (arith, ap rank h))
+same_plain (value.Text p) value.Any h = refl
+same_plain (value.Text p) value.Na h = refl
+same_plain (value.Text p) (value.Text t) h =
+    let e = sym (edges_back (is_nothing p.lead) (is_nothing p.trail)) ∙ ap edges_of h in
+    by (is_nothing t.lead) (is_nothing t.trail) (pointwise nat_eq p.body t.body)
+    ∙ ap (λ (b : Bool). b && pointwise nat_eq p.body t.body && is_nothing t.trail) (sym (nothing_same p.lead t.lead (ap (λ (z : Bool × Bool). z.0) e)))
+    ∙ ap (λ (b : Bool). same_edge p.lead t.lead && pointwise nat_eq p.body t.body && b) (sym (nothing_same p.trail t.trail (ap (λ (z : Bool × Bool). z.1) e)))
+  where
+    by : (x y b : Bool) → (nat_eq 2 (rank (shape_by x y)) && b) ≡ (x && b && y)
+    by true true true = refl
+    by true true false = refl
+    by true false true = refl
+    by true false false = refl
+    by false true b = refl
+    by false false b = refl
 
 module _ (p : Parts) (low : lower_value (value.Text p) ≡ value.Text p) where
   as_is : (x y : Bool) → is_nothing p.lead ≡ x → is_nothing p.trail ≡ y → (t : List ℕ) → lower t ≡ t → near_plain p t ≡ near_by x y p.body t

@@ -2,11 +2,12 @@
 ghost use Rattle.std.specs.Prelude.{◌≡◌, ℕ, ◌<◌, ◌≤◌, false, [], ◌∷◌, ◌++◌, length, get_or, Some, None, IsNone, IsSome, IfSome, IfOk, OnOk, OnErr};
 ghost use Rattle.std.specs.Prelude.{vec_len, vec_capacity};
 ghost use Rattle.std.specs.Option.{option_copied};
-ghost use Rattle.std.specs.List.{IsDistinct, swap_remove};
+ghost use Rattle.std.specs.List.{IsDistinct, swap_remove, filter};
 ghost use Rattle.cpe_values.specs.declared.value.Value.{Value};
 ghost use Rattle.cpe_values.specs.declared.value.Value.TheVariants as value;
 ghost use Rattle.cpe_values.specs.Same.{same_value};
-ghost use Rattle.product_orders.specs.Listed.{product_at, Adds, Removes};
+ghost use Rattle.product_orders.specs.Elements.{SameElements};
+ghost use Rattle.product_orders.specs.Listed.{product_at, value_at, live, Adds, Removes};
 ghost use Rattle.product_orders.specs.Placed.{number_at, Grows, freed_numbers, freed_places};
 
 use cpe_values::{Memory, Value};
@@ -40,6 +41,14 @@ fn number_of(numbers: &Vec<u32>, place: usize) -> u32
     ensures { result ≡ number_at numbers.now.items place }
 {
     numbers[place]
+}
+
+// The number of a place, alone.
+fn number_alone(numbers: &Vec<u32>, place: usize) -> &[u32]
+    requires { place < length numbers.now.items }
+    ensures { result.now ≡ number_at numbers.now.items place ∷ [] }
+{
+    &numbers[place..place + 1]
 }
 
 // Makes room for a number at the first place behind the products.
@@ -152,6 +161,16 @@ impl Numbered {
         match self.values.get_index_of(value) {
             Some(place) => Some(number_of(&self.numbers, place)),
             None => None,
+        }
+    }
+
+    // The number of a product alone, by its hash; nothing where no number has it.
+    pub(crate) fn find_alone(&self, value: &Value) -> &[u32]
+        ensures { SameElements (filter (λ n. same_value value.now (value_at self.now n)) (live self.now)) result.now }
+    {
+        match self.values.get_index_of(value) {
+            Some(place) => number_alone(&self.numbers, place),
+            None => &[],
         }
     }
 

@@ -1,6 +1,6 @@
 // A walk over the products that are near a product.
 ghost use Rattle.std.specs.Bool.{OnTrue, OnFalse};
-ghost use Rattle.std.specs.Prelude.{◌≡◌, ◌≤◌, ◌<◌, ◌+◌, ◌-◌, ℕ, false, drop, List, ◌++◌, [], length, filter};
+ghost use Rattle.std.specs.Prelude.{◌≡◌, ◌≤◌, ◌<◌, ◌+◌, ◌-◌, ℕ, true, false, drop, List, ◌++◌, [], length, filter};
 ghost use Rattle.std.specs.Iterator.{YieldsFirst, item_count};
 ghost use Rattle.cpe_values.specs.Lower.{lower_value};
 ghost use Rattle.cpe_relation.specs.Near.{near};
@@ -8,7 +8,7 @@ ghost use Rattle.cpe_values.specs.declared.value.Value.TheVariants.{Text};
 ghost use Rattle.product_orders.specs.declared.keys.End.TheVariants as end;
 ghost use Rattle.product_orders.specs.declared.keys.Shape.TheVariants as shapes;
 ghost use Rattle.product_orders.specs.Elements.{SameElements};
-ghost use Rattle.product_orders.specs.Keys.{in_run, shape_of};
+ghost use Rattle.product_orders.specs.Keys.{in_run, shape_of, body_of};
 ghost use Rattle.product_orders.specs.Listed.{value_at, live};
 ghost use Rattle.product_orders.specs.Near.{near_on};
 ghost use Rattle.product_orders.specs.Walk.{runs, all_runs};
@@ -129,6 +129,14 @@ impl Products {
         in_run(&self.values, &self.backs, run)
     }
 
+    // The number of a plain text, where it is a product: found by its hash.
+    fn same_text(&self, asked: &Value) -> Piece<'_>
+        requires { shape_of asked.now ≡ shapes.Plain }
+        ensures { SameElements (filter (λ n. in_run end.Front shapes.Plain (body_of asked.now) true (value_at self.now n)) (live self.now)) result }
+    {
+        Piece::of(self.values.find_alone(asked))
+    }
+
     fn all(&self) -> Piece<'_>
         ensures { SameElements (live self.now) result }
     {
@@ -136,13 +144,14 @@ impl Products {
     }
 
     // The products to which a text is near: one run.
-    fn near_text(&self, text: &Pattern) -> Piece<'_>
-        requires { lower_value (Text text.now) ≡ Text text.now }
+    fn near_text(&self, asked: &Value, text: &Pattern) -> Piece<'_>
+        requires is { asked.now ≡ Text text.now }
+        requires lower { lower_value (Text text.now) ≡ Text text.now }
         ensures { SameElements (filter (λ n. near (Text text.now) (value_at self.now n)) (live self.now)) result }
     {
         self.lawful();
         match text_shape(text) {
-            Shape::Plain => self.front_run(Shape::Plain, text.stem(), true),
+            Shape::Plain => self.same_text(asked),
             Shape::WithTrail => self.front_run(Shape::Plain, text.stem(), false),
             Shape::WithLead => self.end_run(Shape::Plain, text.stem()),
             _ => self.front_run(Shape::Plain, &[], false),
@@ -158,7 +167,7 @@ impl Products {
         match asked {
             Value::Any => self.all(),
             Value::Na => self.front_run(Shape::Na, &[], false),
-            Value::Text(text) => self.near_text(text),
+            Value::Text(text) => self.near_text(asked, text),
         }
     }
 
@@ -201,7 +210,13 @@ impl Products {
     }
 
     // The products that are near a plain text.
-    fn near_plain<'a>(&'a self, any: Piece<'a>, text: &'a Pattern) -> NearProducts<'a>
+    fn near_plain<'a>(
+        &'a self,
+        any: Piece<'a>,
+        asked: &Value,
+        text: &'a Pattern,
+    ) -> NearProducts<'a>
+        requires is { asked.now ≡ Text text.now }
         requires lower { lower_value (Text text.now) ≡ Text text.now }
         requires plain { shape_of (Text text.now) ≡ shapes.Plain }
         requires any { SameElements (filter (λ n. in_run end.Front shapes.Any [] false (value_at self.now n)) (live self.now)) any }
@@ -209,7 +224,7 @@ impl Products {
     {
         self.lawful();
         let body = text.stem();
-        let same = self.front_run(Shape::Plain, body, true);
+        let same = self.same_text(asked);
         let both = self.front_run(Shape::WithBoth, &[], false);
         let fronts = self.piece_count(Shape::WithTrail, body);
         let ends = self.piece_count(Shape::WithLead, body);
@@ -233,15 +248,16 @@ impl Products {
                 0,
             ),
             Value::Text(text) => match text_shape(text) {
-                Shape::Plain => self.near_plain(any, text),
+                Shape::Plain => self.near_plain(any, asked, text),
                 _ => self.in_runs(any, Piece::none(), Piece::none(), &[], 0, 0),
             },
         }
     }
 
     /// A walk over the numbers of the products that are near a product which is the source, or the target. It takes no
-    /// memory. A source looks up one run of one of the orders; a target up to three, and where products with a trail alone are
-    /// there, one more for each of its fronts, and so with a lead alone for its ends.
+    /// memory. A plain text is found by its hash. Any other source looks up one run of one of the orders; a target where ANY is
+    /// a product, or one has a special, those of each such shape, and where products with a trail alone are there, one run more
+    /// for each of its fronts, and so with a lead alone for its ends.
     pub fn near<'a>(&'a self, asked: &'a Value, side: Side) -> NearProducts<'a>
         requires { lower_value asked.now ≡ asked.now }
         ensures { SameElements (filter (λ n. near_on side asked.now (value_at self.now n)) (live self.now)) result }

@@ -1,0 +1,20 @@
+use Rattle.std.proofs.Common.{ℕ, true, sym, ap, subst, ◌∙◌}
+use Rattle.std.specs.List.{filter, sum_by}
+use Rattle.cpe_values.specs.Same.{same_value}
+use Rattle.product_orders.specs.declared.keys.End.TheVariants as end
+use Rattle.product_orders.specs.declared.keys.Shape.TheVariants as shape
+use Rattle.product_orders.specs.Elements.{SameElements}
+use Rattle.product_orders.specs.Keys.{body_of, in_run}
+use Rattle.product_orders.specs.Listed.{value_at, live, Listed}
+use Rattle.product_orders.proofs.Lower.{same_plain}
+use Rattle.product_orders.proofs.Sums.{tests_agree}
+use Rattle.product_orders.proofs.products.Products.same_text.Goals as goal
+
+pub returns : goal.returns
+returns c =
+    let values = c.self.inside.values in
+    let asked = c.args.asked.now in
+    let is_asked = λ (n : ℕ). in_run end.Front shape.Plain (body_of asked) true (value_at values n) in
+    subst (λ (vs : Listed). SameElements (filter (λ n. in_run end.Front shape.Plain (body_of asked) true (value_at vs n)) (live vs)) c.of.result) c.self.view_is
+    (tests_agree is_asked (λ n. same_value asked (value_at values n)) (λ n. same_plain asked (value_at values n) c.requires) (live values) c.of.result
+    (λ f. c.find_alone.ensures f ∙ ap (sum_by f) (sym c.of.ensures)))
