@@ -1,15 +1,15 @@
 -- How far a session has come, whether its lines are read or made: which lines were answered, and what they left.
-use Rattle.std.proofs.Common.{◌≡◌, ℕ, ◌+◌, ◌≤◌, Bool, false, List, [], ◌∷◌, ◌++◌, length, Option, sym, ap, ◌∙◌, subst, arith, append_assoc, append-nil}
+use Rattle.std.proofs.Common.{◌≡◌, ℕ, ◌+◌, ◌≤◌, Bool, false, List, [], ◌∷◌, ◌++◌, length, Option, sym, ap, ◌∙◌, subst, inl, inr, arith, append_assoc, append-nil}
 use Rattle.std.specs.Io.KnownBytes.{Appends}
 use Rattle.std.proofs.KnownBytes.{Appends-nil, Appends-trans}
 use Rattle.cpe_io.specs.Writes.{BeginsWith, AppendsFront}
 use Rattle.cpe_session.specs.declared.status.Status.{Status}
 use Rattle.cpe_session.specs.declared.status.Status.TheVariants as status
-use Rattle.cpe_session.specs.Session.{Session, Stage, next_writes, after_next, start, after, out_from, next_cost, costs, total_cost}
+use Rattle.cpe_session.specs.Session.{Session, Stage, next_says, next_writes, after_next, start, after, out_from, next_cost, costs, total_cost}
 use Rattle.cpe_session.specs.Task.{Transcript, speech, spoken}
 use Rattle.cpe_steps.specs.Within.{StepsWithin}
-use Rattle.cpe_session.specs.Pages.{Pours, Finishes}
-use Rattle.cpe_session.specs.Ran.{ReachedBy, StateAt}
+use Rattle.cpe_session.specs.Pages.{Pours, Finishes, IsBeforeOrAfter}
+use Rattle.cpe_session.specs.Ran.{ReachedBy, StateAt, LeftByPrefix}
 use Rattle.cpe_session.specs.Statuses.{status_of}
 use Rattle.cpe_session.proofs.SessionLemmas.{after-append, out_from-append, costs-append, number-after}
 
@@ -53,6 +53,22 @@ module _ {State : Type 0} {held0 held : Option (List ℕ)} {session : Session St
     (answered : Answered held0 held session first steps0 steps seen text s) where
   pub answered_number : s.number ≡ length seen
   answered_number = omega (arith, ap (λ (t : Stage State). t.number) answered.stage, number-after session (start first) seen)
+
+  -- the lines so far left the state, and so they do with one more that is made or isn't
+  pub left_so_far : (all later : List (Option (List ℕ))) → all ≡ seen ++ later → LeftByPrefix session first s.state all
+  left_so_far all later splits = record { answered = seen; later = later; splits = splits; state = ap (λ (t : Stage State). t.state) answered.stage }
+
+  pub left_before_or_after : {state_now : State} (line : Option (List ℕ)) → IsBeforeOrAfter (next_says session s line) s.state state_now → (all later : List (Option (List ℕ))) → all ≡ (seen ++ line ∷ []) ++ later
+      → LeftByPrefix session first state_now all
+  left_before_or_after line (inl before) all later splits =
+      let so_far = left_so_far all (line ∷ later) (splits ∙ append_assoc seen (line ∷ []) later) in
+      record { answered = so_far.answered; later = so_far.later; splits = so_far.splits; state = before ∙ so_far.state }
+  left_before_or_after line (inr behind) all later splits = record {
+    answered = seen ++ line ∷ [];
+    later = later;
+    splits = splits;
+    state = behind ∙ ap (λ (t : Stage State). (after_next session t line).state) answered.stage ∙ ap (λ (t : Stage State). t.state) (sym (after-append session (start first) seen (line ∷ [])));
+  }
 
   -- a flush writes a front of what is gathered
   pub Answered-poured : {held_now : Option (List ℕ)} {kept : List ℕ} → Pours held held_now text kept [] → Answered held0 held_now session first steps0 steps seen kept s
@@ -144,6 +160,9 @@ module _ {State : Type 0} {held0 held : Option (List ℕ)} {session : Session St
     end_state : s.state ≡ (after session (start first) all).state
     end_state = ap (λ (t : Stage State). t.state) answered.stage ∙ ap (λ (ls : List (Option (List ℕ))). (after session (start first) ls).state) (sym same)
 
+    left_by_all : LeftByPrefix session first s.state all
+    left_by_all = record { answered = all; later = []; splits = sym (append-nil all); state = end_state }
+
     end_within : {steps_now : ℕ} → StepsWithin steps steps_now (session.end_cost s.state) → steps_now ≤ steps0 + total_cost session first all
     end_within {steps_now = steps_now} counts =
         subst (λ (ls : List (Option (List ℕ))). steps_now ≤ steps0 + total_cost session first ls) (sym same)
@@ -182,8 +201,8 @@ module _ {State : Type 0} {held0 held : Option (List ℕ)} {session : Session St
       pub Answered-ended : (ending : Status) → Finishes held held_now (text ++ session.ends s.state) s.refused ending → Ended held0 held_now session first s.state steps0 steps_now all whole_ones ending
       Answered-ended status.Done finishes = ended_all status.Done (λ written it. it) (λ it. it) finishes.0 finishes.1
       Answered-ended status.SomeRefused finishes = ended_all status.SomeRefused (λ written it. it) (λ it. it) finishes.0 finishes.1
-      Answered-ended status.WriteFault finishes = ended_front status.WriteFault (λ _. tt) tt finishes
-      Answered-ended status.Memory finishes = ended_front status.Memory (λ _. tt) tt finishes
+      Answered-ended status.WriteFault finishes = ended_front status.WriteFault (λ _. tt) left_by_all finishes
+      Answered-ended status.Memory finishes = ended_front status.Memory (λ _. tt) left_by_all finishes
       Answered-ended status.Usage finishes = absurd finishes
       Answered-ended status.ReadFault finishes = absurd finishes
       Answered-ended status.Endless finishes = absurd finishes

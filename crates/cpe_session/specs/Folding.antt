@@ -1,5 +1,5 @@
 -- The state of a session as the fold of its lines alone, and what they cost.
-use Rattle.std.specs.Prelude.{◌≡◌, ℕ, ◌+◌, List, [], ◌∷◌}
+use Rattle.std.specs.Prelude.{◌≡◌, ℕ, ◌+◌, List, [], ◌∷◌, ◌++◌}
 use Rattle.std.specs.declared.option.Option.{Option}
 use Rattle.cpe_io.specs.Lines.{lines, whole}
 use Rattle.cpe_session.specs.Session.{Session, Stage, state_of, line_says, next_cost}
@@ -24,12 +24,20 @@ abbrev pub summed_by : {State : Type 0} → (State → Option (List ℕ) → Sta
 summed_by change cost state [] = 0
 summed_by change cost state (line ∷ more) = cost state line + summed_by change cost (change state line) more
 
--- the state at each status, as the fold of the lines that were taken, or at a fault of the source of the whole ones
+-- the state behind some of these lines, from the first on
+pub record FoldsPrefix {State : Type 0} (change : State → Option (List ℕ) → State) (first now : State) (all : List (Option (List ℕ))) : Type 0 where
+  pub answered : List (Option (List ℕ))
+  pub later : List (Option (List ℕ))
+  pub splits : all ≡ answered ++ later
+  pub state : now ≡ folded change first answered
+
+-- the state at each status, as the fold of the lines that were taken; at a fault of the source of the whole ones; and where a write
+-- failed or memory ran out of some
 abbrev pub IsFolded : {State : Type 0} → (State → Option (List ℕ) → State) → State → State → List ℕ → Status → Type 0
 IsFolded change first now taken Done = now ≡ folded change first (lines taken)
 IsFolded change first now taken SomeRefused = now ≡ folded change first (lines taken)
 IsFolded change first now taken Usage = ⊥
 IsFolded change first now taken ReadFault = now ≡ folded change first (whole taken)
 IsFolded change first now taken Endless = now ≡ folded change first (whole taken)
-IsFolded change first now taken WriteFault = Unit {0}
-IsFolded change first now taken Memory = Unit {0}
+IsFolded change first now taken WriteFault = FoldsPrefix change first now (lines taken)
+IsFolded change first now taken Memory = FoldsPrefix change first now (lines taken)
