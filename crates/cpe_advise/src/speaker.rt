@@ -1,5 +1,5 @@
 // What a line of a record says.
-ghost use Rattle.std.specs.Prelude.{◌≡◌, ◌++◌, [], ℕ, List, true, None, IfOk};
+ghost use Rattle.std.specs.Prelude.{◌≡◌, ◌++◌, [], ℕ, List, true, None, IfOk, OnErr};
 ghost use Rattle.std.specs.Option.{option_map};
 ghost use Rattle.cpe_steps.specs.Within.{StepsWithin};
 ghost use Rattle.cpe_session.specs.Pages.{IsSaid};
@@ -79,6 +79,7 @@ fn make_edit<L: Ledger>(
     requires { is_valid_edit edit ≡ true }
     ensures said { IfOk result (λ refused.
         (page : List ℕ) → IsSaid (by_step (step advisories.old edit)) advisories.old advisories.new page page (option_map reason_text refused)) }
+    ensures err { OnErr result (advisories.new ≡ advisories.old) }
     ensures counts { StepsWithin steps.old steps.new 0 }
 {
     match advisories.apply(edit, steps) {

@@ -1,9 +1,9 @@
 // The verdicts that an edit changes.
-ghost use Rattle.std.specs.Prelude.{◌≡◌, ◌++◌, true, IfOk, OnOk};
+ghost use Rattle.std.specs.Prelude.{◌≡◌, ◌++◌, true, IfOk, OnErr, OnOk};
 ghost use Rattle.std.specs.Option.{option_map};
 ghost use Rattle.std.specs.List.{flat_map};
 ghost use Rattle.cpe_steps.specs.Within.{StepsWithin};
-ghost use Rattle.cpe_session.specs.Pages.{IsSaid};
+ghost use Rattle.cpe_session.specs.Pages.{IsBeforeOrAfter, IsSaid};
 ghost use Rattle.cpe_rows.specs.Step.{step};
 ghost use Rattle.cpe_rows.specs.Valid.{is_valid_edit};
 ghost use Rattle.cpe_engine.specs.Looks.{edit_looks};
@@ -33,6 +33,7 @@ pub(crate) fn say_changes<L: Ledger>(
     requires { is_valid_edit edit ≡ true }
     ensures said { IfOk result (λ refused. IsSaid (by_step (edit_text RecordCommand.Watch number engine.old edit) (step engine.old edit))
         engine.old engine.new page.old page.new (option_map reason_text refused)) }
+    ensures err { OnErr result (IsBeforeOrAfter (by_step (edit_text RecordCommand.Watch number engine.old edit) (step engine.old edit)) engine.old engine.new) }
     ensures counts { StepsWithin steps.old steps.new (edit_looks engine.old edit) }
 {
     match copy_dropped_id(alloc, &edit) {
@@ -57,6 +58,7 @@ fn say_applied<L: Ledger>(
     requires drops { dropped.now ≡ dropped_id edit }
     ensures said { IfOk result (λ refused. IsSaid (by_step (edit_text RecordCommand.Watch number engine.old edit) (step engine.old edit))
         engine.old engine.new page.old page.new (option_map reason_text refused)) }
+    ensures err { OnErr result (IsBeforeOrAfter (by_step (edit_text RecordCommand.Watch number engine.old edit) (step engine.old edit)) engine.old engine.new) }
     ensures counts { StepsWithin steps.old steps.new (edit_looks engine.old edit) }
 {
     match engine.apply(edit, steps) {

@@ -1,8 +1,8 @@
 // What a line of a record says.
-ghost use Rattle.std.specs.Prelude.{◌≡◌, ◌++◌, [], ℕ, List, true, None, IfOk};
+ghost use Rattle.std.specs.Prelude.{◌≡◌, ◌++◌, [], ℕ, List, true, None, IfOk, OnErr};
 ghost use Rattle.std.specs.Option.{option_map};
 ghost use Rattle.cpe_steps.specs.Within.{StepsWithin};
-ghost use Rattle.cpe_session.specs.Pages.{IsSaid};
+ghost use Rattle.cpe_session.specs.Pages.{IsBeforeOrAfter, IsSaid};
 ghost use Rattle.cpe_rows.specs.Step.{step};
 ghost use Rattle.cpe_rows.specs.Answers.{answer};
 ghost use Rattle.cpe_rows.specs.Valid.{is_valid_edit, is_valid_query};
@@ -92,6 +92,7 @@ impl RecordCommand {
         requires { is_valid_edit edit ≡ true }
         ensures said { IfOk result (λ refused. IsSaid (by_step (edit_text self.now number engine.old edit) (step engine.old edit))
             engine.old engine.new page.old page.new (option_map reason_text refused)) }
+        ensures err { OnErr result (IsBeforeOrAfter (by_step (edit_text self.now number engine.old edit) (step engine.old edit)) engine.old engine.new) }
         ensures counts { StepsWithin steps.old steps.new (edit_looks engine.old edit) }
     {
         match self {
@@ -111,6 +112,7 @@ fn make_edit<L: Ledger>(
     requires { is_valid_edit edit ≡ true }
     ensures said { IfOk result (λ refused.
         (page : List ℕ) → IsSaid (by_step (λ next. []) (step engine.old edit)) engine.old engine.new page page (option_map reason_text refused)) }
+    ensures err { OnErr result (engine.new ≡ engine.old) }
     ensures counts { StepsWithin steps.old steps.new (edit_looks engine.old edit) }
 {
     match engine.apply(edit, steps) {

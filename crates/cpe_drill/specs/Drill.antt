@@ -1,8 +1,8 @@
 -- The session over the generated records: a line writes nothing, and what it comes to is kept.
-use Rattle.std.specs.Prelude.{ℕ, ◌≡◌, ◌+◌, [], false, Result, Ok}
+use Rattle.std.specs.Prelude.{ℕ, ◌≡◌, ◌+◌, ◌≤◌, [], false, Result, Ok}
 use Rattle.cpe_session.specs.Session.{Session}
 use Rattle.cpe_session.specs.declared.status.Status.{Status}
-use Rattle.cpe_session.specs.declared.status.Status.TheVariants.{Done}
+use Rattle.cpe_session.specs.declared.status.Status.TheVariants.{Done, WriteFault, Memory}
 use Rattle.cpe_session.specs.Task.{Transcript}
 use Rattle.cpe_rows.specs.Rows.{Rows, no_rows}
 use Rattle.cpe_records.specs.Reading.{record_of}
@@ -39,7 +39,8 @@ drill_session count = record {
 abbrev pub drill_transcript : ℕ → Transcript
 drill_transcript n = record { text = drill_text n; status = Done }
 
--- which rows are left: at the end those of all lines
+-- which rows are left: those of all lines, and where a write failed or memory ran out those of some, from the first on
 abbrev pub LeavesRows : ℕ → Rows → Status → Type 0
-LeavesRows n rows Done = rows ≡ rows_behind n
-LeavesRows n rows status = Unit {0}
+LeavesRows n rows WriteFault = (k : ℕ) × (k ≤ n) × (rows ≡ rows_behind k)
+LeavesRows n rows Memory = (k : ℕ) × (k ≤ n) × (rows ≡ rows_behind k)
+LeavesRows n rows status = rows ≡ rows_behind n

@@ -1,5 +1,5 @@
 // What records came to.
-ghost use Rattle.std.specs.Prelude.{◌≡◌, ◌+◌, Ok, OnOk, true};
+ghost use Rattle.std.specs.Prelude.{◌≡◌, ◌+◌, Ok, OnOk, OnErr, true};
 ghost use Rattle.cpe_steps.specs.Within.{StepsWithin};
 ghost use Rattle.cpe_rows.specs.Valid.{is_valid_edit, is_valid_query};
 ghost use Rattle.cpe_engine.specs.Looks.{edit_looks, looks};
@@ -50,7 +50,7 @@ impl Drilled {
     /// Reads a text as a record, and makes its edit or answers its question.
     ///
     /// # Errors
-    /// Want of memory, or of numbers of 64 bits. Nothing is said then of what was counted.
+    /// Want of memory, or of numbers of 64 bits. All is then as it was.
     pub fn read<L: Ledger>(
         &mut self,
         alloc: Global,
@@ -58,6 +58,7 @@ impl Drilled {
         steps: &mut Steps<L>,
     ) -> Result<(), AllocError>
         ensures outcome { OnOk result (self.new ≡ drilled self.old (record_of text.now)) }
+        ensures err { OnErr result (self.new ≡ self.old) }
         ensures counts { StepsWithin steps.old steps.new (record_looks self.old.engine (record_of text.now)) }
     {
         match read_record(alloc, text) {
@@ -71,6 +72,7 @@ impl Drilled {
     fn edit<L: Ledger>(&mut self, edit: Edit, steps: &mut Steps<L>) -> Result<(), AllocError>
         requires { is_valid_edit edit ≡ true }
         ensures outcome { OnOk result (self.new ≡ drilled self.old (Ok (Record.Edit edit))) }
+        ensures err { OnErr result (self.new ≡ self.old) }
         ensures counts { StepsWithin steps.old steps.new (edit_looks self.old.engine edit) }
     {
         match self.engine.apply(edit, steps) {
@@ -91,6 +93,7 @@ impl Drilled {
     ) -> Result<(), AllocError>
         requires { is_valid_query query ≡ true }
         ensures outcome { OnOk result (self.new ≡ drilled self.old (Ok (Record.Query query))) }
+        ensures err { OnErr result (self.new ≡ self.old) }
         ensures counts { StepsWithin steps.old steps.new (looks self.old.engine query) }
     {
         match self.engine.answer(alloc, query, steps) {
@@ -101,14 +104,16 @@ impl Drilled {
 
     // The same, where the fault is let go.
     fn refuse_for(&mut self, fault: EditFault) -> Result<(), AllocError>
-        ensures { OnOk result (self.new ≡ record { engine = self.old.engine; refused = self.old.refused + 1; found = self.old.found }) }
+        ensures ok { OnOk result (self.new ≡ record { engine = self.old.engine; refused = self.old.refused + 1; found = self.old.found }) }
+        ensures err { OnErr result (self.new ≡ self.old) }
     {
         drop(fault);
         self.refuse()
     }
 
     fn refuse(&mut self) -> Result<(), AllocError>
-        ensures { OnOk result (self.new ≡ record { engine = self.old.engine; refused = self.old.refused + 1; found = self.old.found }) }
+        ensures ok { OnOk result (self.new ≡ record { engine = self.old.engine; refused = self.old.refused + 1; found = self.old.found }) }
+        ensures err { OnErr result (self.new ≡ self.old) }
     {
         match self.refused.checked_add(1) {
             Some(refused) => {
@@ -121,7 +126,8 @@ impl Drilled {
 
     // What the answer found, which is let go.
     fn find_in(&mut self, reply: Reply) -> Result<(), AllocError>
-        ensures { OnOk result (self.new ≡ record { engine = self.old.engine; refused = self.old.refused; found = self.old.found + found_by reply }) }
+        ensures ok { OnOk result (self.new ≡ record { engine = self.old.engine; refused = self.old.refused; found = self.old.found + found_by reply }) }
+        ensures err { OnErr result (self.new ≡ self.old) }
     {
         let more = found_by(&reply);
         drop(reply);
@@ -129,7 +135,8 @@ impl Drilled {
     }
 
     fn find(&mut self, more: u64) -> Result<(), AllocError>
-        ensures { OnOk result (self.new ≡ record { engine = self.old.engine; refused = self.old.refused; found = self.old.found + more }) }
+        ensures ok { OnOk result (self.new ≡ record { engine = self.old.engine; refused = self.old.refused; found = self.old.found + more }) }
+        ensures err { OnErr result (self.new ≡ self.old) }
     {
         match self.found.checked_add(more) {
             Some(found) => {
