@@ -1,6 +1,5 @@
 -- The session over the generated records writes its summary alone, refuses none, and comes to the outcome.
-use Rattle.std.proofs.Common.{◌≡◌, ℕ, ◌+◌, ◌≤◌, zero, suc, Bool, false, ◌||◌, List, [], ◌∷◌, ◌++◌, length, take, Option, Some, refl, sym, ap, ◌∙◌, arith, length-append}
-use Rattle.std.proofs.lemmas.List.{take_at}
+use Rattle.std.proofs.Common.{◌≡◌, ℕ, ◌+◌, ◌≤◌, zero, suc, Bool, false, ◌||◌, List, [], ◌∷◌, ◌++◌, length, Option, Some, refl, sym, ap, ◌∙◌, arith}
 use Rattle.cpe_session.specs.declared.status.Status.{Status}
 use Rattle.cpe_session.specs.declared.status.Status.TheVariants.{Done, SomeRefused, Usage, ReadFault, WriteFault, Memory, Endless}
 use Rattle.cpe_session.specs.Session.{Stage, line_says, state_of, next_writes, after_next, after, out_from, start, text_cost, costs, total_cost}
@@ -8,8 +7,7 @@ use Rattle.cpe_session.specs.Table.{made_lines}
 use Rattle.cpe_session.specs.Task.{Transcript, speech, spoken}
 use Rattle.cpe_session.specs.Statuses.{status_of}
 use Rattle.cpe_session.specs.Ran.{LeftByPrefix, ReachedBy}
-use Rattle.cpe_session.proofs.Making.{length-made, lines_behind}
-use Rattle.cpe_session.proofs.SessionLemmas.{after-append, out_from-append, folded-append, costs-append}
+use Rattle.cpe_session.proofs.SessionLemmas.{prefix_made, after-append, out_from-append, folded-append, costs-append}
 use Rattle.cpe_rows.specs.Rows.{Rows, no_rows}
 use Rattle.cpe_records.specs.Edited.{line_edited}
 use Rattle.cpe_drill.specs.declared.drilled.Drilled.{Drilled}
@@ -120,27 +118,15 @@ drill_is_spoken n =
     ∙ ap (λ (d : Drilled). let t : Transcript = record { text = summary n d.refused d.found d.engine; status = status_of (behind n n).refused } in t) (comes_to n n)
     ∙ ap (λ (b : Bool). let t : Transcript = record { text = drill_text n; status = status_of b } in t) (none_refused n n)
 
--- the first of the lines that are made, so many, are those that are made first
-prefix_made : (n : ℕ) (xs ys : List (Option (List ℕ))) → made_lines generated n ≡ xs ++ ys → (length xs ≤ n) × (xs ≡ made_lines generated (length xs))
-prefix_made n xs ys splits =
-    let k = length xs in
-    let few : k ≤ n = omega (arith, ap length splits, length-append xs ys, length-made generated n) in
-    let behind = lines_behind generated k n few in
-    (
-      few,
-      sym (take_at xs ys k refl) ∙ ap (take k) (sym splits ∙ behind.1) ∙ take_at (made_lines generated k) behind.0 k (length-made generated k),
-    )
-
 prefix-leaves : (n : ℕ) (now : Drilled) → LeftByPrefix (drill_session n) undrilled now (made_lines generated n) → (k : ℕ) × (k ≤ n) × (now.engine ≡ rows_behind k)
 prefix-leaves n now left =
-    let first = prefix_made n left.answered left.later left.splits in
-    let k = length left.answered in
-    (
+    let first = prefix_made generated n left.answered left.later left.splits in
+    let k = length left.answered in (
       k,
       first.0,
       ap (λ (d : Drilled). d.engine) (
-      left.state ∙ ap (λ (ls : List (Option (List ℕ))). (after (drill_session n) (start undrilled) ls).state) first.1 ∙ comes_to n k
-      ),
+          left.state ∙ ap (λ (ls : List (Option (List ℕ))). (after (drill_session n) (start undrilled) ls).state) first.1 ∙ comes_to n k
+          ),
     )
 
 -- and the rows at the end are those of all lines, or of some
