@@ -1,0 +1,9 @@
+mod Among
+mod Order
+mod CoverLemmas
+mod OwnLemmas
+mod PlaceLemmas
+mod MarkLemmas
+mod ShapeLemmas
+mod StayLemmas
+mod SortLemmas

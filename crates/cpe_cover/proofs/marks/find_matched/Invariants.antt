@@ -1,0 +1,12 @@
+use Rattle.std.proofs.Common.{take}
+use Rattle.std.specs.List.{sum_by}
+use Rattle.cpe_steps.specs.Within.{StepsWithin}
+use Rattle.cpe_cover.specs.Marks.{AreMarks}
+use Rattle.cpe_cover.specs.Names.{pattern_looks}
+use Rattle.cpe_cover.proofs.marks.find_matched.Given as goal
+
+abbrev pub invariant-loop-place : goal.invariant-loop-place
+invariant-loop-place g l = record {
+  marks : AreMarks (take l.place l.names) l.names l.marks.items;
+  looked : StepsWithin l.fn.steps l.steps (sum_by (pattern_looks l.names) (take l.place l.names));
+}

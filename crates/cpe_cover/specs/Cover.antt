@@ -1,0 +1,42 @@
+-- The cover of names: those that no other of them covers, each once, in lower case and by the bytes of their formatted strings.
+use Rattle.std.specs.Prelude.{Bool, not, ◌&&◌, List, [], ◌∷◌, map, filter, if◌then◌else◌}
+use Rattle.std.specs.List.{list_any}
+use Rattle.std.specs.Cmp.Lexicographic.{slice_cmp}
+use Rattle.std.specs.Ordering.{nat_cmp, is_lt}
+use Rattle.std.specs.declared.cmp.Ordering.{Ordering}
+use Rattle.cpe_name.specs.declared.name.Values.{Values}
+use Rattle.cpe_name.specs.Equal.{same_name}
+use Rattle.cpe_name.specs.Lower.{lower_name}
+use Rattle.cpe_relation.specs.NameRelation.{covers}
+use Rattle.cpe_fs.specs.Grammar.{fs_text}
+
+-- By the bytes of the whole strings. So `p1` comes before `p`: behind a value stands a colon, and digits are less.
+unfoldable pub fs_order : Values → Values → Ordering
+fs_order a b = slice_cmp nat_cmp (fs_text a) (fs_text b)
+
+-- it covers the name, and is another
+abbrev pub covers_other : Values → Values → Bool
+covers_other m n = not (same_name m n) && covers m n
+
+-- some other of the names covers it
+abbrev pub is_covered : List Values → Values → Bool
+is_covered names n = list_any (λ m. covers_other m n) names
+
+-- a name at its place among names in order, unless it is there
+abbrev pub put_in_order : Values → List Values → List Values
+put_in_order n [] = n ∷ []
+put_in_order n (m ∷ ms) =
+    if same_name n m then m ∷ ms
+    else (if is_lt (fs_order n m) then n ∷ m ∷ ms else m ∷ put_in_order n ms)
+
+-- each once, in order
+abbrev pub ordered : List Values → List Values
+ordered [] = []
+ordered (n ∷ ns) = put_in_order n (ordered ns)
+
+-- those that no other of them covers
+abbrev pub uncovered : List Values → List Values
+uncovered names = filter (λ n. not (is_covered names n)) names
+
+abbrev pub cover : List Values → List Values
+cover names = ordered (uncovered (map lower_name names))

@@ -1,0 +1,56 @@
+-- How a name without specials is found that covers another: by the attributes at which it is ANY. No public clause rests on it.
+use Rattle.std.specs.Prelude.{◌≡◌, Bool, true, false, ◌&&◌, ◌||◌, not, List, [], ◌∷◌, if◌then◌else◌}
+use Rattle.std.specs.List.{list_all, list_any}
+use Rattle.cpe_values.specs.declared.value.Value.{Value}
+use Rattle.cpe_values.specs.declared.value.Value.TheVariants as value
+use Rattle.cpe_name.specs.declared.name.Values.{Values}
+use Rattle.cpe_name.specs.declared.attribute.Attribute.{Attribute}
+use Rattle.cpe_name.specs.Names.{attributes, value_of}
+use Rattle.cpe_name.specs.Put.{put}
+use Rattle.cpe_rows.specs.Names.{has_wildcards}
+use Rattle.cpe_cover.specs.Cover.{covers_other}
+use Rattle.cpe_cover.specs.Laws.{is_among}
+
+abbrev pub is_any : Value → Bool
+is_any value.Any = true
+is_any value.Na = false
+is_any (value.Text t) = false
+
+abbrev pub any_at : Values → Attribute → Bool
+any_at n w = is_any (value_of n w)
+
+-- ANY at the same attributes
+abbrev pub same_shape : Values → Values → Bool
+same_shape a b = list_all (λ w. if any_at a w then any_at b w else not (any_at b w)) attributes
+
+-- ANY wherever the other is
+abbrev pub is_as_wide : Values → Values → Bool
+is_as_wide a b = list_all (λ w. any_at a w || not (any_at b w)) attributes
+
+-- and somewhere else, too
+abbrev pub is_wider : Values → Values → Bool
+is_wider a b = is_as_wide a b && not (same_shape a b)
+
+-- ANY where the shape is, if it is so at this attribute
+abbrev pub widened_at : Values → Values → Attribute → Values
+widened_at shape n w = if any_at shape w then put n w value.Any else n
+
+abbrev pub widened_from : Values → Values → List Attribute → Values
+widened_from shape n [] = n
+widened_from shape n (w ∷ ws) = widened_from shape (widened_at shape n w) ws
+
+-- the name with ANY where the shape has it
+unfoldable pub widened : Values → Values → Values
+widened shape n = widened_from shape n attributes
+
+-- a wider shape, with which the name is one of the names
+abbrev pub finds_wider : List Values → Values → Values → Bool
+finds_wider names n shape = is_wider shape n && is_among names (widened shape n)
+
+-- these have the shape of each name without specials
+abbrev pub AreShapes : List Values → List Values → Type 0
+AreShapes names shapes = (m : Values) → is_among names m ≡ true → has_wildcards m ≡ false → list_any (same_shape m) shapes ≡ true
+
+-- another name without specials covers it
+abbrev pub is_under : List Values → Values → Bool
+is_under names n = list_any (λ m. not (has_wildcards m) && covers_other m n) names

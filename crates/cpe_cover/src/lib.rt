@@ -1,0 +1,16 @@
+//! A list of names reduced to those that no other of them covers.
+#![tactic(auto)]
+
+mod fault;
+mod laws;
+mod limits;
+mod marks;
+mod names;
+mod own;
+mod rows;
+mod shapes;
+
+pub use fault::{NamesFault, NamesWhich};
+pub use laws::least_lists;
+pub use limits::MOST_NAMES;
+pub use names::Names;

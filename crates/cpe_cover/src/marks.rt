@@ -1,0 +1,119 @@
+// Marks of the names that a name with a special covers.
+ghost use Rattle.std.specs.Prelude.{◌≡◌, ◌<◌, ◌||◌, ◌&&◌, ℕ, nat_eq, IfOk, OnOk, length, if◌then◌else◌};
+ghost use Rattle.std.specs.List.{AllByRecursion, list_any};
+ghost use Rattle.cpe_name.specs.Lower.{IsLower};
+ghost use Rattle.cpe_rows.specs.Names.{has_wildcards};
+ghost use Rattle.cpe_relation.specs.NameRelation.{covers};
+ghost use Rattle.cpe_steps.specs.Within.{StepsWithin};
+ghost use Rattle.names_in_order.specs.Places.{name_at, near_count};
+ghost use Rattle.cpe_cover.specs.Marks.{AreMarks, is_marked, matches};
+ghost use Rattle.cpe_cover.specs.Names.{looks_of_patterns, pattern_looks};
+
+use cpe_name::Wfn;
+use cpe_rows::has_wildcards;
+use cpe_steps::Steps;
+use cpe_values::Memory;
+use names_in_order::NamesInOrder;
+use std::alloc::Global;
+use std::sync::ledger::Ledger;
+
+// Marks a place.
+fn mark_place(marks: &mut [bool], place: usize)
+    ensures len { length marks.new ≡ length marks.old }
+    ensures marked { (k : ℕ) → k < length marks.old → is_marked marks.new k ≡ (is_marked marks.old k || nat_eq k place) }
+{
+    if place < marks.len() {
+        marks[place] = true;
+    }
+}
+
+// Marks these places.
+fn mark_places(marks: &mut [bool], places: &[usize])
+    ensures len { length marks.new ≡ length marks.old }
+    ensures marked { (k : ℕ) → k < length marks.old → is_marked marks.new k ≡ (is_marked marks.old k || list_any (nat_eq k) places.now) }
+{
+    for place in places {
+        mark_place(marks, *place);
+    }
+}
+
+// Marks the names that a name covers.
+fn mark_covered<L: Ledger>(
+    alloc: Global,
+    names: &NamesInOrder<'_>,
+    name: &Wfn,
+    marks: &mut [bool],
+    steps: &mut Steps<L>,
+) -> Result<(), Memory>
+    requires lower { IsLower name.now }
+    requires len { length marks.old ≡ length names.now }
+    ensures len { length marks.new ≡ length marks.old }
+    ensures marked { OnOk result ((k : ℕ) → k < length names.now → is_marked marks.new k ≡ (is_marked marks.old k || covers name.now (name_at names.now k))) }
+    ensures steps { StepsWithin steps.old steps.new (near_count name.now names.now) }
+{
+    let places = names.covered_places(alloc, name, steps)?;
+    mark_places(marks, &places);
+    Ok(())
+}
+
+// The same, where the name has a special.
+fn mark_matched<L: Ledger>(
+    alloc: Global,
+    names: &NamesInOrder<'_>,
+    name: &Wfn,
+    marks: &mut [bool],
+    steps: &mut Steps<L>,
+) -> Result<(), Memory>
+    requires lower { IsLower name.now }
+    requires len { length marks.old ≡ length names.now }
+    ensures len { length marks.new ≡ length marks.old }
+    ensures marked { OnOk result ((k : ℕ) → k < length names.now → is_marked marks.new k ≡ (is_marked marks.old k || matches name.now (name_at names.now k))) }
+    ensures steps { StepsWithin steps.old steps.new (pattern_looks names.now name.now) }
+{
+    if has_wildcards(name) {
+        return mark_covered(alloc, names, name, marks, steps);
+    }
+    Ok(())
+}
+
+// The same for the name at a place.
+fn mark_by_place<L: Ledger>(
+    alloc: Global,
+    names: &NamesInOrder<'_>,
+    place: usize,
+    marks: &mut [bool],
+    steps: &mut Steps<L>,
+) -> Result<(), Memory>
+    requires lower { AllByRecursion IsLower names.now }
+    requires place { place < length names.now }
+    requires len { length marks.old ≡ length names.now }
+    ensures len { length marks.new ≡ length marks.old }
+    ensures marked { OnOk result ((k : ℕ) → k < length names.now → is_marked marks.new k ≡ (is_marked marks.old k || matches (name_at names.now place) (name_at names.now k))) }
+    ensures steps { StepsWithin steps.old steps.new (pattern_looks names.now (name_at names.now place)) }
+{
+    match names.name_at(place) {
+        Some(name) => mark_matched(alloc, names, name, marks, steps),
+        None => unreachable!(),
+    }
+}
+
+/// A mark for each name, by place: whether one of them with a special covers it. A step is a look at a name, and only a name with a
+/// special takes some.
+///
+/// # Errors
+/// Want of memory alone. The bound on steps holds then, too.
+pub(crate) fn find_matched<L: Ledger>(
+    alloc: Global,
+    names: &NamesInOrder<'_>,
+    steps: &mut Steps<L>,
+) -> Result<Vec<bool>, Memory>
+    requires lower { AllByRecursion IsLower names.now }
+    ensures marks { IfOk result (λ marks. AreMarks names.now names.now marks.items) }
+    ensures steps { StepsWithin steps.old steps.new (looks_of_patterns names.now) }
+{
+    let mut marks = vec![in alloc; false; names.len()]?;
+    for place in 0..names.len() {
+        mark_by_place(alloc, names, place, &mut marks, steps)?;
+    }
+    Ok(marks)
+}

@@ -1,0 +1,174 @@
+// The names as they are gathered.
+ghost use Rattle.std.specs.Prelude.{◌≡◌, ◌≤◌, ◌++◌, ◌∷◌, [], IfOk, OnOk, OnErr, false, length};
+ghost use Rattle.std.specs.List.{AllByRecursion};
+ghost use Rattle.cpe_name.specs.Lower.{IsLower};
+ghost use Rattle.cpe_steps.specs.Within.{StepsWithin};
+ghost use Rattle.cpe_cover.specs.Cover.{cover};
+ghost use Rattle.cpe_cover.specs.Laws.{AreNames, is_among};
+ghost use Rattle.cpe_cover.specs.Marks.{AreMarks};
+ghost use Rattle.cpe_cover.specs.Names.{Adds, full_by, looks, looks_of_patterns};
+
+use crate::marks::find_matched;
+use crate::own::OwnNames;
+use crate::rows::{find_uncovered, into_names, sort};
+use crate::shapes::find_shapes;
+use crate::{MOST_NAMES, NamesFault, NamesWhich};
+use cpe_name::Wfn;
+use cpe_rows::{List, MOST_WEIGHT};
+use cpe_steps::Steps;
+use cpe_values::Memory;
+use cpe_weight::with_name;
+use names_in_order::NamesInOrder;
+use std::alloc::Global;
+use std::marker::Model;
+use std::sync::ledger::Ledger;
+
+/// Different names in lower case. Contracts see them as their list, in the order in which they came.
+///
+/// Each is kept once. At most [`MOST_NAMES`] are kept, and with 32 for each and one for each byte of its formatted string they weigh at
+/// most [`cpe_rows::MOST_WEIGHT`].
+#[derive(Drop)]
+pub struct Names {
+    alloc: Global,
+    names: OwnNames,
+    weight: u64,
+}
+
+impl Model for Names {
+    ghost use Rattle.std.specs.Prelude.{List};
+    ghost use Rattle.cpe_name.specs.declared.name.Values.{Values};
+    ghost use Rattle.cpe_cover.specs.Names.{AreGathered};
+
+    ghost Value = { List Values };
+
+    ghost view = { λ n. n.names };
+
+    ghost invariant = { λ n. AreGathered n.names n.weight };
+}
+
+// The first limit that so many names of this weight exceed.
+fn full_by(count: usize, weight: u64) -> Option<NamesWhich>
+    ensures { result ≡ full_by count weight }
+{
+    if count > MOST_NAMES {
+        return Some(NamesWhich::Names);
+    }
+    if weight > MOST_WEIGHT {
+        return Some(NamesWhich::Weight);
+    }
+    None
+}
+
+fn has(names: &OwnNames, name: &Wfn) -> bool
+    ensures { result ≡ is_among names.now name.now }
+{
+    names.all().find(name).is_some()
+}
+
+// Puts a copy of a new name last.
+fn put_copy(alloc: Global, names: &mut OwnNames, name: &Wfn) -> Result<(), Memory>
+    requires lower { IsLower name.now }
+    requires fresh { is_among names.old name.now ≡ false }
+    ensures ok { OnOk result (names.new ≡ names.old ++ name.now ∷ []) }
+    ensures err { OnErr result (names.new ≡ names.old) }
+{
+    let copied = name.copy(alloc)?;
+    names.add(copied)
+}
+
+// The names that no other of them covers, in order, where those are marked that a name with a special covers.
+fn reduce_marked(
+    alloc: Global,
+    names: &NamesInOrder<'_>,
+    marks: &[bool],
+) -> Result<List<Wfn>, Memory>
+    requires lower { AllByRecursion IsLower names.now }
+    requires named { AreNames names.now }
+    requires marks { AreMarks names.now names.now marks.now }
+    ensures { IfOk result (λ reduced. reduced ≡ cover names.now) }
+{
+    names.lawful();
+    let shapes = find_shapes(alloc, names)?;
+    let mut rows = find_uncovered(alloc, names, &shapes, marks)?;
+    sort(&mut rows);
+    into_names(alloc, rows)
+}
+
+fn reduce_all<L: Ledger>(
+    alloc: Global,
+    names: &NamesInOrder<'_>,
+    steps: &mut Steps<L>,
+) -> Result<List<Wfn>, Memory>
+    requires lower { AllByRecursion IsLower names.now }
+    requires named { AreNames names.now }
+    ensures cover { IfOk result (λ reduced. reduced ≡ cover names.now) }
+    ensures steps { StepsWithin steps.old steps.new (looks names.now) }
+    ensures patterns { StepsWithin steps.old steps.new (looks_of_patterns names.now) }
+{
+    let marks = find_matched(alloc, names, steps)?;
+    reduce_marked(alloc, names, &marks)
+}
+
+impl Names {
+    /// No names. It takes no memory.
+    pub fn new(alloc: Global) -> Names
+        ensures { result ≡ [] }
+    {
+        Names {
+            alloc,
+            names: OwnNames::new(alloc),
+            weight: 0,
+        }
+    }
+
+    /// How many there are.
+    pub fn len(&self) -> usize
+        ensures { result ≡ length self.now }
+    {
+        self.names.len()
+    }
+
+    /// Adds a name in lower case. One that is there changes nothing. A name is found by its hash.
+    ///
+    /// # Errors
+    /// [`NamesFault::Full`] exactly where a new name would make them too many, and else too heavy; or want of memory. The names are then
+    /// as they were.
+    pub fn add(&mut self, name: &Wfn) -> Result<(), NamesFault>
+        requires { IsLower name.now }
+        ensures { Adds self.old self.new name.now result }
+    {
+        if has(&self.names, name) {
+            return Ok(());
+        }
+        let weight = with_name(self.weight, name);
+        if let Some(which) = full_by(self.names.len() + 1, weight) {
+            return Err(NamesFault::Full(which));
+        }
+        name.lawful();
+        match put_copy(self.alloc, &mut self.names, name) {
+            Ok(()) => {
+                self.weight = weight;
+                Ok(())
+            }
+            Err(_) => Err(NamesFault::Memory),
+        }
+    }
+    /// The names that no other of them covers, by the bytes of their formatted strings: their cover. A step is a look at a name: each name
+    /// looks at most once at those to whose products its own is near, and one without specials at none.
+    ///
+    /// A name without specials is tried with the shapes of the others, the attributes at which they are ANY, and found by its hash.
+    ///
+    /// # Errors
+    /// Want of memory alone. The bound on steps holds then, too.
+    pub fn reduce<L: Ledger>(
+        &self,
+        alloc: Global,
+        steps: &mut Steps<L>,
+    ) -> Result<List<Wfn>, Memory>
+        ensures cover { IfOk result (λ reduced. reduced ≡ cover self.now) }
+        ensures steps { StepsWithin steps.old steps.new (looks self.now) }
+        ensures patterns { StepsWithin steps.old steps.new (looks_of_patterns self.now) }
+    {
+        reduce_all(alloc, &self.names.all(), steps)
+    }
+}

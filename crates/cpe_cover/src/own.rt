@@ -1,0 +1,107 @@
+// Different names in the order in which they came, with a table of their own.
+ghost use Rattle.std.specs.Prelude.{◌≡◌, ◌++◌, ◌∷◌, [], OnOk, OnErr, false, length};
+ghost use Rattle.std.specs.List.{list_any};
+ghost use Rattle.cpe_name.specs.Equal.{same_name};
+ghost use Rattle.cpe_name.specs.Lower.{IsLower};
+ghost use Rattle.name_index.specs.Table.{kept_at};
+ghost use Rattle.names_in_order.specs.InOrder.{names_numbered};
+ghost use Rattle.cpe_cover.specs.Owned.{AreOwn, IsNew};
+
+use cpe_name::Wfn;
+use cpe_values::Memory;
+use name_index::{NameId, NameTable, fitting_laws};
+use names_in_order::{GrowingNames, NamesInOrder, orders_stay};
+use std::alloc::Global;
+use std::marker::Model;
+
+/// Different names in lower case in the order in which they came, in a table that nothing else uses. Contracts see them as their list.
+#[derive(Drop)]
+pub(crate) struct OwnNames {
+    table: NameTable,
+    names: GrowingNames,
+}
+
+impl Model for OwnNames {
+    ghost use Rattle.std.specs.Prelude.{List};
+    ghost use Rattle.cpe_name.specs.declared.name.Values.{Values};
+    ghost use Rattle.names_in_order.specs.InOrder.{names_numbered};
+    ghost use Rattle.cpe_cover.specs.Owned.{AreOwn};
+
+    ghost Value = { List Values };
+
+    ghost view = { λ n. names_numbered n.table n.names.numbers };
+
+    ghost invariant = { λ n. AreOwn n.table n.names.held n.names.numbers };
+}
+
+// Puts a held number last, or lets its name go where memory is wanting.
+fn put_last(table: &mut NameTable, names: &mut GrowingNames, id: NameId) -> Result<(), Memory>
+    requires own { IsNew table.old names.old.held names.old.numbers id }
+    ensures own { AreOwn table.new names.new.held names.new.numbers }
+    ensures ok { OnOk result (names_numbered table.new names.new.numbers ≡ names_numbered table.old names.old.numbers ++ (kept_at table.old id.0).name ∷ []) }
+    ensures err { OnErr result (names_numbered table.new names.new.numbers ≡ names_numbered table.old names.old.numbers) }
+{
+    orders_stay();
+    match names.push(table, id) {
+        Ok(()) => Ok(()),
+        Err(memory) => {
+            table.release(id);
+            Err(memory)
+        }
+    }
+}
+
+// Puts a name last that is new.
+fn add_name(table: &mut NameTable, names: &mut GrowingNames, name: Wfn) -> Result<(), Memory>
+    requires own { AreOwn table.old names.old.held names.old.numbers }
+    requires lower { IsLower name }
+    requires fresh { list_any (same_name name) (names_numbered table.old names.old.numbers) ≡ false }
+    ensures own { AreOwn table.new names.new.held names.new.numbers }
+    ensures ok { OnOk result (names_numbered table.new names.new.numbers ≡ names_numbered table.old names.old.numbers ++ name ∷ []) }
+    ensures err { OnErr result (names_numbered table.new names.new.numbers ≡ names_numbered table.old names.old.numbers) }
+{
+    fitting_laws();
+    orders_stay();
+    let id = table.hold_moved(name)?;
+    put_last(table, names, id)
+}
+
+impl OwnNames {
+    /// No names. It takes no memory.
+    pub(crate) fn new(alloc: Global) -> OwnNames
+        ensures { result ≡ [] }
+    {
+        orders_stay();
+        OwnNames {
+            table: NameTable::new(alloc),
+            names: GrowingNames::new(alloc),
+        }
+    }
+
+    /// How many there are.
+    pub(crate) fn len(&self) -> usize
+        ensures { result ≡ length self.now }
+    {
+        self.names.len()
+    }
+
+    /// The names, found by their hashes, places and products.
+    pub(crate) fn all(&self) -> NamesInOrder<'_>
+        ensures { result ≡ self.now }
+    {
+        self.names.with(&self.table)
+    }
+
+    /// Puts a new name in lower case last. The name is moved.
+    ///
+    /// # Errors
+    /// Want of memory alone; the names are then as they were.
+    pub(crate) fn add(&mut self, name: Wfn) -> Result<(), Memory>
+        requires lower { IsLower name }
+        requires fresh { list_any (same_name name) self.old ≡ false }
+        ensures ok { OnOk result (self.new ≡ self.old ++ name ∷ []) }
+        ensures err { OnErr result (self.new ≡ self.old) }
+    {
+        add_name(&mut self.table, &mut self.names, name)
+    }
+}

@@ -1,0 +1,174 @@
+// The name without specials that covers another, found by its hash: at each attribute it is the same, or is ANY.
+ghost use Rattle.std.specs.Prelude.{◌≡◌, ◌<◌, ◌||◌, ◌&&◌, not, false, true, IfOk, OnOk, length, if◌then◌else◌};
+ghost use Rattle.std.specs.List.{list_all, list_any};
+ghost use Rattle.cpe_name.specs.declared.name.Values.{Values};
+ghost use Rattle.cpe_rows.specs.Names.{has_wildcards};
+ghost use Rattle.names_in_order.specs.Places.{name_at};
+ghost use Rattle.cpe_cover.specs.Laws.{is_among};
+ghost use Rattle.cpe_cover.specs.Shapes.{any_at, AreShapes, finds_wider, is_as_wide, is_wider, same_shape, widened, widened_at};
+
+use cpe_name::{ATTRIBUTES, Attribute, Wfn};
+use cpe_rows::has_wildcards;
+use cpe_values::{Memory, Value};
+use names_in_order::NamesInOrder;
+use std::alloc::Global;
+
+// ---- shapes
+
+fn any_at(name: &Wfn, which: Attribute) -> bool
+    ensures { result ≡ any_at name.now which }
+{
+    matches!(name.get(which), Value::Any)
+}
+
+fn agree(a: bool, b: bool) -> bool
+    ensures { result ≡ if a then b else not b }
+{
+    if a { b } else { !b }
+}
+
+// Whether two names have ANY at the same attributes: whether they have one shape.
+fn same_shape(a: &Wfn, b: &Wfn) -> bool
+    ensures { result ≡ same_shape a.now b.now }
+{
+    ATTRIBUTES
+        .iter()
+        .all(|which| agree(any_at(a, *which), any_at(b, *which)))
+}
+
+// Whether a name has ANY wherever the other has it.
+fn is_as_wide(a: &Wfn, b: &Wfn) -> bool
+    ensures { result ≡ is_as_wide a.now b.now }
+{
+    ATTRIBUTES
+        .iter()
+        .all(|which| any_at(a, *which) || !any_at(b, *which))
+}
+
+fn is_wider(a: &Wfn, b: &Wfn) -> bool
+    ensures { result ≡ is_wider a.now b.now }
+{
+    is_as_wide(a, b) && !same_shape(a, b)
+}
+
+fn is_among_shapes(shapes: &[Wfn], name: &Wfn) -> bool
+    ensures { result ≡ list_any (same_shape name.now) shapes.now }
+{
+    shapes.iter().any(|shape| same_shape(name, shape))
+}
+
+// Puts a name last where it has no special and a new shape.
+fn put_shape(alloc: Global, shapes: &mut Vec<Wfn>, name: &Wfn) -> Result<(), Memory>
+    ensures new { OnOk result (has_wildcards name.now ≡ false → list_any (same_shape name.now) shapes.new.items ≡ true) }
+    ensures kept { OnOk result ((m : Values) → list_any (same_shape m) shapes.old.items ≡ true → list_any (same_shape m) shapes.new.items ≡ true) }
+{
+    if has_wildcards(name) || is_among_shapes(shapes, name) {
+        return Ok(());
+    }
+    let copied = name.copy(alloc)?;
+    shapes.push(copied)?;
+    Ok(())
+}
+
+// The same for the name at a place.
+fn put_shape_at(
+    alloc: Global,
+    names: &NamesInOrder<'_>,
+    place: usize,
+    shapes: &mut Vec<Wfn>,
+) -> Result<(), Memory>
+    requires { place < length names.now }
+    ensures new { OnOk result (has_wildcards (name_at names.now place) ≡ false → list_any (same_shape (name_at names.now place)) shapes.new.items ≡ true) }
+    ensures kept { OnOk result ((m : Values) → list_any (same_shape m) shapes.old.items ≡ true → list_any (same_shape m) shapes.new.items ≡ true) }
+{
+    match names.name_at(place) {
+        Some(name) => put_shape(alloc, shapes, name),
+        None => unreachable!(),
+    }
+}
+
+/// A name of each shape that names without specials have: a handful in most lists.
+///
+/// # Errors
+/// Want of memory alone.
+pub(crate) fn find_shapes(alloc: Global, names: &NamesInOrder<'_>) -> Result<Vec<Wfn>, Memory>
+    ensures { IfOk result (λ shapes. AreShapes names.now shapes.items) }
+{
+    let mut shapes = Vec::new(alloc);
+    for place in 0..names.len() {
+        put_shape_at(alloc, names, place, &mut shapes)?;
+    }
+    Ok(shapes)
+}
+
+// ---- names of wider shapes
+
+// Gives a name ANY at an attribute, if the shape has it there.
+fn widen_at(shape: &Wfn, which: Attribute, name: &mut Wfn)
+    ensures { name.new ≡ widened_at shape.now name.old which }
+{
+    if any_at(shape, which) {
+        name.lawful();
+        match name.set(which, Value::Any) {
+            Ok(()) => {}
+            Err(_) => unreachable!(),
+        }
+    }
+}
+
+// The name with ANY where the shape has it.
+#[tactic(auto, unfolding(crate::specs::Shapes::widened))]
+fn widen(alloc: Global, shape: &Wfn, name: &Wfn) -> Result<Wfn, Memory>
+    ensures { IfOk result (λ wide. wide ≡ widened shape.now name.now) }
+{
+    let mut wide = name.copy(alloc)?;
+    for which in ATTRIBUTES.iter() {
+        widen_at(shape, *which, &mut wide);
+    }
+    Ok(wide)
+}
+
+// Whether the name is one of the names. It is let go.
+fn has(names: &NamesInOrder<'_>, name: Wfn) -> bool
+    ensures { result ≡ is_among names.now name }
+{
+    let is_there = names.find(&name).is_some();
+    drop(name);
+    is_there
+}
+
+// Whether the shape is wider, and the name with it is one of the names.
+fn finds_wider(
+    alloc: Global,
+    names: &NamesInOrder<'_>,
+    name: &Wfn,
+    shape: &Wfn,
+) -> Result<bool, Memory>
+    ensures { IfOk result (λ found. found ≡ finds_wider names.now name.now shape.now) }
+{
+    if !is_wider(shape, name) {
+        return Ok(false);
+    }
+    let wide = widen(alloc, shape, name)?;
+    Ok(has(names, wide))
+}
+
+/// Whether the name is one of the names with some of these shapes that is wider. It looks at no name: each is found by its hash.
+///
+/// # Errors
+/// Want of memory alone.
+pub(crate) fn is_under(
+    alloc: Global,
+    names: &NamesInOrder<'_>,
+    name: &Wfn,
+    shapes: &[Wfn],
+) -> Result<bool, Memory>
+    ensures { IfOk result (λ found. found ≡ list_any (finds_wider names.now name.now) shapes.now) }
+{
+    for shape in shapes {
+        if finds_wider(alloc, names, name, shape)? {
+            return Ok(true);
+        }
+    }
+    Ok(false)
+}
