@@ -1,5 +1,5 @@
 -- What the words of the command line mean: what a run of them reads, writes, keeps and costs.
-use Rattle.std.specs.Prelude.{◌≡◌, ℕ, Bool, true, false, List, Some, None}
+use Rattle.std.specs.Prelude.{◌≡◌, ℕ, Bool, true, false, List, [], Some, None}
 use Rattle.std.specs.declared.option.Option.{Option}
 use Rattle.cpe_io.specs.Lines.{lines}
 use Rattle.cpe_steps.specs.Within.{StepsWithin}
@@ -16,8 +16,9 @@ use Rattle.cpe_drill.specs.Outcome.{summed}
 use Rattle.cpe_drill.specs.Drill.{drill_transcript, LeavesRows}
 use Rattle.cpe_ranges.specs.Rows.{no_rows as no_advice}
 use Rattle.cpe_advise.specs.Records.{advice_session, most_steps}
+use Rattle.cpe_cover_lines.specs.Lines.{cover_session, most_steps as most_cover_steps}
 use Rattle.cpe_command.specs.declared.command.Command.{Command}
-use Rattle.cpe_command.specs.declared.command.Command.TheVariants.{Name, Compare, Records, Advise, Make, Drill}
+use Rattle.cpe_command.specs.declared.command.Command.TheVariants.{Name, Compare, Records, Advise, Cover, Make, Drill}
 use Rattle.cpe_command.specs.Command.{command_of, usage}
 use Rattle.cpe_command.specs.Names.{name_session}
 use Rattle.cpe_command.specs.Pairs.{pair_session}
@@ -51,6 +52,7 @@ meaning_of (Some (Records command)) = record {
   looks = λ taken. summed_by line_edited line_looks no_rows (lines taken);
 }
 meaning_of (Some Advise) = record { reads = true; task = task advice_session no_advice; keeps = NoRows; looks = most_steps }
+meaning_of (Some Cover) = record { reads = true; task = task cover_session []; keeps = NoRows; looks = most_cover_steps }
 meaning_of (Some (Make count)) = record {
   reads = false;
   task = Written (record { text = rows_text generated_line count; status = Done });

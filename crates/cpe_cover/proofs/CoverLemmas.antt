@@ -34,7 +34,7 @@ lower_value_again value.Any = refl
 lower_value_again value.Na = refl
 lower_value_again (value.Text t) = ap (λ (b : List ℕ). value.Text (parts t.lead b t.trail)) (lower_again t.body)
 
-lower_name_again : (n : Values) → lower_name (lower_name n) ≡ lower_name n
+pub lower_name_again : (n : Values) → lower_name (lower_name n) ≡ lower_name n
 lower_name_again n = ap named (each attributes)
   where
     each : (ws : List Attribute) → map (λ w. lower_value (value_of (lower_name n) w)) ws ≡ map (λ w. lower_value (value_of n w)) ws

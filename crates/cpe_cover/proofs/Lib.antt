@@ -1,6 +1,6 @@
 mod Among
 mod Order
-mod CoverLemmas
+pub mod CoverLemmas
 mod OwnLemmas
 mod PlaceLemmas
 mod MarkLemmas

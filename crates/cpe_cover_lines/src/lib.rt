@@ -1,0 +1,9 @@
+//! The command that reduces names: each line is a name, and at the end those stand that no other covers.
+#![tactic(auto)]
+
+mod reason;
+mod run;
+mod speaker;
+mod written;
+
+pub use run::cover;
