@@ -67,6 +67,7 @@ bench: need_python3 build
 	python3 bench/run.py build/cpe
 	python3 bench/index.py build/cpe
 	python3 bench/advise.py build/cpe
+	python3 bench/cover.py build/cpe
 	python3 bench/scan.py build/cpe
 	python3 bench/near.py build/cpe
 	python3 bench/openscap.py build/cpe

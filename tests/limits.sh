@@ -343,6 +343,56 @@ tries() {
     fi
 }
 
+# Names of cover: one too many, and one that is there.
+covered_names() {
+    awk -v answers="$1" '
+        function name(n) { number++; if (!answers) print "cpe:/a:v:p" int(n / 100) ":" n % 100 }
+        BEGIN {
+            most = 1000000
+            for (n = 0; n < most; n++) name(n)
+            name(most)
+            if (answers) print "refused " number " full names"
+            name(7)
+            number++
+            if (!answers) print "cpe:/a:v"
+            if (answers) print "refused " number " full names"
+            if (answers) for (n = 0; n < most; n++) print "cpe:2.3:a:v:p" int(n / 100) ":" n % 100 ":*:*:*:*:*:*:*" | "LC_ALL=C sort"
+        }' < /dev/null
+}
+
+# Names of 60,000 bytes; what weighs nothing more, and one byte more. Of all that is taken the weight is added up here.
+covered_weight() {
+    awk -v answers="$1" '
+        function letters(count,   text) {
+            for (text = "x"; length(text) < count; text = text text) { }
+            return substr(text, 1, count)
+        }
+        function name(product) { return "cpe:2.3:a:v:" product ":*:*:*:*:*:*:*:*" }
+        function add(product) { number++; if (!answers) print name(product) }
+        function full() { if (answers) print "refused " number " full weight" }
+        function weighs(product) { return 32 + length(name(product)) }
+        BEGIN {
+            left = 536870912
+            long = letters(60000)
+            for (n = 1000; left > 64000; n++) {
+                add(n long)
+                left -= weighs(n long)
+                kept[n] = n long
+            }
+            product = letters(left - weighs(""))
+            add(product "x")
+            full()
+            add(product)
+            add("y")
+            full()
+            add(product)
+            add(toupper(1000 long))
+            if (!answers) exit
+            for (k = 1000; k < n; k++) print name(kept[k])
+            print name(product)
+        }' < /dev/null
+}
+
 tries '2,000,000 entries' resolve entries
 tries '1,000,000 items' resolve items
 tries '1,000,000 facts' resolve facts
@@ -351,4 +401,6 @@ tries 'a weight of 536,870,912 of logical tests' resolve logical_tests
 tries '1,000,000 items: advise' advise advised_items
 tries '100,000 advisories' advise advisories
 tries 'a weight of 536,870,912: advise' advise advised_weight
+tries '1,000,000 names: cover' cover covered_names
+tries 'a weight of 536,870,912: cover' cover covered_weight
 exit "$failed"

@@ -64,11 +64,12 @@ reasons_of_code() {
     codes read_fault_text "$reasons"
     codes edit_fault_text "$reasons" | grep -v '^full'
     codes which_word "$reasons" | sed 's/^/full /'
+    codes which_word crates/cpe_cover_lines/specs/Reasons.antt | sed 's/^/full /'
 }
 
 # The limits, as a word and a number.
 limits_of_code() {
-    cat crates/cpe_rows/src/limits.rt crates/cpe_ranges/src/limits.rt |
+    cat crates/cpe_rows/src/limits.rt crates/cpe_ranges/src/limits.rt crates/cpe_cover/src/limits.rt |
         sed -n 's/^pub const MOST_\([A-Z_]*\): u[a-z0-9]* = \([0-9_]*\);$/\1 \2/p' |
         tr -d _ | sed 's/^LEVELS/depth/; s/^IDBYTES/id/' | tr '[:upper:]' '[:lower:]'
     sed -n 's/^pub const LONGEST: usize = \([0-9]*\);$/line \1/p' crates/cpe_io/src/line.rt

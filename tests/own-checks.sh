@@ -3,7 +3,7 @@
 # The status is 0 where no check failed.
 . "$(dirname "$0")/checks.sh"
 
-usage='usage: cpe bind fs|bind uri|unbind|compare|resolve|evaluate|watch|make N|drill N|advise'
+usage='usage: cpe bind fs|bind uri|unbind|compare|resolve|evaluate|watch|make N|drill N|advise|cover'
 
 # bounds WHAT: whether the address space can be bounded here, as the check of this name needs.
 bounds() {
@@ -1147,6 +1147,18 @@ checks_of_advise() {
     fails_on_closed_streams examples/advise.jsonl advise
 }
 
+checks_of_cover() {
+    answers 'a list of names' examples/cover.txt examples/cover.out 1 cover
+    answers 'an empty input: cover' /dev/null /dev/null 0 cover
+    answers 'a word too many: cover' examples/cover.txt "$room/usage.out" 2 cover names
+    answers_in_pieces examples/cover.txt examples/cover.out cover
+    answers_vectors cover cover
+    answers_vectors_in_pieces cover cover
+    fails_on_a_full_device examples/cover.txt cover
+    answers 'a read that fails ends with status 3: cover' . /dev/null 3 cover
+    fails_on_closed_streams examples/cover.txt cover
+}
+
 # ---- make and drill, which read nothing
 
 # generated COUNT: the lines of make, made here from their numbers alone.
@@ -1334,6 +1346,7 @@ checks_of_resolve
 checks_of_evaluate
 checks_of_watch
 checks_of_advise
+checks_of_cover
 checks_of_generated
 
 end_of_checks 'own checks'

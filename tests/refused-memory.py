@@ -32,6 +32,7 @@ SESSIONS = (
     "watch/deprecate-amend-restore",
     "watch/statements-put-and-dropped",
     "advise/nothing-is-left",
+    "cover/bindings-and-letter-case",
 )
 # The test of an engine that gets each record once more for which it found no memory.
 GOES_ON = "again::an_engine_goes_on_after_memory_ran_out"

@@ -1,5 +1,5 @@
 // What a line of a name says.
-ghost use Rattle.std.specs.Prelude.{◌≡◌, IfOk, ℕ, List};
+ghost use Rattle.std.specs.Prelude.{◌≡◌, IfOk, OnErr, ℕ, List};
 ghost use Rattle.std.specs.Option.{option_map};
 ghost use Rattle.cpe_name.specs.Lower.{IsLower, lower_name};
 ghost use Rattle.cpe_session.specs.Pages.{IsSaid};
@@ -65,12 +65,21 @@ impl Speaker for Cover {
     }
 }
 
+// The name in lower case, in the same memory.
+fn in_lower_case(name: Wfn) -> Wfn
+    ensures name { result ≡ lower_name name }
+    ensures lower { IsLower result }
+{
+    name.into_lower()
+}
+
 // Adds a name in lower case, and lets it go.
 #[inline(never)]
 fn add(names: &mut Names, name: Wfn) -> Result<Option<CoverReason>, AllocError>
-    ensures { IfOk result (λ refused. (page : List ℕ) → IsSaid (by_added names.old (lower_name name)) names.old names.new page page (option_map reason_text refused)) }
+    ensures said { IfOk result (λ refused. (page : List ℕ) → IsSaid (by_added names.old (lower_name name)) names.old names.new page page (option_map reason_text refused)) }
+    ensures err { OnErr result (names.new ≡ names.old) }
 {
-    let lower = name.into_lower();
+    let lower = in_lower_case(name);
     let added = add_lower(names, &lower);
     drop(lower);
     added
@@ -78,7 +87,8 @@ fn add(names: &mut Names, name: Wfn) -> Result<Option<CoverReason>, AllocError>
 
 fn add_lower(names: &mut Names, name: &Wfn) -> Result<Option<CoverReason>, AllocError>
     requires { IsLower name.now }
-    ensures { IfOk result (λ refused. (page : List ℕ) → IsSaid (by_added names.old name.now) names.old names.new page page (option_map reason_text refused)) }
+    ensures said { IfOk result (λ refused. (page : List ℕ) → IsSaid (by_added names.old name.now) names.old names.new page page (option_map reason_text refused)) }
+    ensures err { OnErr result (names.new ≡ names.old) }
 {
     match names.add(name) {
         Ok(()) => Ok(None),
