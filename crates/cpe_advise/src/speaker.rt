@@ -23,7 +23,7 @@ use std::sync::ledger::Ledger;
 
 /// Each line is a record: an edit is applied to the items and advisories, and a question is answered from them.
 #[derive(Clone, Copy, Debug, PartialEq, Eq)]
-pub(crate) struct Advise;
+pub struct Advise;
 
 impl Speaker for Advise {
     type State = Advisories;

@@ -1,0 +1,5 @@
+pub mod Told
+pub mod Forms
+pub mod Pairs
+pub mod Compared
+pub mod Talks

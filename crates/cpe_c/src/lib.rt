@@ -1,0 +1,8 @@
+//! The library for C, as it is proved: names in other forms, how two names relate, and sessions that are given their lines one by
+//! one. What C calls are the functions of `library/cpe.c`, which test what a caller may get wrong and then call these.
+#![tactic(auto)]
+
+mod forms;
+mod pairs;
+mod speaking;
+mod told;

@@ -1,0 +1,58 @@
+// Who speaks in a session, and what its lines have left.
+ghost use Rattle.std.specs.Prelude.{◌≡◌, ◌∷◌, [], ℕ, List, IfOk, OnOk};
+ghost use Rattle.std.specs.declared.option.Option.{Option};
+ghost use Rattle.cpe_io.specs.Lines.{line_of};
+ghost use Rattle.cpe_session.specs.Task.{Transcript};
+ghost use Rattle.cpe_c.specs.Talks.{behind, goes_on};
+
+use cpe_advise::Advise;
+use cpe_ranges::Advisories;
+use cpe_session::{Progress, Status, answer_given, end_given};
+use cpe_steps::Steps;
+use std::alloc::{AllocError, Global};
+use std::sync::ledger::Ledger;
+
+/// Who answers the lines of a session, and the state that they change.
+#[derive(Drop)]
+pub enum Speaking {
+    /// Records of items and advisories.
+    Advise(Advisories),
+}
+
+/// Answers a line: the page has what a run would have written for it.
+///
+/// # Errors
+/// Want of memory. The session can't go on then.
+pub(crate) fn speak<L: Ledger>(
+    alloc: Global,
+    speaking: &mut Speaking,
+    progress: &mut Progress,
+    piece: &[u8],
+    steps: &mut Steps<L>,
+) -> Result<(), AllocError>
+    ensures { OnOk result ((more : List (Option (List ℕ)))
+        → goes_on speaking.old progress.old (line_of piece.now ∷ more) ≡ behind progress.new.page (goes_on speaking.new progress.new more)) }
+{
+    match speaking {
+        Speaking::Advise(advisories) => {
+            answer_given(alloc, &Advise, advisories, progress, piece, steps)
+        }
+    }
+}
+
+/// Ends a session: the page has what a run would have written at the end, and the status is that of the run.
+///
+/// # Errors
+/// Want of memory.
+pub(crate) fn fall_silent<L: Ledger>(
+    alloc: Global,
+    speaking: &Speaking,
+    progress: &mut Progress,
+    steps: &mut Steps<L>,
+) -> Result<Status, AllocError>
+    ensures { IfOk result (λ status. goes_on speaking.now progress.old [] ≡ record { text = progress.new.page; status = status }) }
+{
+    match speaking {
+        Speaking::Advise(advisories) => end_given(alloc, &Advise, advisories, progress, steps),
+    }
+}

@@ -1,0 +1,107 @@
+// Sessions whose lines are given one by one, and whose answers are taken one by one.
+ghost use Rattle.std.specs.Prelude.{◌≡◌, Some, IfOk, IfErr, OnOk, length};
+ghost use Rattle.std.specs.Io.KnownBytes.{WriteAppends};
+ghost use Rattle.cpe_io.specs.Causes.{HasSinkCause};
+ghost use Rattle.cpe_io.specs.Lines.{line_of, strip_carriage_return};
+ghost use Rattle.cpe_io.specs.Writes.{TakesSome};
+ghost use Rattle.cpe_session.specs.Session.{after_next, next_writes};
+ghost use Rattle.cpe_session.specs.Statuses.{status_of};
+ghost use Rattle.cpe_session.specs.Pages.{stage_of};
+
+use crate::page::Page;
+use crate::progress::Progress;
+use crate::session::{answer_line, finish};
+use crate::speaker::Speaker;
+use crate::status::Status;
+use cpe_io::{Found, Sink, SinkFault};
+use cpe_steps::Steps;
+use std::alloc::{AllocError, Global};
+use std::mem::replace;
+use std::sync::ledger::Ledger;
+
+/// The most bytes of a line, a carriage return at its end among them.
+const MOST_OF_LINE: usize = 65536;
+
+/// Answers the next line of a session, which is given without the newline behind it: the page has what the line writes, and
+/// nothing else.
+///
+/// # Errors
+/// Want of memory. The state and the page may be lost then, and no further line can be answered.
+pub fn answer_given<T: Speaker, L: Ledger>(
+    alloc: Global,
+    speaker: &T,
+    state: &mut T::State,
+    progress: &mut Progress,
+    piece: &[u8],
+    steps: &mut Steps<L>,
+) -> Result<(), AllocError>
+    ensures text { OnOk result (progress.new.page ≡ next_writes (T.session speaker.now) (stage_of progress.old state.old) (line_of piece.now)) }
+    ensures stage { OnOk result (stage_of progress.new state.new ≡ after_next (T.session speaker.now) (stage_of progress.old state.old) (line_of piece.now)) }
+{
+    progress.page.clear();
+    if progress.number == u64::MAX {
+        return Err(AllocError);
+    }
+    let found = if piece.len() <= MOST_OF_LINE {
+        Found::Text
+    } else {
+        Found::TooLong
+    };
+    answer_line(
+        alloc,
+        speaker,
+        state,
+        progress,
+        found,
+        without_return(piece),
+        steps,
+    )
+}
+
+// The bytes but for one final carriage return.
+fn without_return(piece: &[u8]) -> &[u8]
+    ensures { result.now ≡ strip_carriage_return piece.now }
+{
+    match piece {
+        [front @ .., b'\r'] => front,
+        _ => piece,
+    }
+}
+
+/// Ends a session: the page has what stands at the end of its lines, and nothing else. The status tells whether a line was
+/// refused.
+///
+/// # Errors
+/// Want of memory. The page may be lost then.
+pub fn end_given<T: Speaker, L: Ledger>(
+    alloc: Global,
+    speaker: &T,
+    state: &T::State,
+    progress: &mut Progress,
+    steps: &mut Steps<L>,
+) -> Result<Status, AllocError>
+    ensures { IfOk result (λ status. (progress.new.page ≡ (T.session speaker.now).ends state.now) × (status ≡ status_of progress.old.refused)) }
+{
+    progress.page.clear();
+    let mut end = Page::new(alloc);
+    let status = finish(alloc, speaker, state, progress, &mut end, steps);
+    progress.page = end;
+    match status {
+        Status::Done | Status::SomeRefused => Ok(status),
+        _ => Err(AllocError),
+    }
+}
+
+/// A page takes all that it is given, and fails only for want of memory.
+impl Sink for Page {
+    ghost held = { λ page. Some page };
+
+    ghost faults = { λ page. 0 };
+
+    fn write(&mut self, bytes: &[u8]) -> Result<usize, SinkFault> {
+        match self.push(bytes) {
+            Ok(()) => Ok(bytes.len()),
+            Err(_) => Err(SinkFault::Memory),
+        }
+    }
+}
