@@ -3,3 +3,7 @@ pub mod Forms
 pub mod Pairs
 pub mod Compared
 pub mod Talks
+pub mod Talk
+pub mod Keeping
+pub mod Beginning
+pub mod Holding

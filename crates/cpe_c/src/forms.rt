@@ -2,7 +2,7 @@
 ghost use Rattle.std.specs.Prelude.{◌≡◌, ◌≤◌, ◌+◌, ◌-◌, ◌*◌, ◌^◌, min, IfOk, MatchResult, Ok, Err, length, take};
 ghost use Rattle.cpe_uri.specs.declared.TheConstants.{UNBOUND_FRAME};
 ghost use Rattle.cpe_c.specs.Forms.{form_of};
-ghost use Rattle.cpe_c.specs.Told.{Gives, Tells};
+ghost use Rattle.cpe_c.specs.Told.{Fits, Gives, Tells};
 
 use crate::told::{Answer, Told};
 use cpe_fs::write_bound;
@@ -98,7 +98,7 @@ fn write_form(form: Form, room: &mut [u8], text: &[u8]) -> Result<usize, usize>
 
 /// Gives a text to C: writes it in front of `out`, or tells how long it is.
 pub(crate) fn give(text: &[u8], out: &mut [u8]) -> Told
-    ensures { Gives (Ok text.now) out.old out.new result }
+    ensures { Fits text.now out.old out.new result }
 {
     if text.len() <= out.len() {
         Told::Done(put(out, 0, text))

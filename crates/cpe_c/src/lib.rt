@@ -2,7 +2,12 @@
 //! one. What C calls are the functions of `library/cpe.c`, which test what a caller may get wrong and then call these.
 #![tactic(auto)]
 
+mod begin;
 mod forms;
+mod kept;
 mod pairs;
+mod parts;
+mod sessions;
 mod speaking;
+mod talk;
 mod told;

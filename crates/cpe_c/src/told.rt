@@ -15,6 +15,12 @@ pub enum Told {
     TargetRefused(usize),
     /// Memory ran out.
     Memory,
+    /// The words name no command that answers lines.
+    NoCommand,
+    /// The line has a newline in it.
+    NotALine,
+    /// The session ended, or memory ran out in it.
+    Over,
 }
 
 /// The same as C is told it: the number of the case, and the number in it.
@@ -45,6 +51,9 @@ impl Told {
             Told::Refused(_) => 2,
             Told::TargetRefused(_) => 3,
             Told::Memory => 4,
+            Told::NoCommand => 5,
+            Told::NotALine => 6,
+            Told::Over => 7,
         }
     }
 
@@ -56,7 +65,7 @@ impl Told {
             | Told::Short(number)
             | Told::Refused(number)
             | Told::TargetRefused(number) => number,
-            Told::Memory => 0,
+            Told::Memory | Told::NoCommand | Told::NotALine | Told::Over => 0,
         }
     }
 }

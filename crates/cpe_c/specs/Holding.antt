@@ -1,0 +1,29 @@
+-- What C holds before a call and after it.
+use Rattle.std.specs.Prelude.{◌≡◌, ℕ, List, Some, None}
+use Rattle.std.specs.declared.option.Option.{Option}
+use Rattle.cpe_c.specs.declared.talk.Talk.{Talk}
+use Rattle.cpe_c.specs.declared.told.Told.{Told}
+use Rattle.cpe_c.specs.declared.told.Told.TheVariants.{Done, Memory, NoCommand}
+use Rattle.cpe_c.specs.declared.told.Answer.{Answer}
+use Rattle.cpe_c.specs.Beginning.{Opens}
+use Rattle.cpe_c.specs.Told.{Tells}
+
+-- a session is held, and another after the call, and this is so of the two and what is told
+abbrev pub Moves : Option Talk → Option Talk → (Talk → Talk → Told → Type 0) → Answer → Type 0
+Moves None now Does answer = ⊥
+Moves (Some old) None Does answer = ⊥
+Moves (Some old) (Some new) Does answer = Tells (Does old new) answer
+
+-- this session is held now; or memory ran out, and what was held is held
+abbrev pub IsKept : Talk → Option Talk → Option Talk → Told → Type 0
+IsKept talk was now (Done number) = (number ≡ 0) × (now ≡ Some talk)
+IsKept talk was now Memory = now ≡ was
+IsKept talk was now told = ⊥
+
+-- a session of these words is held now; or what was held is held
+abbrev pub Begins : List ℕ → List ℕ → Option Talk → Option Talk → Told → Type 0
+Begins word second was (Some talk) (Done number) = (number ≡ 0) × Opens word second talk
+Begins word second was None (Done number) = ⊥
+Begins word second was now Memory = now ≡ was
+Begins word second was now NoCommand = now ≡ was
+Begins word second was now told = ⊥

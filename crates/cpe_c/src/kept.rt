@@ -1,0 +1,72 @@
+// What C keeps of a session.
+ghost use Rattle.std.specs.Prelude.{◌≡◌, Some, None, IsSome};
+ghost use Rattle.std.specs.declared.option.Option.{Option};
+ghost use Rattle.cpe_c.specs.declared.talk.Talk.{Talk};
+
+use crate::talk::Talk;
+use crate::parts::Parts;
+use std::alloc::Global;
+use std::marker::Model;
+use std::ptr::null_mut;
+
+#[repr(C)]
+#[derive(Drop)]
+pub struct Kept {
+    at: *mut u8,
+    alloc: Global,
+    pub(crate) ghost value: { Option Talk },
+}
+
+impl Model for Kept {
+    ghost use Rattle.cpe_c.specs.Keeping.{kept_owns};
+
+    ghost also_owns = { λ k. kept_owns k.alloc k.at k.value };
+}
+
+impl Kept {
+    /// Keeps what the box has.
+    pub(crate) fn of(whole: Box<Talk>) -> Kept
+        ensures { result.value ≡ Some whole.value }
+    {
+        Kept::of_parts(Parts::of(whole))
+    }
+
+    /// The box again.
+    pub(crate) fn into_box(self) -> Box<Talk>
+        requires { IsSome self.value }
+        ensures { Some result.value ≡ self.value }
+    {
+        self.into_parts().into_box()
+    }
+
+    /// Keeps nothing.
+    pub(crate) fn none(alloc: Global) -> Kept
+        ensures { result.value ≡ None }
+    {
+        Kept {
+            at: null_mut(),
+            alloc,
+        }
+    }
+
+    fn of_parts(parts: Parts<Talk, Global>) -> Kept
+        ensures { result.value ≡ Some parts.value }
+    {
+        let Parts { at, alloc } = parts;
+        Kept {
+            at: at as *mut u8,
+            alloc,
+        }
+    }
+
+    fn into_parts(self) -> Parts<Talk, Global>
+        requires { IsSome self.value }
+        ensures { Some result.value ≡ self.value }
+    {
+        let Kept { at, alloc } = self;
+        Parts {
+            at: at as *mut Talk,
+            alloc,
+        }
+    }
+}

@@ -1,0 +1,140 @@
+// Sessions that C holds. C gives back what these calls left in `kept`, and nothing else.
+ghost use Rattle.std.specs.Prelude.{◌≡◌, ◌<◌, IsSome, None};
+ghost use Rattle.cpe_c.specs.Holding.{Begins, IsKept, Moves};
+ghost use Rattle.cpe_c.specs.Talk.{Repeats, TakesEnd, TakesLine};
+ghost use Rattle.cpe_c.specs.Told.{Tells};
+
+use crate::begin::begin;
+use crate::kept::Kept;
+use crate::talk::{Talk, end, repeat, say};
+use crate::told::{Answer, Told};
+use cpe_steps::Steps;
+use std::alloc::Global;
+use std::marker::Brand;
+use std::mem::replace;
+use std::sync::ledger::{Blank, Ledger};
+
+/// Begins a session of the command that a word names, or two; the second is empty where there is one alone. It answers lines as
+/// a run of this command does. Where it doesn't begin, `kept` stays as it was.
+#[unsafe(no_mangle)]
+pub extern "C" fn cpe_c_begin(alloc: Global, word: &[u8], second: &[u8], kept: &mut Kept) -> Answer
+    ensures { Tells (Begins word.now second.now kept.old.value kept.new.value) result }
+{
+    keep_begun(alloc, word, second, kept).in_c()
+}
+
+fn keep_begun(alloc: Global, word: &[u8], second: &[u8], kept: &mut Kept) -> Told
+    ensures { Begins word.now second.now kept.old.value kept.new.value result }
+{
+    match begin(alloc, word, second) {
+        Some(talk) => keep(alloc, talk, kept),
+        None => Told::NoCommand,
+    }
+}
+
+fn keep(alloc: Global, talk: Talk, kept: &mut Kept) -> Told
+    ensures { IsKept talk kept.old.value kept.new.value result }
+{
+    match Box::new(alloc, talk) {
+        Ok(whole) => {
+            *kept = Kept::of(whole);
+            Told::Done(0)
+        }
+        Err(_) => Told::Memory,
+    }
+}
+
+/// Answers a line: `out` has the bytes that a run would have written for it. Where they are more than `out` has room for, none
+/// is written there, and their number is told; [`cpe_c_again`] gives them.
+#[unsafe(no_mangle)]
+pub extern "C" fn cpe_c_line(
+    alloc: Global,
+    kept: &mut Kept,
+    piece: &[u8],
+    out: &mut [u8],
+) -> Answer
+    requires { IsSome kept.old.value }
+    ensures { Moves kept.old.value kept.new.value (λ old new. TakesLine old new piece.now out.old out.new) result }
+{
+    let mut whole = replace(kept, Kept::none(alloc)).into_box();
+    let told = say_counted::<Brand>(alloc, &mut whole, piece, out, Blank::new(1));
+    *kept = Kept::of(whole);
+    told.in_c()
+}
+
+// Steps are counted in a ledger of its own.
+fn say_counted<L: Ledger>(
+    alloc: Global,
+    talk: &mut Talk,
+    piece: &[u8],
+    out: &mut [u8],
+    blank: Blank,
+) -> Told
+    requires name { blank.name ≡ L.name }
+    requires parts { blank.parts ≡ L.parts }
+    requires some { 0 < blank.parts }
+    ensures { TakesLine talk.old talk.new piece.now out.old out.new result }
+{
+    let mut steps = Steps::<L>::new(blank);
+    say(alloc, talk, piece, out, &mut steps)
+}
+
+/// Ends a session: `out` has the bytes that a run would have written at the end of these lines, as [`cpe_c_line`] gives them, and
+/// `status` is its exit status.
+#[unsafe(no_mangle)]
+pub extern "C" fn cpe_c_end(
+    alloc: Global,
+    kept: &mut Kept,
+    out: &mut [u8],
+    status: &mut u8,
+) -> Answer
+    requires { IsSome kept.old.value }
+    ensures { Moves kept.old.value kept.new.value (λ old new. TakesEnd old new out.old out.new status.old status.new) result }
+{
+    let mut whole = replace(kept, Kept::none(alloc)).into_box();
+    let told = end_counted::<Brand>(alloc, &mut whole, out, status, Blank::new(1));
+    *kept = Kept::of(whole);
+    told.in_c()
+}
+
+fn end_counted<L: Ledger>(
+    alloc: Global,
+    talk: &mut Talk,
+    out: &mut [u8],
+    status: &mut u8,
+    blank: Blank,
+) -> Told
+    requires name { blank.name ≡ L.name }
+    requires parts { blank.parts ≡ L.parts }
+    requires some { 0 < blank.parts }
+    ensures { TakesEnd talk.old talk.new out.old out.new status.old status.new result }
+{
+    let mut steps = Steps::<L>::new(blank);
+    end(alloc, talk, out, status, &mut steps)
+}
+
+/// Gives the last answer again.
+#[unsafe(no_mangle)]
+pub extern "C" fn cpe_c_again(alloc: Global, kept: &mut Kept, out: &mut [u8]) -> Answer
+    requires { IsSome kept.old.value }
+    ensures { Moves kept.old.value kept.new.value (λ old new. Repeats old new out.old out.new) result }
+{
+    let whole = replace(kept, Kept::none(alloc)).into_box();
+    let told = repeat(&whole, out);
+    *kept = Kept::of(whole);
+    told.in_c()
+}
+
+/// Lets a session go.
+#[unsafe(no_mangle)]
+pub extern "C" fn cpe_c_close(alloc: Global, kept: &mut Kept)
+    requires { IsSome kept.old.value }
+    ensures { kept.new.value ≡ None }
+{
+    let_go(replace(kept, Kept::none(alloc)).into_box());
+}
+
+// By one call: in place each field would split the proof.
+fn let_go(whole: Box<Talk>) {
+    drop(whole);
+}
