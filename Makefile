@@ -2,21 +2,26 @@
 PREFIX = /usr/local
 DESTDIR =
 
+# The version of the library for C, as pkg-config tells it.
+VERSION = 0.1.0
+
 # Puts the program that rt left in its crate into build/, where it differs from the one there.
 take_program = mkdir -p build && { cmp -s crates/cpe/out/cpe build/cpe || \
 	{ cp crates/cpe/out/cpe build/cpe.new && mv -f build/cpe.new build/cpe; }; }
 
-.PHONY: help build demo test limits install bench clean need_rt need_python3
+.PHONY: help build library demo test limits install bench clean need_rt need_python3
 
 help:
 	@echo 'make build    proves the program, and builds it into build/cpe'
+	@echo 'make library  proves the library for C, and builds it into build/libcpe.a and build/libcpe.so (needs cc and binutils)'
 	@echo 'make demo     builds it, reads examples/names.txt with it, and goes the whole way from feeds to the advisories of two'
 	@echo '              machines (that needs python3)'
 	@echo 'make test     the gate: rt ci, what each crate took, then checks of the program as rt ci built it, of the manual'
-	@echo '              page, and of the recipes'
+	@echo '              page, of the recipes, and of the library for C'
 	@echo 'make limits   builds it, fills it up to its limits, and refuses each allocation of short sessions: minutes, and 6 GB of'
 	@echo '              memory; not in the gate'
-	@echo 'make install  builds it, and puts it into PREFIX/bin, and its manual page into PREFIX/share/man (PREFIX=$(PREFIX))'
+	@echo 'make install  builds it and the library, and puts it into PREFIX/bin, its manual page into PREFIX/share/man, and the'
+	@echo '              library, cpe.h and cpe.pc into PREFIX/lib and PREFIX/include (PREFIX=$(PREFIX))'
 	@echo 'make bench    builds it, and measures it against unproved Rust and OpenSCAP, and edits and the whole way by themselves'
 	@echo '              (needs python3)'
 	@echo 'make clean    removes all that was built'
@@ -26,6 +31,11 @@ help:
 build: need_rt
 	cd crates/cpe && rt run -- unbind < /dev/null
 	@$(take_program)
+
+# The proved part is over what rt kept of its last check.
+library: need_rt
+	cd crates/cpe_c && rt lib
+	sh library/build.sh
 
 # Two web servers. CVE-2024-98001 has ranges of versions, and is TRUE on the one and FALSE on the other, which --all shows.
 # (Status 1 is a result too: something was left out, and that was said.)
@@ -47,6 +57,7 @@ test: need_rt
 	sh tests/manual-checks.sh build/cpe
 	sh tests/recipe-checks.sh build/cpe
 	sh tests/scan-checks.sh build/cpe
+	sh tests/library-checks.sh build/cpe
 
 limits: build
 	sh tests/limits.sh build/cpe
@@ -57,11 +68,17 @@ limits: build
 	done; \
 	else echo 'SKIPPED: each allocation refused in turn, what rows take of memory, how what edits cost grows: there is no python3'; fi
 
-install: build
+install: build library
 	mkdir -p '$(DESTDIR)$(PREFIX)/bin'
 	install -m 755 build/cpe '$(DESTDIR)$(PREFIX)/bin/cpe'
 	mkdir -p '$(DESTDIR)$(PREFIX)/share/man/man1'
 	install -m 644 docs/cpe.1 '$(DESTDIR)$(PREFIX)/share/man/man1/cpe.1'
+	mkdir -p '$(DESTDIR)$(PREFIX)/include' '$(DESTDIR)$(PREFIX)/lib/pkgconfig'
+	install -m 644 library/cpe.h '$(DESTDIR)$(PREFIX)/include/cpe.h'
+	install -m 644 build/libcpe.a '$(DESTDIR)$(PREFIX)/lib/libcpe.a'
+	install -m 755 build/libcpe.so '$(DESTDIR)$(PREFIX)/lib/libcpe.so.0'
+	ln -sf libcpe.so.0 '$(DESTDIR)$(PREFIX)/lib/libcpe.so'
+	sed -e 's|@PREFIX@|$(PREFIX)|' -e 's|@VERSION@|$(VERSION)|' library/cpe.pc.in > '$(DESTDIR)$(PREFIX)/lib/pkgconfig/cpe.pc'
 
 bench: need_python3 build
 	python3 bench/run.py build/cpe

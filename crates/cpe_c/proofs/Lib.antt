@@ -1,2 +1,4 @@
 mod AsBox
+mod Joining
+mod Opening
 mod Saying

@@ -7,3 +7,4 @@ pub mod Talk
 pub mod Keeping
 pub mod Beginning
 pub mod Holding
+pub mod Joined

@@ -1,16 +1,17 @@
 -- What a session still says whose lines are given one by one.
-use Rattle.std.specs.Prelude.{◌≡◌, ℕ, List, [], ◌∷◌, ◌++◌, map}
+use Rattle.std.specs.Prelude.{ℕ, List, ◌++◌}
 use Rattle.std.specs.declared.option.Option.{Option}
-use Rattle.cpe_io.specs.Lines.{line_of, lines}
 use Rattle.cpe_session.specs.Session.{Session, Stage, after, out_from}
 use Rattle.cpe_session.specs.Statuses.{status_of}
-use Rattle.cpe_session.specs.Task.{Task, Transcript, task, transcript}
+use Rattle.cpe_session.specs.Task.{Transcript}
 use Rattle.cpe_session.specs.Pages.{stage_of}
 use Rattle.cpe_session.specs.declared.progress.Progress.{Progress}
-use Rattle.cpe_ranges.specs.Rows.{AdviceRows}
 use Rattle.cpe_advise.specs.Records.{advice_session}
+use Rattle.cpe_command.specs.Names.{name_session}
+use Rattle.cpe_command.specs.Pairs.{pair_session}
+use Rattle.cpe_command.specs.Records.{record_session}
 use Rattle.cpe_c.specs.declared.speaking.Speaking.{Speaking}
-use Rattle.cpe_c.specs.declared.speaking.Speaking.TheVariants.{Advise}
+use Rattle.cpe_c.specs.declared.speaking.Speaking.TheVariants.{Name, Compare, Records, Advise}
 
 -- what is written for these lines and at their end, from a stage on, and the status
 abbrev pub spoken_from : {State : Type 0} → Session State → Stage State → List (Option (List ℕ)) → Transcript
@@ -21,6 +22,9 @@ spoken_from session s ls = record {
 
 -- the same of who speaks, who has come so far
 abbrev pub goes_on : Speaking → Progress → List (Option (List ℕ)) → Transcript
+goes_on (Name command) progress = spoken_from (name_session command) (stage_of progress tt)
+goes_on Compare progress = spoken_from pair_session (stage_of progress tt)
+goes_on (Records command rows) progress = spoken_from (record_session command) (stage_of progress rows)
 goes_on (Advise rows) progress = spoken_from advice_session (stage_of progress rows)
 
 -- a text, and then this transcript

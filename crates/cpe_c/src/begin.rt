@@ -1,23 +1,82 @@
 // The beginning of a session.
-ghost use Rattle.std.specs.Prelude.{IfSome};
-ghost use Rattle.cpe_c.specs.Beginning.{Opens};
+ghost use Rattle.std.specs.Prelude.{◌≡◌, ◌∷◌, [], false, MatchOption};
+ghost use Rattle.std.specs.Str.{bytes_eq};
+ghost use Rattle.cpe_command.specs.Command.{are, command_of};
+ghost use Rattle.cpe_command.specs.Meaning.{meaning};
+ghost use Rattle.cpe_c.specs.Beginning.{Opens, begins, words_of};
 
 use crate::speaking::Speaking;
 use crate::talk::{Phase, Talk};
+use cpe_command::{NameCommand, RecordCommand};
+use cpe_engine::Engine;
 use cpe_ranges::Advisories;
 use cpe_session::Progress;
 use std::alloc::Global;
 
-/// A session of the command that the words name, before its first line.
+/// A session of the command that the words name, before its first line; or none, where they name no command that reads lines.
 pub(crate) fn begin(alloc: Global, word: &[u8], second: &[u8]) -> Option<Talk>
-    ensures { IfSome result (Opens word.now second.now) }
+    ensures { MatchOption result ((meaning (words_of word.now second.now)).reads ≡ false) (Opens (words_of word.now second.now)) }
 {
-    if word.is_empty() || !second.is_empty() {
-        return None;
+    match speaking_of(alloc, word, second) {
+        Some(speaking) => Some(Talk {
+            speaking,
+            progress: Progress::new(alloc),
+            phase: Phase::Open,
+        }),
+        None => None,
     }
-    Some(Talk {
-        speaking: Speaking::Advise(Advisories::new(alloc)),
-        progress: Progress::new(alloc),
-        phase: Phase::Open,
-    })
+}
+
+// Who speaks, before the first line.
+fn speaking_of(alloc: Global, word: &[u8], second: &[u8]) -> Option<Speaking>
+    ensures { result ≡ begins (command_of (words_of word.now second.now)) }
+{
+    match second {
+        [] => of_one_word(alloc, word),
+        [_, ..] => of_two_words(word, second),
+    }
+}
+
+fn of_one_word(alloc: Global, word: &[u8]) -> Option<Speaking>
+    ensures { result ≡ begins (command_of (word.now ∷ [])) }
+{
+    if are_equal(word, b"unbind") {
+        Some(Speaking::Name(NameCommand::Unbind))
+    } else if are_equal(word, b"compare") {
+        Some(Speaking::Compare)
+    } else if are_equal(word, b"resolve") {
+        Some(Speaking::Records(RecordCommand::Resolve, Engine::new(alloc)))
+    } else if are_equal(word, b"evaluate") {
+        Some(Speaking::Records(RecordCommand::Evaluate, Engine::new(alloc)))
+    } else if are_equal(word, b"watch") {
+        Some(Speaking::Records(RecordCommand::Watch, Engine::new(alloc)))
+    } else if are_equal(word, b"advise") {
+        Some(Speaking::Advise(Advisories::new(alloc)))
+    } else {
+        None
+    }
+}
+
+fn of_two_words(word: &[u8], second: &[u8]) -> Option<Speaking>
+    ensures { result ≡ begins (command_of (word.now ∷ second.now ∷ [])) }
+{
+    if are_two(word, second, b"bind", b"fs") {
+        Some(Speaking::Name(NameCommand::BindFs))
+    } else if are_two(word, second, b"bind", b"uri") {
+        Some(Speaking::Name(NameCommand::BindUri))
+    } else {
+        None
+    }
+}
+
+fn are_two(word: &[u8], second: &[u8], first: &[u8], next: &[u8]) -> bool
+    ensures { result ≡ are (word.now ∷ second.now ∷ []) (first.now ∷ next.now ∷ []) }
+{
+    are_equal(second, next) && are_equal(word, first)
+}
+
+fn are_equal(text: &[u8], word: &[u8]) -> bool
+    ensures { result ≡ bytes_eq text.now word.now }
+{
+    text == word
 }

@@ -1,6 +1,7 @@
 // What C keeps of a session.
 ghost use Rattle.std.specs.Prelude.{◌≡◌, Some, None, IsSome};
 ghost use Rattle.std.specs.declared.option.Option.{Option};
+ghost use Rattle.cpe_c.specs.Keeping.{kept_coded};
 ghost use Rattle.cpe_c.specs.declared.talk.Talk.{Talk};
 
 use crate::talk::Talk;
@@ -14,7 +15,7 @@ use std::ptr::null_mut;
 pub struct Kept {
     at: *mut u8,
     alloc: Global,
-    pub(crate) ghost value: { Option Talk },
+    pub(crate) ghost value: { Option Talk } by { kept_coded },
 }
 
 impl Model for Kept {

@@ -5,9 +5,12 @@
 mod begin;
 mod forms;
 mod kept;
+mod laws;
 mod pairs;
 mod parts;
 mod sessions;
 mod speaking;
 mod talk;
 mod told;
+
+pub use laws::joined_answers;

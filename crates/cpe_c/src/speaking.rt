@@ -2,12 +2,13 @@
 ghost use Rattle.std.specs.Prelude.{◌≡◌, ◌∷◌, [], ℕ, List, IfOk, OnOk};
 ghost use Rattle.std.specs.declared.option.Option.{Option};
 ghost use Rattle.cpe_io.specs.Lines.{line_of};
-ghost use Rattle.cpe_session.specs.Task.{Transcript};
 ghost use Rattle.cpe_c.specs.Talks.{behind, goes_on};
 
 use cpe_advise::Advise;
+use cpe_command::{Compare, NameCommand, RecordCommand};
+use cpe_engine::Engine;
 use cpe_ranges::Advisories;
-use cpe_session::{Progress, Status, answer_given, end_given};
+use cpe_session::{Each, Progress, Status, answer_given, end_given};
 use cpe_steps::Steps;
 use std::alloc::{AllocError, Global};
 use std::sync::ledger::Ledger;
@@ -15,7 +16,13 @@ use std::sync::ledger::Ledger;
 /// Who answers the lines of a session, and the state that they change.
 #[derive(Drop)]
 pub enum Speaking {
-    /// Records of items and advisories.
+    /// Each line is one name, which is written in another form.
+    Name(NameCommand),
+    /// Each line is a source and a target.
+    Compare,
+    /// Each line is a record, which edits these rows or asks about them.
+    Records(RecordCommand, Engine),
+    /// Each line is a record, which edits these items and advisories or asks about them.
     Advise(Advisories),
 }
 
@@ -34,6 +41,20 @@ pub(crate) fn speak<L: Ledger>(
         → goes_on speaking.old progress.old (line_of piece.now ∷ more) ≡ behind progress.new.page (goes_on speaking.new progress.new more)) }
 {
     match speaking {
+        Speaking::Name(command) => answer_given(
+            alloc,
+            &Each(*command),
+            &mut (),
+            progress,
+            piece,
+            steps,
+        ),
+        Speaking::Compare => {
+            answer_given(alloc, &Each(Compare), &mut (), progress, piece, steps)
+        }
+        Speaking::Records(command, engine) => {
+            answer_given(alloc, command, engine, progress, piece, steps)
+        }
         Speaking::Advise(advisories) => {
             answer_given(alloc, &Advise, advisories, progress, piece, steps)
         }
@@ -53,6 +74,9 @@ pub(crate) fn fall_silent<L: Ledger>(
     ensures { IfOk result (λ status. goes_on speaking.now progress.old [] ≡ record { text = progress.new.page; status = status }) }
 {
     match speaking {
+        Speaking::Name(command) => end_given(alloc, &Each(*command), &(), progress, steps),
+        Speaking::Compare => end_given(alloc, &Each(Compare), &(), progress, steps),
+        Speaking::Records(command, engine) => end_given(alloc, command, engine, progress, steps),
         Speaking::Advise(advisories) => end_given(alloc, &Advise, advisories, progress, steps),
     }
 }

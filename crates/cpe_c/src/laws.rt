@@ -1,0 +1,16 @@
+// What the calls of a session come to together.
+ghost use Rattle.std.specs.Prelude.{◌≡◌, [], ℕ, List};
+ghost use Rattle.std.specs.declared.option.Option.{Option};
+ghost use Rattle.cpe_io.specs.Lines.{lines};
+ghost use Rattle.cpe_session.specs.Task.{Task, Transcript, transcript};
+ghost use Rattle.cpe_c.specs.Joined.{AreLines, IsAnswered, answers, bytes_of};
+ghost use Rattle.cpe_c.specs.Talks.{behind};
+
+/// The answers of a session, one behind the other, and then that at its end, are what a run writes for the lines, each with its
+/// newline: what it says at first is what the run says (`Opens`), each call answers a line of it (`TakesLine`), and at the end what
+/// it says where no line follows is answered (`TakesEnd`).
+pub fn joined_answers()
+    ensures { (job : Task) (first last : List (Option (List ℕ)) → Transcript) (said : List (List ℕ × List ℕ))
+        → ((bytes : List ℕ) → first (lines bytes) ≡ transcript job bytes) → AreLines said → IsAnswered said first last
+        → transcript job (bytes_of said) ≡ behind (answers said) (last []) }
+{}

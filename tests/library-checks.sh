@@ -1,0 +1,84 @@
+#!/bin/sh
+# Checks of the library for C, as C programs call it: sh tests/library-checks.sh [PROGRAM]. What sessions answer is compared with
+# what the program writes. The status is 0 where no check failed.
+. "$(dirname "$0")/checks.sh"
+
+# builds_library: builds the library and the programs that call it, or skips all.
+builds_library() {
+    needs 'the library for C' cc ld ar objcopy rt || return
+    if ! [ -f crates/cpe_c/out/libcpe_c.a ] && ! (cd crates/cpe_c && rt lib) > "$room/lib.out" 2>&1; then
+        skip 'the library for C' 'its proved part is not built'
+        return 1
+    fi
+    sh library/build.sh > "$room/build.out" 2>&1 || { fail 'the library for C' "$(tail -n 1 "$room/build.out")"; return 1; }
+    for it in calls lines; do
+        cc -std=c99 -Wall -Wextra -Werror -Ilibrary "tests/library/$it.c" build/libcpe.a -o "$room/$it" 2> "$room/error" ||
+            { fail "a C program that calls it: $it" "$(head -n 1 "$room/error")"; return 1; }
+    done
+}
+
+# calls_each: each call with each of its answers.
+calls_each() {
+    : > "$room/none"
+    limited "$room/calls" > "$room/out" 2> "$room/error"
+    judge 'each call of the library, and each answer' $? 0 "$room/none"
+}
+
+# speaks_alike WHAT INPUT WORD..: the answers of a session, one behind the other, are what the program writes.
+speaks_alike() {
+    what="a session of the library: $1"
+    input=$2
+    shift 2
+    limited "$program" "$@" < "$input" > "$room/wanted" 2> "$room/error"
+    wanted_status=$?
+    limited "$room/lines" "$@" < "$input" > "$room/out" 2> "$room/error"
+    judge "$what" $? "$wanted_status" "$room/wanted"
+}
+
+speaks_vectors() {
+    for folder in tests/vectors/*; do
+        case $(basename "$folder") in
+            unbind | compare | resolve | evaluate | watch | advise) words=$(basename "$folder") ;;
+            bind-fs) words='bind fs' ;;
+            bind-uri) words='bind uri' ;;
+            *) continue ;;
+        esac
+        for vectors in "$folder"/*.in; do
+            [ -f "$vectors" ] || continue
+            # The words are two where there is a space.
+            speaks_alike "$words, $(basename "$vectors" .in)" "$vectors" $words
+        done
+    done
+}
+
+speaks_examples() {
+    speaks_alike 'the real names' examples/names.txt unbind
+    speaks_alike 'the texts of names' examples/wfn.txt bind fs
+    speaks_alike 'the texts of names as URIs' examples/wfn.txt bind uri
+}
+
+# A million names: the real ones, over and over.
+speaks_million() {
+    what='a session of the library: a million names'
+    needs "$what" awk || return
+    awk '{ line[NR] = $0 } END { for (i = 0; i < 1000000; i++) print line[i % NR + 1] }' examples/names.txt > "$room/million.txt"
+    speaks_alike 'a million names' "$room/million.txt" unbind
+}
+
+# A long session of statements whose verdicts change.
+speaks_watch() {
+    limited "$program" make 20000 > "$room/records.txt"
+    speaks_alike '20,000 records under watch' "$room/records.txt" watch
+    speaks_alike '20,000 records under evaluate' "$room/records.txt" evaluate
+    speaks_alike '20,000 records under resolve' "$room/records.txt" resolve
+}
+
+if builds_library; then
+    calls_each
+    speaks_examples
+    speaks_vectors
+    speaks_million
+    speaks_watch
+fi
+
+end_of_checks 'library checks'
