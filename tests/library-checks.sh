@@ -73,12 +73,38 @@ speaks_watch() {
     speaks_alike '20,000 records under resolve' "$room/records.txt" resolve
 }
 
+# in_python WORD..: runs the script of the bindings.
+in_python() { CPE_LIBRARY=$PWD/build/libcpe.so PYTHONDONTWRITEBYTECODE=1 PYTHONPATH=bindings/python limited python3 tests/library/bindings.py "$@"; }
+
+# speaks_python WHAT INPUT WORD..: the same by Python.
+speaks_python() {
+    what="a session in Python: $1"
+    input=$2
+    shift 2
+    limited "$program" "$@" < "$input" > "$room/wanted" 2> "$room/error"
+    wanted_status=$?
+    in_python "$@" < "$input" > "$room/out" 2> "$room/error"
+    judge "$what" $? "$wanted_status" "$room/wanted"
+}
+
+speaks_in_python() {
+    needs 'the library in Python' python3 || return
+    : > "$room/none"
+    in_python > "$room/out" 2> "$room/error"
+    judge 'each call in Python, and each error' $? 0 "$room/none"
+    speaks_python 'names' examples/mixed.txt unbind
+    speaks_python 'a million names' "$room/million.txt" unbind
+    speaks_python 'watch' examples/watch.jsonl watch
+    speaks_python '20,000 records under evaluate' "$room/records.txt" evaluate
+}
+
 if builds_library; then
     calls_each
     speaks_examples
     speaks_vectors
     speaks_million
     speaks_watch
+    speaks_in_python
 fi
 
 end_of_checks 'library checks'

@@ -4,8 +4,8 @@ ghost use Rattle.std.specs.declared.option.Option.{Option};
 ghost use Rattle.cpe_c.specs.Keeping.{kept_coded};
 ghost use Rattle.cpe_c.specs.declared.talk.Talk.{Talk};
 
-use crate::talk::Talk;
 use crate::parts::Parts;
+use crate::talk::Talk;
 use std::alloc::Global;
 use std::marker::Model;
 use std::ptr::null_mut;

@@ -62,12 +62,7 @@ pub(crate) struct Compared {
     pub(crate) each: Relations,
 }
 
-fn relate(
-    alloc: Global,
-    source: &[u8],
-    target: &[u8],
-    numbers: &mut RelationNumbers,
-) -> Told
+fn relate(alloc: Global, source: &[u8], target: &[u8], numbers: &mut RelationNumbers) -> Told
     ensures { IsRelated (read_any source.now) (read_any target.now) numbers.old numbers.new result }
 {
     match compare_texts(alloc, source, target) {

@@ -47,12 +47,7 @@ fn keep(alloc: Global, talk: Talk, kept: &mut Kept) -> Told
 /// Answers a line: `out` has the bytes that a run would have written for it. Where they are more than `out` has room for, none
 /// is written there, and their number is told; [`cpe_c_again`] gives them.
 #[unsafe(no_mangle)]
-pub extern "C" fn cpe_c_line(
-    alloc: Global,
-    kept: &mut Kept,
-    piece: &[u8],
-    out: &mut [u8],
-) -> Answer
+pub extern "C" fn cpe_c_line(alloc: Global, kept: &mut Kept, piece: &[u8], out: &mut [u8]) -> Answer
     requires { IsSome kept.old.value }
     ensures { Moves kept.old.value kept.new.value (λ old new. TakesLine old new piece.now out.old out.new) result }
 {
