@@ -1,7 +1,8 @@
 -- A ticket that is entered for the checks of a test, one after the other, and taken out again.
-use Rattle.std.proofs.Common.{◌≡◌, ℕ, zero, suc, ◌+◌, ◌<◌, ◌≤◌, ◌||◌, ◌&&◌, Bool, true, false, cond, List, [], ◌∷◌, ◌++◌, length, map, take, get_or, refl, sym, ap, ◌∙◌, arith}
+use Rattle.std.proofs.Common.{◌≡◌, ℕ, zero, suc, ◌+◌, ◌<◌, ◌≤◌, ◌||◌, ◌&&◌, Bool, true, false, cond, List, [], ◌∷◌, ◌++◌, length, map, take, get_or, refl, sym, ap, subst, ◌∙◌, arith, Vec, Global}
 use Rattle.std.specs.Prelude.{slice_get, Some, None}
 use Rattle.std.specs.List.{flat_map, list_all}
+use Rattle.std.specs.Map.{lookup}
 use Rattle.std.proofs.lemmas.List.{take_more}
 use Rattle.std.proofs.lemmas.List.Folds.{list_all-append, list_any-append}
 use Rattle.cpe_rows.specs.Rows.{same_key}
@@ -9,11 +10,13 @@ use Rattle.cpe_rows.specs.declared.test.CheckKey.{CheckKey}
 use Rattle.cpe_rows.specs.Shape.{depth_of, largest}
 use Rattle.cpe_rows.specs.declared.test.Operator.{Operator}
 use Rattle.cpe_rows.specs.declared.test.Test.{Test, Logic}
+use Rattle.cpe_rows.proofs.KeyTests.{key_is}
 use Rattle.cpe_rows.proofs.Within.{depth-logic}
 use Rattle.cpe_applicability.specs.ByResult.{asks_one}
 use Rattle.cpe_applicability.specs.Entering.{entered, entered_once, is_asked, left_out}
 use Rattle.cpe_applicability.specs.Tickets.{IsBelow, ends_with, with_last}
 use Rattle.cpe_applicability.specs.Told.{check_keys}
+use Rattle.cpe_applicability.specs.Users.{AreAsked, IsAsked, items_or_none}
 use Rattle.cpe_applicability.proofs.EnteringLemmas.{last-again, last-new, without-twice}
 use Rattle.cpe_applicability.proofs.UndoLemmas.{not_last}
 use Rattle.cpe_applicability.proofs.VerdictLemmas.{key_same}
@@ -38,6 +41,14 @@ left_twice false c t xs = refl
 pub entered_new : (b : Bool) (t : ℕ) (xs : List ℕ) → IsBelow t xs → entered_once b t xs ≡ entered b t xs
 entered_new true t xs h = last-new t xs (not_last t xs h.1)
 entered_new false t xs h = refl
+
+-- a check for which nothing asks has no list, where the list of one key changes
+pub asked_still : (old new : List (CheckKey × Vec ℕ Global)) (key : CheckKey) → ((other : CheckKey) → same_key key other ≡ false → lookup (same_key other) new ≡ lookup (same_key other) old)
+    → (IsAsked old key → IsAsked new key) → AreAsked old → AreAsked new
+asked_still old new key others list asked other = go (same_key key other) refl where
+  go : (b : Bool) → same_key key other ≡ b → IsAsked new other
+  go true e = subst (IsAsked new) (key_is key other e) (list (asked key))
+  go false e = λ none. others other e ∙ asked other (sym (ap items_or_none (others other e)) ∙ none)
 
 -- ---- the checks of the children of a test
 

@@ -1,5 +1,5 @@
 -- A new ticket that is entered, and taken out again.
-use Rattle.std.proofs.Common.{◌≡◌, ℕ, zero, suc, ◌<◌, ◌||◌, Bool, true, false, not, cond, List, [], ◌∷◌, ◌++◌, take, refl, ap, ◌∙◌}
+use Rattle.std.proofs.Common.{◌≡◌, ℕ, zero, suc, ◌<◌, ◌||◌, Bool, true, false, not, cond, List, [], ◌∷◌, ◌++◌, take, refl, sym, ap, ◌∙◌}
 use Rattle.std.specs.Prelude.{nat_eq}
 use Rattle.std.specs.List.{AllByRecursion, list_any}
 use Rattle.cpe_applicability.specs.Tickets.{IsBelow, IsRising, ends_with, without}
@@ -48,3 +48,9 @@ any_front p (suc k) (x ∷ xs) h = go (p x) h (any_front p k xs) where
   go : (b : Bool) → (b || list_any p (take k xs)) ≡ true → (list_any p (take k xs) ≡ true → list_any p xs ≡ true) → (b || list_any p xs) ≡ true
   go true h more = refl
   go false h more = more h
+
+pub none_in_front : {X : Type 0} (p : X → Bool) (k : ℕ) (xs : List X) → list_any p xs ≡ false → list_any p (take k xs) ≡ false
+none_in_front p k xs h = go (list_any p (take k xs)) refl where
+  go : (b : Bool) → list_any p (take k xs) ≡ b → b ≡ false
+  go true e = sym (any_front p k xs e) ∙ h
+  go false e = refl

@@ -18,7 +18,7 @@ use Rattle.cpe_applicability.specs.Entering.{entered, is_asked, is_empty}
 use Rattle.cpe_applicability.specs.Held.{asks, each_verdict, follow_use, has_row_id, is_changed, plain_use, ticket_of, tickets, uses_follow, uses_plain, verdict_by, verdict_now}
 use Rattle.ticket_list.specs.Rising.{IsRisingBy}
 use Rattle.cpe_applicability.specs.Told.{check_keys}
-use Rattle.cpe_applicability.specs.Users.{askers_at, users_at}
+use Rattle.cpe_applicability.specs.Users.{AreAsked, AreUsed, askers_at, users_at}
 
 abbrev pub judged : Row → Judged
 judged r = record { statement = r.held.value.statement; ids = r.held.value.ids.items; was = r.was }
@@ -56,6 +56,12 @@ pub record IsBoard (b : Parts) : Type 0 where
   pub judged : AllByRecursion (λ r. r.verdict ≡ part_verdict b r) b.rows.items
   pub alone : AllByRecursion (λ r. r.alone ≡ asks_one (check_keys r.held.value.statement.test)) b.rows.items
   pub each : AllByRecursion (TellsEach b) b.rows.items
+
+-- nothing is kept of a number that no row uses, and of a check for which none asks
+pub record IsLean (b : Parts) : Type 0 where
+  pub plain : AreUsed b.plain.users.entries b.plain.truths.entries
+  pub follow : AreUsed b.follow.users.entries b.follow.truths.entries
+  pub askers : AreAsked b.askers.entries
 
 -- there is room for one row more
 pub record IsReady (b : Parts) : Type 0 where

@@ -14,7 +14,7 @@ ghost use Rattle.cpe_applicability.specs.Tickets.{first_place};
 ghost use Rattle.cpe_applicability.specs.Held.{has_row_id, is_changed};
 ghost use Rattle.cpe_applicability.specs.Entering.{left_out};
 ghost use Rattle.cpe_applicability.specs.Tickets.{IsRising};
-ghost use Rattle.cpe_applicability.specs.Invariant.{HasSameRows, HasSameUsers, IsBoard, IsEntered, IsReady, new_row, state_of};
+ghost use Rattle.cpe_applicability.specs.Invariant.{HasSameRows, HasSameUsers, IsBoard, IsEntered, IsLean, IsReady, new_row, state_of};
 ghost use Rattle.std.specs.HashMap.{spare};
 
 use crate::askers::askers_of;
@@ -56,6 +56,7 @@ impl Parts {
         ensures board { IsBoard result }
         ensures rows { (state_of result).rows ≡ [] }
         ensures checks { (state_of result).checks ≡ [] }
+        ensures lean { IsLean result }
     {
         Parts {
             rows: TicketList::new(alloc),
@@ -135,6 +136,7 @@ impl Parts {
         ensures rows { (state_of self.new).rows ≡ (state_of self.old).rows }
         ensures checks { (state_of self.new).checks ≡ (state_of self.old).checks }
         ensures truths { ChangesTruth (state_of self.old) (state_of self.new) mode id truth }
+        ensures lean { IsLean self.old → IsLean self.new }
     {
         if !differ(self.truth(id, mode), truth) {
             return;
@@ -151,6 +153,7 @@ impl Parts {
         ensures rows { (state_of self.new).rows ≡ (state_of self.old).rows }
         ensures checks { (state_of self.new).checks ≡ (state_of self.old).checks }
         ensures truths { ChangesTruth (state_of self.old) (state_of self.new) Plain id truth }
+        ensures lean { IsLean self.old → IsLean self.new }
     {
         change_truth(&mut self.plain.truths, id, truth);
         refresh_rows(
@@ -170,6 +173,7 @@ impl Parts {
         ensures rows { (state_of self.new).rows ≡ (state_of self.old).rows }
         ensures checks { (state_of self.new).checks ≡ (state_of self.old).checks }
         ensures truths { ChangesTruth (state_of self.old) (state_of self.new) Follow id truth }
+        ensures lean { IsLean self.old → IsLean self.new }
     {
         change_truth(&mut self.follow.truths, id, truth);
         refresh_rows(
@@ -191,6 +195,7 @@ impl Parts {
         ensures plain { (state_of self.new).plain ≡ (state_of self.old).plain }
         ensures follow { (state_of self.new).follow ≡ (state_of self.old).follow }
         ensures checks { (state_of self.new).checks ≡ (state_of self.old).checks }
+        ensures lean { IsLean self.old → IsLean self.new }
     {
         settle_rows(&mut self.rows, &mut self.changed);
     }
@@ -204,6 +209,7 @@ impl Parts {
         ensures rows { (state_of self.new).rows ≡ (state_of self.old).rows }
         ensures plain { (state_of self.new).plain ≡ (state_of self.old).plain }
         ensures follow { (state_of self.new).follow ≡ (state_of self.old).follow }
+        ensures lean { IsLean self.old → IsLean self.new }
     {
         let list = askers_of(&self.askers, &key);
         self.results.set(key, truth)?;
@@ -228,6 +234,7 @@ impl Parts {
         ensures rows { (state_of self.new).rows ≡ (state_of self.old).rows }
         ensures plain { (state_of self.new).plain ≡ (state_of self.old).plain }
         ensures follow { (state_of self.new).follow ≡ (state_of self.old).follow }
+        ensures lean { IsLean self.old → IsLean self.new }
     {
         let found = self.results.remove(key);
         refresh_rows(
@@ -386,6 +393,7 @@ impl Parts {
         ensures rows { (state_of self.new).rows ≡ without_first (is_of id.now) (state_of self.old).rows }
         ensures truths { KeepsTruths (state_of self.old) (state_of self.new) }
         ensures checks { (state_of self.new).checks ≡ (state_of self.old).checks }
+        ensures lean { IsLean self.old → IsLean self.new }
     {
         match self.place_by_id(id) {
             Some(place) => {
@@ -404,6 +412,7 @@ impl Parts {
         ensures rows { self.new.rows.items ≡ take place self.old.rows.items ++ drop (place + 1) self.old.rows.items }
         ensures truths { KeepsTruths (state_of self.old) (state_of self.new) }
         ensures checks { (state_of self.new).checks ≡ (state_of self.old).checks }
+        ensures lean { IsLean self.old → IsLean self.new }
     {
         let row = match take_row(&mut self.rows, place) {
             Some(row) => row,
@@ -437,6 +446,7 @@ impl Parts {
         ensures kept { KeepsTruths (state_of self.old) (state_of self.new) }
         ensures fresh { OnOk result (TakesTruths (state_of self.old) (state_of self.new) (T.fact_truth given.now)) }
         ensures checks { (state_of self.new).checks ≡ (state_of self.old).checks }
+        ensures lean { IsLean self.old → IsLean self.new }
     {
         let held = hold(alloc, statement, ids)?;
         self.put_held(alloc, held, given)
@@ -456,6 +466,7 @@ impl Parts {
         ensures kept { KeepsTruths (state_of self.old) (state_of self.new) }
         ensures fresh { OnOk result (TakesTruths (state_of self.old) (state_of self.new) (T.fact_truth given.now)) }
         ensures checks { (state_of self.new).checks ≡ (state_of self.old).checks }
+        ensures lean { IsLean self.old → IsLean self.new }
     {
         match self.make_room(alloc, &held, given) {
             Ok(id) => {
@@ -482,6 +493,7 @@ impl Parts {
         ensures entered { OnOk result (IsEntered self.old self.new held.now (T.fact_truth given.now)) }
         ensures not_entered { OnErr result (HasSameUsers self.old self.new) }
         ensures same { HasSameRows self.old self.new }
+        ensures lean { IsLean self.old → IsLean self.new }
     {
         if self.next == u64::MAX {
             return Err(Memory);
@@ -516,6 +528,7 @@ impl Parts {
         ensures follow { self.new.follow ≡ self.old.follow }
         ensures askers { self.new.askers ≡ self.old.askers }
         ensures results { self.new.results ≡ self.old.results }
+        ensures lean { IsLean self.old → IsLean self.new }
     {
         let verdict = verdict_of(
             &held,

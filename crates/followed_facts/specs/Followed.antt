@@ -21,6 +21,10 @@ facts_in es e = items_or_none (lookup (nat_eq e) es)
 abbrev pub ends_in : List (ℕ × Vec NameId Global) → ℕ → Option (List NameId)
 ends_in es q = option_map (λ v. v.items) (lookup (nat_eq q) es)
 
+-- an end without facts isn't kept
+abbrev pub NoneIsEmpty : List (ℕ × Vec ℕ Global) → Type 0
+NoneIsEmpty es = (e : ℕ) → facts_in es e ≡ [] → lookup (nat_eq e) es ≡ None
+
 -- the facts of an end, in any order
 abbrev pub facts_at : Followed → ℕ → List ℕ
 facts_at f e = facts_in f.facts e

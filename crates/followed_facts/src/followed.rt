@@ -1,6 +1,7 @@
 // Facts with their ends, and ends with their facts.
-ghost use Rattle.std.specs.Prelude.{◌≡◌, ◌≢◌, ℕ, [], true, false, None, Some, IsSome, OnOk, OnErr};
+ghost use Rattle.std.specs.Prelude.{◌≡◌, ◌≢◌, ℕ, List, [], true, false, None, Some, IsSome, OnOk, OnErr};
 ghost use Rattle.std.specs.Option.{option_map};
+ghost use Rattle.name_index.specs.declared.table.NameId.{NameId};
 ghost use Rattle.followed_facts.specs.Followed.{AreLinked, ends_at, facts_at, has_end, IsUnder, KeepsLinks, OthersStay, SameOthers};
 
 use crate::ends::{ends_of, ends_or_none, keep, remove, replace};
@@ -20,11 +21,13 @@ pub struct FollowedFacts {
 }
 
 impl Model for FollowedFacts {
-    ghost use Rattle.followed_facts.specs.Followed.{Followed};
+    ghost use Rattle.followed_facts.specs.Followed.{Followed, NoneIsEmpty};
 
     ghost Value = { Followed };
 
     ghost view = { λ f. record { ends = f.ends.entries; facts = f.facts.entries } };
+
+    ghost invariant = { λ f. NoneIsEmpty f.facts.entries };
 }
 
 impl FollowedFacts {
@@ -109,18 +112,10 @@ impl FollowedFacts {
         replace(&mut self.ends, fact.0, ends);
     }
 
-    /// Takes a fact out of those of these ends. Its own ends stay. It takes no memory.
-    pub fn unlink(&mut self, fact: NameId, ends: &[NameId])
-        ensures elsewhere { (e : ℕ) → has_end ends.now e ≡ false → facts_at self.new e ≡ facts_at self.old e }
-        ensures others { SameOthers fact.0 (facts_at self.old) (facts_at self.new) }
-        ensures stay { (q : ℕ) → ends_at self.new q ≡ ends_at self.old q }
-    {
-        unlink(&mut self.facts, fact.0, ends);
-    }
-
     /// A fact is no longer followed: it is taken out of those of its ends. It takes no memory.
     pub fn forget(&mut self, fact: NameId)
         ensures ends { ends_at self.new fact.0 ≡ None }
+        ensures elsewhere { (ends : List NameId) → ends_at self.old fact.0 ≡ Some ends → (e : ℕ) → has_end ends e ≡ false → facts_at self.new e ≡ facts_at self.old e }
         ensures others { SameOthers fact.0 (facts_at self.old) (facts_at self.new) }
         ensures stay { OthersStay fact.0 self.old self.new }
         ensures linked { AreLinked self.old → AreLinked self.new }

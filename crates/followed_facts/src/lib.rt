@@ -7,7 +7,7 @@
 //! links takes memory.
 //!
 //! Contracts say that no fact is missing under an end. A fact that stays under one to which it no longer leads is not ruled out by
-//! them: it would cost memory and time, and no answer. An end without facts takes no memory.
+//! them: it would cost memory and time, and no answer. An end without facts isn't kept.
 #![tactic(auto)]
 
 mod ends;

@@ -1,8 +1,9 @@
 // The facts of ends.
-ghost use Rattle.std.specs.Prelude.{◌≡◌, ◌≢◌, ℕ, [], true, false, nat_eq, OnOk, OnErr};
+ghost use Rattle.std.specs.Prelude.{◌≡◌, ◌≢◌, ℕ, [], true, false, nat_eq, None, OnOk, OnErr};
 ghost use Rattle.std.specs.Bool.{OnTrue};
 ghost use Rattle.std.specs.List.{position};
-ghost use Rattle.followed_facts.specs.Followed.{among, facts_in, IsUnder, KeepsLinks, SameOthers, with_one};
+ghost use Rattle.std.specs.Map.{lookup};
+ghost use Rattle.followed_facts.specs.Followed.{among, facts_in, IsUnder, KeepsLinks, NoneIsEmpty, SameOthers, with_one};
 ghost use Rattle.followed_facts.specs.Followed.{has_end as is_end};
 
 use crate::ends::has_end;
@@ -44,6 +45,7 @@ fn put_at(
     ensures here { OnOk result (facts_in facts.new.entries end ≡ with_one fact (facts_in facts.old.entries end)) }
     ensures others { (other : ℕ) → nat_eq end other ≡ false → facts_in facts.new.entries other ≡ facts_in facts.old.entries other }
     ensures err { OnErr result (facts_in facts.new.entries end ≡ facts_in facts.old.entries end) }
+    ensures tight { NoneIsEmpty facts.old.entries → NoneIsEmpty facts.new.entries }
 {
     match facts.get_mut(&end) {
         Some(list) => put_once(list, fact),
@@ -61,6 +63,7 @@ fn put_first(
     ensures here { OnOk result (facts_in facts.new.entries end ≡ with_one fact (facts_in facts.old.entries end)) }
     ensures others { (other : ℕ) → nat_eq end other ≡ false → facts_in facts.new.entries other ≡ facts_in facts.old.entries other }
     ensures err { OnErr result (facts_in facts.new.entries end ≡ facts_in facts.old.entries end) }
+    ensures tight { NoneIsEmpty facts.old.entries → NoneIsEmpty facts.new.entries }
 {
     let mut list = Vec::new(alloc);
     put_once(&mut list, fact)?;
@@ -80,6 +83,7 @@ fn enter(
     ensures here { OnOk result (among (facts_in facts.new.entries end) fact ≡ true) }
     ensures links { KeepsLinks (facts_in facts.old.entries) (facts_in facts.new.entries) }
     ensures others { SameOthers fact (facts_in facts.old.entries) (facts_in facts.new.entries) }
+    ensures tight { NoneIsEmpty facts.old.entries → NoneIsEmpty facts.new.entries }
 {
     put_at(facts, alloc, end, fact)
 }
@@ -94,6 +98,7 @@ pub(crate) fn link(
     ensures ok { OnOk result (IsUnder (facts_in facts.new.entries) fact ends.now) }
     ensures links { KeepsLinks (facts_in facts.old.entries) (facts_in facts.new.entries) }
     ensures others { SameOthers fact (facts_in facts.old.entries) (facts_in facts.new.entries) }
+    ensures tight { NoneIsEmpty facts.old.entries → NoneIsEmpty facts.new.entries }
 {
     for id in ends {
         enter(facts, alloc, id.0, fact)?;
@@ -119,8 +124,9 @@ fn take_out(list: &mut Vec<u32>, number: u32)
 // Takes a fact out of those of an end, and tells whether none is left.
 fn strike(facts: &mut HashMap<u32, Vec<u32>>, end: u32, fact: u32) -> bool
     ensures empty { OnTrue result (facts_in facts.new.entries end ≡ []) }
+    ensures left { facts_in facts.new.entries end ≡ [] → result ≡ true }
     ensures here { (q : ℕ) → q ≢ fact → among (facts_in facts.new.entries end) q ≡ among (facts_in facts.old.entries end) q }
-    ensures elsewhere { (other : ℕ) → nat_eq end other ≡ false → facts_in facts.new.entries other ≡ facts_in facts.old.entries other }
+    ensures elsewhere { (other : ℕ) → nat_eq end other ≡ false → lookup (nat_eq other) facts.new.entries ≡ lookup (nat_eq other) facts.old.entries }
 {
     match facts.get_mut(&end) {
         Some(list) => {
@@ -133,7 +139,8 @@ fn strike(facts: &mut HashMap<u32, Vec<u32>>, end: u32, fact: u32) -> bool
 
 fn take_from(facts: &mut HashMap<u32, Vec<u32>>, end: u32, fact: u32)
     ensures here { (q : ℕ) → q ≢ fact → among (facts_in facts.new.entries end) q ≡ among (facts_in facts.old.entries end) q }
-    ensures elsewhere { (other : ℕ) → nat_eq end other ≡ false → facts_in facts.new.entries other ≡ facts_in facts.old.entries other }
+    ensures elsewhere { (other : ℕ) → nat_eq end other ≡ false → lookup (nat_eq other) facts.new.entries ≡ lookup (nat_eq other) facts.old.entries }
+    ensures gone { facts_in facts.new.entries end ≡ [] → lookup (nat_eq end) facts.new.entries ≡ None }
 {
     if strike(facts, end, fact) {
         drop(facts.remove(&end));
@@ -144,6 +151,7 @@ fn take_from(facts: &mut HashMap<u32, Vec<u32>>, end: u32, fact: u32)
 fn leave(facts: &mut HashMap<u32, Vec<u32>>, end: u32, fact: u32)
     ensures others { SameOthers fact (facts_in facts.old.entries) (facts_in facts.new.entries) }
     ensures elsewhere { (other : ℕ) → nat_eq end other ≡ false → facts_in facts.new.entries other ≡ facts_in facts.old.entries other }
+    ensures tight { NoneIsEmpty facts.old.entries → NoneIsEmpty facts.new.entries }
 {
     take_from(facts, end, fact);
 }
@@ -152,6 +160,7 @@ fn leave(facts: &mut HashMap<u32, Vec<u32>>, end: u32, fact: u32)
 pub(crate) fn unlink(facts: &mut HashMap<u32, Vec<u32>>, fact: u32, ends: &[NameId])
     ensures others { SameOthers fact (facts_in facts.old.entries) (facts_in facts.new.entries) }
     ensures elsewhere { (e : ℕ) → is_end ends.now e ≡ false → facts_in facts.new.entries e ≡ facts_in facts.old.entries e }
+    ensures tight { NoneIsEmpty facts.old.entries → NoneIsEmpty facts.new.entries }
 {
     for id in ends {
         leave(facts, id.0, fact);
@@ -162,6 +171,7 @@ pub(crate) fn unlink(facts: &mut HashMap<u32, Vec<u32>>, fact: u32, ends: &[Name
 fn leave_unless(facts: &mut HashMap<u32, Vec<u32>>, end: u32, fact: u32, ends: &[NameId])
     ensures others { SameOthers fact (facts_in facts.old.entries) (facts_in facts.new.entries) }
     ensures kept { (e : ℕ) → is_end ends.now e ≡ true → facts_in facts.new.entries e ≡ facts_in facts.old.entries e }
+    ensures tight { NoneIsEmpty facts.old.entries → NoneIsEmpty facts.new.entries }
 {
     if has_end(ends, end) {
         return;
@@ -178,6 +188,7 @@ pub(crate) fn unlink_old(
 )
     ensures others { SameOthers fact (facts_in facts.old.entries) (facts_in facts.new.entries) }
     ensures kept { (e : ℕ) → is_end ends.now e ≡ true → facts_in facts.new.entries e ≡ facts_in facts.old.entries e }
+    ensures tight { NoneIsEmpty facts.old.entries → NoneIsEmpty facts.new.entries }
 {
     for id in old_ends {
         leave_unless(facts, id.0, fact, ends);

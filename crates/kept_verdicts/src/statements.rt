@@ -23,7 +23,7 @@ ghost use Rattle.cpe_applicability.specs.Truths.{truth_in};
 ghost use Rattle.followed_facts.specs.Followed.{AreLinked, ends_at, has_end, OthersStay};
 ghost use Rattle.kept_facts.specs.Kept.{AreLive, AreSettled, AreSound, board_of, FitBoards, looks_by, SameBoards, ShowRows};
 ghost use Rattle.kept_facts.specs.Lists.{IsWide};
-ghost use Rattle.kept_verdicts.specs.Kept.{AreEnds, Stands, statements_in};
+ghost use Rattle.kept_verdicts.specs.Kept.{AreEnds, known_in, Stands, statements_in};
 ghost use Rattle.kept_verdicts.specs.Looks.{statement_looks};
 ghost use Rattle.kept_verdicts.specs.Putting.{AllFollowed, AreAskedFor, AreLast, AreUnused, HasLeads, IsAsked, OthersKept, StandsElse};
 
@@ -62,6 +62,8 @@ impl KeptVerdicts {
         ensures ok { (rows : Rows) → Stands registry.now.table self.old rows → rows.entries ≡ registry.now.entries → OnOk result (Stands registry.now.table self.new (after rows (edit.PutStatement statement))) }
         ensures err { (rows : Rows) → Stands registry.now.table self.old rows → rows.entries ≡ registry.now.entries → OnErr result (Stands registry.now.table self.new rows) }
         ensures steps { (rows : Rows) → Stands registry.now.table self.old rows → rows.entries ≡ registry.now.entries → StepsWithin steps.old steps.new (statement_looks rows statement) }
+        ensures rows { OnOk result (self.new.board.rows ≡ self.old.board.rows ++ put_row self.new.board statement (map (λ id. id.0) ids.now) ∷ []) }
+        ensures rows_still { OnErr result (self.new.board.rows ≡ self.old.board.rows) }
     {
         registry.lawful();
         let fresh = self.facts_used(alloc, statement.mode, ids, 0)?;
@@ -94,6 +96,7 @@ impl KeptVerdicts {
         ensures named { (s : Statement) → find (has_id id.now) (statements_in self.old) ≡ Some s → IfOk result (λ ids. names_at table.now ids.items ≡ fact_names s.test) }
         ensures err { OnErr result (self.new ≡ self.old) }
         ensures steps { steps.new ≡ steps.old }
+        ensures known { OnOk result (known_in self.new ≡ map (λ j. j.was) (without_first (is_of id.now) self.old.board.rows)) }
     {
         table.lawful();
         let mode = self.mode_of(id);
@@ -151,6 +154,8 @@ impl KeptVerdicts {
         ensures err { (rows : Rows) → Stands registry.now.table self.old rows → rows.entries ≡ registry.now.entries → OnErr result (Stands registry.now.table self.new rows) }
         ensures rise { steps.old ≤ steps.new }
         ensures steps { (rows : Rows) → Stands registry.now.table self.old rows → rows.entries ≡ registry.now.entries → steps.new ≤ steps.old + statement_looks rows statement }
+        ensures rows { OnOk result (self.new.board.rows ≡ self.old.board.rows ++ put_row self.new.board statement (map (λ id. id.0) ids.now) ∷ []) }
+        ensures rows_still { OnErr result (self.new.board.rows ≡ self.old.board.rows) }
     {
         let asked = follow(&mut self.followed, alloc, registry, fresh)?;
         match self.put_asked(
@@ -589,6 +594,7 @@ impl KeptVerdicts {
         ensures ok { (rows : Rows) (s : Statement) → Stands table.now self.old rows → find (has_id id.now) rows.statements ≡ Some s → OnOk result (Stands table.now self.new (after rows (edit.DropStatement id.now))) }
         ensures err { OnErr result (self.new ≡ self.old) }
         ensures steps { steps.new ≡ steps.old }
+        ensures rows { OnOk result (self.new.board.rows ≡ without_first (is_of id.now) self.old.board.rows) }
     {
         match mode {
             Mode::Plain => {

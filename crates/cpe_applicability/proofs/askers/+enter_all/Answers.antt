@@ -5,29 +5,32 @@ use Rattle.cpe_rows.specs.declared.test.Test.{Test}
 use Rattle.cpe_applicability.specs.Users.{askers_at}
 use Rattle.cpe_applicability.specs.Entering.{entered_once, is_asked, IsEnteredOnceWhere}
 use Rattle.cpe_applicability.specs.Told.{check_keys}
-use Rattle.cpe_applicability.proofs.AskedLemmas.{asked_more, asked_within, entered_twice}
+use Rattle.cpe_applicability.proofs.AskedLemmas.{asked_more, asked_still, asked_within, entered_twice}
 use Rattle.cpe_applicability.proofs.ToldLemmas.{keys-logic}
 use Rattle.cpe_applicability.proofs.askers.+enter_all.Goals as goal
 
 pub loop-child-preserved : goal.loop-child-preserved
-loop-child-preserved t c q =
+loop-child-preserved t c =
     let of = c.as_slice-child-items.result.now in
     let i = c.loop-child.child-index in
     let child = c.child-item.result in
-    let ticket = c.args.ticket in
-    let old = askers_at c.args.askers.now.entries q in
-    let front = is_asked (flat_map check_keys (take i of)) q in
-    let more = asked_more of i child q c.loop-child-test.true ∙ ap (λ (u : Test). front || is_asked (check_keys u) q) (sym c.child-item.is) in
-    c.in_ok-enter_all-in-Logic.ensures.ok q
-    ∙ ap (entered_once (is_asked (check_keys child) q) ticket) (c.loop-child.invariant q)
-    ∙ entered_twice front (is_asked (check_keys child) q) ticket old
-    ∙ ap (λ b. entered_once b ticket old) (sym more)
+    let ticket = c.args.ticket in (
+      λ q.
+          let old = askers_at c.args.askers.now.entries q in
+          let front = is_asked (flat_map check_keys (take i of)) q in
+          let more = asked_more of i child q c.loop-child-test.true ∙ ap (λ (u : Test). front || is_asked (check_keys u) q) (sym c.child-item.is) in
+          c.in_ok-enter_all-in-Logic.ensures.ok q
+          ∙ ap (entered_once (is_asked (check_keys child) q) ticket) (c.loop-child.invariant.0 q)
+          ∙ entered_twice front (is_asked (check_keys child) q) ticket old
+          ∙ ap (λ b. entered_once b ticket old) (sym more),
+      λ asked. c.in_ok-enter_all-in-Logic.ensures.lists (c.loop-child.invariant.1 asked),
+    )
 
 pub returns-after-loop-child-clause-ok : goal.returns-after-loop-child-clause-ok
 returns-after-loop-child-clause-ok t c q =
     let all = take_all c.loop-child.child-index c.as_slice-child-items.result.now c.loop-child-test.false ∙ c.as_slice-child-items.ensures in
     let test = ap check_keys c.in-Logic.is ∙ keys-logic c.in-Logic.operator c.in-Logic.negate c.in-Logic.of in
-    c.loop-child.invariant q
+    c.loop-child.invariant.0 q
     ∙ ap (λ (ks : List CheckKey). entered_once (is_asked ks q) c.args.ticket (askers_at c.args.askers.now.entries q)) (ap (flat_map check_keys) all ∙ sym test)
 
 pub returns-in_err-enter_all-in-Logic-clause-err : goal.returns-in_err-enter_all-in-Logic-clause-err
@@ -44,6 +47,9 @@ returns-in_err-enter_all-in-Logic-clause-err t c =
     record {
       entered = front || was.entered;
       where_asked = λ h. ap (λ (ks : List CheckKey). is_asked ks q) test ∙ asked_within of i child q was.entered c.loop-child-test.true asked h;
-      tickets = was.tickets ∙ ap (entered_once was.entered ticket) (c.loop-child.invariant q) ∙ entered_twice front was.entered ticket (askers_at c.args.askers.now.entries q);
+      tickets = was.tickets ∙ ap (entered_once was.entered ticket) (c.loop-child.invariant.0 q) ∙ entered_twice front was.entered ticket (askers_at c.args.askers.now.entries q);
     } in
     search (rules, left)
+
+pub returns-in-Check-clause-lists : goal.returns-in-Check-clause-lists
+returns-in-Check-clause-lists t c = asked_still c.args.askers.now.entries c.enter.new.askers.entries c.in-Check.key c.enter.ensures.others c.enter.ensures.list

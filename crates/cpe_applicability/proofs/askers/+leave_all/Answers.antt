@@ -7,7 +7,7 @@ use Rattle.cpe_applicability.specs.Tickets.{IsRising}
 use Rattle.cpe_applicability.specs.Users.{askers_at}
 use Rattle.cpe_applicability.specs.Entering.{is_asked, left_out}
 use Rattle.cpe_applicability.specs.Told.{check_keys}
-use Rattle.cpe_applicability.proofs.AskedLemmas.{asked_more, depth_falls, left_twice}
+use Rattle.cpe_applicability.proofs.AskedLemmas.{asked_more, asked_still, depth_falls, left_twice}
 use Rattle.cpe_applicability.proofs.EnteringLemmas.{rising-left}
 use Rattle.cpe_applicability.proofs.ToldLemmas.{keys-logic}
 use Rattle.cpe_applicability.proofs.askers.+leave_all.Goals as goal
@@ -17,29 +17,35 @@ leave_all-requires t c =
     let of = c.as_slice-child-items.result.now in
     let i = c.loop-child.child-index in
     let rising : (q : CheckKey) → IsRising (askers_at c.loop-child.askers.entries q) = λ q.
-    subst IsRising (sym (c.loop-child.invariant q)) (rising-left (is_asked (flat_map check_keys (take i of)) q) c.args.ticket (askers_at c.args.askers.now.entries q) (c.requires q)) in
+    subst IsRising (sym (c.loop-child.invariant.0 q)) (rising-left (is_asked (flat_map check_keys (take i of)) q) c.args.ticket (askers_at c.args.askers.now.entries q) (c.requires q)) in
     let test = ap (λ (ts : List Test). Logic c.in-Logic.operator c.in-Logic.negate ts) c.as_slice-child-items.ensures ∙ sym c.in-Logic.is in
     let falls : depth_of c.child-item.result < depth_of c.args.test.now =
     omega (arith, ap depth_of c.child-item.is, depth_falls c.in-Logic.operator c.in-Logic.negate of i c.child-item.result c.loop-child-test.true, ap depth_of test) in
     search (rules, falls, rising)
 
 pub loop-child-preserved : goal.loop-child-preserved
-loop-child-preserved t c q =
+loop-child-preserved t c =
     let of = c.as_slice-child-items.result.now in
     let i = c.loop-child.child-index in
     let child = c.child-item.result in
-    let ticket = c.args.ticket in
-    let old = askers_at c.args.askers.now.entries q in
-    let front = is_asked (flat_map check_keys (take i of)) q in
-    let more = asked_more of i child q c.loop-child-test.true ∙ ap (λ (u : Test). front || is_asked (check_keys u) q) (sym c.child-item.is) in
-    c.leave_all.ensures q
-    ∙ ap (left_out (is_asked (check_keys child) q) ticket) (c.loop-child.invariant q)
-    ∙ left_twice front (is_asked (check_keys child) q) ticket old
-    ∙ ap (λ b. left_out b ticket old) (sym more)
+    let ticket = c.args.ticket in (
+      λ q.
+          let old = askers_at c.args.askers.now.entries q in
+          let front = is_asked (flat_map check_keys (take i of)) q in
+          let more = asked_more of i child q c.loop-child-test.true ∙ ap (λ (u : Test). front || is_asked (check_keys u) q) (sym c.child-item.is) in
+          c.leave_all.ensures.tickets q
+          ∙ ap (left_out (is_asked (check_keys child) q) ticket) (c.loop-child.invariant.0 q)
+          ∙ left_twice front (is_asked (check_keys child) q) ticket old
+          ∙ ap (λ b. left_out b ticket old) (sym more),
+      λ asked. c.leave_all.ensures.lists (c.loop-child.invariant.1 asked),
+    )
 
-pub returns-after-loop-child : goal.returns-after-loop-child
-returns-after-loop-child t c q =
+pub returns-after-loop-child-clause-tickets : goal.returns-after-loop-child-clause-tickets
+returns-after-loop-child-clause-tickets t c q =
     let all = take_all c.loop-child.child-index c.as_slice-child-items.result.now c.loop-child-test.false ∙ c.as_slice-child-items.ensures in
     let test = ap check_keys c.in-Logic.is ∙ keys-logic c.in-Logic.operator c.in-Logic.negate c.in-Logic.of in
-    c.loop-child.invariant q
+    c.loop-child.invariant.0 q
     ∙ ap (λ (ks : List CheckKey). left_out (is_asked ks q) c.args.ticket (askers_at c.args.askers.now.entries q)) (ap (flat_map check_keys) all ∙ sym test)
+
+pub returns-in-Check-clause-lists : goal.returns-in-Check-clause-lists
+returns-in-Check-clause-lists t c = asked_still c.args.askers.now.entries c.leave.new.askers.entries c.in-Check.key c.leave.ensures.others (λ asked. c.leave.ensures.list)

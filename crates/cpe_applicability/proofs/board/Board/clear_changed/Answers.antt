@@ -10,4 +10,4 @@ invariant_of-self c =
     let a : Parts = c.self.inside.parts in
     let b : Parts = c.clear_changed.new.self in
     let same = ap statements_of c.clear_changed.ensures.rows ∙ statements-known (state_of a) (map judged a.rows.items) in
-    (c.clear_changed.ensures.board, counted_same c.self.inside.facts (statements_of (map judged a.rows.items)) (statements_of (map judged b.rows.items)) same c.self.invariant.1)
+    (c.clear_changed.ensures.board, counted_same c.self.inside.facts (statements_of (map judged a.rows.items)) (statements_of (map judged b.rows.items)) same c.self.invariant.1, c.clear_changed.ensures.lean c.self.invariant.2)
