@@ -1,5 +1,5 @@
 // The boards of both modes, and what edits of the rows make of them.
-ghost use Rattle.std.specs.Prelude.{◌≡◌, ◌≢◌, ◌∷◌, ◌+◌, ◌≤◌, ℕ, [], List, OnOk, Some, find, length, true};
+ghost use Rattle.std.specs.Prelude.{◌≡◌, ◌≢◌, ◌∷◌, ◌+◌, ◌≤◌, ◌||◌, ℕ, [], List, OnOk, Some, find, length, nat_lt, true};
 ghost use Rattle.std.specs.List.{AllByRecursion, flat_map, list_any};
 ghost use Rattle.cpe_name.specs.declared.name.Values.{Values};
 ghost use Rattle.product_orders.specs.Elements.{SameElements};
@@ -274,6 +274,16 @@ impl KeptFacts {
         match mode {
             Mode::Plain => holds_one(&self.plain, numbers),
             Mode::Follow => holds_one(&self.follow, numbers),
+        }
+    }
+
+    /// Whether a name is asked in a mode, or there. It looks at nothing.
+    pub fn has(&self, mode: Mode, id: NameId) -> bool
+        ensures { result ≡ (nat_lt 0 (probe_times (board_of self.now mode) id.0) || nat_lt 0 (target_times (board_of self.now mode) id.0)) }
+    {
+        match mode {
+            Mode::Plain => self.plain.has(id),
+            Mode::Follow => self.follow.has(id),
         }
     }
 

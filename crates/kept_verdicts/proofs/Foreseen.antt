@@ -82,7 +82,7 @@ some_counted p (x ∷ xs) = by (p x) refl (some_counted p xs)
 pub in_use_is : (rows : List Judged) (x : NameId) → is_in_use rows x ≡ is_used rows Follow x.0
 in_use_is rows x = some_counted (uses Follow x.0) rows
 
-in_facts : (mode : Mode) (statements : List Statement) (n : Values) → list_any (is_same n) (facts_in mode statements) ≡ is_referred mode statements n
+pub in_facts : (mode : Mode) (statements : List Statement) (n : Values) → list_any (is_same n) (facts_in mode statements) ≡ is_referred mode statements n
 in_facts mode statements n = by (list_any (is_same n) (facts_in mode statements)) (is_referred mode statements n) (sym (some_stands n (facts_in mode statements)) ∙ ap one_if_some (counted mode statements n))
   where
     by : (a b : Bool) → cond a 1 0 ≡ one_if_some (cond b 1 0) → a ≡ b

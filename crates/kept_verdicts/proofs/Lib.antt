@@ -14,3 +14,4 @@ pub mod LedMoved
 pub mod Foreseen
 pub mod VerdictLemmas
 pub mod TableLemmas
+pub mod Unled

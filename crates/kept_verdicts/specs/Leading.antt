@@ -1,13 +1,16 @@
 -- Facts that lead to other ends, one after the other.
-use Rattle.std.specs.Prelude.{◌≡◌, ◌≤◌, ◌||◌, ℕ, Bool, true, false, nat_eq, nat_lt, List, [], IsSome, None, Option, Some, count_by}
+use Rattle.std.specs.Prelude.{◌≡◌, ◌≤◌, ◌||◌, ℕ, Bool, true, false, nat_eq, nat_lt, List, [], IsSome, None, Option, Some, count_by, filter}
 use Rattle.std.specs.List.{AllByRecursion, list_any}
+use Rattle.cpe_name.specs.declared.name.Values.{Values}
 use Rattle.name_index.specs.declared.table.NameId.{NameId}
 use Rattle.name_index.specs.Table.{Names, kept_at}
 use Rattle.numbered_names.specs.Shown.{names_at}
 use Rattle.cpe_dictionary.specs.Plans.{ends_by}
 use Rattle.cpe_dictionary.specs.declared.plans.Plan.{Plan}
+use Rattle.asked_names.specs.Asked.{facts_in}
 use Rattle.kept_facts.specs.Kept.{AreLive, Boards}
 use Rattle.kept_facts.specs.Lists.{IsWide}
+use Rattle.cpe_rows.specs.Chains.{leads_to}
 use Rattle.cpe_rows.specs.Rows.{Rows}
 use Rattle.cpe_rows.specs.declared.entry.Entry.{Entry}
 use Rattle.cpe_rows.specs.declared.statement.Mode.TheVariants.{Follow}
@@ -24,6 +27,11 @@ is_led rest id = list_any (λ (x : Led). nat_eq x.fact.0 id) rest
 -- a statement in mode follow refers to the fact
 abbrev pub is_in_use : List Judged → NameId → Bool
 is_in_use rows id = nat_lt 0 (count_by (uses Follow id.0) rows)
+
+-- no item leads to the entry of a name, and no fact that is followed
+pub record IsUnled (rows : Rows) (n : Values) : Type 0 where
+  pub items : filter (λ x. leads_to rows.entries x n) rows.items ≡ []
+  pub facts : filter (λ x. leads_to rows.entries x n) (facts_in Follow rows.statements) ≡ []
 
 -- the ends, and none of a fact that isn't followed
 abbrev pub ends_or_none : Option (List NameId) → List NameId

@@ -1,5 +1,6 @@
 // A change of a deprecation, and what it moves.
 ghost use Rattle.std.specs.Prelude.{◌≡◌, ◌∷◌, ℕ, [], Bool, List, IfOk, OnOk, Some, filter, length, map, position};
+ghost use Rattle.std.specs.Bool.{OnTrue};
 ghost use Rattle.std.specs.List.{AllByRecursion, flat_map, list_any};
 ghost use Rattle.cpe_steps.specs.Within.{StepsWithin};
 ghost use Rattle.cpe_name.specs.declared.name.Values.{Values};
@@ -17,7 +18,7 @@ ghost use Rattle.numbered_names.specs.Shown.{names_at};
 ghost use Rattle.followed_facts.specs.Followed.{ends_at, facts_at, KeepsLinks};
 ghost use Rattle.kept_facts.specs.Kept.{AreLive, AreSound, FitBoards, SameBoards, ShowRows};
 ghost use Rattle.kept_verdicts.specs.Kept.{IsLead, IsNamed, SameStatements, Stands};
-ghost use Rattle.kept_verdicts.specs.Leading.{AreLeading, ends_or_none, HasLeadRoom, is_in_use, IsPlanned, StayFollowed};
+ghost use Rattle.kept_verdicts.specs.Leading.{AreLeading, ends_or_none, HasLeadRoom, is_in_use, IsPlanned, IsUnled, StayFollowed};
 ghost use Rattle.kept_verdicts.specs.Looks.{lead_looks};
 ghost use Rattle.kept_verdicts.specs.Telling.{Stays};
 ghost use Rattle.kept_verdicts.specs.declared.lead.Led.{Led};
@@ -75,7 +76,7 @@ impl KeptVerdicts {
         ensures lead { (rows : Rows) (left : List Entry) → IsLawful rows → Stands registry.now.table self.old rows → rows.entries ≡ registry.now.entries → rows.items ≡ registry.now.items → AreLeftBy rows.entries plan.now left
             → IfOk result (IsLead registry.now.table self.new rows left (name_in registry.now.table id)) }
     {
-        if registry.items().len() == 0 && self.board.len() == 0 {
+        if self.is_unled(registry, id, plan.number) {
             return self.foresee_nothing(alloc, registry.table());
         }
         plans_lead();
@@ -99,13 +100,30 @@ impl KeptVerdicts {
         })
     }
 
-    // What a change moves where there are neither items nor statements: nothing, however many entries lead to the one.
+    // Whether no item leads to an entry and no fact that is followed, as far as that is told without a search: there are none of them, or
+    // the entry is active. Then it is an end of all that leads there, and so on the board where one of those is an item or a fact.
+    fn is_unled(&self, registry: &Registry, id: NameId, number: u32) -> bool
+        requires live { IsLive registry.now.table id.0 }
+        requires number { position (is_named (name_in registry.now.table id)) registry.now.entries ≡ Some number }
+        ensures { (rows : Rows) → IsLawful rows → Stands registry.now.table self.now rows → rows.entries ≡ registry.now.entries → rows.items ≡ registry.now.items → OnTrue result (IsUnled rows (name_in registry.now.table id)) }
+    {
+        if registry.items().len() == 0 && self.board.len() == 0 {
+            return true;
+        }
+        match registry.dictionary().deprecation_at(number) {
+            Some(_) => false,
+            None => !self.facts.has(Mode::Follow, id),
+        }
+    }
+
+    // What a change moves where nothing leads to the entry: nothing, however many entries do.
     fn foresee_nothing(&mut self, alloc: Global, table: &NameTable) -> Result<Lead, Memory>
         requires stood { (rows : Rows) × IsLawful rows × Stands table.now self.old rows }
         ensures stands { (names : Names) (rows : Rows) → Stands names self.old rows → Stands names self.new rows }
         ensures same { SameStatements self.old self.new }
-        ensures lead { (rows : Rows) (left : List Entry) (n : Values) → rows.items ≡ [] → rows.statements ≡ [] → Stands table.now self.old rows → IfOk result (IsLead table.now self.new rows left n) }
+        ensures lead { (rows : Rows) (left : List Entry) (n : Values) → IsUnled rows n → Stands table.now self.old rows → IfOk result (IsLead table.now self.new rows left n) }
     {
+        table.lawful();
         reserve_lead(&mut self.facts, table, &[], &[])?;
         Ok(Lead {
             items_from: Vec::new(alloc),

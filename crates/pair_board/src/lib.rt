@@ -9,7 +9,7 @@ ghost use Rattle.std.specs.List.Sorted.{IsStrictlyIncreasing};
 ghost use Rattle.cpe_name.specs.Lower.{IsLower};
 ghost use Rattle.cpe_steps.specs.Within.{StepsWithin};
 ghost use Rattle.product_orders.specs.Elements.{SameElements};
-ghost use Rattle.std.specs.Prelude.{IfOk, filter, map, ◌≡◌, ℕ, ◌+◌, ◌-◌, ◌<◌, ◌≤◌, ◌↔◌, length, IsTrue, OnOk, count_by, Some, false};
+ghost use Rattle.std.specs.Prelude.{IfOk, filter, map, ◌≡◌, ℕ, ◌+◌, ◌-◌, ◌<◌, ◌≤◌, ◌||◌, ◌↔◌, length, nat_lt, IsTrue, OnOk, count_by, Some, false};
 ghost use Rattle.product_orders.specs.declared.products.Side.TheVariants as side;
 ghost use Rattle.name_index.specs.Table.{Names, Kept, find_kept, IsLive, kept_at};
 ghost use Rattle.name_index.specs.Index.{ids, is_covered, is_near};
@@ -87,6 +87,13 @@ impl PairBoard {
         ensures other { probe_times self.now probe.0 ≡ 0 → result ≡ false }
     {
         self.parts.holds(probe)
+    }
+
+    /// Whether a number is a probe or a target.
+    pub fn has(&self, id: NameId) -> bool
+        ensures { result ≡ (nat_lt 0 (probe_times self.now id.0) || nat_lt 0 (target_times self.now id.0)) }
+    {
+        self.parts.has(id)
     }
 
     /// The probes whose answer differs from the known one, each once.

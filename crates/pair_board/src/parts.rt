@@ -3,7 +3,7 @@ ghost use Rattle.std.specs.List.Sorted.{IsStrictlyIncreasing};
 ghost use Rattle.cpe_name.specs.Lower.{IsLower};
 ghost use Rattle.cpe_steps.specs.Within.{StepsWithin};
 ghost use Rattle.product_orders.specs.Elements.{SameElements};
-ghost use Rattle.std.specs.Prelude.{IfOk, filter, map, ◌≡◌, ℕ, ◌+◌, ◌<◌, ◌≤◌, cond, length, nat_eq, ◌-◌, Some, None, IsSome, count_by, vec_capacity, IsTrue, ◌↔◌, OnOk, false};
+ghost use Rattle.std.specs.Prelude.{IfOk, filter, map, ◌≡◌, ℕ, ◌+◌, ◌<◌, ◌≤◌, ◌||◌, cond, length, nat_eq, nat_lt, ◌-◌, Some, None, IsSome, count_by, vec_capacity, IsTrue, ◌↔◌, OnOk, false};
 ghost use Rattle.std.specs.HashMap.{spare};
 ghost use Rattle.product_orders.specs.declared.products.Side.TheVariants as side;
 ghost use Rattle.name_index.specs.Table.{Names, Kept, find_kept, IsLive, kept_at};
@@ -191,6 +191,13 @@ impl Parts {
             Some(row) => row.hits > 0,
             None => false,
         }
+    }
+
+    // Whether a number is a probe or a target.
+    pub(crate) fn has(&self, id: NameId) -> bool
+        ensures { result ≡ (nat_lt 0 (probe_times (board_of self.now) id.0) || nat_lt 0 (target_times (board_of self.now) id.0)) }
+    {
+        (probe_times_of(&self.probes.rows, id.0) > 0) | (times_of(&self.targets, id.0) > 0)
     }
 
     // The flipped probes.

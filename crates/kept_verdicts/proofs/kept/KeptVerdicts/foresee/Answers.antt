@@ -20,33 +20,33 @@ use Rattle.kept_verdicts.proofs.kept.KeptVerdicts.foresee.Goals as goal
 
 pub link_all-requires-clause-live : goal.link_all-requires-clause-live
 link_all-requires-clause-live c =
-    let used = is_in_use c.self-2.inside.board.rows in
+    let used = is_in_use c.self.inside.board.rows in
     let is = c.deref-6.ensures.value ∙ c.in_ok-used.ensures ∙ ap (filter used) c.deref-4.ensures.value in
     subst (AreLive c.args.registry.now.table) (sym is) (live_filtered c.args.registry.now.table used c.in_ok-sources.sources.items c.in_ok-sources.ensures.live)
 
 pub returns-in_err-facts-clause-stands : goal.returns-in_err-facts-clause-stands
 returns-in_err-facts-clause-stands c names rows stood =
-    let v : Verdicts = record { board = c.self-2.inside.board; facts = c.self-2.inside.facts; followed = c.self-2.inside.followed } in
-    let s = subst (λ (w : Verdicts). Stands names w rows) (sym c.self-2.view_is) stood in
+    let v : Verdicts = record { board = c.self.inside.board; facts = c.self.inside.facts; followed = c.self.inside.followed } in
+    let s = subst (λ (w : Verdicts). Stands names w rows) (sym c.self.view_is) stood in
     stands_still names v v.facts c.link_all.new.followed rows (boards_same v.facts) (λ h. h) s.sound c.link_all.ensures.stay s
 
 pub returns-in_err-facts_to-clause-stands : goal.returns-in_err-facts_to-clause-stands
 returns-in_err-facts_to-clause-stands c names rows stood =
-    let v : Verdicts = record { board = c.self-2.inside.board; facts = c.self-2.inside.facts; followed = c.self-2.inside.followed } in
-    let s = subst (λ (w : Verdicts). Stands names w rows) (sym c.self-2.view_is) stood in
+    let v : Verdicts = record { board = c.self.inside.board; facts = c.self.inside.facts; followed = c.self.inside.followed } in
+    let s = subst (λ (w : Verdicts). Stands names w rows) (sym c.self.view_is) stood in
     stands_still names v v.facts c.link_all.new.followed rows (boards_same v.facts) (λ h. h) s.sound c.link_all.ensures.stay s
 
 pub returns-in_err-reserve_lead-clause-stands : goal.returns-in_err-reserve_lead-clause-stands
 returns-in_err-reserve_lead-clause-stands c names rows stood =
-    let v : Verdicts = record { board = c.self-2.inside.board; facts = c.self-2.inside.facts; followed = c.self-2.inside.followed } in
-    let s = subst (λ (w : Verdicts). Stands names w rows) (sym c.self-2.view_is) stood in
+    let v : Verdicts = record { board = c.self.inside.board; facts = c.self.inside.facts; followed = c.self.inside.followed } in
+    let s = subst (λ (w : Verdicts). Stands names w rows) (sym c.self.view_is) stood in
     let reserved = c.reserve_lead.ensures in
     stands_still names v c.reserve_lead.new.facts c.link_all.new.followed rows reserved.same (reserved.fits names) reserved.sound c.link_all.ensures.stay s
 
 pub returns-clause-stands : goal.returns-clause-stands
 returns-clause-stands c names rows stood =
-    let v : Verdicts = record { board = c.self-2.inside.board; facts = c.self-2.inside.facts; followed = c.self-2.inside.followed } in
-    let s = subst (λ (w : Verdicts). Stands names w rows) (sym c.self-2.view_is) stood in
+    let v : Verdicts = record { board = c.self.inside.board; facts = c.self.inside.facts; followed = c.self.inside.followed } in
+    let s = subst (λ (w : Verdicts). Stands names w rows) (sym c.self.view_is) stood in
     let reserved = c.reserve_lead.ensures in
     stands_still names v c.reserve_lead.new.facts c.link_all.new.followed rows reserved.same (reserved.fits names) reserved.sound c.link_all.ensures.stay s
 
@@ -55,8 +55,8 @@ returns-clause-lead c rows left lawful stood entries items leaves =
     let table = c.args.registry.now.table in
     let registry = c.args.registry.now in
     let plan = c.args.plan.now in
-    let v : Verdicts = record { board = c.self-2.inside.board; facts = c.self-2.inside.facts; followed = c.self-2.inside.followed } in
-    let s = subst (λ (w : Verdicts). Stands table w rows) (sym c.self-2.view_is) stood in
+    let v : Verdicts = record { board = c.self.inside.board; facts = c.self.inside.facts; followed = c.self.inside.followed } in
+    let s = subst (λ (w : Verdicts). Stands table w rows) (sym c.self.view_is) stood in
     let sources = c.in_ok-sources.sources.items in
     let found = c.in_ok-items.items.items in
     let used = c.in_ok-used.used.items in
