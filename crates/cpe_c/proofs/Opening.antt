@@ -1,5 +1,5 @@
 -- Who speaks before the first line says what a run of the command says.
-use Rattle.std.proofs.Common.{◌≡◌, ℕ, Bool, true, false, List, Option, Some, None, refl, sym, ap, ◌∙◌, subst}
+use Rattle.std.proofs.Common.{◌≡◌, ℕ, Bool, true, false, List, [], Option, Some, None, refl, sym, ap, ◌∙◌, subst}
 use Rattle.std.specs.Prelude.{if◌then◌else◌, is_some}
 use Rattle.std.proofs.lemmas.Bool.{true≢false}
 use Rattle.cpe_io.specs.Lines.{lines}
@@ -15,6 +15,7 @@ use Rattle.cpe_command.specs.Names.{name_session}
 use Rattle.cpe_command.specs.Pairs.{pair_session}
 use Rattle.cpe_command.specs.Records.{record_session}
 use Rattle.cpe_advise.specs.Records.{advice_session}
+use Rattle.cpe_cover_lines.specs.Lines.{cover_session}
 use Rattle.cpe_rows.specs.Rows.{no_rows}
 use Rattle.cpe_ranges.specs.Rows.{no_rows as no_advice}
 use Rattle.cpe_c.specs.declared.speaking.Speaking.{Speaking}
@@ -48,6 +49,7 @@ module _ (progress : Progress) (number : progress.number ≡ 0) (refused : progr
   begins_says (Some command.Compare) who same = is_this who speaking.Compare same ∙ from_start pair_session tt
   begins_says (Some (command.Records c)) who same = is_this who (speaking.Records c no_rows) same ∙ from_start (record_session c) no_rows
   begins_says (Some command.Advise) who same = is_this who (speaking.Advise no_advice) same ∙ from_start advice_session no_advice
+  begins_says (Some command.Cover) who same = is_this who (speaking.Cover []) same ∙ from_start cover_session []
   begins_says (Some (command.Make count)) who same = absurd (true≢false (ap is_some same))
   begins_says (Some (command.Drill count)) who same = absurd (true≢false (ap is_some same))
   begins_says None who same = absurd (true≢false (ap is_some same))
@@ -57,6 +59,7 @@ begins_none (Some (command.Name name)) same = absurd (true≢false (sym (ap is_s
 begins_none (Some command.Compare) same = absurd (true≢false (sym (ap is_some same)))
 begins_none (Some (command.Records c)) same = absurd (true≢false (sym (ap is_some same)))
 begins_none (Some command.Advise) same = absurd (true≢false (sym (ap is_some same)))
+begins_none (Some command.Cover) same = absurd (true≢false (sym (ap is_some same)))
 begins_none (Some (command.Make count)) same = refl
 begins_none (Some (command.Drill count)) same = refl
 begins_none None same = refl

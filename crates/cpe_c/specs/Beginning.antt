@@ -25,6 +25,7 @@ begins (Some (command.Name name)) = Some (speaking.Name name)
 begins (Some command.Compare) = Some speaking.Compare
 begins (Some (command.Records record_command)) = Some (speaking.Records record_command no_rows)
 begins (Some command.Advise) = Some (speaking.Advise no_advice)
+begins (Some command.Cover) = Some (speaking.Cover [])
 begins (Some (command.Make count)) = None
 begins (Some (command.Drill count)) = None
 begins None = None

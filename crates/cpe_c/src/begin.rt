@@ -8,6 +8,7 @@ ghost use Rattle.cpe_c.specs.Beginning.{Opens, begins, words_of};
 use crate::speaking::Speaking;
 use crate::talk::{Phase, Talk};
 use cpe_command::{NameCommand, RecordCommand};
+use cpe_cover::Names;
 use cpe_engine::Engine;
 use cpe_ranges::Advisories;
 use cpe_session::Progress;
@@ -52,6 +53,8 @@ fn of_one_word(alloc: Global, word: &[u8]) -> Option<Speaking>
         Some(Speaking::Records(RecordCommand::Watch, Engine::new(alloc)))
     } else if are_equal(word, b"advise") {
         Some(Speaking::Advise(Advisories::new(alloc)))
+    } else if are_equal(word, b"cover") {
+        Some(Speaking::Cover(Names::new(alloc)))
     } else {
         None
     }

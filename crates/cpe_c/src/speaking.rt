@@ -6,6 +6,8 @@ ghost use Rattle.cpe_c.specs.Talks.{behind, goes_on};
 
 use cpe_advise::Advise;
 use cpe_command::{Compare, NameCommand, RecordCommand};
+use cpe_cover::Names;
+use cpe_cover_lines::Cover;
 use cpe_engine::Engine;
 use cpe_ranges::Advisories;
 use cpe_session::{Each, Progress, Status, answer_given, end_given};
@@ -24,6 +26,8 @@ pub enum Speaking {
     Records(RecordCommand, Engine),
     /// Each line is a record, which edits these items and advisories or asks about them.
     Advise(Advisories),
+    /// Each line is a name, and at the end those are written that no other covers.
+    Cover(Names),
 }
 
 /// Answers a line: the page has what a run would have written for it.
@@ -58,6 +62,7 @@ pub(crate) fn speak<L: Ledger>(
         Speaking::Advise(advisories) => {
             answer_given(alloc, &Advise, advisories, progress, piece, steps)
         }
+        Speaking::Cover(names) => answer_given(alloc, &Cover, names, progress, piece, steps),
     }
 }
 
@@ -78,5 +83,6 @@ pub(crate) fn fall_silent<L: Ledger>(
         Speaking::Compare => end_given(alloc, &Each(Compare), &(), progress, steps),
         Speaking::Records(command, engine) => end_given(alloc, command, engine, progress, steps),
         Speaking::Advise(advisories) => end_given(alloc, &Advise, advisories, progress, steps),
+        Speaking::Cover(names) => end_given(alloc, &Cover, names, progress, steps),
     }
 }

@@ -6,4 +6,6 @@ mod run;
 mod speaker;
 mod written;
 
+pub use reason::CoverReason;
 pub use run::cover;
+pub use speaker::Cover;

@@ -8,7 +8,7 @@ use std::alloc::{AllocError, Global};
 
 /// Why a line is refused.
 #[derive(Debug, Clone, Copy, PartialEq, Eq)]
-pub(crate) enum CoverReason {
+pub enum CoverReason {
     /// No name has this text, as its formatted string or as its URI, and this is its place.
     Name(usize),
     /// With its name there would be too much.

@@ -20,7 +20,7 @@ use std::sync::ledger::Ledger;
 /// Each line is a name, a formatted string or a URI, which is added to the names in lower case. At the end those are written that no
 /// other covers.
 #[derive(Clone, Copy, Debug, PartialEq, Eq)]
-pub(crate) struct Cover;
+pub struct Cover;
 
 impl Speaker for Cover {
     type State = Names;
