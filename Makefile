@@ -9,7 +9,7 @@ VERSION = 0.1.0
 take_program = mkdir -p build && { cmp -s crates/cpe/out/cpe build/cpe || \
 	{ cp crates/cpe/out/cpe build/cpe.new && mv -f build/cpe.new build/cpe; }; }
 
-.PHONY: help build library demo test limits install bench clean need_rt need_python3
+.PHONY: help build library demo test limits install install-library bench clean need_rt need_python3
 
 help:
 	@echo 'make build    proves the program, and builds it into build/cpe'
@@ -20,8 +20,8 @@ help:
 	@echo '              page, of the recipes, and of the library for C'
 	@echo 'make limits   builds it, fills it up to its limits, and refuses each allocation of short sessions: minutes, and 6 GB of'
 	@echo '              memory; not in the gate'
-	@echo 'make install  builds it and the library, and puts it into PREFIX/bin, its manual page into PREFIX/share/man, and the'
-	@echo '              library, cpe.h and cpe.pc into PREFIX/lib and PREFIX/include (PREFIX=$(PREFIX))'
+	@echo 'make install  builds it, and puts it into PREFIX/bin, and its manual page into PREFIX/share/man (PREFIX=$(PREFIX))'
+	@echo 'make install-library  builds the library, and puts it into PREFIX/lib, and cpe.h into PREFIX/include'
 	@echo 'make bench    builds it, and measures it against unproved Rust and OpenSCAP, and edits and the whole way by themselves'
 	@echo '              (needs python3)'
 	@echo 'make clean    removes all that was built'
@@ -68,11 +68,13 @@ limits: build
 	done; \
 	else echo 'SKIPPED: each allocation refused in turn, what rows take of memory, how what edits cost grows: there is no python3'; fi
 
-install: build library
+install: build
 	mkdir -p '$(DESTDIR)$(PREFIX)/bin'
 	install -m 755 build/cpe '$(DESTDIR)$(PREFIX)/bin/cpe'
 	mkdir -p '$(DESTDIR)$(PREFIX)/share/man/man1'
 	install -m 644 docs/cpe.1 '$(DESTDIR)$(PREFIX)/share/man/man1/cpe.1'
+
+install-library: library
 	mkdir -p '$(DESTDIR)$(PREFIX)/include' '$(DESTDIR)$(PREFIX)/lib/pkgconfig'
 	install -m 644 library/cpe.h '$(DESTDIR)$(PREFIX)/include/cpe.h'
 	install -m 644 build/libcpe.a '$(DESTDIR)$(PREFIX)/lib/libcpe.a'

@@ -3,13 +3,11 @@
 # what the program writes. The status is 0 where no check failed.
 . "$(dirname "$0")/checks.sh"
 
-# builds_library: builds the library and the programs that call it, or skips all.
+# builds_library: builds the library, over its proved part, and the programs that call it, or skips all.
 builds_library() {
     needs 'the library for C' cc ld ar objcopy rt || return
-    if ! [ -f crates/cpe_c/out/libcpe_c.a ] && ! (cd crates/cpe_c && rt lib) > "$room/lib.out" 2>&1; then
-        skip 'the library for C' 'its proved part is not built'
-        return 1
-    fi
+    # (rt lib would prove all crates once more where rt ci alone was run)
+    [ -f crates/cpe_c/out/libcpe_c.a ] || { skip 'the library for C' 'its proved part is not built: make library'; return 1; }
     sh library/build.sh > "$room/build.out" 2>&1 || { fail 'the library for C' "$(tail -n 1 "$room/build.out")"; return 1; }
     for it in calls lines; do
         cc -std=c99 -Wall -Wextra -Werror -Ilibrary "tests/library/$it.c" build/libcpe.a -o "$room/$it" 2> "$room/error" ||

@@ -49,9 +49,10 @@ OfBoth IsSo (Ok a) (Err at) (TargetRefused place) = place ≡ at
 OfBoth IsSo a b Memory = Unit {0}
 OfBoth IsSo a b told = ⊥
 
--- the numbers of their relations stand in the place of the old ones, or those are as they were
+-- the numbers of their relations stand in the place of the old ones; or those are as they were, and what is told says why
 abbrev pub IsRelated : Result Values ℕ → Result Values ℕ → RelationNumbers → RelationNumbers → Told → Type 0
-IsRelated source target old now told = OfBoth (λ a b number. (number ≡ 0) × (now ≡ numbered a b)) source target told
+IsRelated source target old now (Done number) = OfBoth (λ a b told. (told ≡ 0) × (now ≡ numbered a b)) source target (Done number)
+IsRelated source target old now told = OfBoth (λ a b number. ⊥) source target told × (now ≡ old)
 
 -- whether the first covers the second
 abbrev pub Covers : Result Values ℕ → Result Values ℕ → Told → Type 0
