@@ -54,10 +54,12 @@ def beside_patterns(count, patterns):
 
 
 def of_many_shapes(count):
-    """Names with all 256 ways to have eight attributes ANY or not."""
+    """For each product a name of each of 127 shapes, none of which covers another."""
     for number in range(count):
-        parts = [b"%d" % (number >> 8) if number >> bit & 1 else b"*" for bit in range(8)]
-        yield b"cpe:2.3:a:v:p%d:" % (number // 256 % 1000) + b":".join([*parts[:2], b"*", b"*", *parts[4:]])
+        product, shape = divmod(number, 127)
+        parts = [b"%d" % shape if shape + 1 >> bit & 1 else b"*" for bit in range(7)]
+        # (the language is ANY)
+        yield make_lines.PREFIX + b"a:v:p%d:" % product + b":".join([*parts[:3], b"*", *parts[3:]])
 
 
 def made(name, lines):
@@ -121,7 +123,7 @@ def main():
     usual = [("as lists are", count, made(f"listed-{count}", listed(count))) for count in (few, many)]
     slow = [
         ("of one product", many, made(f"product-{many}", of_one_product(many))),
-        ("of 192 shapes or so", few, made(f"shapes-{few}", of_many_shapes(few))),
+        ("of 127 shapes", few, made(f"shapes-{few}", of_many_shapes(few))),
         ("100 patterns for one product", few, made(f"patterns-{few}", beside_patterns(few, 100))),
     ]
     check_twin(programs, [*sorted((run.VECTORS / "cover").glob("*.in")), *(path for _, _, path in usual + slow)])
