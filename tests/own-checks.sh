@@ -900,13 +900,13 @@ fails_in_mid_write_as_made() {
 }
 
 # fails_in_mid_read_as_made WORD MAKER COUNT TORN: the front of a line that is torn off is no line, also where it is a whole
-# record, and no table is written.
+# record, and no table and no list is written.
 fails_in_mid_read_as_made() {
     what="a read that fails in mid-stream ends with status 3: $1, $2"
     needs "$what" awk python3 || return
     "$2" lines "$3" > "$room/many"
     printf '%s' "$4" >> "$room/many"
-    "$2" answers "$3" | sed '/^verdicts /,$d' > "$room/wanted"
+    "$2" answers "$3" | sed -e '/^verdicts /,$d' -e '/^cpe:/,$d' > "$room/wanted"
     limited python3 tests/failing_read.py "$room/many" "$program" "$1" > "$room/out" 2> "$room/error"
     status=$?
     if [ "$status" = 77 ]; then
@@ -1147,6 +1147,32 @@ checks_of_advise() {
     fails_on_closed_streams examples/advise.jsonl advise
 }
 
+# covered lines|answers COUNT: so many products of five versions each; some of them in any version, and some with a pattern that one
+# of the versions matches; names in other letter case, and refused lines between them.
+covered() {
+    awk -v answers="$([ "$1" = answers ] && echo 1)" -v count="$2" '
+        function line(text) { number++; if (!answers) print text }
+        function fs(n, version) { return "cpe:2.3:a:v:p" n ":" version ":*:*:*:*:*:*:*" }
+        function uri(n, version) { return "cpe:/a:v:p" n ":" version }
+        BEGIN {
+            for (n = 0; n < count; n++) {
+                for (k = 0; k < 5; k++) line(n % 2 ? toupper(uri(n, k ".0")) : fs(n, k ".0"))
+                if (n % 3 == 0) line("cpe:/a:V:p" n)
+                if (n % 10 == 1) line(fs(n, "1*"))
+                if (n % 7 == 2) {
+                    line(uri(n, "%zz"))
+                    if (answers) print "refused " number " name " 12 + length(n)
+                }
+            }
+            if (!answers) exit
+            for (n = 0; n < count; n++) {
+                if (n % 10 == 1) print fs(n, "1*") | "LC_ALL=C sort"
+                if (n % 3 == 0) print fs(n, "*") | "LC_ALL=C sort"
+                else for (k = 0; k < 5; k++) if (k != 1 || n % 10 != 1) print fs(n, k ".0") | "LC_ALL=C sort"
+            }
+        }' < /dev/null
+}
+
 checks_of_cover() {
     answers 'a list of names' examples/cover.txt examples/cover.out 1 cover
     answers 'an empty input: cover' /dev/null /dev/null 0 cover
@@ -1154,7 +1180,11 @@ checks_of_cover() {
     answers_in_pieces examples/cover.txt examples/cover.out cover
     answers_vectors cover cover
     answers_vectors_in_pieces cover cover
+    answers_made '3,000 products of five versions, and some in any' 65536 cover covered 3000
+    fails_for_want_of_memory cover covered 20000
     fails_on_a_full_device examples/cover.txt cover
+    fails_in_mid_write_as_made cover covered 3000
+    fails_in_mid_read_as_made cover covered 200 'cpe:/a:v:p'
     answers 'a read that fails ends with status 3: cover' . /dev/null 3 cover
     fails_on_closed_streams examples/cover.txt cover
 }
