@@ -21,7 +21,7 @@ CITED = re.compile(r"\bRattle\.(\w+)\.proofs\.(\w+)")
 def crates():
     """The crates, from the bottom up."""
     lines = (TOP / "crates.txt").read_text(encoding="utf-8").splitlines()
-    return [line.split(":")[0] for line in lines if ":" in line and not line.startswith("#")]
+    return [line.split(":")[0].split()[0] for line in lines if ":" in line and not line.startswith("#")]
 
 
 def citations(crate, ours):
