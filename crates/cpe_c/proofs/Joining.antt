@@ -1,5 +1,5 @@
 -- The answers to lines, one behind the other.
-use Rattle.std.proofs.Common.{◌≡◌, ℕ, false, List, [], ◌∷◌, ◌++◌, Option, refl, sym, ap, ◌∙◌, map, append_assoc}
+use Rattle.std.proofs.Common.{◌≡◌, ℕ, List, [], ◌∷◌, ◌++◌, Option, refl, sym, ap, ◌∙◌, map, append_assoc}
 use Rattle.cpe_io.specs.Lines.{line_of, lines}
 use Rattle.cpe_io.proofs.LineLemmas.{pieces-cut}
 use Rattle.cpe_session.specs.Task.{Task, Transcript, transcript}
