@@ -1,6 +1,5 @@
 pub mod Cover
 pub mod Laws
 pub mod Names
-pub mod Owned
 pub mod Shapes
 pub mod Marks

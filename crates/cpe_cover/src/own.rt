@@ -5,7 +5,7 @@ ghost use Rattle.cpe_name.specs.Equal.{same_name};
 ghost use Rattle.cpe_name.specs.Lower.{IsLower};
 ghost use Rattle.name_index.specs.Table.{kept_at};
 ghost use Rattle.names_in_order.specs.InOrder.{names_numbered};
-ghost use Rattle.cpe_cover.specs.Owned.{AreOwn, IsNew};
+ghost use Rattle.owned_names.specs.Owned.{AreOwn, IsNew};
 
 use cpe_name::Wfn;
 use cpe_values::Memory;
@@ -25,7 +25,7 @@ impl Model for OwnNames {
     ghost use Rattle.std.specs.Prelude.{List};
     ghost use Rattle.cpe_name.specs.declared.name.Values.{Values};
     ghost use Rattle.names_in_order.specs.InOrder.{names_numbered};
-    ghost use Rattle.cpe_cover.specs.Owned.{AreOwn};
+    ghost use Rattle.owned_names.specs.Owned.{AreOwn};
 
     ghost Value = { List Values };
 

@@ -3,4 +3,3 @@ pub mod WeightLemmas
 pub mod GroupLemmas
 pub mod PlaceLemmas
 pub mod LimitLemmas
-pub mod OwnLemmas

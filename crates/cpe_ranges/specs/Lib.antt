@@ -6,4 +6,3 @@ pub mod Answers
 pub mod Kept
 pub mod Groups
 pub mod Found
-pub mod Owned

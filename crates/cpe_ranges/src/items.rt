@@ -10,7 +10,7 @@ ghost use Rattle.cpe_steps.specs.Within.{StepsWithin};
 ghost use Rattle.name_index.specs.Table.{kept_at};
 ghost use Rattle.names_in_order.specs.InOrder.{names_numbered, same_id};
 ghost use Rattle.names_in_order.specs.Places.{near_count};
-ghost use Rattle.cpe_ranges.specs.Owned.{AreOwn, IsNew};
+ghost use Rattle.owned_names.specs.Owned.{AreOwn, IsNew};
 
 use cpe_inventory::{Items as View, item_laws};
 use cpe_name::Wfn;
@@ -35,7 +35,7 @@ impl Model for Items {
     ghost use Rattle.std.specs.Prelude.{List};
     ghost use Rattle.cpe_name.specs.declared.name.Values.{Values};
     ghost use Rattle.names_in_order.specs.InOrder.{names_numbered};
-    ghost use Rattle.cpe_ranges.specs.Owned.{AreOwn};
+    ghost use Rattle.owned_names.specs.Owned.{AreOwn};
 
     ghost Value = { List Values };
 

@@ -2,7 +2,7 @@ use Rattle.std.proofs.Common.{◌≡◌, ◌++◌, ◌∷◌, [], ◌∙◌}
 use Rattle.std.proofs.lemmas.Result.{on_err_weaker, on_ok_weaker}
 use Rattle.name_index.specs.Table.{kept_at}
 use Rattle.names_in_order.specs.InOrder.{names_numbered}
-use Rattle.cpe_cover.proofs.OwnLemmas.{held_new, name_free, new_name}
+use Rattle.owned_names.proofs.OwnLemmas.{held_new, name_free, new_name}
 use Rattle.cpe_cover.proofs.own.add_name.Goals as goal
 
 pub hold_moved-requires-clause-few : goal.hold_moved-requires-clause-few

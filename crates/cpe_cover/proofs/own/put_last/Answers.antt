@@ -1,8 +1,8 @@
 use Rattle.std.proofs.Common.{List, inr, sym, subst, ap, ◌∙◌}
 use Rattle.name_index.specs.declared.table.NameId.{NameId}
 use Rattle.names_in_order.specs.InOrder.{AreInOrder, names_numbered, Roll}
-use Rattle.cpe_cover.specs.Owned.{AreOwn}
-use Rattle.cpe_cover.proofs.OwnLemmas.{let_go_own, new_nowhere, pushed_own}
+use Rattle.owned_names.specs.Owned.{AreOwn}
+use Rattle.owned_names.proofs.OwnLemmas.{let_go_own, new_nowhere, pushed_own}
 use Rattle.cpe_cover.proofs.own.put_last.Goals as goal
 
 pub returns-in-Ok-clause-own : goal.returns-in-Ok-clause-own

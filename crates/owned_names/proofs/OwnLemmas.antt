@@ -1,4 +1,4 @@
--- Items in a table of their own: what an addition and a removal leave.
+-- Names in a table of their own: what an addition and a removal leave.
 use Rattle.std.proofs.Common.{◌≡◌, ◌≢◌, ℕ, Bool, true, false, cond, ◌||◌, ◌-◌, List, [], ◌∷◌, ◌++◌, Option, Some, None, slice_get, refl, sym, ap, subst, ◌∙◌, eq-eqb, eqb, eqb-true}
 use Rattle.std.specs.Prelude.{IsSome, nat_lt}
 use Rattle.std.specs.List.{list_any}
@@ -15,9 +15,9 @@ use Rattle.names_in_order.specs.Marked.{without_first as without_number}
 use Rattle.names_in_order.proofs.ChangeLemmas.{stands_at}
 use Rattle.names_in_order.proofs.OrderLemmas.{its_name, kept_live}
 use Rattle.names_in_order.proofs.StayLemmas.{not_there}
-use Rattle.cpe_ranges.specs.Owned.{AreOwn, IsNew}
+use Rattle.owned_names.specs.Owned.{AreOwn, IsNew}
 
--- a name that no item has has no number
+-- a name that isn't in the list has no number
 pub name_free : (table : Names) (held : List (ℕ × ℕ)) (numbers : List NameId) (name : Values) → AreOwn table held numbers → list_any (same_name name) (names_numbered table numbers) ≡ false → (id : ℕ) → HasName table id name → ⊥
 name_free table held numbers name own fresh id has =
     let at = stands_at numbers (name_id id) (own.among id has.0 has.1) in
@@ -62,7 +62,7 @@ pushed_own table held more numbers id new order = record {
     by other k e true is = or_right (list_any (same_id (name_id other)) numbers) (same_id (name_id other) id || false) (or_left (same_id (name_id other) id) false is)
     by other k e false ne = or_left (list_any (same_id (name_id other)) numbers) (same_id (name_id other) id || false) (new.among other k e (λ is. both_ways _ ne (eq-eqb other id.0 is)))
 
--- the number is none of the items
+-- the number is none of the list
 pub new_nowhere : (table : Names) (held : List (ℕ × ℕ)) (numbers : List NameId) (id : NameId) → IsNew table held numbers id → (k : ℕ) → slice_get numbers k ≢ Some id
 new_nowhere table held numbers id new = not_there table numbers id new.fresh
 
