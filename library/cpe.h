@@ -3,8 +3,8 @@
  * A text is bytes and their number; no byte ends it, and it may have any. A text of no bytes may be NULL. Where a call answers a
  * text, it writes it into `out`, which has room for `size` bytes, and puts no byte behind it; `number` then has its length. Where
  * `out` is too small the call writes nothing there and answers CPE_SHORT, and `number` has the length that is needed; so a call
- * with a size of 0 asks for the length. What stands in `out` behind the text, or where the call answers neither, is not promised.
- * `number` may be NULL. */
+ * with a size of 0 asks for the length. What stands in `out` behind the text, or after any other code, is not promised. `number` may
+ * be NULL; it is 0 where nothing below says what it is. */
 #ifndef CPE_H
 #define CPE_H
 
@@ -43,12 +43,13 @@ struct cpe_relations {
     unsigned char whole, part, vendor, product, version, update, edition, language, sw_edition, target_sw, target_hw, other;
 };
 
-/* Tells how two names relate, formatted strings or URIs, as `cpe compare` does. Where a text is refused, `relations` stay as they
+/* Tells how two names relate, formatted strings or URIs, as `cpe compare` does. After any code but CPE_DONE `relations` are as they
  * were. */
 int cpe_relate(const char *source, size_t source_length, const char *target, size_t target_length,
     struct cpe_relations *relations, size_t *number);
 
-/* Tells whether the first name covers the second: `covers` is then 1, and else 0. */
+/* Tells whether the first name covers the second (each attribute is SUPERSET or EQUAL): `covers` is 1 where it does, and 0 where it
+ * doesn't. After any code but CPE_DONE it is as it was. */
 int cpe_covers(const char *source, size_t source_length, const char *target, size_t target_length,
     int *covers, size_t *number);
 
@@ -57,8 +58,8 @@ int cpe_covers(const char *source, size_t source_length, const char *target, siz
  * a time, in the thread that opened it. */
 typedef struct cpe_session cpe_session;
 
-/* Opens a session of the command with this word, as "watch", or with two, as "bind" and "fs"; `second` is NULL where there is one
- * alone. Where it isn't opened, `session` has NULL. */
+/* Opens a session of the command with this word, as "watch", or with two, as "bind" and "fs"; `second` is NULL, or empty, where
+ * there is one alone. Words end at their first zero byte. Where no session is opened, `session` has NULL. */
 int cpe_session_open(const char *word, const char *second, cpe_session **session);
 
 /* Answers the next line, which is given without its newline. An answer that doesn't fit is kept: the line counts as given, and
@@ -67,10 +68,11 @@ int cpe_session_open(const char *word, const char *second, cpe_session **session
 int cpe_session_line(cpe_session *session, const char *line, size_t length, char *out, size_t size, size_t *number);
 
 /* Ends the session: answers what stands at the end, and `status` has the exit status of the program, 0, or 1 where a line was
- * refused. It takes no line after that. `status` may be NULL. */
+ * refused. An answer that doesn't fit is kept, as that of a line; `status` is told with it. After that, and after CPE_MEMORY, the
+ * session takes no line and no other end. `status` may be NULL; after any code but CPE_DONE and CPE_SHORT it is as it was. */
 int cpe_session_end(cpe_session *session, char *out, size_t size, size_t *number, int *status);
 
-/* Gives the last answer again. */
+/* Gives the last answer again, that of the end too; before the first line it is a text of no bytes. */
 int cpe_session_answer(cpe_session *session, char *out, size_t size, size_t *number);
 
 /* Lets the session go. NULL is let go too. */
