@@ -17,7 +17,7 @@ help:
 	@echo 'make demo     builds it, reads examples/names.txt with it, and goes the whole way from feeds to the advisories of two'
 	@echo '              machines (that needs python3)'
 	@echo 'make test     the gate: rt ci, what each crate took, then checks of the program as rt ci built it, of the manual'
-	@echo '              page, of the recipes, and of the library for C'
+	@echo '              page, of the recipes, and of the library for C where make library was run before'
 	@echo 'make limits   builds it, fills it up to its limits, and refuses each allocation of short sessions: minutes, and 6 GB of'
 	@echo '              memory; not in the gate'
 	@echo 'make install  builds it, and puts it into PREFIX/bin, and its manual page into PREFIX/share/man (PREFIX=$(PREFIX))'
