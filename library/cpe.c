@@ -100,8 +100,9 @@ int cpe_covers(const char *source, size_t source_length, const char *target, siz
 }
 
 int cpe_session_open(const char *word, const char *second, cpe_session **session) {
-    if (!word || !session) return CPE_MISUSE;
+    if (!session) return CPE_MISUSE;
     *session = NULL;
+    if (!word) return CPE_MISUSE;
     cpe_session *made = calloc(1, sizeof *made);
     if (!made) return CPE_MEMORY;
     struct answer answer = cpe_c_begin(text_at(word), strlen(word), text_at(second), second ? strlen(second) : 0, &made->kept);

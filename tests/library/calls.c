@@ -89,7 +89,8 @@ static void try_sessions(void) {
     IS(cpe_session_open("bind", NULL, &session) == CPE_NO_COMMAND && !session);
     IS(cpe_session_open("watch", "fs", &session) == CPE_NO_COMMAND && !session);
     IS(cpe_session_open("", NULL, &session) == CPE_NO_COMMAND && !session);
-    IS(cpe_session_open(NULL, NULL, &session) == CPE_MISUSE);
+    session = (cpe_session *)&wrong;
+    IS(cpe_session_open(NULL, NULL, &session) == CPE_MISUSE && !session);
     IS(cpe_session_open("unbind", NULL, NULL) == CPE_MISUSE);
     IS(cpe_session_open("unbind", NULL, &session) == CPE_DONE && session);
     IS(cpe_session_answer(session, room, sizeof room, &number) == CPE_DONE && number == 0);
