@@ -61,7 +61,8 @@ _library = _load()
 
 
 def _bytes(text: Text) -> bytes:
-    return text.encode() if isinstance(text, str) else bytes(text)
+    # (bytes of a number would be as many zeros)
+    return text.encode() if isinstance(text, str) else bytes(memoryview(text))
 
 
 def _judge(code: int, number: int) -> None:
@@ -82,8 +83,12 @@ def _judge(code: int, number: int) -> None:
 
 def _other_form(call, text: Text) -> str:
     given, number = _bytes(text), ctypes.c_size_t()
-    room = ctypes.create_string_buffer(3 * len(given) + 138)
-    _judge(call(given, len(given), room, len(room), ctypes.byref(number)), number.value)
+    room = ctypes.create_string_buffer(4096)
+    code = call(given, len(given), room, len(room), ctypes.byref(number))
+    if code == SHORT:
+        room = ctypes.create_string_buffer(number.value)
+        code = call(given, len(given), room, len(room), ctypes.byref(number))
+    _judge(code, number.value)
     return ctypes.string_at(room, number.value).decode()
 
 

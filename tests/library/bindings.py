@@ -29,6 +29,7 @@ def try_each():
     assert found["whole"] == found["version"] == "SUPERSET" and found["part"] == "EQUAL"
     assert cpe.relate(FS, ANY)["whole"] == "UNDEFINED"
     assert raises(cpe.Refused, cpe.covers, FS, "cpe:/x").target and not raises(cpe.Refused, cpe.relate, "x", FS).target
+    raises(TypeError, cpe.unbind, 3)
     raises(ValueError, cpe.Session, "make", "5")
     with cpe.Session("unbind") as session:
         assert session.line(FS) == wfn.encode() + b"\n"
