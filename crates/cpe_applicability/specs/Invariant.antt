@@ -57,7 +57,7 @@ pub record IsBoard (b : Parts) : Type 0 where
   pub alone : AllByRecursion (λ r. r.alone ≡ asks_one (check_keys r.held.value.statement.test)) b.rows.items
   pub each : AllByRecursion (TellsEach b) b.rows.items
 
--- nothing is kept of a number that no row uses, and of a check for which none asks
+-- a number that no row uses has neither a list nor a truth, and a check for which none asks has no list
 pub record IsLean (b : Parts) : Type 0 where
   pub plain : AreUsed b.plain.users.entries b.plain.truths.entries
   pub follow : AreUsed b.follow.users.entries b.follow.truths.entries

@@ -54,6 +54,16 @@ module _ (progress : Progress) (number : progress.number ≡ 0) (refused : progr
   begins_says (Some (command.Drill count)) who same = absurd (true≢false (ap is_some same))
   begins_says None who same = absurd (true≢false (ap is_some same))
 
+pub begins_reads : (it : Option Command) (who : Speaking) → Some who ≡ begins it → (meaning_of it).reads ≡ true
+begins_reads (Some (command.Name name)) who same = refl
+begins_reads (Some command.Compare) who same = refl
+begins_reads (Some (command.Records c)) who same = refl
+begins_reads (Some command.Advise) who same = refl
+begins_reads (Some command.Cover) who same = refl
+begins_reads (Some (command.Make count)) who same = absurd (true≢false (ap is_some same))
+begins_reads (Some (command.Drill count)) who same = absurd (true≢false (ap is_some same))
+begins_reads None who same = absurd (true≢false (ap is_some same))
+
 pub begins_none : (it : Option Command) → None ≡ begins it → (meaning_of it).reads ≡ false
 begins_none (Some (command.Name name)) same = absurd (true≢false (sym (ap is_some same)))
 begins_none (Some command.Compare) same = absurd (true≢false (sym (ap is_some same)))

@@ -1,5 +1,5 @@
 -- What C holds before a call and after it.
-use Rattle.std.specs.Prelude.{◌≡◌, ℕ, false, List, Some, None}
+use Rattle.std.specs.Prelude.{◌≡◌, ℕ, true, false, List, Some, None}
 use Rattle.std.specs.declared.option.Option.{Option}
 use Rattle.cpe_command.specs.Meaning.{meaning}
 use Rattle.cpe_c.specs.declared.talk.Talk.{Talk}
@@ -23,7 +23,7 @@ IsKept talk was now told = ⊥
 
 -- a session of these words is held now; or what was held is held, and memory ran out, or the words name no command that reads lines
 abbrev pub Begins : List ℕ → List ℕ → Option Talk → Option Talk → Told → Type 0
-Begins word second was (Some talk) (Done number) = (number ≡ 0) × Opens (words_of word second) talk
+Begins word second was (Some talk) (Done number) = (number ≡ 0) × ((meaning (words_of word second)).reads ≡ true) × Opens (words_of word second) talk
 Begins word second was None (Done number) = ⊥
 Begins word second was now Memory = now ≡ was
 Begins word second was now NoCommand = (now ≡ was) × ((meaning (words_of word second)).reads ≡ false)

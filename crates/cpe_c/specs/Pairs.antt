@@ -51,7 +51,7 @@ OfBoth IsSo a b told = ⊥
 
 -- the numbers of their relations stand in the place of the old ones; or those are as they were, and what is told says why
 abbrev pub IsRelated : Result Values ℕ → Result Values ℕ → RelationNumbers → RelationNumbers → Told → Type 0
-IsRelated source target old now (Done number) = OfBoth (λ a b told. (told ≡ 0) × (now ≡ numbered a b)) source target (Done number)
+IsRelated source target old now (Done number) = OfBoth (λ a b zero. (zero ≡ 0) × (now ≡ numbered a b)) source target (Done number)
 IsRelated source target old now told = OfBoth (λ a b number. ⊥) source target told × (now ≡ old)
 
 -- whether the first covers the second

@@ -1,5 +1,5 @@
 // The beginning of a session.
-ghost use Rattle.std.specs.Prelude.{◌≡◌, ◌∷◌, [], false, MatchOption};
+ghost use Rattle.std.specs.Prelude.{◌≡◌, ◌∷◌, [], true, false, MatchOption};
 ghost use Rattle.std.specs.Str.{bytes_eq};
 ghost use Rattle.cpe_command.specs.Command.{are, command_of};
 ghost use Rattle.cpe_command.specs.Meaning.{meaning};
@@ -16,7 +16,8 @@ use std::alloc::Global;
 
 /// A session of the command that the words name, before its first line; or none, where they name no command that reads lines.
 pub(crate) fn begin(alloc: Global, word: &[u8], second: &[u8]) -> Option<Talk>
-    ensures { MatchOption result ((meaning (words_of word.now second.now)).reads ≡ false) (Opens (words_of word.now second.now)) }
+    ensures { MatchOption result ((meaning (words_of word.now second.now)).reads ≡ false)
+        (λ talk. ((meaning (words_of word.now second.now)).reads ≡ true) × Opens (words_of word.now second.now) talk) }
 {
     match speaking_of(alloc, word, second) {
         Some(speaking) => Some(Talk {

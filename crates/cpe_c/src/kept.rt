@@ -10,6 +10,7 @@ use std::alloc::Global;
 use std::marker::Model;
 use std::ptr::null_mut;
 
+/// What C keeps of a session: the pointer to it, or none.
 #[repr(C)]
 #[derive(Drop)]
 pub struct Kept {

@@ -15,9 +15,10 @@ use std::mem::replace;
 use std::sync::ledger::{Blank, Ledger};
 
 /// Begins a session of the command that a word names, or two; the second is empty where there is one alone. It answers lines as
-/// a run of this command does. Where it doesn't begin, `kept` stays as it was.
+/// a run of this command does. Where it doesn't begin, `kept` stays as it was; before, it keeps none, which would not be let go.
 #[unsafe(no_mangle)]
 pub extern "C" fn cpe_c_begin(alloc: Global, word: &[u8], second: &[u8], kept: &mut Kept) -> Answer
+    requires { kept.old.value ≡ None }
     ensures { Tells (Begins word.now second.now kept.old.value kept.new.value) result }
 {
     keep_begun(alloc, word, second, kept).in_c()
@@ -45,7 +46,8 @@ fn keep(alloc: Global, talk: Talk, kept: &mut Kept) -> Told
 }
 
 /// Answers a line: `out` has the bytes that a run would have written for it. Where they are more than `out` has room for, none
-/// is written there, and their number is told; [`cpe_c_again`] gives them.
+/// is written there, and their number is told; [`cpe_c_again`] gives them. A text with a newline is no line, and a session that ended, or in
+/// which memory ran out, takes none: both are told, and change nothing.
 #[unsafe(no_mangle)]
 pub extern "C" fn cpe_c_line(alloc: Global, kept: &mut Kept, piece: &[u8], out: &mut [u8]) -> Answer
     requires { IsSome kept.old.value }
@@ -75,7 +77,7 @@ fn say_counted<L: Ledger>(
 }
 
 /// Ends a session: `out` has the bytes that a run would have written at the end of these lines, as [`cpe_c_line`] gives them, and
-/// `status` is its exit status.
+/// `status` is its exit status. A session that ended before, or in which memory ran out, is over, and nothing changes.
 #[unsafe(no_mangle)]
 pub extern "C" fn cpe_c_end(
     alloc: Global,

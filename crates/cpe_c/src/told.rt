@@ -27,7 +27,9 @@ pub enum Told {
 #[repr(C)]
 #[derive(Clone, Copy, Debug, PartialEq, Eq)]
 pub struct Answer {
+    /// Which case it is.
     pub code: u32,
+    /// The number in it, or 0.
     pub number: usize,
 }
 

@@ -1,32 +1,31 @@
 // Sessions whose lines are given one by one, and whose answers are taken one by one.
-ghost use Rattle.std.specs.Prelude.{◌≡◌, Some, IfOk, IfErr, OnOk, length};
+ghost use Rattle.std.specs.Prelude.{◌≡◌, Some, IfOk, IfErr, OnOk, OnErr, length};
 ghost use Rattle.std.specs.Io.KnownBytes.{WriteAppends};
 ghost use Rattle.cpe_io.specs.Causes.{HasSinkCause};
 ghost use Rattle.cpe_io.specs.Lines.{line_of, strip_carriage_return};
 ghost use Rattle.cpe_io.specs.Writes.{TakesSome};
-ghost use Rattle.cpe_session.specs.Session.{after_next, next_writes};
+ghost use Rattle.cpe_steps.specs.Within.{StepsWithin};
+ghost use Rattle.cpe_session.specs.Session.{after_next, next_cost, next_says, next_writes};
 ghost use Rattle.cpe_session.specs.Statuses.{status_of};
-ghost use Rattle.cpe_session.specs.Pages.{stage_of};
+ghost use Rattle.cpe_session.specs.Pages.{IsBeforeOrAfter, stage_of};
 
 use crate::page::Page;
 use crate::progress::Progress;
 use crate::session::{answer_line, finish};
 use crate::speaker::Speaker;
 use crate::status::Status;
-use cpe_io::{Found, Sink, SinkFault};
+use cpe_io::{Found, LONGEST, Sink, SinkFault};
 use cpe_steps::Steps;
 use std::alloc::{AllocError, Global};
 use std::mem::replace;
 use std::sync::ledger::Ledger;
 
-/// The most bytes of a line, a carriage return at its end among them.
-const MOST_OF_LINE: usize = 65536;
-
 /// Answers the next line of a session, which is given without the newline behind it: the page has what the line writes, and
 /// nothing else.
 ///
 /// # Errors
-/// Want of memory. The state and the page may be lost then, and no further line can be answered.
+/// Want of memory. The line has changed the state as a whole then, or not at all; the page may be lost, and no further line can be
+/// answered.
 pub fn answer_given<T: Speaker, L: Ledger>(
     alloc: Global,
     speaker: &T,
@@ -37,12 +36,14 @@ pub fn answer_given<T: Speaker, L: Ledger>(
 ) -> Result<(), AllocError>
     ensures text { OnOk result (progress.new.page ≡ next_writes (T.session speaker.now) (stage_of progress.old state.old) (line_of piece.now)) }
     ensures stage { OnOk result (stage_of progress.new state.new ≡ after_next (T.session speaker.now) (stage_of progress.old state.old) (line_of piece.now)) }
+    ensures err { OnErr result (IsBeforeOrAfter (next_says (T.session speaker.now) (stage_of progress.old state.old) (line_of piece.now)) state.old state.new) }
+    ensures counts { StepsWithin steps.old steps.new (next_cost (T.session speaker.now) (stage_of progress.old state.old) (line_of piece.now)) }
 {
     progress.page.clear();
     if progress.number == u64::MAX {
         return Err(AllocError);
     }
-    let found = if piece.len() <= MOST_OF_LINE {
+    let found = if piece.len() <= LONGEST {
         Found::Text
     } else {
         Found::TooLong
@@ -80,7 +81,8 @@ pub fn end_given<T: Speaker, L: Ledger>(
     progress: &mut Progress,
     steps: &mut Steps<L>,
 ) -> Result<Status, AllocError>
-    ensures { IfOk result (λ status. (progress.new.page ≡ (T.session speaker.now).ends state.now) × (status ≡ status_of progress.old.refused)) }
+    ensures ended { IfOk result (λ status. (progress.new.page ≡ (T.session speaker.now).ends state.now) × (status ≡ status_of progress.old.refused)) }
+    ensures counts { StepsWithin steps.old steps.new ((T.session speaker.now).end_cost state.now) }
 {
     progress.page.clear();
     let mut end = Page::new(alloc);

@@ -100,8 +100,8 @@ impl KeptVerdicts {
         })
     }
 
-    // Whether no item leads to an entry and no fact that is followed, as far as that is told without a search: there are none of them, or
-    // the entry is active. Then it is an end of all that leads there, and so on the board where one of those is an item or a fact.
+    // Whether no item and no followed fact leads to an entry, as far as that is told without a search: there are none at all, or the entry is
+    // active and isn't on the board. An active entry is an end of all that leads to it, so the board has it where one of these is such.
     fn is_unled(&self, registry: &Registry, id: NameId, number: u32) -> bool
         requires live { IsLive registry.now.table id.0 }
         requires number { position (is_named (name_in registry.now.table id)) registry.now.entries ≡ Some number }
@@ -116,7 +116,7 @@ impl KeptVerdicts {
         }
     }
 
-    // What a change moves where nothing leads to the entry: nothing, however many entries do.
+    // What a change moves where no item and no followed fact leads to the entry: nothing, however many entries lead there.
     fn foresee_nothing(&mut self, alloc: Global, table: &NameTable) -> Result<Lead, Memory>
         requires stood { (rows : Rows) × IsLawful rows × Stands table.now self.old rows }
         ensures stands { (names : Names) (rows : Rows) → Stands names self.old rows → Stands names self.new rows }
