@@ -1,7 +1,7 @@
 -- What holds of covers.
 use Rattle.std.proofs.Common.{◌≡◌, ℕ, zero, suc, ◌<◌, ◌≤◌, Bool, true, false, cond, not, ◌||◌, ◌&&◌, List, [], ◌∷◌, map, refl, sym, ap, subst, ◌∙◌, inl, inr, arith}
 use Rattle.std.specs.Prelude.{IsTrue}
-use Rattle.std.specs.List.{list_any, sum_by, AllByRecursion}
+use Rattle.std.specs.List.{list_all, list_any, sum_by, AllByRecursion}
 use Rattle.std.proofs.lemmas.Bool.{and_from, and_parts, both_ways, cases_Bool, false_from_ne_true, not-true, or_cases, or_left, or_right}
 use Rattle.std.proofs.lemmas.List.Sums.{sum_by-cons}
 use Rattle.cpe_values.specs.declared.value.Value.{Value}
@@ -15,11 +15,11 @@ use Rattle.cpe_name.specs.Lower.{lower_name, IsLower}
 use Rattle.cpe_name.specs.Names.{IsName, attributes, value_of, named}
 use Rattle.cpe_name.proofs.LowerNames.{lower_at, lower_lawful}
 use Rattle.cpe_relation.specs.Matching.{lower}
-use Rattle.cpe_relation.specs.NameRelation.{covers}
+use Rattle.cpe_relation.specs.NameRelation.{covers, is_above, relations}
 use Rattle.cpe_fs.specs.Grammar.{fs_text, Fs}
 use Rattle.cpe_cover.specs.Cover.{cover, covers_other, is_covered, ordered, uncovered}
-use Rattle.cpe_cover.specs.Laws.{AreNames, CoversAreOne, CoversStay, CoversAreOfNames, NamesAreCovered, is_among}
-use Rattle.cpe_cover.proofs.Among.{all_among, among_filter, among_finds, among_image, filter_keeps, found_among, itself, map_keeps, same_any, same_is}
+use Rattle.cpe_cover.specs.Laws.{AreNames, CoversAreOne, CoversStay, CoversAreOfNames, NamesAreCovered, CoversMeanTheSame, is_among}
+use Rattle.cpe_cover.proofs.Among.{agree, all_among, among_filter, among_finds, among_image, filter_keeps, found_among, itself, map_keeps, same_any, same_is}
 use Rattle.cpe_cover.proofs.Order.{Rises, among_ordered, rises_ordered, rises_sorted, same_rising, sorted_rises}
 use Rattle.std.proofs.lemmas.Str.Ascii.{lowercase-lowercase}
 
@@ -163,6 +163,32 @@ module _ (through : (a b c : Values) → IsTrue (covers a b) → IsTrue (covers 
             | inl in_it ↦ among_finds (λ m. covers m x) (cover ns) k in_it up
             | inr under ↦ let c = found_among (λ m. covers m k) (cover ns) under in among_finds (λ m. covers m x) (cover ns) c.0 c.1 (through c.0 k x c.2 up)
           ]
+
+  -- ---- and the cover covers the same
+
+  module _ (caseless : (a b : Values) → relations (lower_name a) (lower_name b) ≡ relations a b) where
+    lower_covers : (m n : Values) → covers (lower_name m) n ≡ covers m n
+    unfolding covers
+    lower_covers m n =
+        ap (list_all is_above) (sym (caseless (lower_name m) n) ∙ ap (λ (k : Values). relations k (lower_name n)) (lower_name_again m) ∙ caseless m n)
+
+    lowered_cover : (ns : List Values) (n : Values) → list_any (λ m. covers m n) (lowered ns) ≡ list_any (λ m. covers m n) ns
+    lowered_cover [] n = refl
+    lowered_cover (m ∷ ms) n = let here = lower_covers m n in let rest = lowered_cover ms n in λ i. here i || rest i
+
+    pub covers_mean_the_same : CoversMeanTheSame
+    covers_mean_the_same ns n = agree (list_any (λ m. covers m n) (cover ns)) (list_any (λ m. covers m n) (lowered ns)) lowers rises ∙ lowered_cover ns n
+      where
+        lowers : list_any (λ m. covers m n) (cover ns) ≡ true → list_any (λ m. covers m n) (lowered ns) ≡ true
+        lowers h = let m = found_among (λ m. covers m n) (cover ns) h in among_finds (λ m. covers m n) (lowered ns) m.0 (cover_parts ns m.0 m.1).1 m.2
+
+        rises : list_any (λ m. covers m n) (lowered ns) ≡ true → list_any (λ m. covers m n) (cover ns) ≡ true
+        rises h =
+            let m = found_among (λ m. covers m n) (lowered ns) h in
+            elim (or_cases (is_among (cover ns) m.0) (list_any (λ k. covers k m.0) (cover ns)) (names_are_covered ns m.0 m.1)) [
+              | inl in_it ↦ among_finds (λ m. covers m n) (cover ns) m.0 in_it m.2
+              | inr under ↦ let k = found_among (λ k. covers k m.0) (cover ns) under in among_finds (λ m. covers m n) (cover ns) k.0 k.1 (through k.0 m.0 n k.2 m.2)
+            ]
 
 -- ---- names in lower case
 

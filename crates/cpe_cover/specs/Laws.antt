@@ -40,3 +40,7 @@ CoversAreOfNames = (a b : List Values) → AreNames a → AreNames b → AreSame
 -- each name is in the cover, or a name of it covers it
 abbrev pub NamesAreCovered : Type 0
 NamesAreCovered = (names : List Values) (n : Values) → is_among (map lower_name names) n ≡ true → (is_among (cover names) n || list_any (λ m. covers m n) (cover names)) ≡ true
+
+-- some name of the cover covers a name exactly where some of the names does
+abbrev pub CoversMeanTheSame : Type 0
+CoversMeanTheSame = (names : List Values) (n : Values) → list_any (λ m. covers m n) (cover names) ≡ list_any (λ m. covers m n) names

@@ -11,6 +11,6 @@ mod rows;
 mod shapes;
 
 pub use fault::{NamesFault, NamesWhich};
-pub use laws::least_lists;
+pub use laws::cover_list_laws;
 pub use limits::MOST_NAMES;
 pub use names::Names;

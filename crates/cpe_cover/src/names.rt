@@ -153,6 +153,7 @@ impl Names {
             Err(_) => Err(NamesFault::Memory),
         }
     }
+
     /// The names that no other of them covers, by the bytes of their formatted strings: their cover. A step is a look at a name: each name
     /// looks at most once at those to whose products its own is near, and one without specials at none.
     ///

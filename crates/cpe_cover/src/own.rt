@@ -34,7 +34,7 @@ impl Model for OwnNames {
     ghost invariant = { λ n. AreOwn n.table n.names.held n.names.numbers };
 }
 
-// Puts a held number last, or lets its name go where memory is wanting.
+// Puts a held number last, or lets its name go where memory ran out.
 fn put_last(table: &mut NameTable, names: &mut GrowingNames, id: NameId) -> Result<(), Memory>
     requires own { IsNew table.old names.old.held names.old.numbers id }
     ensures own { AreOwn table.new names.new.held names.new.numbers }

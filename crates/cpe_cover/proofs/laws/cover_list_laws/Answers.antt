@@ -1,5 +1,5 @@
-use Rattle.cpe_cover.proofs.CoverLemmas.{covers_are_of_names, covers_are_one, covers_stay, names_are_covered}
-use Rattle.cpe_cover.proofs.laws.least_lists.Goals as goal
+use Rattle.cpe_cover.proofs.CoverLemmas.{covers_are_of_names, covers_are_one, covers_mean_the_same, covers_stay, names_are_covered}
+use Rattle.cpe_cover.proofs.laws.cover_list_laws.Goals as goal
 
 pub returns-clause-one : goal.returns-clause-one
 returns-clause-one c = covers_are_one c.one_text.ensures.name
@@ -12,3 +12,6 @@ returns-clause-names c = covers_are_of_names c.one_text.ensures.name
 
 pub returns-clause-covered : goal.returns-clause-covered
 returns-clause-covered c = names_are_covered c.cover_laws.ensures.transitive c.cover_laws.ensures.«mutual»
+
+pub returns-clause-same : goal.returns-clause-same
+returns-clause-same c = covers_mean_the_same c.cover_laws.ensures.transitive c.cover_laws.ensures.«mutual» c.relation_laws.ensures.lower
