@@ -1,6 +1,6 @@
 #!/bin/sh
-# Checks of the library for C, as C programs call it: sh tests/library-checks.sh [PROGRAM]. What sessions answer is compared with
-# what the program writes. The status is 0 where no check failed.
+# Checks of the library for C, as programs in C, Python and Go call it: sh tests/library-checks.sh [PROGRAM]. What sessions answer is
+# compared with what the program writes. The status is 0 where no check failed.
 . "$(dirname "$0")/checks.sh"
 
 # builds_library: builds the library, over its proved part, and the programs that call it, or skips all.
@@ -96,6 +96,44 @@ speaks_in_python() {
     speaks_python '20,000 records under evaluate' "$room/records.txt" evaluate
 }
 
+# in_go COMMAND..: runs a command of Go that finds the static library, looks for nothing in the network, and writes below room alone.
+# It builds Go's own packages anew, which may take long.
+in_go() {
+    most=600
+    limited env HOME="$room" TMPDIR="$room" GOENV=off GOCACHE="$room/go-cache" GOPATH="$room/go-path" GOPROXY=off GOTOOLCHAIN=local \
+        GOFLAGS='-mod=mod -buildvcs=false' CGO_ENABLED=1 CC="${CC:-cc}" CGO_CFLAGS="-I$here/library" CGO_LDFLAGS="-L$room/static" \
+        CPE="$program" "$@"
+}
+
+# The example of its README, as a module by itself.
+speaks_readme_of_go() {
+    mkdir -p "$room/readme"
+    sed -n '/^```go$/,/^```$/p' bindings/go/README.md | sed '/^```/d' > "$room/readme/main.go"
+    printf 'module readme\n\ngo 1.19\n\nrequire cpe v0.0.0\n\nreplace cpe => %s/bindings/go\n' "$here" > "$room/readme/go.mod"
+    {
+        printf '%s <nil>\n' "$(echo cpe:/a:vendor:thing:1.0 | limited "$program" unbind)" 'true'
+        limited "$program" watch < examples/watch.jsonl
+        echo ' 1 <nil>'
+    } > "$room/wanted"
+    (cd "$room/readme" && in_go go build -o try . && limited ./try < "$here/examples/watch.jsonl") > "$room/out" 2> "$room/error"
+    judge 'the example in Go of its README' $? 0 "$room/wanted"
+}
+
+speaks_in_go() {
+    needs 'the library in Go' go || return
+    here=$PWD
+    mkdir -p "$room/static"
+    cp build/libcpe.a "$room/static"
+    for word in vet test; do
+        (cd bindings/go && in_go go "$word" ./...) > "$room/go.out" 2> "$room/error"
+        status=$?
+        grep -v '^ok ' "$room/go.out" > "$room/out"
+        judge "the library in Go: go $word" "$status" 0 /dev/null
+        [ "$status" = 0 ] || head -n 6 "$room/out"
+    done
+    speaks_readme_of_go
+}
+
 if builds_library; then
     calls_each
     speaks_examples
@@ -103,6 +141,7 @@ if builds_library; then
     speaks_million
     speaks_watch
     speaks_in_python
+    speaks_in_go
 fi
 
 end_of_checks 'library checks'

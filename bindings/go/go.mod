@@ -1,0 +1,3 @@
+module cpe
+
+go 1.19
