@@ -2,14 +2,19 @@
 PREFIX = /usr/local
 DESTDIR =
 
-# The version of the library for C, as pkg-config tells it.
+# The version of all, as pkg-config and the package tell it.
 VERSION = 0.1.0
+# Who answers for a package that is given to others, and where it is put.
+MAINTAINER = the maintainers of cpe <root@localhost>
+PACKAGES = build
+# Where zsh looks for completions that no package has.
+ZSH_COMPLETIONS = $(PREFIX)/share/zsh/site-functions
 
 # Puts the program that rt left in its crate into build/, where it differs from the one there.
 take_program = mkdir -p build && { cmp -s crates/cpe/out/cpe build/cpe || \
 	{ cp crates/cpe/out/cpe build/cpe.new && mv -f build/cpe.new build/cpe; }; }
 
-.PHONY: help build library demo test limits install install-library bench clean need_rt need_python3
+.PHONY: help build library demo test limits install install-library deb bench clean need_rt need_python3
 
 help:
 	@echo 'make build    proves the program, and builds it into build/cpe'
@@ -17,11 +22,15 @@ help:
 	@echo 'make demo     builds it, reads examples/names.txt with it, and goes the whole way from feeds to the advisories of two'
 	@echo '              machines (that needs python3)'
 	@echo 'make test     the gate: rt ci, what each crate took, then checks of the program as rt ci built it, of the manual'
-	@echo '              page, of the recipes, and of the library for C where make library was run before'
+	@echo '              page, of the recipes, of the library for C where make library was run before, and of the package and the'
+	@echo '              completions'
 	@echo 'make limits   builds it, fills it up to its limits, and refuses each allocation of short sessions: minutes, and 6 GB of'
 	@echo '              memory; not in the gate'
-	@echo 'make install  builds it, and puts it into PREFIX/bin, and its manual page into PREFIX/share/man (PREFIX=$(PREFIX))'
+	@echo 'make install  builds it, and puts it into PREFIX/bin, and its manual page, its completions for bash and zsh and the recipes'
+	@echo '              into PREFIX/share (PREFIX=$(PREFIX))'
 	@echo 'make install-library  builds the library, and puts it into PREFIX/lib, and cpe.h into PREFIX/include'
+	@echo 'make deb      builds it, and puts a package for Debian into PACKAGES, of what make install puts, and of the library where'
+	@echo '              it is built (PACKAGES=$(PACKAGES))'
 	@echo 'make bench    builds it, and measures it against unproved Rust and OpenSCAP, and edits and the whole way by themselves'
 	@echo '              (needs python3)'
 	@echo 'make clean    removes all that was built'
@@ -58,6 +67,7 @@ test: need_rt
 	sh tests/recipe-checks.sh build/cpe
 	sh tests/scan-checks.sh build/cpe
 	sh tests/library-checks.sh build/cpe
+	sh tests/package-checks.sh build/cpe
 
 limits: build
 	sh tests/limits.sh build/cpe
@@ -73,6 +83,10 @@ install: build
 	install -m 755 build/cpe '$(DESTDIR)$(PREFIX)/bin/cpe'
 	mkdir -p '$(DESTDIR)$(PREFIX)/share/man/man1'
 	install -m 644 docs/cpe.1 '$(DESTDIR)$(PREFIX)/share/man/man1/cpe.1'
+	mkdir -p '$(DESTDIR)$(PREFIX)/share/bash-completion/completions' '$(DESTDIR)$(ZSH_COMPLETIONS)'
+	install -m 644 completions/cpe.bash '$(DESTDIR)$(PREFIX)/share/bash-completion/completions/cpe'
+	install -m 644 completions/_cpe '$(DESTDIR)$(ZSH_COMPLETIONS)/_cpe'
+	find recipes -name __pycache__ -prune -o -type f -exec install -D -m 644 {} '$(DESTDIR)$(PREFIX)/share/cpe/{}' \;
 
 install-library: library
 	mkdir -p '$(DESTDIR)$(PREFIX)/include' '$(DESTDIR)$(PREFIX)/lib/pkgconfig'
@@ -81,6 +95,9 @@ install-library: library
 	install -m 755 build/libcpe.so '$(DESTDIR)$(PREFIX)/lib/libcpe.so.0'
 	ln -sf libcpe.so.0 '$(DESTDIR)$(PREFIX)/lib/libcpe.so'
 	sed -e 's|@PREFIX@|$(PREFIX)|' -e 's|@VERSION@|$(VERSION)|' library/cpe.pc.in > '$(DESTDIR)$(PREFIX)/lib/pkgconfig/cpe.pc'
+
+deb: build
+	sh package/deb.sh '$(VERSION)' '$(MAINTAINER)' '$(PACKAGES)'
 
 bench: need_python3 build
 	python3 bench/run.py build/cpe
