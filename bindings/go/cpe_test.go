@@ -86,8 +86,11 @@ func TestPairs(t *testing.T) {
 	// (no two neighbours have the same)
 	found, err = Relate("cpe:2.3:a:*:p:1:-:e:*:s:*:w:-", "cpe:2.3:o:v:q:1?:u:*:en:s:t:-:-")
 	is(t, err, nil)
-	if said := fmt.Sprint(found); said !=
-		"{DISJOINT DISJOINT SUPERSET DISJOINT UNDEFINED DISJOINT SUBSET SUPERSET EQUAL SUPERSET DISJOINT EQUAL}" {
+	if wanted := (Relations{Whole: Disjoint, Part: Disjoint, Vendor: Superset, Product: Disjoint, Version: Undefined, Update: Disjoint,
+		Edition: Subset, Language: Superset, SwEdition: Equal, TargetSw: Superset, TargetHw: Disjoint, Other: Equal}); found != wanted {
+		t.Errorf("%v in place of %v", found, wanted)
+	}
+	if said := fmt.Sprint(Disjoint, Equal, Subset, Superset, Undefined); said != "DISJOINT EQUAL SUBSET SUPERSET UNDEFINED" {
 		t.Error(said)
 	}
 	for pair, wanted := range map[[2]string]bool{{some, fs}: true, {fs, some}: false, {fs, uri}: true} {
@@ -177,6 +180,27 @@ func TestManyGoroutines(t *testing.T) {
 	}
 	for at := 0; at < 8; at++ {
 		<-done
+	}
+}
+
+// A thread ends with a goroutine that still has it. So threads come again where sessions were closed, or not opened.
+func TestThreadsAreGivenBack(t *testing.T) {
+	threads := map[interface{}]bool{}
+	for round := 0; round < 200; round++ {
+		done := make(chan interface{})
+		go func() {
+			_, err := Open("nothing")
+			is(t, err, ErrNoCommand)
+			session, err := Open("unbind")
+			is(t, err, nil)
+			thread := session.thread
+			is(t, session.Close(), nil)
+			done <- thread
+		}()
+		threads[<-done] = true
+	}
+	if len(threads) > 100 {
+		t.Errorf("%d threads for 200 sessions, one after the other", len(threads))
 	}
 }
 
