@@ -2,6 +2,13 @@
 
 _cpe() {
     local words=
+    COMPREPLY=()
+    case ${COMP_WORDS[COMP_CWORD - 1]} in
+        *[\<\>]*)
+            # (files stand behind these alone)
+            compopt -o default
+            return ;;
+    esac
     case $COMP_CWORD in
         1) words='unbind bind compare resolve evaluate watch advise cover make drill' ;;
         2)

@@ -134,8 +134,10 @@ completes() {
     judge "$what" "$status" 0 "$room/wanted"
 }
 
+# (that files are to be offered is printed)
 offers_bash() {
     limited bash --norc -c '
+        compopt() { echo "$*"; }
         . completions/cpe.bash
         complete -p cpe | grep -q -- "-F _cpe cpe" || exit
         COMP_WORDS=(cpe "$@") COMP_CWORD=$#
@@ -172,6 +174,7 @@ completes_in() {
 }
 
 completes_in bash
+if has bash; then completes bash '-o default' watch '<' rec; fi
 completes_in zsh
 if unpacks; then
     mkdir "$room/control"
