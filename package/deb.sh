@@ -25,9 +25,10 @@ puts install build
 linked=$root/usr/bin/cpe
 if [ -f build/libcpe.a ] && [ -f build/libcpe.so ]; then
     puts install-library library
-    # (in Debian no library is executable, and the loader's list is made anew for each)
+    # (in Debian no library is executable, the loader's list is made anew for each, and each tells who has it)
     chmod 644 "$root/usr/lib/libcpe.so.0"
     echo 'activate-noawait ldconfig' > "$root/DEBIAN/triggers"
+    echo "libcpe 0 cpe (>= $version)" > "$root/DEBIAN/shlibs"
     linked="$linked $root/usr/lib/libcpe.so.0"
 fi
 gzip -9n "$root/usr/share/man/man1/cpe.1"
