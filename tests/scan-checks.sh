@@ -1,6 +1,6 @@
 #!/bin/sh
 # Checks of scan.py, and of the modules of all recipes: their unit tests, the samples of ranges against their truths, the same by
-# the short recipes, feeds that must not look like an all-clear, and full disks: sh tests/scan-checks.sh [PROGRAM].
+# the short recipes, the page of report.py, feeds that must not look like an all-clear, and full disks: sh tests/scan-checks.sh [PROGRAM].
 . "$(dirname "$0")/checks.sh"
 
 CPE=$program
@@ -162,10 +162,32 @@ reads_machines() {
     judge 'files that begin with a hyphen, and packed ones' $? 0 "$room/wanted"
 }
 
+# The page of report.py over the samples, and as it stands in a browser, where there is one.
+shows_pages() {
+    scans --json --suppress "$ranges/suppress.txt" --lists "$ranges/web-1.cdx.json" "$ranges/app-1.txt" \
+        > "$room/scan.json" 2> "$room/error"
+    limited python3 recipes/report.py --title 'Two machines' "$room/scan.json" > "$room/page.html" 2> "$room/error"
+    status=$?
+    sed -n 's/.*<li class="\([A-Z]*\)"><b>\([0-9]*\).*/\2 \1/p; s/.*class="id">\([^<]*\).*/\1/p' "$room/page.html" > "$room/out"
+    grep '^left out ' "$ranges/accepted.said" > "$room/wanted.said"
+    judge 'the page of the samples: its counts, and its advisories by score' "$status" 1 "$ranges/page.out" "$room/wanted.said"
+    needs 'the page in a browser: rows, counts, filter, odd names, 10,000 machines' chromium || return
+    python3 -B tests/recipes/browser.py chromium "$room" > "$room/out" 2> "$room/error"
+    status=$?
+    if [ "$status" = 0 ]; then
+        pass "the page in a browser, $(grep -c '^right: ' "$room/out") things looked at; $(grep ' open after ' "$room/out")"
+    else
+        fail 'the page in a browser' "status $status"
+        grep -v '^right: ' "$room/out" | head -n 12
+        tail -n 3 "$room/error"
+    fi
+}
+
 if needs 'the recipes in Python' python3; then
     runs_unit_tests
     counts_truths
     shows_tables
+    shows_pages
     goes_step_by_step
     refuses_feeds
     minds_disks

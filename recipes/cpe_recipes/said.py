@@ -100,6 +100,18 @@ class Said:
         write_all(self._descriptor, f"{shown(line)}\n".encode(errors="replace"), "what was left out")
 
 
+class Noting(Said):
+    """What is told, where the result has what was left out too: all of it, with ids and reasons."""
+
+    def __init__(self, descriptor: int = 2, before: Callable[[], None] | None = None, most_alike: int | None = None) -> None:
+        super().__init__(descriptor, before, most_alike)
+        self.noted: list[tuple[str, str]] = []
+
+    def left_out(self, id: str, reason: str) -> None:
+        self.noted.append((id, reason))
+        super().left_out(id, reason)
+
+
 class Output:
     """What goes to standard output. It is gathered, so that nothing stands written where the result comes to no end."""
 

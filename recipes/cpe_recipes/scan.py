@@ -9,6 +9,7 @@
 - --suppress: accepted advisories, lines `ID MACHINE REASON`, where * is every machine. They are told below the table.
 - --letters: the products of which letters in versions count upward, in place of letters.txt.
 - --all: the table and the JSON have the verdicts that are FALSE too.
+- --json: the same as one value of JSON, with what was left out (`leftOut`). report.py makes a page of it.
 
 What machines are asked for, cases.py says; all verdicts come from one run of cpe.
 
@@ -36,7 +37,7 @@ from .outcome import MOST_ALIKE, Found, Hanging, json_of, machines_with_verdicts
 from .perhaps import Pairs, facts_of
 from .program import Candidate, Program
 from .progress import Progress
-from .said import Fatal, Output, Said
+from .said import Fatal, Noting, Output, Said
 from .versions import Letters, read_letters
 from .words import FLAG, MANY, ONE, Words, read_words
 
@@ -278,7 +279,7 @@ def run(words: Sequence[str]) -> int:
         raise Fatal(f"usage: {USAGE}")
     program = Program()
     with Progress() as progress:
-        said = Said(before=progress.clear, most_alike=MOST_ALIKE)
+        said = Noting(before=progress.clear, most_alike=MOST_ALIKE)
         lines = _result(read, program, said, progress)
         said.tell_others()
     output = Output()
@@ -287,12 +288,14 @@ def run(words: Sequence[str]) -> int:
     return said.status()
 
 
-def _result(read: Words, program: Program, said: Said, progress: Progress) -> list[str]:
+def _result(read: Words, program: Program, said: Noting, progress: Progress) -> list[str]:
     """The lines of the result."""
+    progress.step("reading what the machines have")
     accepted = suppressed.read_suppressed(read.many("--suppress"), said)
     letters = read_letters(read.one("--letters") or LETTERS)
     asked = read_asked(read, said)
     known = read_known(read, asked, program, said, progress)
+    progress.step("reading the match feed")
     feed = pages(read.many("--matches"), said, matches.KINDS, strict=True) if read.has("--matches") else []
     lists = Lists(program, matches.listed(feed, known.ranges.keys(), said))
     scan = Scan(program, known, lists, letters, progress)
@@ -303,10 +306,13 @@ def _result(read: Words, program: Program, said: Said, progress: Progress) -> li
         for machine in machines:
             machine.show_all()
     about = affected.About(known.details, accepted, Hanging(known, found))
+    progress.step("looking for items that know less than is asked for")
     rows = perhaps(scan.pairs(), found, machines)
     tell_perhaps(rows, said)
     if read.has("--json"):
-        lines = [json.dumps(json_of(known, found, machines, about, rows), ensure_ascii=False, indent=1)]
+        value = json_of(known, found, machines, about, rows)
+        value["leftOut"] = [{"id": id, "reason": reason} for id, reason in said.noted]
+        lines = [json.dumps(value, ensure_ascii=False, indent=1)]
     else:
         lines = list(affected.table_of(verdicts.Verdicts(machines), about))
     accepted.tell_unused(said)

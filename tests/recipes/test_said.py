@@ -55,6 +55,14 @@ class Lines(unittest.TestCase):
         self.assertEqual(self.told().splitlines(), wanted)
         self.assertEqual((here.left, here.remarks, here.status()), (6, 5, 1))
 
+    def test_all_that_was_left_out_is_noted_where_some_is_told(self):
+        here = said.Noting(self.file.fileno(), most_alike=1)
+        here.remark("rejected", "CVE-0")
+        for id in ("CVE-1", "CVE-2"):
+            here.left_out(id, "no configurations")
+        self.assertEqual(here.noted, [("CVE-1", "no configurations"), ("CVE-2", "no configurations")])
+        self.assertEqual((here.left, self.told()), (2, "remark CVE-0: rejected\nleft out CVE-1: no configurations\n"))
+
     def test_a_line_stays_one_line_and_no_terminal_obeys_it(self):
         said.Said(self.file.fileno()).left_out("a\nb", "\x1b[2J \u202e \U000e0001 “c”")
         self.assertEqual(self.told(), "left out a\\u000ab: \\u001b[2J \\u202e \\U000e0001 “c”\n")

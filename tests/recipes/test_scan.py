@@ -354,7 +354,9 @@ class Words(unittest.TestCase):
             status, written, said = self.run_over(*words)
         self.assertEqual(status, 1)
         self.assertEqual([line for line in said.splitlines() if "dictionary.jsonl" in line], ["left out dictionary.jsonl line 2: member do: {}"])
-        self.assertEqual(json.loads(written)["machines"][0]["name"], "app-1")
+        found = json.loads(written)
+        self.assertEqual(found["machines"][0]["name"], "app-1")
+        self.assertEqual(found["leftOut"], [{"id": "dictionary.jsonl line 2", "reason": "member do: {}"}])
 
 
 class Shown(unittest.TestCase):

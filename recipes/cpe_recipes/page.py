@@ -1,0 +1,239 @@
+"""The page of a scan, piece by piece. All that comes from the data is escaped, and what can't be printed stands there by its
+number; so it can't leave its place. The page itself forbids its reader to load anything, or to run another script than its own."""
+from __future__ import annotations
+
+import base64
+import hashlib
+import html
+from collections import Counter
+from collections.abc import Iterator, Sequence
+from dataclasses import dataclass
+
+from .said import shown
+from .scanned import ACCEPTED, GROUPS, NO_ITEMS, Advisory, Machine, Row, Scanned
+
+# Of how many rows a page stands open when it is opened.
+MOST_OPEN = 300
+# Of how many lines what was not read stands open.
+MOST_MISSING = 12
+_MEANINGS = {
+    "TRUE": "the machine is affected",
+    "ERROR": "a check came to no result",
+    "UNKNOWN": "the feeds and lists don't tell",
+    ACCEPTED: "someone accepted it, with a reason",
+    "FALSE": "not affected; not listed here",
+}
+# From which scores on they are called so; of the others nothing is known.
+_LEVELS = ((9.0, "critical"), (7.0, "high"), (4.0, "medium"), (0.0, "low"))
+
+
+@dataclass(frozen=True)
+class Parts:
+    """What the page has beside the data."""
+
+    title: str
+    style: str
+    script: str
+
+
+def text(data: str) -> str:
+    """A text of the data as HTML."""
+    return html.escape(shown(data))
+
+
+def page(scanned: Scanned, parts: Parts) -> Iterator[str]:
+    """The page, in pieces."""
+    counts = scanned.counts()
+    rows = sum(counts[group] for group in GROUPS)
+    yield from _head(parts)
+    yield f"<header><h1><bdi>{text(parts.title)}</bdi></h1>\n"
+    yield f"<p>{_machine_count(len(scanned.machines))}, {_advisory_count(scanned.asked)} asked for.</p></header>\n<main>\n"
+    yield from _missing(scanned)
+    yield from _numbers(counts)
+    if rows:
+        yield _filter()
+        number = _advisory_count(len(scanned.advisories))
+        yield f'<section id="advisories"><h2>Advisories <small>{number}, highest score first</small></h2>\n'
+        for advisory in scanned.advisories:
+            yield from _advisory(advisory, is_open=rows <= MOST_OPEN)
+        yield "</section>\n"
+    else:
+        yield f'<p class="none">{_no_rows(scanned)}</p>\n'
+    yield from _machines(scanned)
+    yield f"</main>\n{_legend()}<script>{parts.script}</script>\n</body>\n</html>\n"
+
+
+def _many(number: int, one: str, more: str) -> str:
+    return f"{number:,} {one if number == 1 else more}"
+
+
+def _advisory_count(number: int) -> str:
+    return _many(number, "advisory", "advisories")
+
+
+def _machine_count(number: int) -> str:
+    return _many(number, "machine", "machines")
+
+
+def _head(parts: Parts) -> Iterator[str]:
+    allowed = f"default-src 'none'; style-src '{_hash(parts.style)}'; script-src '{_hash(parts.script)}'"
+    yield '<!DOCTYPE html>\n<html lang="en">\n<head>\n<meta charset="utf-8">\n'
+    allowed += "; base-uri 'none'; form-action 'none'"
+    yield f'<meta http-equiv="Content-Security-Policy" content="{allowed}">\n'
+    yield '<meta name="viewport" content="width=device-width, initial-scale=1">\n<meta name="referrer" content="no-referrer">\n'
+    yield f"<title>{text(parts.title)}</title>\n<style>{parts.style}</style>\n</head>\n<body>\n"
+
+
+def _hash(part: str) -> str:
+    return f"sha256-{base64.b64encode(hashlib.sha256(part.encode()).digest()).decode()}"
+
+
+def _missing(scanned: Scanned) -> Iterator[str]:
+    """What was not read, by its reasons, and the machines of which nothing is known."""
+    names = {machine.name: None for machine in scanned.bare()}
+    by_reason = {"no items, so no verdict is known of the machine": [*names]} if names else {}
+    for id, reason in scanned.left_out:
+        if reason != NO_ITEMS or id not in names:
+            by_reason.setdefault(reason, []).append(id)
+    if not by_reason:
+        yield '<p class="whole">Nothing was left out by the scan.</p>\n'
+        return
+    number = sum(map(len, by_reason.values()))
+    yield f'<aside class="missing"><h2>Not read, so not known <small>{number:,} in all</small></h2>\n'
+    yield "<p>The verdicts below know nothing of this, and are no all-clear for it.</p>\n"
+    yield f"<details{_open(number <= MOST_MISSING)}><summary>What, and why</summary><ul>\n"
+    for reason, ids in by_reason.items():
+        yield from _left_out(reason, ids)
+    yield "</ul></details></aside>\n"
+
+
+def _left_out(reason: str, ids: Sequence[str]) -> Iterator[str]:
+    if len(ids) == 1:
+        yield f"<li><b>{text(ids[0])}</b> <bdi>{text(reason)}</bdi>\n"
+        return
+    yield f"<li><details{_open(len(ids) <= MOST_MISSING)}><summary><bdi>{text(reason)}</bdi> <small>{len(ids):,}</small>"
+    yield "</summary><ul>\n"
+    yield from (f"<li><b>{text(id)}</b>\n" for id in ids)
+    yield "</ul></details>\n"
+
+
+def _open(is_open: bool) -> str:
+    return " open" if is_open else ""
+
+
+def _numbers(counts: Counter[str]) -> Iterator[str]:
+    yield '<ul class="numbers">\n'
+    for group in (*GROUPS, "FALSE"):
+        if group != ACCEPTED or counts[group]:
+            yield f'<li class="{group}"><b>{counts[group]:,}</b> {group}<small>{_MEANINGS[group]}</small>\n'
+    yield "</ul>\n"
+
+
+def _filter() -> str:
+    choices = "".join(f"<option>{group}" for group in GROUPS)
+    return (
+        '<form id="filter" hidden>\n'
+        '<label>Text <input name="q" type="search" placeholder="advisory, product, reason" autocomplete="off"></label>\n'
+        '<label>Machine <input name="machine" type="search" placeholder="its name, or a part" autocomplete="off"></label>\n'
+        f'<label>Verdict <select name="truth"><option value="">all{choices}</select></label>\n'
+        '<button type="reset">Clear</button> <output aria-live="polite"></output>\n</form>\n'
+        '<noscript><p class="hint">Without scripts there is no filter; the search of your browser finds names too.</p></noscript>\n'
+        '<p class="none" id="nothing" hidden>No row is left by this filter; that tells nothing of the machines.</p>\n'
+    )
+
+
+def _no_rows(scanned: Scanned) -> str:
+    """A page without rows in words."""
+    known = len(scanned.machines) - len(scanned.bare())
+    if not known:
+        return "There are no rows, since no verdict of any machine is known. <b>This is no all-clear.</b>"
+    if not scanned.asked:
+        return "There are no rows, since no advisory was asked for. <b>This is no all-clear.</b>"
+    of_others = ""
+    if scanned.left_out or known < len(scanned.machines):
+        of_others = " <b>Of what was not read, above, nothing is known.</b>"
+    what = f"{_advisory_count(scanned.asked)} {'is' if scanned.asked == 1 else 'are all'} FALSE on {_machine_count(known)}"
+    return f"There are no rows: {what} with items.{of_others}"
+
+
+def _level(score: float | None) -> str:
+    return "none" if score is None else next(level for least, level in _LEVELS if score >= least)
+
+
+def _score(score: float | None) -> str:
+    known = "?" if score is None else f"{score:.1f}"
+    return f'<b class="score {_level(score)}">{known}</b>'
+
+
+def _advisory(advisory: Advisory, is_open: bool) -> Iterator[str]:
+    parts = [f'<span class="{group}">{len(rows):,} {group}</span>' for group, rows in advisory.rows.items() if rows]
+    yield f'<details class="advisory"{_open(is_open)}><summary>{_score(advisory.score)}<b class="id">{text(advisory.id)}</b>'
+    yield f'<span class="counts">{" ".join(parts)}</span><bdi class="title">{text(advisory.title)}</bdi></summary>\n'
+    yield from _about(advisory)
+    for group, rows in advisory.rows.items():
+        if rows:
+            yield f'<section class="{group}"><h3>{group} <small>{_machine_count(len(rows))}</small></h3>'
+            kind = ' class="told"' if any(row.reasons for row in rows) else ""
+            yield f'<ul{kind} data-truth="{group}">\n'
+            yield from map(_row, rows)
+            yield "</ul></section>\n"
+    yield "</details>\n"
+
+
+def _about(advisory: Advisory) -> Iterator[str]:
+    about = [text(advisory.severity), f"published {text(advisory.published[:10])}" if advisory.published else ""]
+    if advisory.url.startswith(("https://", "http://")):
+        about.append(f'<a href="{text(advisory.url)}" rel="noreferrer">{text(advisory.url)}</a>')
+    elif advisory.url:
+        about.append(text(advisory.url))
+    known = [f"<bdi>{one}</bdi>" for one in about if one]
+    if known:
+        yield f'<p class="about">{" · ".join(known)}</p>\n'
+
+
+def _row(row: Row) -> str:
+    """A row: the machine, and a cell for what the verdict hangs on where that is known."""
+    if not row.reasons:
+        return f"<li>{text(row.machine)}\n"
+    return f"<li><b>{text(row.machine)}</b><small>{'<br>'.join(map(text, row.reasons))}</small>\n"
+
+
+def _machines(scanned: Scanned) -> Iterator[str]:
+    number = len(scanned.machines)
+    yield f'<details id="machines"{_open(number <= MOST_OPEN)}><summary><h2>Machines <small>{number:,}, highest score first'
+    yield "</small></h2></summary>\n<ul>\n"
+    cut_short = {id for id, _ in scanned.left_out}
+    for machine in scanned.machines:
+        yield f"<li>{_score(machine.highest) if machine.highest is not None else ''}<a>{text(machine.name)}</a>"
+        yield f'<small>{", ".join(_counts(machine, machine.name in cut_short))}</small>\n'
+    yield "</ul></details>\n"
+
+
+def _counts(machine: Machine, is_cut_short: bool) -> Iterator[str]:
+    if not machine.has_verdicts:
+        yield "<b>no items, so no verdict is known</b>"
+        return
+    if is_cut_short:
+        yield "<b>not all of it was read</b>"
+    if not machine.counts:
+        yield "all FALSE"
+    yield from (f"{machine.counts[group]:,} {group}" for group in GROUPS if machine.counts[group])
+    yield _many(machine.items, "item", "items")
+    for number, what in (
+        (machine.unlisted, "not in the dictionary"),
+        (machine.removed, "under a removed name"),
+        (machine.perhaps, "perhaps meant"),
+    ):
+        if number:
+            yield f"{number:,} {what}"
+
+
+def _legend() -> str:
+    lines = "".join(f"<dt>{group}<dd>{_MEANINGS[group]}" for group in (*GROUPS, "FALSE"))
+    return (
+        f'<footer><h2>How to read it</h2><dl>{lines}</dl>\n'
+        "<p>Beside a machine stands what its verdict hangs on, where the scan tells it. Which item makes a verdict TRUE is not "
+        "told.</p>\n"
+        "<p>Perhaps meant: an item knows less than an advisory asks for, which is FALSE there; <code>perhaps.sh</code> and the "
+        "JSON list them. Not in the dictionary: <code>unlisted.sh</code> and the JSON list them.</p></footer>\n"
+    )

@@ -1,0 +1,213 @@
+"""What `scan.py --json` wrote, as a page shows it: each advisory with its rows, and each machine with its counts.
+
+A row is a machine and an advisory that isn't FALSE there. Parts that people look at, such as titles, may be missing; where a
+member is missing that says what a verdict is, or what was left out, there is no result, and the first such place is told.
+"""
+from __future__ import annotations
+
+from collections import Counter
+from collections.abc import Iterator
+from dataclasses import dataclass, field
+
+from .feeds import FeedFault, Json, name_of, read_feed, values_of
+from .said import Fatal
+from .verdicts import TRUTHS
+
+ACCEPTED = "ACCEPTED"
+# The groups of the rows of an advisory, in their order.
+GROUPS = (*(truth for truth in TRUTHS if truth != "FALSE"), ACCEPTED)
+NO_ITEMS = "no items"
+# Of the scores of CVSS.
+HIGHEST = 10
+_ONE_OF = {"leftOut": "leftOut", "machines": "machine", "verdicts": "verdict"}
+_WORDS = {str: "text", int: "number", list: "list", dict: "object", (int, float): "number"}
+
+
+@dataclass(frozen=True, slots=True)
+class Row:
+    """A machine on which an advisory isn't FALSE, and what is known of why."""
+
+    machine: str
+    reasons: tuple[str, ...]
+
+
+@dataclass
+class Advisory:
+    """An advisory, what the feed told of it, and its rows by their groups."""
+
+    id: str
+    title: str
+    score: float | None
+    severity: str
+    published: str
+    url: str
+    rows: dict[str, list[Row]] = field(default_factory=lambda: {group: [] for group in GROUPS})
+
+    def is_open(self) -> bool:
+        """Whether a row isn't accepted."""
+        return any(rows for group, rows in self.rows.items() if group != ACCEPTED)
+
+    def order(self) -> tuple[bool, float, tuple[int, ...], str]:
+        """What comes first: the highest score, then what more machines have; without a score, and then accepted alone, last."""
+        counts = tuple(-len(rows) for rows in self.rows.values())
+        return not self.is_open(), -1.0 if self.score is None else -self.score, counts, self.id
+
+
+@dataclass
+class Machine:
+    """A machine, how many rows of each group it has, and the highest score of those that aren't accepted."""
+
+    name: str
+    items: int
+    has_verdicts: bool
+    counts: Counter[str] = field(default_factory=Counter)
+    highest: float | None = None
+    perhaps: int = 0
+    unlisted: int = 0
+    removed: int = 0
+
+    def order(self) -> tuple[bool, float, tuple[int, ...]]:
+        return (
+            not self.has_verdicts,
+            -1.0 if self.highest is None else -self.highest,
+            tuple(-self.counts[group] for group in GROUPS),
+        )
+
+    def note(self, group: str, score: float | None) -> None:
+        self.counts[group] += 1
+        if score is not None and group != ACCEPTED:
+            self.highest = score if self.highest is None else max(self.highest, score)
+
+
+@dataclass
+class Scanned:
+    """All of it: how many advisories were asked for, those that have rows, the machines, and what was left out."""
+
+    asked: int
+    advisories: list[Advisory]
+    machines: list[Machine]
+    left_out: list[tuple[str, str]]
+
+    def counts(self) -> Counter[str]:
+        """How many rows of each group there are, and how many verdicts are FALSE."""
+        counts: Counter[str] = Counter()
+        for machine in self.machines:
+            counts.update(machine.counts)
+            counts["FALSE"] += self.asked - machine.counts.total() if machine.has_verdicts else 0
+        return counts
+
+    def bare(self) -> list[Machine]:
+        """The machines of which no verdict is known."""
+        return [machine for machine in self.machines if not machine.has_verdicts]
+
+
+def read_scanned(path: str | None) -> Scanned:
+    """The result at this path, of standard input where there is none. Fatal where it is none."""
+    feed = name_of(path)
+    try:
+        values = list(values_of(read_feed(path)))
+    except FeedFault as fault:
+        raise Fatal(f"{feed}: {fault}") from fault
+    if len(values) != 1:
+        raise Fatal(f"{feed}: there are {len(values)} values, where scan.py --json writes one")
+    return _Reader(feed).read(values[0])
+
+
+class _Reader:
+    def __init__(self, feed: str) -> None:
+        self._feed = feed
+        self._advisories: dict[str, Advisory] = {}
+
+    def read(self, value: Json) -> Scanned:
+        asked = self._number(value, "advisories", "the table")
+        left_out = [
+            (self._needed(one, "id", str, where), self._needed(one, "reason", str, where))
+            for where, one in self._list(value, "leftOut", "the table")
+        ]
+        machines: dict[str, Machine] = {}
+        for where, row in self._list(value, "machines", "the table"):
+            machine = self._machine(row, where)
+            if machine.name in machines:
+                raise self._fault(where, f"comes twice: {machine.name}")
+            machines[machine.name] = machine
+        if len(self._advisories) > asked:
+            raise self._fault("the table", f"has {len(self._advisories)} advisories, where {asked} were asked for")
+        shown = [one for one in self._advisories.values() if any(one.rows.values())]
+        return Scanned(asked, sorted(shown, key=Advisory.order), sorted(machines.values(), key=Machine.order), left_out)
+
+    def _machine(self, row: Json, where: str) -> Machine:
+        name = self._needed(row, "name", str, where)
+        if not name:
+            raise self._fault(where, "has an empty name")
+        machine = Machine(name, self._number(row, "items", where), "verdicts" in row)
+        if machine.has_verdicts:
+            machine.perhaps = len(self._needed(row, "perhaps", list, where))
+            machine.unlisted = len(self._needed(row, "notInDictionary", list, where))
+            machine.removed = len(self._needed(row, "underRemovedName", list, where))
+            seen: set[str] = set()
+            for place, one in self._list(row, "verdicts", where):
+                id = self._verdict(one, machine, place)
+                if id in seen:
+                    raise self._fault(place, f"comes twice: {id}")
+                seen.add(id)
+        elif machine.items:
+            raise self._fault(where, "has no verdicts")
+        return machine
+
+    def _verdict(self, one: Json, machine: Machine, where: str) -> str:
+        id, truth = self._needed(one, "id", str, where), self._needed(one, "verdict", str, where)
+        if truth not in TRUTHS:
+            raise self._fault(where, f"is no verdict: {truth[:100]}")
+        advisory = self._advisories.get(id)
+        if advisory is None:
+            advisory = self._advisories[id] = self._advisory(id, one, where)
+        if truth != "FALSE":
+            reasons = self._given(one, "hangsOn", list, where) or []
+            accepted = self._given(one, "accepted", str, where)
+            if not all(isinstance(reason, str) for reason in reasons):
+                raise self._fault(where, "hangs on what is no text")
+            if accepted is not None:
+                reasons = [f"{truth}: {accepted}", *reasons]
+            group = truth if accepted is None else ACCEPTED
+            advisory.rows[group].append(Row(machine.name, tuple(reasons)))
+            machine.note(group, advisory.score)
+        return id
+
+    def _advisory(self, id: str, one: Json, where: str) -> Advisory:
+        title, severity, published, url = (
+            self._given(one, key, str, where) or "" for key in ("title", "severity", "published", "url")
+        )
+        score = self._given(one, "score", (int, float), where)
+        if score is not None and not 0 <= score <= HIGHEST:
+            raise self._fault(where, "has a score that is none")
+        return Advisory(id, title, None if score is None else float(score), severity, published, url)
+
+    def _given(self, value: Json, key: str, kind: type | tuple[type, ...], where: str) -> Json:
+        """What an object has under a key, None where it has none."""
+        if not isinstance(value, dict):
+            raise self._fault(where, "is no object")
+        found = value.get(key)
+        if found is not None and (not isinstance(found, kind) or isinstance(found, bool)):
+            raise self._fault(where, f"has a member {key} that is no {_WORDS[kind]}")
+        return found
+
+    def _needed(self, value: Json, key: str, kind: type, where: str) -> Json:
+        found = self._given(value, key, kind, where)
+        if found is None:
+            raise self._fault(where, f"has no member {key}")
+        return found
+
+    def _number(self, value: Json, key: str, where: str) -> int:
+        found = self._needed(value, key, int, where)
+        if found < 0:
+            raise self._fault(where, f"has a member {key} below 0")
+        return int(found)
+
+    def _list(self, value: Json, key: str, where: str) -> Iterator[tuple[str, Json]]:
+        """The members of a list, each with words for its place."""
+        inside = "" if where == "the table" else f" of {where}"
+        for place, one in enumerate(self._needed(value, key, list, where), 1):
+            yield f"{_ONE_OF[key]} {place}{inside}", one
+
+    def _fault(self, where: str, what: str) -> Fatal:
+        return Fatal(f"{self._feed}: it isn't what scan.py --json writes: {where} {what}")

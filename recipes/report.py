@@ -1,0 +1,12 @@
+#!/usr/bin/env python3
+"""One page to look at, of what scan.py --json wrote: cpe_recipes/report.py says how.
+
+    python3 report.py [--title TEXT] [FILE] > page.html
+"""
+import sys
+
+sys.dont_write_bytecode = True  # (run.py says why)
+from cpe_recipes import report, said
+
+if __name__ == "__main__":
+    said.main(report.run, "report.py", sys.argv[1:])

@@ -1,0 +1,165 @@
+#!/usr/bin/env python3
+"""Looks at pages of report.py in headless Chromium: python3 browser.py CHROMIUM FOLDER. A line for each that is right.
+
+The filter is asked by the address. Odd names would load from a server that listens here; that nobody asks it is looked at too.
+The status is 1 where something is wrong.
+"""
+import http.server
+import json
+import os
+import subprocess
+import sys
+import threading
+from pathlib import Path
+
+from pages import Page, machine, odd_table, table, verdict
+
+RECIPES = Path(__file__).resolve().parents[2] / "recipes"
+MACHINES = 10_000
+# A page of many machines opens in 2 seconds on an idle machine; a check may run beside others.
+MOST_SECONDS = 10
+# What is put into a copy of a page, to look at it from inside; the page itself lets no other script run.
+INSIDE = """<script>addEventListener("load", () => requestAnimationFrame(() => setTimeout(() => {
+const root = document.documentElement;
+document.title = `${Math.round(performance.now())} ${root.scrollWidth} ${innerWidth}`;
+parent.postMessage(document.title, "*"); })))</script></body>"""
+# A telephone is narrower than any window of Chromium.
+TELEPHONE = """<!DOCTYPE html><title></title><script>onmessage = (event) => { document.title = event.data; }</script>
+<iframe src="PAGE" width="360" height="800"></iframe>"""
+
+
+class Browser:
+    def __init__(self, program, folder):
+        self._program, self._folder = program, Path(folder)
+        self.asked, self.wrong = [], 0
+
+    def page(self, name, value):
+        """A page of this table, and its address."""
+        scan, path = self._folder / f"{name}.json", self._folder / f"{name}.html"
+        scan.write_text(json.dumps(value), encoding="utf-8")
+        with path.open("wb") as out:
+            # (what was left out makes its status 1)
+            run = subprocess.run([sys.executable, str(RECIPES / "report.py"), str(scan)], stdout=out, stderr=subprocess.DEVNULL)
+        if run.returncode not in (0, 1):
+            sys.exit(f"report.py ends with status {run.returncode}")
+        return path
+
+    def inside(self, path):
+        """A copy of the page that tells in its title how long it took, how wide it is, and how wide its window."""
+        text = path.read_text(encoding="utf-8")
+        copy = path.with_suffix(".inside.html")
+        lines = [line for line in text.replace("</body>", INSIDE).split("\n") if "Content-Security-Policy" not in line]
+        copy.write_text("\n".join(lines), encoding="utf-8")
+        return copy
+
+    def on_telephone(self, path):
+        """A page in which such a copy stands as narrow as on a telephone, and that has its title."""
+        around = path.with_suffix(".telephone.html")
+        around.write_text(TELEPHONE.replace("PAGE", self.inside(path).name), encoding="utf-8")
+        return around
+
+    def look(self, path, fragment=""):
+        """The page as it stands in the browser when it is there."""
+        words = ["--headless", "--disable-gpu", "--no-first-run", "--disable-background-networking", "--disable-component-update"]
+        words += [f"--user-data-dir={self._folder}/browser", "--window-size=1200,900", "--virtual-time-budget=1000"]
+        if os.geteuid() == 0:
+            words.append("--no-sandbox")
+        address = path.as_uri() + (f"#{fragment}" if fragment else "")
+        run = subprocess.run([self._program, *words, "--dump-dom", address], capture_output=True, timeout=120)
+        return run.stdout.decode(errors="replace")
+
+    def judge(self, what, found, wanted):
+        if found == wanted:
+            print(f"right: {what}")
+        else:
+            self.wrong += 1
+            print(f"WRONG: {what}: {str(found)[:300]} in place of {str(wanted)[:300]}")
+
+    def serve(self):
+        """The address of a server that notes who asks it."""
+        asked = self.asked
+
+        class Noting(http.server.BaseHTTPRequestHandler):
+            def do_GET(self):
+                asked.append(self.path)
+                self.send_error(404)
+
+            def log_message(self, *_):
+                pass
+
+        server = http.server.HTTPServer(("127.0.0.1", 0), Noting)
+        threading.Thread(target=server.serve_forever, daemon=True).start()
+        return f"http://127.0.0.1:{server.server_port}"
+
+
+def filters(browser, path, value):
+    rows = [
+        (one["name"], "ACCEPTED" if "accepted" in row else row["verdict"], row["id"])
+        for one in value["machines"]
+        for row in one["verdicts"]
+    ]
+    for fragment, is_left in (
+        ("", lambda machine, truth, id: True),
+        ("q=openssl", lambda machine, truth, id: id == "CVE-1"),
+        ("q=OPENSSL+web-", lambda machine, truth, id: id == "CVE-1" and machine.startswith("web-")),
+        ("q=zeros%20decide", lambda machine, truth, id: id == "CVE-2"),
+        ("truth=UNKNOWN", lambda machine, truth, id: truth == "UNKNOWN"),
+        ("truth=ACCEPTED", lambda machine, truth, id: truth == "ACCEPTED"),
+        ("machine=web-1", lambda machine, truth, id: machine == "web-1"),
+        ("machine=eb-1", lambda machine, truth, id: machine.startswith("web-1")),
+        ("machine=web-1&truth=TRUE&q=cve", lambda machine, truth, id: (machine, truth) == ("web-1", "TRUE")),
+        ("q=is+not+there", lambda machine, truth, id: False),
+        ("q=%3Cimg", lambda machine, truth, id: "<img" in machine or "<img" in id),
+        ("CVE-1", lambda machine, truth, id: True),
+    ):
+        found = Page(browser.look(path, fragment))
+        wanted = sum(is_left(*row) for row in rows)
+        browser.judge(f"the page at #{fragment}: {wanted} of {len(rows)} rows", (len(found.shown()), len(found.rows)), (wanted, len(rows)))
+        nothing = next(attributes for _, attributes in found.elements if attributes.get("id") == "nothing")
+        browser.judge(f"the page at #{fragment}: that nothing is left is said where it is so", "hidden" in nothing, wanted > 0)
+        shown = f"Shown: {wanted} rows of "
+        browser.judge(f"the page at #{fragment}: its count", "=" in fragment, any(shown in text for text in found.texts))
+
+
+def minds_names(browser, path):
+    text = browser.look(path)
+    browser.judge("odd names: the title of the page stays", "<title>Advisories by machine</title>" in text, True)
+    tags = [tag for tag, _ in Page(text).elements]
+    browser.judge("odd names: one script, and nothing that loads", [tags.count(tag) for tag in ("script", "img", "iframe", "link")], [1, 0, 0, 0])
+    for copy, width in ((browser.inside(path), 1200), (browser.on_telephone(path), 360)):
+        _, wide, window = title_of(browser.look(copy))
+        browser.judge(f"odd names: nothing is wider than a window of {width}", (wide <= window, window), (True, width))
+    browser.judge("odd names: nobody was asked for anything", browser.asked, [])
+
+
+def title_of(text):
+    """The numbers that a copy of a page tells in its title."""
+    return [float(number) for number in text.split("<title>")[1].split("<")[0].split()]
+
+
+def opens_many(browser):
+    told = {"title": "A product has a fault. " * 6, "score": 7.5, "severity": "HIGH", "url": "https://nvd.nist.gov/vuln/detail/"}
+    rows = [verdict(f"CVE-2024-{place}", "TRUE", **told) for place in range(500)]
+    machines = [machine(f"host-{place:05}.example.org", *(rows[(place * 7 + one * 31) % 500] for one in range(10))) for place in range(MACHINES)]
+    path = browser.page("many", table(*machines, asked=500))
+    milliseconds, *_ = title_of(browser.look(browser.inside(path)))
+    print(f"{MACHINES} machines with ten rows each: open after {milliseconds / 1000:.1f} seconds")
+    browser.judge(f"{MACHINES} machines open in time", milliseconds < 1000 * MOST_SECONDS, True)
+    found = Page(browser.look(path, "machine=host-00017.example.org"))
+    browser.judge(f"{MACHINES} machines: the rows of one of them", len(found.shown()), 10)
+
+
+def main():
+    browser = Browser(*sys.argv[1:3])
+    value = odd_table(browser.serve())
+    path = browser.page("odd", value)
+    filters(browser, path, value)
+    minds_names(browser, path)
+    empty = browser.page("empty", table(machine("m"), {"name": "bare", "items": 0}))
+    browser.judge("a page without rows", "FALSE on 1 machine with items" in browser.look(empty), True)
+    opens_many(browser)
+    sys.exit(browser.wrong > 0)
+
+
+if __name__ == "__main__":
+    main()
