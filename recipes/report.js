@@ -17,10 +17,11 @@
     { element: list.parentNode, truth: list.dataset.truth, count: list.parentNode.querySelector("small"), rows: rowsOf(list) }
   ));
 
+  const told = (advisory) => Array.from(advisory.querySelectorAll(".id, .title, .about"), lower).join(" ");
+
   const read = () => {
     const advisories = Array.from(document.querySelectorAll(".advisory"), (element) => (
-      { element, text: `${lower(element.querySelector("summary"))} ${lower(element.querySelector(".about") || form)}`,
-        isOpen: element.open, groups: groupsOf(element) }
+      { element, text: told(element), isOpen: element.open, groups: groupsOf(element) }
     ));
     const machines = Array.from(document.querySelectorAll("#machines li"), (element) => (
       { element, name: lower(element.querySelector("a")) }

@@ -109,22 +109,33 @@ def filters(browser, path, value):
         ("machine=eb-1", lambda machine, truth, id: machine.startswith("web-1")),
         ("machine=web-1&truth=TRUE&q=cve", lambda machine, truth, id: (machine, truth) == ("web-1", "TRUE")),
         ("q=is+not+there", lambda machine, truth, id: False),
+        ("q=accepted", lambda machine, truth, id: False),
         ("q=%3Cimg", lambda machine, truth, id: "<img" in machine or "<img" in id),
         ("CVE-1", lambda machine, truth, id: True),
     ):
         found = Page(browser.look(path, fragment))
-        wanted = sum(is_left(*row) for row in rows)
+        left = [id for machine, truth, id in rows if is_left(machine, truth, id)]
+        wanted = len(left)
         browser.judge(f"the page at #{fragment}: {wanted} of {len(rows)} rows", (len(found.shown()), len(found.rows)), (wanted, len(rows)))
+        browser.judge(f"the page at #{fragment}: the advisories of these rows", cards(found), len(set(left)))
         nothing = next(attributes for _, attributes in found.elements if attributes.get("id") == "nothing")
         browser.judge(f"the page at #{fragment}: that nothing is left is said where it is so", "hidden" in nothing, wanted > 0)
         shown = f"Shown: {wanted} rows of "
         browser.judge(f"the page at #{fragment}: its count", "=" in fragment, any(shown in text for text in found.texts))
 
 
+def cards(found):
+    """How many advisories are shown."""
+    return sum(one.get("class") == "advisory" and "hidden" not in one for _, one in found.elements)
+
+
 def minds_names(browser, path):
     text = browser.look(path)
     browser.judge("odd names: the title of the page stays", "<title>Advisories by machine</title>" in text, True)
-    tags = [tag for tag, _ in Page(text).elements]
+    elements = Page(text).elements
+    links = [attributes.get("href") for tag, attributes in elements if tag == "a"]
+    browser.judge("machines: each is a link to its rows", [links.count(f"#machine=web-{number}") for number in (1, 10)], [1, 1])
+    tags = [tag for tag, _ in elements]
     browser.judge("odd names: one script, and nothing that loads", [tags.count(tag) for tag in ("script", "img", "iframe", "link")], [1, 0, 0, 0])
     for copy, width in ((browser.inside(path), 1200), (browser.on_telephone(path), 360)):
         _, wide, window = title_of(browser.look(copy))
