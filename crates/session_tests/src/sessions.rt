@@ -4,8 +4,8 @@ ghost use Rattle.cpe_session.specs.Table.{rows_text};
 
 use cpe_io::{MemSink, MemSource, Memory, Sink, SinkFault};
 use cpe_session::{
-    Line, Page, Reason, Speaker, Status, Table, answer_lines, answer_made, pour_table, write_table,
-    write_text,
+    Line, Page, Progress, Reason, Speaker, Status, Table, answer_given, answer_lines, answer_made,
+    end_given, pour_table, write_table, write_text,
 };
 use cpe_steps::Steps;
 use std::alloc::{AllocError, Global};
@@ -206,6 +206,52 @@ fn nothing_stands_at_the_end_after_a_fault(rt: HostRuntime) {
     assert!(rt; write_fails(alloc, 0, b""));
     assert!(rt; write_fails(alloc, 1, b"a\n"));
     assert!(rt; write_fails(alloc, 3, b"a\nb\nc\n"));
+}
+
+// The status and the answers to two lines that are given one by one, and to their end.
+fn add_up_given<L: Ledger>(
+    alloc: Global,
+    first: &[u8],
+    second: &[u8],
+    blank: Blank,
+) -> Result<(Status, Vec<u8>), Memory>
+    requires name { blank.name ≡ L.name }
+    requires parts { blank.parts ≡ L.parts }
+    requires some { 0 < blank.parts }
+{
+    let mut steps = Steps::<L>::new(blank);
+    let tally = Tally { quiet: false };
+    let mut sum = 0;
+    let mut progress = Progress::new(alloc);
+    let mut said = Vec::new(alloc);
+    answer_given(alloc, &tally, &mut sum, &mut progress, first, &mut steps)?;
+    said.extend_from_slice(progress.page.text())?;
+    answer_given(alloc, &tally, &mut sum, &mut progress, second, &mut steps)?;
+    said.extend_from_slice(progress.page.text())?;
+    let status = end_given(alloc, &tally, &sum, &mut progress, &mut steps)?;
+    said.extend_from_slice(progress.page.text())?;
+    Ok((status, said))
+}
+
+fn given_answers(
+    alloc: Global,
+    first: &[u8],
+    second: &[u8],
+    status: Status,
+    output: &[u8],
+) -> bool {
+    match add_up_given::<Brand>(alloc, first, second, Blank::new(1)) {
+        Ok((ended, said)) => ended == status && said.as_slice() == output,
+        Err(_) => false,
+    }
+}
+
+#[test]
+fn lines_are_given_one_by_one(rt: HostRuntime) {
+    let alloc = rt.alloc();
+    assert!(rt; given_answers(alloc, b"abc\r", b"", Status::Done, b"abc\n***"));
+    let output = b"abc\nrefused 2 full\n***";
+    assert!(rt; given_answers(alloc, b"abc", b"1234567", Status::SomeRefused, output));
 }
 
 // The same over so many lines that are made, each a star.
