@@ -27,20 +27,20 @@ one_of_both p q (e ∷ es) h none = elim (or_cases (p e) (list_any p es) h) [
   | inr later ↦ one_of_both p q es later (or_parts (q e) (list_any q es) none).1
 ]
 
-ends_few : (es : List Entry) (n : Values) → list_any (is_wide es) es ≡ false → length (ends es n) ≤ 64
+ends_few : (es : List Entry) (n : Values) → list_any (is_wide es) es ≡ false → length (ends es n) ≤ 256
 ends_few es n none = by (list_any (is_named n) es) refl
   where
-    by : (b : Bool) → list_any (is_named n) es ≡ b → length (ends es n) ≤ 64
+    by : (b : Bool) → list_any (is_named n) es ≡ b → length (ends es n) ≤ 256
     by false e = omega (arith, ap length (own_end es n e))
     by true e =
         let w = one_of_both (is_named n) (is_wide es) es e none in
-        subst (λ (m : Values). length (ends es m) ≤ 64) (sym ((same_is n w.0.name).0 w.1)) (ltb-false 64 (length (ends es w.0.name)) w.2)
+        subst (λ (m : Values). length (ends es m) ≤ 256) (sym ((same_is n w.0.name).0 w.1)) (ltb-false 256 (length (ends es w.0.name)) w.2)
 
-leads_few : (es : List Entry) (mode : Mode) (n : Values) → list_any (is_wide es) es ≡ false → length (leads es mode n) ≤ 64
+leads_few : (es : List Entry) (mode : Mode) (n : Values) → list_any (is_wide es) es ≡ false → length (leads es mode n) ≤ 256
 leads_few es Plain n none = omega arith
 leads_few es Follow n none = ends_few es n none
 
-all_few : (g : Values → List Values) → ((n : Values) → length (g n) ≤ 64) → (ns : List Values) → length (flat_map g ns) ≤ 64 * length ns
+all_few : (g : Values → List Values) → ((n : Values) → length (g n) ≤ 256) → (ns : List Values) → length (flat_map g ns) ≤ 256 * length ns
 all_few g few [] = omega arith
 all_few g few (n ∷ ns) = omega (arith, length-append (g n) (flat_map g ns), few n, all_few g few ns)
 
@@ -72,13 +72,13 @@ module _ (rows : Rows) (lawful : IsLawful rows) where
   entries_few : length rows.entries ≤ 2000000
   entries_few = ltb-false 2000000 (length rows.entries) (each_within rows lawful.within limit.Entries)
 
-  pub lead_few : (mode : Mode) (n : Values) → length (leads rows.entries mode n) ≤ 64
+  pub lead_few : (mode : Mode) (n : Values) → length (leads rows.entries mode n) ≤ 256
   lead_few mode n = leads_few rows.entries mode n lawful.dictionary.no_wide
 
-  pub there_few : (mode : Mode) → length (there rows mode) ≤ 64000000
+  pub there_few : (mode : Mode) → length (there rows mode) ≤ 256000000
   there_few mode = omega (arith, all_few (leads rows.entries mode) (lead_few mode) rows.items, items_few)
 
-  pub asked_few : (mode : Mode) → length (asked rows mode) ≤ 64000000
+  pub asked_few : (mode : Mode) → length (asked rows mode) ≤ 256000000
   asked_few mode = omega (arith, all_few (leads rows.entries mode) (lead_few mode) (facts_in mode rows.statements), fewer_different (references_in mode rows.statements), all_references_fewer mode rows.statements, facts_few)
 
   pub kept_few : length (names_kept rows) ≤ 4000000

@@ -109,8 +109,8 @@ pub fn led_are_sources()
 
 /// Lawful rows keep few names, and few are asked and there, however often: far fewer than 32 bits count.
 pub fn lawful_rows_ask_few()
-    ensures leads { (rows : Rows) (mode : Mode) (n : Values) → IsLawful rows → length (leads rows.entries mode n) ≤ 64 }
-    ensures asked { (rows : Rows) (mode : Mode) → IsLawful rows → length (asked rows mode) ≤ 64000000 }
-    ensures there { (rows : Rows) (mode : Mode) → IsLawful rows → length (there rows mode) ≤ 64000000 }
+    ensures leads { (rows : Rows) (mode : Mode) (n : Values) → IsLawful rows → length (leads rows.entries mode n) ≤ 256 }
+    ensures asked { (rows : Rows) (mode : Mode) → IsLawful rows → length (asked rows mode) ≤ 256000000 }
+    ensures there { (rows : Rows) (mode : Mode) → IsLawful rows → length (there rows mode) ≤ 256000000 }
     ensures kept { (rows : Rows) → IsLawful rows → length (names_kept rows) ≤ 4000000 }
 {}

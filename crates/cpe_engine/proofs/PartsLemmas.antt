@@ -157,7 +157,7 @@ pub same_rows : (r : Registered) (v w : Verdicts) → statements_in w ≡ statem
     → ◌≡◌ {A = Rows} (record { entries = r.entries; items = r.items; statements = statements_in v; checks = checks_in v }) (record { entries = r.entries; items = r.items; statements = statements_in w; checks = checks_in w })
 same_rows r v w statements checks = λ k. record { entries = r.entries; items = r.items; statements = sym statements k; checks = sym checks k }
 
-pub few_ends : (table : Names) (ids : List NameId) (ns : List Values) → names_at table ids ≡ ns → length ns ≤ 64 → length ids ≤ 64
+pub few_ends : (table : Names) (ids : List NameId) (ns : List Values) → names_at table ids ≡ ns → length ns ≤ 256 → length ids ≤ 256
 few_ends table ids ns e few = omega (arith, ap length e, length-map ids (name_at table), few)
 
 pub found_some : {A : Type 0} (p : A → Bool) (xs : List A) → list_any p xs ≡ true → (x : A) × (find p xs ≡ Some x)

@@ -25,7 +25,7 @@ pub const MOST_LEVELS: u32 = 32;
 pub const MOST_SUCCESSORS: usize = 16;
 
 /// The most ends of an entry.
-pub const MOST_ENDS: usize = 64;
+pub const MOST_ENDS: usize = 256;
 
 /// The most bytes of an id. It has one at least.
 pub const MOST_ID_BYTES: usize = 256;

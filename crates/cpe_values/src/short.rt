@@ -40,6 +40,16 @@ impl ShortBody {
         }
     }
 
+    // The same bytes again.
+    pub(crate) fn copy(&self) -> ShortBody
+        ensures { result ≡ self.now }
+    {
+        ShortBody {
+            length: self.length,
+            bytes: self.bytes,
+        }
+    }
+
     pub(crate) fn as_slice(&self) -> &[u8]
         ensures { result.now ≡ self.now }
     {

@@ -269,7 +269,15 @@ impl Pattern {
         ensures { IfOk result (λ p. p ≡ self.now) }
     {
         self.lawful();
-        text_of(alloc, self.lead(), self.stem(), self.trail())
+        match &self.form {
+            Form::Short(body) => Ok(Pattern {
+                form: Form::Short(body.copy()),
+            }),
+            Form::Long(text) => {
+                let body = Vec::from_slice(alloc, &text.body)?;
+                long_text(alloc, text.lead, body, text.trail)
+            }
+        }
     }
 }
 

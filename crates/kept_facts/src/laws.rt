@@ -81,8 +81,8 @@ pub fn looks_are_by_names()
 
 /// The boards of lawful rows keep few numbers, and few of each: far fewer than 32 bits count.
 pub fn few_stand()
-    ensures probes { (names : Names) (board : Board) (rows : Rows) (mode : Mode) (p : ℕ) → ShowsRows names board rows mode → IsLawful rows → probe_times board p ≤ 64000000 }
-    ensures targets { (names : Names) (board : Board) (rows : Rows) (mode : Mode) (t : ℕ) → ShowsRows names board rows mode → IsLawful rows → target_times board t ≤ 64000000 }
-    ensures probe_ids { (names : Names) (board : Board) (rows : Rows) (mode : Mode) → AreNames names → IsOn board → ShowsRows names board rows mode → IsLawful rows → length board.probe_ids ≤ 64000000 }
-    ensures target_ids { (names : Names) (board : Board) (rows : Rows) (mode : Mode) → AreNames names → IsOn board → ShowsRows names board rows mode → IsLawful rows → length board.target_ids ≤ 64000000 }
+    ensures probes { (names : Names) (board : Board) (rows : Rows) (mode : Mode) (p : ℕ) → ShowsRows names board rows mode → IsLawful rows → probe_times board p ≤ 256000000 }
+    ensures targets { (names : Names) (board : Board) (rows : Rows) (mode : Mode) (t : ℕ) → ShowsRows names board rows mode → IsLawful rows → target_times board t ≤ 256000000 }
+    ensures probe_ids { (names : Names) (board : Board) (rows : Rows) (mode : Mode) → AreNames names → IsOn board → ShowsRows names board rows mode → IsLawful rows → length board.probe_ids ≤ 256000000 }
+    ensures target_ids { (names : Names) (board : Board) (rows : Rows) (mode : Mode) → AreNames names → IsOn board → ShowsRows names board rows mode → IsLawful rows → length board.target_ids ≤ 256000000 }
 {}

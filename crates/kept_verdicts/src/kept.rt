@@ -171,7 +171,7 @@ impl KeptVerdicts {
     /// Want of memory alone; all is then as it was, but that there may be more room.
     pub fn reserve_item(&mut self, table: &NameTable, ends: &[NameId]) -> Result<(), Memory>
         requires stood { (rows : Rows) × IsLawful rows × Stands table.now self.old rows }
-        requires few { length ends.now ≤ 64 }
+        requires few { length ends.now ≤ 256 }
         ensures stands { (names : Names) (rows : Rows) → Stands names self.old rows → Stands names self.new rows }
         ensures same { SameStatements self.old self.new }
         ensures room { OnOk result (HasRoom table.now self.new 0 1 (length ends.now)) }

@@ -36,7 +36,7 @@ reserve_item-requires-clause-few g c =
     let rows = rows_in p in
     let old = p.registry.table in
     let n = name_in old c.args.id in
-    subst (λ (xs : List NameId). length xs ≤ 64) (sym c.deref.ensures.value)
+    subst (λ (xs : List NameId). length xs ≤ 256) (sym c.deref.ensures.value)
     (few_ends old c.in_ok-ends.ends.items (ends_of_name rows.entries n) c.in_ok-ends.ensures.names (c.lawful_rows_ask_few.ensures.leads rows Follow n c.requires.lawful))
 
 pub returns-clause-ok : goal.returns-clause-ok
