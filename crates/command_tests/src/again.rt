@@ -13,7 +13,7 @@ use std::alloc::Global;
 use std::marker::Brand;
 use std::sync::ledger::{Blank, Ledger};
 
-// A record, and the verdicts of all statements behind it, in their order.
+// A record, and the verdicts of all statements after it, in their order.
 #[derive(Clone, Copy)]
 struct Line(&'static [u8], &'static [u8]);
 

@@ -5,8 +5,8 @@
 //! found by the hashes of their names: what is added, looked up or shown costs the same whatever their number, but for the place of a
 //! product that is new. A change of a deprecation
 //! is planned first, which tells its fault or that it is allowed, and leaves all as it is; which names lead to its entry may be
-//! asked, and the ends of names as the planned change would leave them; then it is made, and nothing but want of memory can refuse
-//! it. A plan costs the entries that lead to the one that it is of and those to which it leads, and a chain what it has. A search
+//! asked, and the ends of names as the planned change would leave them; then it is made, and is refused only where memory runs
+//! out. A plan costs the entries that lead to the one that it is of and those to which it leads, and a chain what it has. A search
 //! looks at the entries to whose product that of the asked name is near, and at no other: it counts a step for each look.
 //!
 //! Deprecations are kept a second time by numbers: node k of a graph is entry k. The laws of [`chains_by_number`] and those beside it say

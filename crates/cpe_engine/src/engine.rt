@@ -101,7 +101,7 @@ impl Engine {
     /// The edit is in order ([`Edit::valid`]), so the rows stay lawful ([`rows_stay_lawful`]).
     ///
     /// # Errors
-    /// The first fault of the edit in the order of [`EditFault`], or want of memory. After either the rows are as they were.
+    /// The first fault of the edit in the order of [`EditFault`], or that memory ran out. After either the rows are as they were.
     pub fn apply<L: Ledger>(
         &mut self,
         edit: Edit,
@@ -133,7 +133,7 @@ impl Engine {
     /// The query is in order ([`Query::valid`]).
     ///
     /// # Errors
-    /// Want of memory alone.
+    /// Only that memory ran out.
     pub fn answer<L: Ledger>(
         &self,
         alloc: Global,

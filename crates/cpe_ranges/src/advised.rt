@@ -321,7 +321,7 @@ impl Advised {
     /// first of it.
     ///
     /// # Errors
-    /// Want of memory alone; the advisories are then as they were.
+    /// Only that memory ran out; the advisories are then as they were.
     pub(crate) fn put(&mut self, advisory: Advisory) -> Result<(), Memory>
         requires fresh { list_any (has_id advisory.id) self.old ≡ false }
         requires lower { IsLower advisory.name }
@@ -339,7 +339,7 @@ impl Advised {
         }
     }
 
-    /// Takes the one of this id out, if there is one. Those behind it close up: it costs as much as they and those of its product
+    /// Takes the one of this id out, if there is one. Those after it close up: it costs as much as they and those of its product
     /// are many.
     pub(crate) fn remove(&mut self, id: &Text)
         ensures { self.new ≡ without_first (has_id id.now) self.old }
@@ -354,7 +354,7 @@ impl Advised {
     /// over those whose product isn't plain.
     ///
     /// # Errors
-    /// Want of memory alone.
+    /// Only that memory ran out.
     pub(crate) fn affecting(&self, alloc: Global, name: &Wfn) -> Result<List<Text>, Memory>
         requires { IsLower name.now }
         ensures { IfOk result (λ ids. ids ≡ ids_affecting name.now self.now) }

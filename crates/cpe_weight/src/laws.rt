@@ -11,7 +11,7 @@ ghost use Rattle.cpe_weight.specs.Gain.{gain, loss};
 
 use cpe_rows::{Edit, names_are_equal};
 
-/// The weight behind an edit is that before it, with what the edit adds and without what it takes away; and what it takes away
+/// The weight after an edit is that before it, with what the edit adds and without what it takes away; and what it takes away
 /// is no more than there was.
 pub fn edits_weigh()
     ensures weight { (rows : Rows) (e : Edit) → weight (after rows e) + loss rows e ≡ weight rows + gain rows e }

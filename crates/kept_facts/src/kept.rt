@@ -79,7 +79,7 @@ impl KeptFacts {
     /// Makes room for so many names more in each mode, of the products that live names of the table have.
     ///
     /// # Errors
-    /// Want of memory; all is then as it was, but that there may be more room.
+    /// That memory ran out; all is then as it was, but that there may be more room.
     pub fn reserve(
         &mut self,
         table: &NameTable,
