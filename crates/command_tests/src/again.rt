@@ -1,6 +1,6 @@
-// An engine that goes on after memory ran out: what wanted memory left the rows as they were, and when it comes again, once, it is read
-// as if nothing had been. With all memory this passes too; `tests/refused-memory.py` refuses it each allocation in turn. What compares
-// takes no memory.
+// An engine that goes on after memory ran out: the record at which it did left the rows as they were, and when it comes again, once, it
+// is read as if nothing had happened. With all memory this passes too; `tests/refused-memory.py` refuses it each allocation in turn.
+// What compares takes no memory.
 ghost use Rattle.std.specs.Prelude.{◌≡◌, ◌<◌};
 
 use crate::drilled::reads;

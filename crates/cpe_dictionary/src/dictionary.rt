@@ -233,7 +233,7 @@ impl Dictionary<'_> {
         }
     }
 
-    /// Whether the entry of a number may be deprecated, with successors of these numbers, or with none of them be active.
+    /// Whether the entry of a number may be deprecated with successors of these numbers, or with `None` be active.
     ///
     /// # Errors
     /// That a successor leads back to it, or that an entry would have too many ends; or that memory ran out.

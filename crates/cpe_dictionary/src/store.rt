@@ -42,7 +42,7 @@ impl Model for KeptDictionary {
     ghost view = { λ d. record { names = d.names; details = d.details.items; nodes = d.graph.nodes } };
 }
 
-// Lets go what stands beside a name that memory was wanting for.
+// Lets go what stands beside a name for which memory ran out.
 fn let_go(details: Details, memory: Memory) -> Memory {
     drop(details);
     memory

@@ -127,8 +127,8 @@ impl Engine {
 
     /// The answer to a query. That there is no entry or statement of a name or id is an answer too. The name or id is moved
     /// into it. A step is a look at a name through an index: a search takes at most as many as there are entries to whose product
-    /// the asked one is near, a query for items as many as there are items so, and each other query none. A verdict is kept, and
-    /// none is evaluated.
+    /// the asked one is near, a query for items as many as there are such items, and each other query none. A verdict is kept,
+    /// and none is evaluated.
     ///
     /// The query is in order ([`Query::valid`]).
     ///
@@ -223,7 +223,7 @@ impl Engine {
     }
 }
 
-// Lets the name of a query go that memory was wanting for. Under a `?` each of its eleven values would be let go in place.
+// Lets the name of a query go where memory ran out. Under a `?` each of its eleven values would be let go in place.
 fn let_go(name: Wfn, memory: Memory) -> Memory {
     drop(name);
     memory

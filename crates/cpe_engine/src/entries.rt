@@ -283,7 +283,7 @@ impl Parts {
     }
 }
 
-// Lets go what stands beside a name that memory was wanting for.
+// Lets go what stands beside a name for which memory ran out.
 fn let_go(title: Text, provenance: Provenance, memory: Memory) -> Memory {
     drop(title);
     drop(provenance);

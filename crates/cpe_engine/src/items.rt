@@ -99,7 +99,7 @@ impl Parts {
         }
     }
 
-    // Puts an item last that has no fault. Its name is held still where memory is wanting.
+    // Puts an item last that has no fault. Its name is held still where memory runs out.
     fn bring_item<L: Ledger>(
         &mut self,
         alloc: Global,

@@ -108,7 +108,7 @@ fn remove_grouped(alloc: Global, groups: &mut Groups, terms: Terms, id: &Text)
     drop(terms);
 }
 
-// Makes room for an advisory, and puts its id into its group. No group changes where memory is wanting.
+// Makes room for an advisory, and puts its id into its group. No group changes where memory runs out.
 fn add_to_group(
     alloc: Global,
     by_id: &mut IndexMap<Text, Terms>,
@@ -129,7 +129,7 @@ fn add_to_group(
     )
 }
 
-// Puts an advisory last. Where there is room for one more, memory isn't wanting.
+// Puts an advisory last. Where there is room for one more, memory doesn't run out.
 fn put_last(by_id: &mut IndexMap<Text, Terms>, advisory: Advisory) -> Result<(), Memory>
     requires fresh { list_any (has_id advisory.id) (advisories_in by_id.old.entries) ≡ false }
     requires lower { IsLower advisory.name }
@@ -159,7 +159,7 @@ fn take_out(by_id: &mut IndexMap<Text, Terms>, id: &Text) -> Option<Terms>
     by_id.shift_remove(id)
 }
 
-// Lets an advisory go that memory was wanting for.
+// Lets an advisory go for which memory ran out.
 fn let_go(advisory: Advisory, memory: Memory) -> Memory {
     drop(advisory);
     memory

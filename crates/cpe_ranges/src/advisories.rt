@@ -367,7 +367,7 @@ impl Advisories {
     }
 }
 
-// Lets the name of a question go that memory was wanting for. Under a `?` each of its eleven values would be let go in place.
+// Lets the name of a question go where memory ran out. Under a `?` each of its eleven values would be let go in place.
 fn let_go(name: Wfn, memory: Memory) -> Memory {
     drop(name);
     memory

@@ -44,7 +44,7 @@ impl Model for Items {
     ghost invariant = { λ i. AreOwn i.table i.names.held i.names.numbers };
 }
 
-// Puts a held number last, or lets its name go where memory is wanting.
+// Puts a held number last, or lets its name go where memory runs out.
 fn put_last(table: &mut NameTable, names: &mut ChangingNames, id: NameId) -> Result<(), Memory>
     requires own { IsNew table.old names.old.held names.old.numbers id }
     ensures own { AreOwn table.new names.new.held names.new.numbers }

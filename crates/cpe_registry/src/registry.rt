@@ -169,7 +169,7 @@ impl Registry {
         self.table.release(id);
     }
 
-    /// Puts an active entry last, which takes a hold of its name over. No entry has the name.
+    /// Puts an active entry last, which takes over a hold of its name. No entry has the name.
     ///
     /// # Errors
     /// Only that memory ran out; all is then as it was.
@@ -215,7 +215,7 @@ impl Registry {
         self.dictionary.commit(&self.table, plan, deprecation, note)
     }
 
-    /// Puts an item last, which takes a hold of its name over. No item has the name.
+    /// Puts an item last, which takes over a hold of its name. No item has the name.
     ///
     /// # Errors
     /// Only that memory ran out; all is then as it was.
@@ -234,7 +234,7 @@ impl Registry {
         self.items.push(&self.table, id)
     }
 
-    /// Takes an item out. Its hold of the name is another's then, until it is [released](Registry::release). It takes no memory.
+    /// Takes an item out. Its hold of the name is the caller's then, until it is [released](Registry::release). It takes no memory.
     pub fn drop_item(&mut self, id: NameId)
         requires live { IsLive self.old.table id.0 }
         requires has { list_any (is_same (name_in self.old.table id)) self.old.items ≡ true }

@@ -47,7 +47,7 @@ pub fn evaluate<F: Facts>(test: &Test, facts: &F) -> Truth
     }
 }
 
-/// What is known of facts and checks, where a fact has to be looked for, and that may want memory.
+/// What is known of facts and checks, where a fact has to be looked for, which may run out of memory.
 pub trait FindFacts {
     ghost fact_truth: { Self → Values → Truth };
 

@@ -18,7 +18,7 @@ pub fn edits_weigh()
     ensures loss { (rows : Rows) (e : Edit) → loss rows e ≤ weight rows }
 {}
 
-/// What is dropped weighs as much as the name or the key by which it is found, and after no drop is the weight greater.
+/// What is dropped weighs as much as the name or the key by which it is found, and no drop makes the weight greater.
 pub fn losses_are_known()
     ensures items { (rows : Rows) (n : Values) → list_any (is_same n) rows.items ≡ true → loss rows (Edit.DropItem n) ≡ name_weight n }
     ensures checks { (rows : Rows) (k : CheckKey) → is_checked rows k ≡ true → loss rows (Edit.DropCheck k) ≡ key_weight k }

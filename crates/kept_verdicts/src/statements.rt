@@ -77,8 +77,8 @@ impl KeptVerdicts {
         }
     }
 
-    /// Takes out the statement of this id, which is there, and answers the numbers of its fact references: their holds are another's
-    /// then. It takes no step.
+    /// Takes out the statement of this id, which is there, and answers the numbers of its fact references: their holds are the
+    /// caller's then. It takes no step.
     ///
     /// # Errors
     /// Only that memory ran out; all is then as it was.
@@ -175,7 +175,7 @@ impl KeptVerdicts {
         }
     }
 
-    // Puts a statement for whose facts these names are asked that weren't; those facts have no truth yet.
+    // Puts a statement with new facts, for which these names are asked from now on; those facts have no truth yet.
     //
     // # Errors
     // Only that memory ran out; the boards then show what they showed.

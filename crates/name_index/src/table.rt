@@ -276,7 +276,7 @@ fn insert_name(names: &mut IndexSet<Wfn>, name: Wfn) -> Result<(usize, bool), Me
     }
 }
 
-// Lets a name go that memory was wanting for.
+// Lets a name go for which memory ran out.
 fn let_name_go(name: Wfn, memory: Memory) -> Memory {
     drop(name);
     memory

@@ -254,10 +254,10 @@ impl Products {
         }
     }
 
-    /// A walk over the numbers of the products that are near a product which is the source, or the target. It takes no
-    /// memory. A plain text is found by its hash. Any other source looks up one run of one of the orders; a target where ANY is
-    /// a product, or one has a special, those of each such shape, and where products with a trail alone are there, one run more
-    /// for each of its prefixes, and so with a lead alone for its ends.
+    /// A walk over the numbers of the products that are near this one, which is the source or the target. It takes no memory. A
+    /// plain text is found by its hash. Any other source looks up one run of one of the orders. A target looks up, where ANY is
+    /// a product or one has a special, those of each such shape; where products with a trail alone are there, one run more for
+    /// each of its prefixes; and where products with a lead alone are there, one for each of its ends.
     pub fn near<'a>(&'a self, asked: &'a Value, side: Side) -> NearProducts<'a>
         requires { lower_value asked.now ≡ asked.now }
         ensures { SameElements (filter (λ n. near_on side asked.now (value_at self.now n)) (live self.now)) result }
