@@ -21,21 +21,21 @@ MOST_ITEMS, MOST_ADVISORIES = 1_000_000, 100_000
 # How many items are of one product, and how many questions are asked beside advisories of a pattern.
 VERSIONS, QUESTIONS = 5, 5_000
 COMMAND, TWIN = "cpe advise", "advise_tuned"
-# What a session has, one behind the other; the words of its lines, and what a line of it is called.
+# What a session has, one after the other; the words of its lines, and what a line of it is called.
 PARTS = {"item": "an item", "advisory": "an advisory", "affected": "affected", "advisories": "advisories"}
 # Of ten ranges so many have both bounds, and so many the end alone.
 BOUNDS = ("both", "both", "both", "both", "both", "both", "end", "end", "end", "start")
 
 
 def products(count):
-    """So many names up to their version: part, vendor and product of the sample, and a number behind the product."""
+    """So many names up to their version: part, vendor and product of the sample, and a number after the product."""
     names = [make_lines.components_of(it)[:3] for it in make_lines.sample()]
     for number, (part, vendor, product) in zip(range(count), itertools.cycle(names), strict=False):
         yield make_lines.PREFIX + b":".join((part, vendor, product + b"_%d" % number)) + b":"
 
 
 def version_of(number, place):
-    """A version of a product, of which the place rises; one in eight has letters behind it."""
+    """A version of a product, of which the place rises; one in eight has letters after it."""
     draw = (number * 2_654_435_761 + place * 40_503) >> 7
     words = (b"", b"", b"", b"", b"", b"", b"a", b"beta2")
     return b"%d.%d.%d" % (number % 7, 4 * place + draw % 4, draw % 30) + words[draw // 32 % 8]

@@ -26,7 +26,7 @@ COMMAND, TWIN = "cpe cover", "cover_tuned"
 
 
 def listed(count):
-    """Names as such lists have them: five of each product, which is one of the sample with a number behind it; some products in any
+    """Names as such lists have them: five of each product, which is one of the sample with a number after it; some products in any
     version, and some patterns."""
     names = [make_lines.components_of(it) for it in make_lines.sample()]
     for number in range(count):

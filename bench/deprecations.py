@@ -104,7 +104,7 @@ def inputs(shape, count):
 
 
 def seconds(program, before, edits):
-    """The processor time for the edits, each of which is accepted, behind what stands before them."""
+    """The processor time for the edits, each of which is accepted, after the lines before them."""
     with near.Session(program, "resolve") as session:
         session.accepts(before)
         return session.accepts(edits)

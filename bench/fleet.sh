@@ -1,7 +1,7 @@
 #!/bin/sh
 # What more workers bring, of the recipes for a fleet: sh bench/fleet.sh [PROGRAM [MACHINES [ROUNDS]]]. Each is run with 1, 2
 # and 4 workers, over 1,000,000 pairs of names, and over a dictionary of 128,650 entries, 1,000 statements and so many machines (1,000 if
-# left out) of 30 items each; the best of ROUNDS runs counts (3 if left out). Before that the front of the verdicts is compared with
+# left out) of 30 items each; the best of ROUNDS runs counts (3 if left out). Before that a prefix of the verdicts is compared with
 # what `cpe evaluate` says of each machine, and every output with that of one worker.
 # It needs Python 3, and leaves out what isn't here: GNU parallel, or Python's module distributed.
 set -eu
@@ -76,7 +76,7 @@ head -n 5 "$room/machines.txt" | while read -r machine items; do
         cat "$room/records.jsonl" - | "$program" evaluate | sed -n "s/^verdict /$machine /p"
 done > "$room/evaluated"
 
-# begins_right FILE: whether its front is what was evaluated.
+# begins_right FILE: whether it begins with what was evaluated.
 begins_right() {
     head -n "$(wc -l < "$room/evaluated")" "$1" | cmp -s - "$room/evaluated" || { echo "$1 isn't what cpe evaluate says" >&2; exit 1; }
 }

@@ -22,7 +22,7 @@ import run
 MOST_SECONDS, MOST_BYTES, MOST_MICROSECONDS, MOST_RATIO = 8, 700, 20, 1.5
 # How many entries are beside the others for a form of search.
 BESIDE = 100
-# How many questions are timed alone behind the first.
+# How many questions are timed alone after the first.
 AGAIN = 20
 TWIN = "resolve_tuned"
 # What a pipe takes at once, so that a write never waits for whoever reads it.
@@ -43,7 +43,7 @@ FORMS = {
     "front": ((b"qmail%02d*", FRONTS), (b"qmail*", FRONTS)),
     "back": ((b"*%02dqmail", BACKS), (b"*qmail", BACKS)),
 }
-# A question whose answer is like no other, behind those that are timed: whatever they are answered, it tells the end.
+# A question whose answer is like no other, after those that are timed: whatever they are answered, it tells the end.
 LAST = make_lines.record(b"lookup", named(b"qmail", b"last")) + b"\n"
 LAST_ANSWER = b"lookup " + named(b"qmail", b"last") + b" absent\n"
 
@@ -84,7 +84,7 @@ class Session:
         self.child.stdin.flush()
 
     def ask(self, records, answers):
-        """The seconds until these records, and one question behind them, are answered."""
+        """The seconds until these records, and one question after them, are answered."""
         records, answers = records + LAST, answers + LAST_ANSWER
         out, feeder = bytearray(), threading.Thread(target=self.put, args=[records])
         start = time.perf_counter()
@@ -124,7 +124,7 @@ def measure_entries(words, paths, rounds):
 
 
 def measure_first(sessions):
-    """What one question takes alone: the first that is asked behind the entries, and those behind it."""
+    """What one question takes alone: the first that is asked after the entries, and the next ones."""
     print(f"\n{run.RESOLVE}, microseconds from one question to its answer, pipes included: the first, and the median of {AGAIN} more")
     print(f"{'input':<26}{'entries':>10}{'first look-up':>15}{'more':>8}{'first search':>14}{'more':>8}")
     records, answers = [it.splitlines(keepends=True) for it in searches("front", False, 1)]
@@ -171,7 +171,7 @@ def measure_searches(sessions, rounds, times):
 
 
 def scanned(session, form, times):
-    """The session as a file, with searches behind it where there is a form."""
+    """The session as a file, with searches after it where there is a form."""
     path = run.BUILD / f"scanned-{session.count}{'-' + form if form else ''}.txt"
     with open(session.path, "rb") as source, open(path, "wb") as out:
         out.writelines(itertools.islice(source, session.count - 3 * BESIDE))

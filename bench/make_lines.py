@@ -24,18 +24,18 @@ pair-refused pairs that are spoilt: one third each has not exactly one space, a 
 pair-long    pairs whose lines have nearly 65,536 bytes: a product, and a part of it between asterisks
 pair-equal   the same of bytes that are all equal but the last of the part, which doesn't stand
              in the product: the worst for a search that tries each place
-entry        records of `resolve` that add an entry each: names of the sample and, behind them, the
+entry        records of `resolve` that add an entry each: names of the sample and, after them, the
              same names in other versions, no two alike; a third of them with a provenance
 new-product  such records, the product of each another one, of letters and digits
 asked        as many such records, and then 1,000 lookups and 1,000 shows of these names and of others
 searched     as many such records, and then 100 searches
 asked-often  as many such records, and then 60,000 lines: one third each is a lookup, a show, and an
              entry that is there already
-deprecated   as many such records, and then deprecations, one for 6.4 of them, each with the question
-             where it leads behind it: chains of up to 50 steps, some with several ends, some removed
-added        as many such records, and then as many lines as there are behind them in `deprecated`: entries,
-             each with a lookup of it behind it
-evaluated    records of `evaluate`: statements, as many as LINES says, of three facts each, behind twice as
+deprecated   as many such records, and then deprecations, one for 6.4 of them, each followed by the
+             question where it leads: chains of up to 50 steps, some with several ends, some removed
+added        as many such records, and then as many lines as there are after them in `deprecated`: entries,
+             each followed by a lookup of it
+evaluated    records of `evaluate`: statements, as many as LINES says, of three facts each, after twice as
              many items
 statement    statements of three facts each, and nothing else
 unfollowed   the entries of `deprecated` and its edits without the questions; then statements over items
@@ -72,10 +72,10 @@ URI_SPOILERS = (b"!", b"/", b"*", b"\\", b" ", b"\x7f", b"\xc3\xa9")
 FORM_FAULTS = (b"%41", b"%5f", b"%30", b"%00", b"%7f", b"%80", b"%2g", b"%g1", b"%%21")
 LETTERS = b"abcdefghijklmnopqrstuvwxyz0123456789"
 ATTRIBUTES = b"part vendor product version update edition language sw_edition target_sw target_hw other".split()
-# None of these stands between the quotes of a value, behind a whole character.
+# None of these stands between the quotes of a value, after a whole character.
 QUOTE_FAULTS = (b".", b"-", b"!", b'"', b"\\a", b"\\_", b" ", b"\x7f", b"\xc3\xa9")
 BAD_PARTS = (b'"x"', b'"A"', b'"ah"', b'"*"', b'""', b"a")
-# How many lines stand behind the entries of `asked` (twice), `searched` and `asked-often`.
+# How many lines stand after the entries of `asked` (twice), `searched` and `asked-often`.
 ASKED, SEARCHED, ASKED_OFTEN = 1000, 100, 60_000
 # The most steps of a chain of deprecations, successors beside the next, and ends in all.
 STEPS, SUCCESSORS, ENDS = 50, 15, 60
@@ -116,7 +116,7 @@ def cut_early(draw, name):
 
 
 def spoilt_inside(draw, name):
-    """The name with a spoiler behind its prefix, where no backslash stands before it."""
+    """The name with a spoiler after its prefix, where no backslash stands before it."""
     while True:
         at = draw.between(len(PREFIX), len(name))
         if name[at - 1 : at] != b"\\":
@@ -196,7 +196,7 @@ def uri_cuts(uri):
 
 
 def with_form_fault(draw, uri):
-    """The URI with a fault of a percent form behind its prefix."""
+    """The URI with a fault of a percent form after its prefix."""
     at = draw.between(len(URI_PREFIX), len(uri))
     return uri[:at] + draw.one_of(FORM_FAULTS) + uri[at:]
 
@@ -435,7 +435,7 @@ def often_asked_lines(count):
 
 
 def deprecated_of(count):
-    """How many deprecations stand behind so many entries."""
+    """How many deprecations stand after so many entries."""
     return max(1, count * 20_000 // 128_650)
 
 
@@ -468,7 +468,7 @@ class Deprecations:
         return self.kept[start : start + min(many, most)]
 
     def chain(self):
-        """The edits of one chain, as likely of 1 or 2 steps as of 25 to 50. It grows at its end, one in four at its front."""
+        """The edits of one chain, as likely of 1 or 2 steps as of 25 to 50. It grows at its end, one in four at its start."""
         steps = min(int((STEPS + 1) ** self.draw.random()), len(self.fresh) - 1)
         names = [self.fresh.pop() for _ in range(steps + 1)]
         room, edits = ENDS, []
@@ -605,7 +605,7 @@ def watched_lines(count):
 
 
 def searched_lines(count):
-    """Searches, one third each for a product, for the front of a product's text, and for a part of one."""
+    """Searches, one third each for a product, for a prefix of a product's text, and for a part of one."""
     yield from entry_lines(count)
     draw = Draw()
     names = entry_names(draw, count)
@@ -677,7 +677,7 @@ def pair_edges():
 
 
 def uri_edges():
-    """URIs about the greatest length, each byte and each percent form behind texts in each state,
+    """URIs about the greatest length, each byte and each percent form after texts in each state,
     and short ones made of such pieces as decide where a URI goes wrong."""
     room = LONGEST - len(uri_named(b""))
     lines = [uri_named(b"x" * (room + more)) for more in (-1, 0, 1, 2, LONGEST)]

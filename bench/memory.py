@@ -25,7 +25,7 @@ def memory(pid):
 
 
 def taken(program, verb, rows):
-    """The weight of the rows that were put, and the memory behind the last of them."""
+    """The weight of the rows that were put, and the memory after the last of them."""
     # (an unknown name is asked for last, and its answer shows that all rows were read)
     process = subprocess.Popen([program, verb], stdin=subprocess.PIPE, stdout=subprocess.PIPE)
     weight = 0

@@ -29,9 +29,9 @@ PRODUCTS, FACTS, TIMES = 100, 5, 500
 EDITS = 50_000
 VERDICTS = 4_000
 STATEMENTS = 1_000
-# Statements that are loaded, behind or before twice as many items.
+# Statements that are loaded, before or after twice as many items.
 LOADED = 10_000
-# A question whose answer is like no other, behind the lines that are timed: it tells their end.
+# A question whose answer is like no other, after the lines that are timed: it tells their end.
 LAST = make_lines.record(b"lookup", b"cpe:/a:near:last") + b"\n"
 LAST_ANSWER = b"lookup cpe:2.3:a:near:last" + b":*" * 8 + b" absent\n"
 

@@ -1,11 +1,11 @@
-# Completion of cpe for bash: its words, what stands behind bind, and how many records make and drill take.
+# Completion of cpe for bash: its words, what stands after bind, and how many records make and drill take.
 
 _cpe() {
     local words=
     COMPREPLY=()
     case ${COMP_WORDS[COMP_CWORD - 1]} in
         *[\<\>]*)
-            # (files stand behind these alone)
+            # (files stand after these alone)
             compopt -o default
             return ;;
     esac

@@ -1,10 +1,10 @@
 /* cpe.h: names of CPE 2.3 in other forms, how two names relate, and sessions that are given their lines one by one.
  *
  * A text is bytes and their number; no byte ends it, and it may have any. A text of no bytes may be NULL. Where a call answers a
- * text, it writes it into `out`, which has room for `size` bytes, and puts no byte behind it; `number` then has its length. Where
+ * text, it writes it into `out`, which has room for `size` bytes, and puts no byte after it; `number` then has its length. Where
  * `out` is too small the call writes nothing there and answers CPE_SHORT, and `number` has the length that is needed; so a call
- * with a size of 0 asks for the length. What stands in `out` behind the text, or after any other code, is not promised. `number` may
- * be NULL; it is 0 where nothing below says what it is. */
+ * with a size of 0 asks for the length. What stands in `out` after the text, or where another code is answered, is not promised.
+ * `number` may be NULL; it is 0 where nothing below says what it is. */
 #ifndef CPE_H
 #define CPE_H
 
@@ -54,7 +54,7 @@ int cpe_covers(const char *source, size_t source_length, const char *target, siz
     int *covers, size_t *number);
 
 /* A session of a command, whose lines are given one by one. It answers for each line the bytes that the program would write for
- * it, and at the end those that stand at the end; one behind the other they are the program's output. It is used by one call at
+ * it, and at the end those that stand at the end; one after the other they are the program's output. It is used by one call at
  * a time, in the thread that opened it. */
 typedef struct cpe_session cpe_session;
 

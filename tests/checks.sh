@@ -57,7 +57,7 @@ judge() {
     fi
 }
 
-# answers_sessions WHAT: of a text that comes in, the sessions, in lines that are indented by four spaces: what stands behind a
+# answers_sessions WHAT: of a text that comes in, the sessions, in lines that are indented by four spaces: what stands after a
 # dollar sign is run, and the lines below it are what it writes. An empty line between two of these is one of them.
 answers_sessions() {
     what=$1

@@ -1,8 +1,8 @@
 #!/usr/bin/env python3
-"""Runs a program on the bytes of a file, behind which a read fails: failing_read.py FILE PROGRAM WORD..
+"""Runs a program on the bytes of a file, after which a read fails: failing_read.py FILE PROGRAM WORD..
 
 Standard input is a pipe that holds all of the bytes, whose other end stays open, and at which no read waits: the one
-behind them fails. Ends with status 77 where no pipe holds so many bytes.
+after them fails. Ends with status 77 where no pipe holds so many bytes.
 """
 import fcntl
 import os

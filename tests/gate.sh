@@ -1,5 +1,5 @@
 #!/bin/sh
-# rt ci, and behind its lines what each crate took of the processors, so that growth is seen: sh tests/gate.sh [CRATE..].
+# rt ci, and after its lines what each crate took of the processors, so that growth is seen: sh tests/gate.sh [CRATE..].
 # Ends with the status of rt ci. Where ps or awk is missing there are no times, and that is said.
 set -u
 

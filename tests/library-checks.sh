@@ -22,7 +22,7 @@ calls_each() {
     judge 'each call of the library, and each answer' $? 0 "$room/none"
 }
 
-# speaks_alike WHAT INPUT WORD..: the answers of a session, one behind the other, are what the program writes.
+# speaks_alike WHAT INPUT WORD..: the answers of a session, one after the other, are what the program writes.
 speaks_alike() {
     what="a session of the library: $1"
     input=$2

@@ -24,7 +24,7 @@ trap 'rm -rf "$room"' EXIT
 trap 'exit 130' HUP INT TERM
 failed=0
 
-# Records up to a limit, and the one behind it; then what is still taken. Each maker prints the lines, or the answers to them,
+# Records up to a limit, and the one after it; then what is still taken. Each maker prints the lines, or the answers to them,
 # made from numbers alone.
 entries() {
     awk -v answers="$1" '
@@ -154,7 +154,7 @@ weight() {
             left -= named(1001) + named(1002) + 42 + 1000
             add("p", "")
             left -= named("p")
-            # an entry behind which 400 are left, and before it one that weighs one too many
+            # an entry after which 400 are left, and before it one that weighs one too many
             title = letters(left - named("q") - 400)
             add("q", title letters(401))
             full()
@@ -275,7 +275,7 @@ advised_weight() {
             }
             put("a", letters(200), letters(56))
             left -= weighs("p") + 1 + 256
-            # an item behind which 400 are left, and before it one that weighs one too many
+            # an item after which 400 are left, and before it one that weighs one too many
             product = letters(left - weighs("") - 400)
             item(product letters(401))
             full()

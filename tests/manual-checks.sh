@@ -23,7 +23,7 @@ heads() {
 }
 
 # codes FUNCTION FILE: the texts that a function of a specification gives, one line for each of its cases, sorted. A number or
-# a name behind a text is left away.
+# a name after a text is left away.
 codes() {
     awk -v name="$1" '
         index($0, name " ") == 1 && / = / {

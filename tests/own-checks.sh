@@ -181,7 +181,7 @@ answers_pages() {
 }
 
 # answers_table PAGE: its table of words, of which each row has what is given and what is written then, or the first lines of
-# it where two dots stand behind them.
+# it where two dots stand after them.
 answers_table() {
     what="the table of words in $1"
     needs "$what" awk || return
@@ -217,7 +217,7 @@ answers_table() {
 }
 
 # answers_at_once INPUT OUTPUT STATUS WORD..: of two lines the next is sent only when the answer to the one before is there.
-# A table comes behind the last.
+# A table comes after the last.
 answers_at_once() {
     input=$1 output=$2 wanted=$3
     shift 3
@@ -244,7 +244,7 @@ answers_at_once() {
     judge "$what" "$status" "$wanted" "$room/wanted"
 }
 
-# repeated TIMES FILE: the file, so many times, with a newline behind its last line.
+# repeated TIMES FILE: the file, so many times, with a newline after its last line.
 repeated() {
     awk -v times="$1" '
         { line[NR] = $0 }
@@ -301,7 +301,7 @@ fails_on_a_full_device() {
     judge "$what" "$status" 4 /dev/null
 }
 
-# fails_in_mid_write INPUT OUTPUT WORD..: a file that may have no more than 64 KiB takes a front of the output.
+# fails_in_mid_write INPUT OUTPUT WORD..: a file that may have no more than 64 KiB takes a prefix of the output.
 fails_in_mid_write() {
     input=$1 output=$2
     shift 2
@@ -323,7 +323,7 @@ fails_in_mid_write() {
     fi
 }
 
-# fails_in_mid_read INPUT OUTPUT WORD..: a read fails behind many lines and the front of one more. What the whole lines
+# fails_in_mid_read INPUT OUTPUT WORD..: a read fails after many lines and a prefix of one more. What the whole lines
 # say stands written.
 fails_in_mid_read() {
     input=$1 output=$2
@@ -375,7 +375,7 @@ fails_on_closed_streams() {
 
 # ---- resolve, which keeps entries
 
-# dictionary lines|answers ENTRIES: records that add so many entries, a refused one behind each tenth of them, and then
+# dictionary lines|answers ENTRIES: records that add so many entries, a refused one after each tenth of them, and then
 # questions; or the answers to them, made here from the numbers of the entries alone.
 dictionary() {
     awk -v answers="$([ "$1" = answers ] && echo 1)" -v count="$2" '
@@ -868,7 +868,7 @@ answers_made() {
     judge "$what" "$(cat "$room/status")" 1 /dev/null
 }
 
-# fails_as_made WHAT STATUS WANTED MAKER COUNT: whether the output is a front of the answers to what the maker makes, and
+# fails_as_made WHAT STATUS WANTED MAKER COUNT: whether the output is a prefix of the answers to what the maker makes, and
 # not an empty one.
 fails_as_made() {
     size=$(wc -c < "$room/out")
@@ -876,9 +876,9 @@ fails_as_made() {
     if [ "$size" = 0 ]; then fail "$1" 'nothing was written'; else judge "$1" "$2" "$3" "$room/wanted"; fi
 }
 
-# fails_for_want_of_memory WORD MAKER COUNT: in 16 MiB of address space there is no room for so many: a front of the answers
+# fails_where_memory_runs_out WORD MAKER COUNT: in 16 MiB of address space there is no room for so many: a prefix of the answers
 # stands, and no word about it.
-fails_for_want_of_memory() {
+fails_where_memory_runs_out() {
     what="where memory runs out the status is 5: $1, $2"
     needs "$what" awk wc || return
     bounds "$what" || return
@@ -899,7 +899,7 @@ fails_in_mid_write_as_made() {
     fails_as_made "$what" $? 4 "$2" "$3"
 }
 
-# fails_in_mid_read_as_made WORD MAKER COUNT TORN: the front of a line that is torn off is no line, also where it is a whole
+# fails_in_mid_read_as_made WORD MAKER COUNT TORN: a line that is torn off is no line, also where it is a whole
 # record, and no table and no list is written.
 fails_in_mid_read_as_made() {
     what="a read that fails in mid-stream ends with status 3: $1, $2"
@@ -987,7 +987,7 @@ checks_of_evaluate() {
     answers_at_once tests/vectors/evaluate/refused-alone.in tests/vectors/evaluate/refused-alone.out 1 evaluate
     answers_made '1,000 statements of three facts over 2,000 items' 65536 evaluate inventory 1000
     answers_made '100,000 statements without facts' 524288 evaluate statements 100000
-    fails_for_want_of_memory evaluate inventory 20000
+    fails_where_memory_runs_out evaluate inventory 20000
     fails_on_a_full_device examples/inventory.jsonl evaluate
     fails_on_a_full_device /dev/null evaluate
     fails_in_mid_write_as_made evaluate inventory 2000
@@ -1098,8 +1098,8 @@ checks_of_resolve() {
     answers_at_once tests/vectors/resolve/questions.in tests/vectors/resolve/questions.out 1 resolve
     answers_made '100,000 entries, and questions to them' 524288 resolve dictionary 100000
     answers_made '1,000 families of eleven entries, most of them deprecated, and their chains' 65536 resolve deprecations 1000
-    fails_for_want_of_memory resolve dictionary 100000
-    fails_for_want_of_memory resolve deprecations 3000
+    fails_where_memory_runs_out resolve dictionary 100000
+    fails_where_memory_runs_out resolve deprecations 3000
     fails_on_a_full_device examples/dictionary.jsonl resolve
     fails_in_mid_write_as_made resolve dictionary 20000
     fails_in_mid_write_as_made resolve deprecations 100
@@ -1120,7 +1120,7 @@ checks_of_watch() {
     watches_vectors
     answers_at_once tests/vectors/watch/changes-alone.in tests/vectors/watch/changes-alone.out 0 watch
     answers_made '3,000 statements, and edits that change a tenth of them or nearly all' 65536 watch watched 3000
-    fails_for_want_of_memory watch watched 20000
+    fails_where_memory_runs_out watch watched 20000
     fails_on_a_full_device examples/watch.jsonl watch
     fails_in_mid_write_as_made watch watched 1500
     fails_in_mid_read_as_made watch watched 1000 '{"do":"drop-statement","id":"s0"}'
@@ -1138,7 +1138,7 @@ checks_of_advise() {
     answers_vectors_in_pieces advise advise
     answers_at_once tests/vectors/advise/questions-alone.in tests/vectors/advise/questions-alone.out 0 advise
     answers_made '3,000 products of five versions, an advisory over each, and questions to both' 65536 advise advised 3000
-    fails_for_want_of_memory advise advised 20000
+    fails_where_memory_runs_out advise advised 20000
     fails_on_a_full_device examples/advise.jsonl advise
     fails_in_mid_write_as_made advise advised 1000
     fails_in_mid_read_as_made advise advised 200 '{"do":"affected","id":"a0"}'
@@ -1181,7 +1181,7 @@ checks_of_cover() {
     answers_vectors cover cover
     answers_vectors_in_pieces cover cover
     answers_made '3,000 products of five versions, and some in any' 65536 cover covered 3000
-    fails_for_want_of_memory cover covered 20000
+    fails_where_memory_runs_out cover covered 20000
     fails_on_a_full_device examples/cover.txt cover
     fails_in_mid_write_as_made cover covered 3000
     fails_in_mid_read_as_made cover covered 200 'cpe:/a:v:p'
@@ -1331,7 +1331,7 @@ checks_of_generated() {
 }
 
 # each CHECK: the check under each command, on its example; under resolve on lines that may be repeated, since they
-# change nothing, and under watch and advise on lines behind which nothing is left.
+# change nothing, and under watch and advise on lines after which nothing is left.
 each() {
     "$1" examples/mixed.txt examples/mixed.out unbind
     "$1" examples/wfn.txt examples/wfn.out bind fs

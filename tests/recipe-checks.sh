@@ -26,7 +26,7 @@ converts() {
     judge "the records of the recipe $1 on $2 are accepted" "$status" 0 /dev/null
 }
 
-# says WHAT STATUS LINE NAME FILE..: a recipe over feeds of which none gives a record, with the front of the only line that it says.
+# says WHAT STATUS LINE NAME FILE..: a recipe over feeds of which none gives a record, with the beginning of the only line that it says.
 says() {
     what=$1 wanted_status=$2 front=$3 name=$4
     shift 4
@@ -41,7 +41,7 @@ says() {
 }
 
 # refuses_feeds NAME SAMPLE EMPTY STATUS SAID: bad feeds, alone and beside a good one. EMPTY is a right feed with nothing in it,
-# for which the status and the front of what is said are these.
+# for which the status and the beginning of what is said are these.
 refuses_feeds() {
     needs "bad feeds: $1" python3 wc || return
     : > "$room/no-bytes.json"
@@ -119,7 +119,7 @@ lists_items() {
     judge 'advisories of the products of a machine' "$status" 0 "$samples/products.out" "$samples/products.said"
 }
 
-# A program in room that is cpe, but once it reads the front of its input and then kills what runs it, a worker, and once itself.
+# A program in room that is cpe, but once it reads the beginning of its input and then kills what runs it, a worker, and once itself.
 # (The same piece may be the one that is hit twice, and a third time it would be given up.) What a fleet asks before its workers
 # begin has no statements, and is left in peace.
 killing() {

@@ -1,7 +1,7 @@
 /* Loaded before the C library (LD_PRELOAD), this refuses one allocation of a program, or all from that one on; tests/refused-memory.py
  * compiles and uses it. From the environment:
  *   REFUSE_AT    the number of the allocation, from 1; none is refused where it is left out
- *   REFUSE_ON    where it is there, every allocation behind that one is refused too
+ *   REFUSE_ON    where it is there, every allocation after that one is refused too
  *   REFUSE_TELL  a descriptor that is open, to which the numbers of allocations and of refused ones are written at the end
  *   READ_MOST    the most bytes that a read of standard input gives
  * What the dynamic linker allocates before this file is set up isn't counted. */

@@ -3,8 +3,8 @@
 
 PROGRAM is build/cpe if left out, and TESTS the program of the tests in crates/command_tests, as the gate leaves it. A session is a
 command on one of the vectors beside this file. The allocations of a whole run are counted, and then it is run once for each of them,
-which is refused alone, and once where all behind it are refused too; each with its input as reads give it, and in single bytes, where
-every answer is written before the next line is read. A run must end with status 5 and a front of the output, in whole lines; or with
+which is refused alone, and once where all after it are refused too; each with its input as reads give it, and in single bytes, where
+every answer is written before the next line is read. A run must end with status 5 and a prefix of the output, in whole lines; or with
 status 7 and no output, where the words of the command line find no memory; or, where the program does without what it was refused, as
 the whole run ended. Standard error must be empty. Of TESTS, the test of an engine that goes on must pass whichever allocation is
 refused alone. The status is 0 where all is so. Without a C compiler all is SKIPPED, and without TESTS that test, which is said, and

@@ -1,6 +1,6 @@
 //! The tuned twin of `cpe advise`: the same answers from safe Rust with std alone and no proof, written
 //! for speed. JSON is read by hand into the few members that records have, whose texts are borrowed from
-//! the line; a name becomes its formatted string in lower case. Texts stand one behind the other in one
+//! the line; a name becomes its formatted string in lower case. Texts stand one after the other in one
 //! block for items and one for advisories, and hash maps find an item by its name, an advisory by its id,
 //! and those of a product by the hash of it.
 mod reading_tuned;
@@ -179,7 +179,7 @@ impl<'a> Reader<'a> {
         }
     }
 
-    /// The character whose escape stands here, behind its backslash.
+    /// The character whose escape stands here, after its backslash.
     fn escaped(&mut self) -> Option<char> {
         let c = self.peek();
         self.pos += 1;
@@ -414,7 +414,7 @@ enum Piece<'a> {
     Number(usize, &'a [u8]),
 }
 
-/// The first piece of a version in lower case, and what stands behind it. (A backslash separates, as what it quotes does.)
+/// The first piece of a version in lower case, and what stands after it. (A backslash separates, as what it quotes does.)
 fn first_piece(version: &[u8]) -> (Piece<'_>, &[u8]) {
     let Some(start) = version.iter().position(u8::is_ascii_alphanumeric) else {
         return (Piece::End, b"");
@@ -500,7 +500,7 @@ fn remove_number(numbers: &mut Vec<u32>, number: u32) {
     }
 }
 
-/// The rows that are there by the hash of their key, and one behind the other those whose keys have one hash.
+/// The rows that are there by the hash of their key, and one after the other those whose keys have one hash.
 #[derive(Default)]
 struct ByKey {
     first: ByHash<u32>,

@@ -92,7 +92,7 @@ impl Reader<'_> {
         Some(Value::Text(text))
     }
 
-    /// Wildcards before it, its body, wildcards behind it.
+    /// Wildcards before it, its body, wildcards after it.
     fn text(&mut self) -> Option<String> {
         let mut out = String::new();
         self.wildcards(&mut out);
@@ -178,7 +178,7 @@ fn component(value: &Value) -> String {
     }
 }
 
-/// The text with percent forms for its wildcards, and for each character behind a backslash.
+/// The text with percent forms for its wildcards, and for each character after a backslash.
 fn percent_forms(text: &str) -> String {
     let mut out = String::new();
     let mut chars = text.chars();

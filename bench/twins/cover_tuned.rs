@@ -1,5 +1,5 @@
 //! The tuned twin of `cpe cover`: the same answers from safe Rust with std alone and no proof, written for
-//! speed. A name becomes its formatted string in lower case; these stand one behind the other in one block,
+//! speed. A name becomes its formatted string in lower case; these stand one after the other in one block,
 //! and hash maps find one by its string, and those of a product by the hash of it. A name without specials
 //! is asked of the strings that it has with `*` where names of other shapes have it; one with a special goes
 //! over the names of the products that its own matches.

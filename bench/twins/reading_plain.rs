@@ -46,7 +46,7 @@ impl Reader<'_> {
         matches!(self.peek(), None | Some(b':'))
     }
 
-    /// `*`, `-`, or a text: wildcards before it, its body, wildcards behind it.
+    /// `*`, `-`, or a text: wildcards before it, its body, wildcards after it.
     fn value(&mut self) -> Result<Value, At> {
         let mut out = String::new();
         if self.eat(b'*') {
@@ -175,7 +175,7 @@ impl Reader<'_> {
         code.filter(|&code| may_stand(code)).ok_or(At(self.pos + 2))
     }
 
-    /// The next code of a text in a URI, bare or in its percent form, and the state behind it.
+    /// The next code of a text in a URI, bare or in its percent form, and the state after it.
     fn code(&mut self, state: State) -> Result<(u8, State), At> {
         let (code, len) = match self.peek() {
             Some(b'%') if state != State::TrailStar => (self.form(state)?, 3),
@@ -214,7 +214,7 @@ enum State {
 }
 
 impl State {
-    /// The state behind this code; a question mark has the code 1, an asterisk 2.
+    /// The state after this code; a question mark has the code 1, an asterisk 2.
     fn next(self, code: u8) -> Option<State> {
         match (self, code) {
             (State::Start | State::LeadMarks, 1) => Some(State::LeadMarks),

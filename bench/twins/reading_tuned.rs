@@ -32,7 +32,7 @@ const REST_FROM: [usize; 11] = {
 const PLAIN: u8 = 1;
 /// `.` or `-`: a backslash goes before it.
 const DOT_OR_HYPHEN: u8 = 2;
-/// Another printable character: stands only behind a backslash.
+/// Another printable character: stands only after a backslash.
 const QUOTED: u8 = 3;
 
 const CLASS: [u8; 256] = {
@@ -362,7 +362,7 @@ fn uri_language(s: &[u8], i: usize, out: &mut Vec<u8>) -> Result<usize, usize> {
 }
 
 /// Puts the rest of the answer to a URI from its packed edition on. The four values that are
-/// packed with it stand before the language there, and behind it in the name.
+/// packed with it stand before the language there, and after it in the name.
 fn packed(s: &[u8], start: usize, out: &mut Vec<u8>) -> Result<(), usize> {
     let mut i = uri_value(s, start + 1, b'~', out)?;
     let others = out.len();

@@ -1,7 +1,7 @@
 //! The tuned twin of `cpe resolve`: the same answers from safe Rust with std alone and no proof,
 //! written for speed. JSON is read by hand into values that borrow from the line, a name becomes
 //! its formatted string in lower case, a hash map finds its entry, and a search goes over the names
-//! where they stand one behind the other in one block. Deprecations are kept as numbers of entries,
+//! where they stand one after the other in one block. Deprecations are kept as numbers of entries,
 //! both ways, and a chain is searched with marks on the entries.
 mod reading_tuned;
 
@@ -170,7 +170,7 @@ impl<'a> Reader<'a> {
         }
     }
 
-    /// The character whose escape stands here, behind its backslash.
+    /// The character whose escape stands here, after its backslash.
     fn escaped(&mut self) -> Option<char> {
         let c = self.peek();
         self.pos += 1;
@@ -391,7 +391,7 @@ fn unquoted<'a>(text: &'a [u8], plain: &'a mut Vec<u8>) -> &'a [u8] {
 enum Asked<'a> {
     /// NA, or a text without specials.
     Same(&'a [u8]),
-    /// A text before and behind which so many characters may stand.
+    /// A text before and after which so many characters may stand.
     Like { before: usize, body: Vec<u8>, behind: usize },
 }
 
@@ -523,7 +523,7 @@ impl Links {
 
 #[derive(Default)]
 struct Dictionary {
-    /// The names, one behind the other.
+    /// The names, one after the other.
     names: Vec<u8>,
     rows: Vec<Row>,
     details: Vec<Details>,
@@ -1000,7 +1000,7 @@ fn text_at<'a>(value: &'a Value, key: &str) -> Option<&'a str> {
     value.get(key).and_then(Value::text)
 }
 
-/// The three texts, each behind its length.
+/// The three texts, each after its length.
 fn key_of(value: &Value) -> Result<Box<[u8]>, Refusal> {
     let mut key = Vec::new();
     for (member, reason) in [("system", &b" member system"[..]), ("href", b" member href"), ("id", b" member id")] {
@@ -1079,7 +1079,7 @@ fn statement_of(record: &Value, buffers: &mut Buffers) -> Result<Statement, Refu
     Ok(Statement { id, _title: title, follows, facts, test })
 }
 
-/// Names one behind the other, with the places of their components.
+/// Names one after the other, with the places of their components.
 #[derive(Default)]
 struct Names {
     bytes: Vec<u8>,
@@ -1345,7 +1345,7 @@ impl Inventory {
         }
     }
 
-    /// Tells, behind an edit, whose verdict is another one.
+    /// Tells, after an edit, whose verdict is another one.
     fn put_changes(&self, line: u64, concerned: &Concerned, before: &[Truth], dictionary: &Dictionary, buffers: &mut Buffers, out: &mut Vec<u8>) {
         match concerned {
             Concerned::Nobody => {}

@@ -153,7 +153,7 @@ func Covers(source, target string) (bool, error) {
 }
 
 // Session is a session of a command, whose lines are given one by one. It answers for each line what the program would write for
-// it, and at the end what stands at the end; one behind the other they are the program's output.
+// it, and at the end what stands at the end; one after the other they are the program's output.
 //
 // It belongs to the goroutine that opened it, which has a thread for itself until it closes the session
 // (runtime.LockOSThread). In another goroutine each call answers ErrElsewhere.

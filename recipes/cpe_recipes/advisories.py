@@ -202,7 +202,7 @@ class Advisories:
 
 
 def convert(feed: Iterable[Page], program: Program, said: Said, is_decided: bool) -> Advisories:
-    """The advisories of these pages. Where ranges aren't decided behind this, each is remarked. Fatal where none is there."""
+    """The advisories of these pages. Where ranges aren't decided after this, each is remarked. Fatal where none is there."""
     all_of: list[tuple[str, Json]] = []
     empty_pages: list[str] = []
     for page in feed:

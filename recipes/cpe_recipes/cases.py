@@ -153,7 +153,7 @@ class Cases:
         return cases
 
     def in_order(self) -> list[tuple[Items, Results, int, int]]:
-        """The cases with their numbers, those of the same items one behind the other."""
+        """The cases with their numbers, those of the same items one after the other."""
         return sorted((*case, number) for case, number in self._numbers.items())
 
 

@@ -80,7 +80,7 @@ def leads_of(program: Program, records: Sequence[str], items: Iterable[str], fac
             leads.refused[name] = reasons[first]
             continue
         written, is_entry, ends = next(answers)
-        # (the edits that try an item stand behind the question)
+        # (the edits that try an item stand after the question)
         if is_item and first + 1 in reasons:
             leads.refused[name] = reasons[first + 1]
         else:
@@ -284,7 +284,7 @@ class Lists:
     def __init__(self, program: Program, found: Mapping[str, Sequence[str]]) -> None:
         written = list(dict.fromkeys(name for listed in found.values() for name in listed))
         lines = program.lines(["resolve"], (record_text({"do": "lookup", "name": name}) for name in written)) if written else []
-        # (the front of an answer is the name; one that is refused is no name, and no item either)
+        # (an answer begins with the name; one that is refused is no name, and no item either)
         told = dict(zip(written, (line.split(" ")[1] if line.startswith("lookup ") else None for line in lines)))
         self._keys: dict[str, list[str]] = {}
         for key, listed in found.items():

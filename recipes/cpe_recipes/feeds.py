@@ -22,7 +22,7 @@ _COMPACT = json.JSONEncoder(ensure_ascii=False, separators=(",", ":")).encode
 
 
 class FeedFault(Exception):
-    """Why a feed can't be read, as words that stand behind its name."""
+    """Why a feed can't be read, as words that stand after its name."""
 
 
 class FormFault(Exception):
@@ -73,7 +73,7 @@ def text_lines(text: str) -> list[str]:
 
 
 def values_of(data: bytes) -> Iterator[Json]:
-    """The values of JSON that stand one behind the other; those before a fault come out."""
+    """The values of JSON that stand one after the other; those before a fault come out."""
     if not data.strip():
         raise FeedFault("no JSON: it is empty")
     try:

@@ -5,14 +5,14 @@
 
 - CycloneDX: the `cpe` of each component, of those within components, and of the component that the list is about.
 - SPDX: the locators of the external references of type cpe23Type and cpe22Type of each package.
-- A plain list: a name in each line, in either binding; behind a # that begins a line or stands behind a space is a comment.
+- A plain list: a name in each line, in either binding; after a # that begins a line or stands after a space is a comment.
 - A name that comes again, in whatever binding and letter case, is one item, and nothing is said.
 
 What has no name, or none that can be an item, is said. Lists of another form are named and refused, and so is what has no item:
 an inventory of which nothing was read would look as if nothing were affected.
 
 With --machines each list is that of a machine, which is called as its file is, without its endings. It writes a line for each:
-the machine's name, and behind it the names of its items. A machine without items has its line too, and is said.
+the machine's name, and after it the names of its items. A machine without items has its line too, and is said.
 """
 from __future__ import annotations
 

@@ -24,7 +24,7 @@ class Machine:
 
 
 def read_machines(path: str, said: Said) -> list[Machine]:
-    """The machines of a file with a line for each: its name, and behind it the names of its items, with spaces between them.
+    """The machines of a file with a line for each: its name, and after it the names of its items, with spaces between them.
 
     Spaces may be several, and tabs; line ends may be those of Windows; an empty line is none. A name that comes again is the
     same machine, and has the items of both lines. Fatal where there is no machine.

@@ -3,7 +3,7 @@
     sh parallel.sh RECORDS MACHINES [--ranges FILE [--letters FILE] [--matches FILE..] | --decided FILE]
 
 - RECORDS: entries, deprecations, statements and results of checks, as the recipes write them.
-- MACHINES: a line a machine: its name, and behind it the names of its items.
+- MACHINES: a line a machine: its name, and after it the names of its items.
 - --ranges: the ranges of versions that `advisories.sh --ranges` wrote. Each is decided for each machine, as `decide.py` does,
   and the statements that wait for it get the answer. --decided has what `decide.py` wrote before.
 

@@ -2,7 +2,7 @@
 
     sh perhaps.sh RECORDS MACHINES [--ranges FILE [--letters FILE]]
 
-RECORDS are those of a dictionary and of advisories, and MACHINES a line a machine: its name, and behind it the names of its
+RECORDS are those of a dictionary and of advisories, and MACHINES a line a machine: its name, and after it the names of its
 items. It writes, for each fact of a statement and each item of the same vendor and product whose name covers that of the fact
 (its relation is SUBSET by `cpe compare`),
 

@@ -62,7 +62,7 @@ class Program:
         return list(self.lines(words, records))
 
     def accepted(self, candidates: Iterable[Candidate], said: Said, unsaid: str = "") -> list[str]:
-        """The records that cpe accepts, each behind those before it. The others are said, but for those that it refuses for
+        """The records that cpe accepts, each after those before it. The others are said, but for those that it refuses for
         the reason `unsaid`."""
         kept = list(candidates)
         # (what cpe refuses changes nothing, so the records that are left do the same without it; an empty line has a number)

@@ -126,7 +126,7 @@ class Output:
         self._lines.extend(texts)
 
     def end(self) -> None:
-        """Writes all that was gathered; the result is whole behind this."""
+        """Writes all that was gathered; the result is whole after this."""
         data = "".join(f"{line}\n" for line in self._lines).encode(errors="replace")
         self._lines.clear()
         write_all(self._descriptor, data, "the output")

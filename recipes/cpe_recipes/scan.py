@@ -139,7 +139,7 @@ class Scan:
         return self._state(leads, _leads_in(leads, items), is_all_asked, edits)
 
     def _state(self, leads: Leads, of_items: Iterable[Lead], is_all_asked: bool, edits: Sequence[str] = ()) -> _State:
-        """The dictionary behind these edits, by which the names of the feeds and these items lead so."""
+        """The dictionary after these edits, by which the names of the feeds and these items lead so."""
         # (names are as cpe writes them, so that one stands for all its spellings)
         known = Leads({lead.name: lead for lead in of_items})
         items = list(known.found)

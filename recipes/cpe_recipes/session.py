@@ -16,7 +16,7 @@ from dataclasses import dataclass, field
 class Known:
     """What every worker of a fleet knows: the records, how many lines cpe answers to them, and the ids of the statements.
 
-    `restores` are lines of edits behind which the items that are under removed names lead to themselves.
+    `restores` are lines of edits after which the items that are under removed names lead to themselves.
     """
 
     lines: bytes
@@ -99,7 +99,7 @@ class Session:
         return Told(told.machine, told.left_out, lines, told.has_items)
 
     def _with_restores(self) -> Session:
-        """The run behind the restores, which few machines need."""
+        """The run after the restores, which few machines need."""
         if self._restored is None:
             known = Known(self._known.lines + self._known.restores, self._known.answers, self._known.statements)
             self._restored = Session(self._program, known)

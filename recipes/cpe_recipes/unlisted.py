@@ -1,6 +1,6 @@
 """Which items no entry of the dictionary has: sh unlisted.sh RECORDS MACHINES.
 
-RECORDS are those of a dictionary, and MACHINES a line a machine: its name, and behind it the names of its items. It writes
+RECORDS are those of a dictionary, and MACHINES a line a machine: its name, and after it the names of its items. It writes
 
     not in the dictionary MACHINE NAME [goes on as VENDOR:PRODUCT..]
     under a removed name MACHINE NAME

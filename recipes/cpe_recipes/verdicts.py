@@ -1,6 +1,6 @@
 """Verdicts that were written: the table that `cpe evaluate` ends with, the lines of a fleet, or what `scan.py --json` writes.
 
-Each tells how much of it there is (`verdicts COUNT` above the table, `machines COUNT` behind the lines, the end of the JSON), so
+Each tells how much of it there is (`verdicts COUNT` above the table, `machines COUNT` after the lines, the end of the JSON), so
 what was cut short is known, and refused. Statements that are parts of one advisory, `CVE-..`, `CVE-..#2` and so on, are joined by the OR of their
 truths.
 """
@@ -143,7 +143,7 @@ def _table(lines: list[str]) -> Verdicts:
 
 
 class _Fleet:
-    """Reads the lines of a fleet, or of several fleets whose outputs stand one behind the other."""
+    """Reads the lines of a fleet, or of several fleets whose outputs stand one after the other."""
 
     def __init__(self) -> None:
         self._machines: dict[str | None, Machine] = {}

@@ -1,7 +1,7 @@
 """What decides between two versions, and whether that can be trusted.
 
 cpe has one plain order of versions: pieces are runs of digits and runs of letters, numbers go by what they are worth, a letter
-is older than nothing, and nothing is older than a number. Vendors mean others: for some 1.1.1k comes behind 1.1.1, for most
+is older than nothing, and nothing is older than a number. Vendors mean others: for some 1.1.1k comes after 1.1.1, for most
 1.0beta2 before 1.0. So here is found which orders of two versions a vendor may mean; where not all of them lead to the same
 answer there is none, and whoever asks is told why. Which version is in a range cpe alone says.
 """
@@ -20,7 +20,7 @@ from .said import Fatal
 
 _PIECE = re.compile(r"[0-9]+|[a-z]+")
 _LETTERED = re.compile(r"(?P<word>[a-z]{1,2})[0-9]*")
-# What comes behind z is za. (Other words of two letters mostly stand before a release: rc, tp.)
+# What comes after z is za. (Other words of two letters mostly stand before a release: rc, tp.)
 _LETTER = re.compile(r"[a-z]|z[a-z]")
 
 LESS, EQUAL, GREATER = -1, 0, 1
@@ -126,7 +126,7 @@ def standing(version: str, update: str | None, one: Range) -> tuple[Standing, st
 @dataclass(frozen=True)
 class Letters:
     """The products of which letters in versions count upward, each with the words that do, or with none where it is a letter,
-    and za behind z."""
+    and za after z."""
 
     products: Mapping[tuple[str, str], frozenset[str]]
 

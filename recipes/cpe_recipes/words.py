@@ -1,4 +1,4 @@
-"""The words behind a recipe's name: options, and names of files, which may begin with a hyphen too."""
+"""The words after a recipe's name: options, and names of files, which may begin with a hyphen too."""
 from __future__ import annotations
 
 import os
@@ -13,7 +13,7 @@ FLAG, ONE, MANY = 0, 1, 2
 
 @dataclass
 class Words:
-    """What was asked for: the options that were given, with their words, and the files behind none."""
+    """What was asked for: the options that were given, with their words, and the files, which stand after none."""
 
     options: dict[str, list[str]] = field(default_factory=dict)
     files: list[str] = field(default_factory=list)
@@ -29,7 +29,7 @@ class Words:
 
 
 def read_words(words: Sequence[str], options: Mapping[str, int], usage: str) -> Words:
-    """Reads the words. Fatal, with the usage, where an option isn't known or lacks a word. All behind `--` are files; any
+    """Reads the words. Fatal, with the usage, where an option isn't known or lacks a word. All after `--` are files; any
     other word that begins with a hyphen and is no option is a file where there is such a file."""
     read = Words()
     left = list(words)

@@ -14,7 +14,7 @@ sys.path.insert(0, str(RECIPES))
 
 from cpe_recipes import said  # noqa: E402
 
-# A recipe in a process of its own: what stands behind `run`, as its body.
+# A recipe in a process of its own: what stands after `run`, as its body.
 FRAME = "import sys\nsys.path.insert(0, {path!r})\nfrom cpe_recipes.said import *\ndef run(words):\n{body}\nmain(run, 'it.sh', sys.argv[1:])\n"
 
 

@@ -77,7 +77,7 @@ class Drawn:
     def entries(self):
         all_names = list(dict.fromkeys(self.name() for _ in range(12)))
         records = [entry(it) for it in all_names]
-        # (a name leads to one that stands behind it, so there is no circle)
+        # (a name leads to one that stands after it, so there is no circle)
         for place, old in enumerate(all_names[:-2]):
             if self.draw.random() < 0.4:
                 records.append(deprecate(old, *self.draw.sample(all_names[place + 1 :], self.draw.randint(0, 2))))

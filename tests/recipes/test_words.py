@@ -1,4 +1,4 @@
-"""The words behind a recipe's name."""
+"""The words after a recipe's name."""
 import os
 import sys
 import tempfile

@@ -112,7 +112,7 @@ counts_same (x ∷ xs) ys same f =
     let rest = counts_same xs (without x ys) (λ n. omega (arith, same n, named_first n x xs, first_removed (λ (m : Values). cond (same_name n m) 1 0) x ys there)) f in
     omega (arith, sum_by-cons f x xs, first_removed f x ys there, rest)
 
--- the facts of some statements and of one, behind or in front of them
+-- the facts of some statements and of one, after or before them
 pub facts_with : (mode : Mode) (others all : List Statement) (s : Statement) → ((p : Statement → Bool) → list_any p all ≡ (p s || list_any p others)) → SameElements (fresh_facts mode others s ++ facts_in mode others) (facts_in mode all)
 facts_with mode others all s one = counts_same (fresh_facts mode others s ++ facts_in mode others) (facts_in mode all) each
   where

@@ -125,7 +125,7 @@ pub led_by_copies : ((es : List Entry) (m : Values) → list_any (is_named m) es
     → SameElements (filter (λ x. leads_to all x n) list) (flat_map (λ s. replicate (times_named s list) s) (source_names all n))
 led_by_copies absent all n list d f = led_by_sources absent all n list d f ∙ (λ i. sum_by f (flat_map (λ s. copies s list i) (source_names all n)))
 
--- a name stands once at most where each is told apart from those behind it
+-- a name stands once at most where each is told apart from those after it
 pub apart_once : (x : Values) (list : List Values) → are_different is_same list ≡ true → times_named x list ≤ 1
 apart_once x [] d = omega arith
 apart_once x (y ∷ list) d = by (same_name x y) refl (apart_once x list)

@@ -37,8 +37,8 @@ pub fn items_arrive()
     ensures kept_without { (rows : Rows) (n : Values) → list_any (is_same n) rows.items ≡ true → SameElements (names_kept rows) (n ∷ names_kept (after rows (Edit.DropItem n))) }
 {}
 
-/// A statement asks the names to which those of its facts lead to which no other refers; and where it is dropped, these are asked no
-/// more. Nothing comes or goes.
+/// Of a statement only those facts ask their names to which no other statement refers; where it is dropped, they ask them no more. No
+/// name comes or goes.
 pub fn statements_ask()
     ensures asked { (rows : Rows) (mode : Mode) (s : Statement)
         → SameElements (flat_map (leads rows.entries mode) (fresh_facts mode rows.statements s) ++ asked rows mode) (asked (after rows (Edit.PutStatement s)) mode) }
@@ -96,7 +96,7 @@ pub fn asked_names_are_kept()
 {}
 
 /// The names of a list that lead to an entry are those of the sources of the entry, each as often as it stands in the list: where none
-/// stands twice, as with items and with facts, those sources that stand there. Who has an end is it, or leads to the entry of its name.
+/// stands twice, as with items and with facts, those sources that stand there. A name that has an end is that end, or leads to its entry.
 pub fn led_are_sources()
     ensures ends { (entries : List Entry) (name end : Values) → list_any (is_same end) (ends entries name) ≡ true → (name ≡ end) ⊎ (leads_to entries name end ≡ true) }
     ensures led { (entries : List Entry) (n : Values) (list : List Values) → are_different (λ (e : Entry). is_named e.name) entries ≡ true
@@ -107,7 +107,7 @@ pub fn led_are_sources()
     ensures facts_once { (mode : Mode) (statements : List Statement) (x : Values) → times_named x (facts_in mode statements) ≤ 1 }
 {}
 
-/// Lawful rows keep few names, and few are asked and there, however often: far fewer than 32 bits count.
+/// Lawful rows keep few names, and few are asked or there, each counted as often as it is: far fewer than 32 bits can count.
 pub fn lawful_rows_ask_few()
     ensures leads { (rows : Rows) (mode : Mode) (n : Values) → IsLawful rows → length (leads rows.entries mode n) ≤ 256 }
     ensures asked { (rows : Rows) (mode : Mode) → IsLawful rows → length (asked rows mode) ≤ 256000000 }

@@ -40,7 +40,7 @@ fn take_statement_back<L: Ledger>(
     facts.unask(table, mode, numbers, steps);
 }
 
-// The statement has no fact to which no other refers: the boards show it with no name more, and look at none.
+// Others refer to each fact of the statement too: the boards show it with no name more, and look at none.
 fn ask_nothing_more<L: Ledger>(
     facts: &mut KeptFacts,
     table: &NameTable,

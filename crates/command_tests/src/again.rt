@@ -1,6 +1,6 @@
-// An engine that goes on after memory ran out: what wanted memory left the rows as they were, and when it comes again, once, it is read
-// as if nothing had been. With all memory this passes too; `tests/refused-memory.py` refuses it each allocation in turn. What compares
-// takes no memory.
+// An engine that goes on after memory ran out: the record at which it did left the rows as they were, and when it comes again, once, it
+// is read as if nothing had happened. With all memory this passes too; `tests/refused-memory.py` refuses it each allocation in turn.
+// What compares takes no memory.
 ghost use Rattle.std.specs.Prelude.{◌≡◌, ◌<◌};
 
 use crate::drilled::reads;
@@ -13,7 +13,7 @@ use std::alloc::Global;
 use std::marker::Brand;
 use std::sync::ledger::{Blank, Ledger};
 
-// A record, and the verdicts of all statements behind it, in their order.
+// A record, and the verdicts of all statements after it, in their order.
 #[derive(Clone, Copy)]
 struct Line(&'static [u8], &'static [u8]);
 

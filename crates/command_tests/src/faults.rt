@@ -17,7 +17,7 @@ const ALL: usize = 65_536;
 #[derive(Clone, Copy)]
 struct Session<'s> {
     words: &'s [String],
-    // The words under which the same lines are answered with no table behind them.
+    // The words under which the same lines are answered with no table after them.
     without_table: &'s [String],
     input: &'s [u8],
     output: &'s [u8],
@@ -127,7 +127,7 @@ fn write(alloc: Global, words: &[String], lines: &[u8], sink: &mut MemSink) -> b
     }
 }
 
-// Whether a run whose read of this number fails has written what the whole lines until then say, and nothing behind it.
+// Whether a run whose read of this number fails has written what the whole lines until then say, and nothing after it.
 fn stops_at_read(alloc: Global, session: &Session, read: usize, lines: &[u8]) -> bool {
     match MemSink::new(alloc, ALL, &[]) {
         Ok(mut sink) => {
@@ -188,7 +188,7 @@ fn stands(alloc: Global, session: &Session) -> bool {
 }
 
 // Whether a run writes so in whatever pieces bytes come and go, and at each read and each write that fails leaves what the
-// definition of its ending says: `without_table` are the words under which the same lines are answered with no table behind them.
+// definition of its ending says: `without_table` are the words under which the same lines are answered with no table after them.
 pub fn stands_without_table<'w>(
     alloc: Global,
     words: &[&'w str],
@@ -210,7 +210,7 @@ pub fn stands_without_table<'w>(
     }
 }
 
-// The same of a command that puts no table behind the answers.
+// The same of a command that puts no table after the answers.
 pub fn stands_at_each_fault(alloc: Global, words: &[&str], input: &[u8], output: &[u8]) -> bool {
     stands_without_table(alloc, words, words, input, output)
 }

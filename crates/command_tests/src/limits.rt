@@ -87,7 +87,7 @@ fn marked(alloc: Global, marks: u32) -> Value {
     }
 }
 
-// A name that is ANY but for its vendor, whose text is one letter behind so many marks.
+// A name that is ANY but for its vendor, whose text is one letter after so many marks.
 fn of_marks(alloc: Global, marks: u32) -> Wfn {
     let mut name = Wfn::any();
     let _ = name.set(Attribute::Vendor, marked(alloc, marks));

@@ -89,7 +89,7 @@ fn make_edit<L: Ledger>(
     }
 }
 
-// Puts the answer to a question behind what is gathered.
+// Puts the answer to a question after what is gathered.
 #[inline(never)]
 fn say_answer<L: Ledger>(
     alloc: Global,

@@ -40,7 +40,7 @@ line_refused line h = go (is_utf8 line) (λ e. h (IsUtf8-from_is_utf8 line e)) w
   go true k = ap json_of (k refl)
   go false k = refl
 
--- ---- one behind the other
+-- ---- one after the other
 
 then_yields : {A B : Type 0} (q : A → Bool) (p : B → Bool) (r : Result A AdviceReadFault) (f : A → Result B AdviceReadFault) → Yields q r → ((x : A) → q x ≡ true → Yields p (f x)) → Yields p (r >>= f)
 then_yields q p (Ok x) f h k = k x h

@@ -9,7 +9,7 @@ abbrev pub ◌>>=◌ : {A B : Type 0} → Result A AdviceReadFault → (A → Re
 (Ok x) >>= f = f x
 (Err e) >>= f = Err e
 
--- the fault is that of what is read; want of memory says nothing of it
+-- the fault is that of what is read; that memory ran out says nothing of it
 abbrev pub Fails : {A : Type 0} → AdviceReadFault → Result A AdviceReadFault → Type 0
 Fails fault.Json read = read ≡ Err fault.Json
 Fails (fault.Member m) read = read ≡ Err (fault.Member m)

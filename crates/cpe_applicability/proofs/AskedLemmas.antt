@@ -111,12 +111,12 @@ pub none_first : (ks : List CheckKey) → slice_get ks 0 ≡ None → ks ≡ []
 none_first [] h = refl
 none_first (k ∷ ks) h = let wrong : ⊥ = cc in absurd wrong
 
--- where none stands in front, and none in the next, none stands up to it
+-- where none stands before, and none in the next, none stands up to it
 pub none_more : (of : List Test) (i : ℕ) (d : Test) → i < length of → flat_map check_keys (take i of) ≡ [] → check_keys (get_or of i d) ≡ []
     → flat_map check_keys (take (i + 1) of) ≡ []
 none_more of i d lt front next = keys_more of i d lt ∙ (λ j. front j ++ next j)
 
--- where none stands in front, the first of the next is the first of all
+-- where none stands before, the first of the next is the first of all
 pub first_next : (of : List Test) (i : ℕ) (d : Test) (k : CheckKey) → i < length of → flat_map check_keys (take i of) ≡ [] → Some k ≡ slice_get (check_keys (get_or of i d)) 0
     → Some k ≡ slice_get (flat_map check_keys of) 0
 first_next [] i d k lt front next = absurd (omega (arith, lt))

@@ -9,7 +9,7 @@ use Rattle.std.proofs.lemmas.List.Elements.{All-from_recursion}
 use Rattle.cpe_applicability.specs.Tickets.{IsRising, put_in, without, ends_with, stands_at}
 use Rattle.ticket_list.specs.Rising.{IsRisingBy, front}
 
--- behind an element that fails all others fail
+-- after an element that fails all others fail
 abbrev IsParted : {X : Type 0} → (X → Bool) → List X → Type 0
 IsParted p [] = Unit {0}
 IsParted p (x ∷ xs) = (p x ≡ false → AllByRecursion (λ y. p y ≡ false) xs) × IsParted p xs

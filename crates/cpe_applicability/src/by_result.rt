@@ -82,7 +82,7 @@ fn negate_each(negate: bool, a: ByResult) -> ByResult
     }
 }
 
-// Truths by result, and the numbers that are left for the fact references behind.
+// Truths by result, and the numbers that are left for the fact references that follow.
 #[derive(Clone, Copy)]
 pub(crate) struct ToldEach<'i> {
     pub(crate) truths: ByResult,

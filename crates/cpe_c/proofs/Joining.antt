@@ -1,4 +1,4 @@
--- The answers to lines, one behind the other.
+-- The answers to lines, one after the other.
 use Rattle.std.proofs.Common.{◌≡◌, ℕ, List, [], ◌∷◌, ◌++◌, Option, refl, sym, ap, ◌∙◌, map, append_assoc}
 use Rattle.cpe_io.specs.Lines.{line_of, lines}
 use Rattle.cpe_io.proofs.LineLemmas.{pieces-cut}

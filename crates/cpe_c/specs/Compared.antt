@@ -15,7 +15,7 @@ pub record AreRelations (a b : Values) (compared : Compared) : Type 0 where
   pub whole : compared.whole ≡ name_relation a b
   pub each : (w : Attribute) → relation_of compared.each w ≡ relation (value_of a w) (value_of b w)
 
--- those of the names that the texts are read as; or the place of the first that no name has, or want of memory
+-- those of the names that the texts are read as; or the place of the first that no name has, or that memory ran out
 abbrev pub IsCompared : Result Values ℕ → Result Values ℕ → Result Compared Told → Type 0
 IsCompared (Ok a) (Ok b) (Ok compared) = AreRelations a b compared
 IsCompared (Ok a) (Err place) (Ok compared) = ⊥

@@ -11,11 +11,11 @@ abbrev pub AreLines : List (List ℕ × List ℕ) → Type 0
 AreLines [] = Unit {0}
 AreLines (both ∷ more) = (has_newline both.0 ≡ false) × AreLines more
 
--- the bytes of a run that reads them: behind each a newline
+-- the bytes of a run that reads them: after each a newline
 abbrev pub bytes_of : List (List ℕ × List ℕ) → List ℕ
 bytes_of = flat_map (λ both. both.0 ++ 10 ∷ [])
 
--- all answers, one behind the other
+-- all answers, one after the other
 abbrev pub answers : List (List ℕ × List ℕ) → List ℕ
 answers = flat_map (λ both. both.1)
 

@@ -40,8 +40,8 @@ abbrev pub one_if : Bool → ℕ
 one_if true = 1
 one_if false = 0
 
--- What is told of two texts: what is told of the names that they are read as; or the place of the first that no name has. Want of memory is
--- free.
+-- What is told of two texts: what is told of the names that they are read as; or the place of the first that no name has. Memory may
+-- run out at any time.
 abbrev pub OfBoth : (Values → Values → ℕ → Type 0) → Result Values ℕ → Result Values ℕ → Told → Type 0
 OfBoth IsSo (Ok a) (Ok b) (Done number) = IsSo a b number
 OfBoth IsSo (Err at) b (Refused place) = place ≡ at

@@ -31,13 +31,13 @@ number_of Over = 0
 abbrev pub in_c : Told → Answer
 in_c told = record { code = code_of told; number = number_of told }
 
--- the text stands in front of the room, where it has room; else the room is as it was, and the length that is needed is told
+-- the room begins with the text, where it has room; else the room is as it was, and the length that is needed is told
 abbrev pub Fits : List ℕ → List ℕ → List ℕ → Told → Type 0
 Fits text room room_now (Done number) = (take number room_now ≡ text) × (number ≡ length text)
 Fits text room room_now (Short number) = (number ≡ length text) × (length room < length text) × (room_now ≡ room)
 Fits text room room_now told = ⊥
 
--- a text is given, or the place of a refusal is told; want of memory is free
+-- a text is given, or the place of a refusal is told; memory may run out at any time
 abbrev pub Gives : Result (List ℕ) ℕ → List ℕ → List ℕ → Told → Type 0
 Gives (Err at) room room_now (Refused place) = place ≡ at
 Gives (Err at) room room_now Memory = Unit {0}

@@ -96,7 +96,7 @@ fn write_form(form: Form, room: &mut [u8], text: &[u8]) -> Result<usize, usize>
     }
 }
 
-/// Gives a text to C: writes it in front of `out`, or tells how long it is.
+/// Gives a text to C: writes it at the start of `out`, or tells how long it is.
 pub(crate) fn give(text: &[u8], out: &mut [u8]) -> Told
     ensures { Fits text.now out.old out.new result }
 {

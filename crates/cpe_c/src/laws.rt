@@ -6,7 +6,7 @@ ghost use Rattle.cpe_session.specs.Task.{Task, Transcript, transcript};
 ghost use Rattle.cpe_c.specs.Joined.{AreLines, IsAnswered, answers, bytes_of};
 ghost use Rattle.cpe_c.specs.Talks.{behind};
 
-/// The answers of a session, one behind the other, and then that at its end, are what a run writes for the lines, each with its
+/// The answers of a session, one after the other, and then that at its end, are what a run writes for the lines, each with its
 /// newline: what it says at first is what the run says (`Opens`), each call answers a line of it (`TakesLine`), and at the end what
 /// it says where no line follows is answered (`TakesEnd`).
 pub fn joined_answers()

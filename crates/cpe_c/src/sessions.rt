@@ -15,7 +15,8 @@ use std::mem::replace;
 use std::sync::ledger::{Blank, Ledger};
 
 /// Begins a session of the command that a word names, or two; the second is empty where there is one alone. It answers lines as
-/// a run of this command does. Where it doesn't begin, `kept` stays as it was; before, it keeps none, which would not be let go.
+/// a run of this command does. Where it doesn't begin, `kept` stays as it was. It keeps none before, since a session that it kept
+/// would not be let go.
 #[unsafe(no_mangle)]
 pub extern "C" fn cpe_c_begin(alloc: Global, word: &[u8], second: &[u8], kept: &mut Kept) -> Answer
     requires { kept.old.value ≡ None }

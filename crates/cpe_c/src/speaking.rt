@@ -33,7 +33,7 @@ pub enum Speaking {
 /// Answers a line: the page has what a run would have written for it.
 ///
 /// # Errors
-/// Want of memory. The session can't go on then.
+/// That memory ran out. The session can't go on then.
 pub(crate) fn speak<L: Ledger>(
     alloc: Global,
     speaking: &mut Speaking,
@@ -69,7 +69,7 @@ pub(crate) fn speak<L: Ledger>(
 /// Ends a session: the page has what a run would have written at the end, and the status is that of the run.
 ///
 /// # Errors
-/// Want of memory.
+/// That memory ran out.
 pub(crate) fn fall_silent<L: Ledger>(
     alloc: Global,
     speaking: &Speaking,

@@ -15,7 +15,7 @@ head count = codes "verdicts " ++ decimal count ++ codes "\n"
 abbrev lines : Rows → List ℕ
 lines rows = rows_text (λ k. option_map_or (statement_line rows) (slice_get rows.statements k) []) (length rows.statements)
 
--- behind the head, the lines make the table
+-- after the head, the lines make the table
 with_table : (rows : Rows) (count : ℕ) (page page_then : List ℕ) → count ≡ length rows.statements → page_then ≡ page ++ head count
     → page_then ++ lines rows ≡ page ++ verdict_table rows
 with_table rows count page page_then counted put =
@@ -30,7 +30,7 @@ pub table-poured : (rows : Rows) (count : ℕ) (held held_now : Option (List ℕ
 table-poured rows count held held_now page page_then page_now counted put pours =
     record { front = pours.front; appends = pours.appends; splits = sym (with_table rows count page page_then counted put) ∙ pours.splits }
 
--- or a front of them
+-- or a prefix of them
 pub table-begun : (rows : Rows) (count : ℕ) (held held_now : Option (List ℕ)) (page page_then : List ℕ)
     → count ≡ length rows.statements → page_then ≡ page ++ head count
     → AppendsFront held held_now (page_then ++ lines rows) → AppendsFront held held_now (page ++ verdict_table rows)

@@ -20,7 +20,7 @@ relation_text Subset = codes "SUBSET"
 relation_text Superset = codes "SUPERSET"
 relation_text Undefined = codes "UNDEFINED"
 
--- each behind a space
+-- each after a space
 abbrev pub later_texts : List Relation → List ℕ
 later_texts = flat_map (λ r. 32 ∷ relation_text r)
 

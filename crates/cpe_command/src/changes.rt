@@ -20,7 +20,7 @@ use cpe_steps::Steps;
 use std::alloc::{AllocError, Global};
 use std::sync::ledger::Ledger;
 
-/// Applies an edit, and puts the verdicts that it changes behind what is gathered; or tells why it can't be applied.
+/// Applies an edit, and puts the verdicts that it changes after what is gathered; or tells why it can't be applied.
 #[inline(never)]
 pub(crate) fn say_changes<L: Ledger>(
     alloc: Global,
@@ -71,7 +71,7 @@ fn say_applied<L: Ledger>(
     }
 }
 
-// The id of the statement that an edit drops: behind the edit the rows have it no more.
+// The id of the statement that an edit drops: after the edit the rows have it no more.
 fn copy_dropped_id(alloc: Global, edit: &Edit) -> Result<Option<Text>, AllocError>
     ensures { IfOk result (λ id. id ≡ dropped_id edit.now) }
 {

@@ -31,7 +31,7 @@ pub enum PairReason {
     Pair,
     /// No name has the text before the only space, and this is its place.
     Source(usize),
-    /// A name has the text before the space, but none has the text behind it; this is its place, counted in that text alone.
+    /// A name has the text before the space, but none has the text after it; this is its place, counted in that text alone.
     Target(usize),
 }
 
@@ -157,7 +157,7 @@ fn put_line(room: &mut [u8], at: usize, whole: Relation, each: &Relations) -> us
     put_byte(room, behind_each, b'\n')
 }
 
-// Each behind a space.
+// Each after a space.
 fn put_each(room: &mut [u8], at: usize, relations: &Relations, which: &[Attribute]) -> usize
     requires { at + WORD * length which.now ≤ length room.old }
     ensures within { result ≤ at + WORD * length which.now }

@@ -31,7 +31,7 @@ pub enum RecordCommand {
     Resolve,
     /// The verdicts of all statements are written there.
     Evaluate,
-    /// The verdicts that an edit changes are written behind it, and nothing at the end.
+    /// The verdicts that an edit changes are written after it, and nothing at the end.
     Watch,
 }
 
@@ -125,7 +125,7 @@ fn make_edit<L: Ledger>(
     }
 }
 
-// Puts the answer to a query behind what is gathered.
+// Puts the answer to a query after what is gathered.
 #[inline(never)]
 fn say_answer<L: Ledger>(
     alloc: Global,

@@ -39,10 +39,10 @@ impl Table for Lines<'_> {
     }
 }
 
-/// Puts the table of verdicts behind what is gathered, and gives full pages to the sink on the way.
+/// Puts the table of verdicts after what is gathered, and gives full pages to the sink on the way.
 ///
 /// # Errors
-/// A failed write, or want of memory. A front of the table may be written then.
+/// A failed write, or that memory ran out. A prefix of the table may be written then.
 pub(crate) fn pour_verdicts<K: Sink>(
     alloc: Global,
     engine: &Engine,

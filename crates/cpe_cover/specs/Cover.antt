@@ -10,7 +10,7 @@ use Rattle.cpe_name.specs.Lower.{lower_name}
 use Rattle.cpe_relation.specs.NameRelation.{covers}
 use Rattle.cpe_fs.specs.Grammar.{fs_text}
 
--- By the bytes of the whole strings. So `p1` comes before `p`: behind a value stands a colon, and digits are less.
+-- By the bytes of the whole strings. So `p1` comes before `p`: after a value stands a colon, and digits are less.
 unfoldable pub fs_order : Values → Values → Ordering
 fs_order a b = slice_cmp nat_cmp (fs_text a) (fs_text b)
 

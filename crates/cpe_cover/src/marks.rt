@@ -101,7 +101,7 @@ fn mark_by_place<L: Ledger>(
 /// special takes some.
 ///
 /// # Errors
-/// Want of memory alone. The bound on steps holds then, too.
+/// Only that memory ran out. The bound on steps holds then, too.
 pub(crate) fn find_matched<L: Ledger>(
     alloc: Global,
     names: &NamesInOrder<'_>,

@@ -131,8 +131,8 @@ impl Names {
     /// Adds a name in lower case. One that is there changes nothing. A name is found by its hash.
     ///
     /// # Errors
-    /// [`NamesFault::Full`] exactly where a new name would make them too many, and else too heavy; or want of memory. The names are then
-    /// as they were.
+    /// [`NamesFault::Full`] exactly where a new name would make them too many, and else too heavy; or that memory ran out. The
+    /// names are then as they were.
     pub fn add(&mut self, name: &Wfn) -> Result<(), NamesFault>
         requires { IsLower name.now }
         ensures { Adds self.old self.new name.now result }
@@ -160,7 +160,7 @@ impl Names {
     /// A name without specials is tried with the shapes of the others, the attributes at which they are ANY, and found by its hash.
     ///
     /// # Errors
-    /// Want of memory alone. The bound on steps holds then, too.
+    /// Only that memory ran out. The bound on steps holds then, too.
     pub fn reduce<L: Ledger>(
         &self,
         alloc: Global,

@@ -95,7 +95,7 @@ impl OwnNames {
     /// Puts a new name in lower case last. The name is moved.
     ///
     /// # Errors
-    /// Want of memory alone; the names are then as they were.
+    /// Only that memory ran out; the names are then as they were.
     pub(crate) fn add(&mut self, name: Wfn) -> Result<(), Memory>
         requires lower { IsLower name }
         requires fresh { list_any (same_name name) self.old ≡ false }

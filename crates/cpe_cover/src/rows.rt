@@ -125,7 +125,7 @@ fn put_staying(
 /// The names that no other of them covers, in their order.
 ///
 /// # Errors
-/// Want of memory alone.
+/// Only that memory ran out.
 pub(crate) fn find_uncovered(
     alloc: Global,
     names: &NamesInOrder<'_>,
@@ -157,7 +157,7 @@ pub(crate) fn sort(rows: &mut Vec<Spelled>)
 /// The names alone.
 ///
 /// # Errors
-/// Want of memory alone.
+/// Only that memory ran out.
 pub(crate) fn into_names(alloc: Global, rows: Vec<Spelled>) -> Result<List<Wfn>, Memory>
     ensures { IfOk result (λ names. names ≡ rows.items) }
 {

@@ -90,7 +90,7 @@ fn put_shape_at(
 /// A name of each shape that names without specials have: a handful in most lists.
 ///
 /// # Errors
-/// Want of memory alone.
+/// Only that memory ran out.
 pub(crate) fn find_shapes(alloc: Global, names: &NamesInOrder<'_>) -> Result<Vec<Wfn>, Memory>
     ensures { IfOk result (λ shapes. AreShapes names.now shapes.items) }
 {
@@ -156,7 +156,7 @@ fn finds_wider(
 /// Whether the name is one of the names with some of these shapes that is wider. It looks at no name: each is found by its hash.
 ///
 /// # Errors
-/// Want of memory alone.
+/// Only that memory ran out.
 pub(crate) fn is_under(
     alloc: Global,
     names: &NamesInOrder<'_>,

@@ -1,4 +1,4 @@
-//! The command that reduces names: each line is a name, and at the end those stand that no other covers.
+//! The command that reduces names: each line is a name, and at the end those are written that no other covers.
 #![tactic(auto)]
 
 mod reason;

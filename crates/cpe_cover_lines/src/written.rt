@@ -54,10 +54,10 @@ fn push_name_line(alloc: Global, page: &mut Page, name: &Wfn) -> Result<(), Allo
     page.push(b"\n")
 }
 
-/// Puts a line for each name behind what is gathered, and gives full pages to the sink on the way.
+/// Puts a line for each name after what is gathered, and gives full pages to the sink on the way.
 ///
 /// # Errors
-/// A failed write, or want of memory. A front of the lines may be written then.
+/// A failed write, or that memory ran out. A prefix of the lines may be written then.
 pub(crate) fn pour_names<K: Sink>(
     alloc: Global,
     names: &List<Wfn>,

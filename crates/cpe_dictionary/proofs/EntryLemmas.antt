@@ -75,7 +75,7 @@ place_by_name n ns ds h =
 pub there_by_name : (n : Values) (es : List Entry) → is_some (position (is_named n) es) ≡ list_any (is_named n) es
 there_by_name n es = ap is_some (position_from-zero (is_named n) es) ∙ placed (is_named n) 0 es
 
--- what is found stands behind a reference
+-- what is found stands after a reference
 pub behind_reference : {R : Type 0} (now : R → Details) (n : Values) (o : Option R) → option_map (λ d. entry_from (n, now d)) o ≡ option_map (with_name n) (option_map now o)
 behind_reference now n None = refl
 behind_reference now n (Some d) = refl

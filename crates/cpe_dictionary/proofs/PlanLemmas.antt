@@ -20,7 +20,7 @@ use Rattle.cpe_rows.proofs.CauseLemmas.{first_behind, first_before, cause_moves}
 use Rattle.cpe_dictionary.proofs.DictionaryLemmas.{no_entry}
 use Rattle.cpe_dictionary.proofs.SeenLemmas.{placed, position_past}
 
--- ---- one list of causes behind another
+-- ---- one list of causes after another
 
 pub behind_none : (xs ys : List (Option EditFault)) → first_some xs ≡ None → first_some ys ≡ None → first_some (xs ++ ys) ≡ None
 behind_none xs ys h k = first_behind xs ys h ∙ k

@@ -157,7 +157,7 @@ impl Dictionary<'_> {
     /// A copy of the entry of this name.
     ///
     /// # Errors
-    /// Want of memory alone.
+    /// Only that memory ran out.
     pub fn entry_of(&self, alloc: Global, name: &Wfn) -> Result<Option<Entry>, Memory>
         ensures { IfOk result (λ e. e ≡ find (is_named name.now) self.now) }
     {
@@ -171,7 +171,7 @@ impl Dictionary<'_> {
     /// entry: it looks at most once at each to whose product that of the asked name is near, and at no other.
     ///
     /// # Errors
-    /// Want of memory alone. The bound on steps holds then, too.
+    /// Only that memory ran out. The bound on steps holds then, too.
     pub fn rows_found<L: Ledger>(
         &self,
         alloc: Global,
@@ -190,7 +190,7 @@ impl Dictionary<'_> {
     /// The entries of the chain of a name, and its ends. It searches the chain alone.
     ///
     /// # Errors
-    /// Want of memory alone.
+    /// Only that memory ran out.
     pub fn chain(&self, alloc: Global, name: &Wfn) -> Result<(List<Row>, List<Wfn>), Memory>
         ensures links { IfOk result (λ r. r.0 ≡ map row_of (chain_of self.now name.now)) }
         ensures ends { IfOk result (λ r. r.1 ≡ ends self.now name.now) }
@@ -233,10 +233,10 @@ impl Dictionary<'_> {
         }
     }
 
-    /// Whether the entry of a number may be deprecated, with successors of these numbers, or with none of them be active.
+    /// Whether the entry of a number may be deprecated with successors of these numbers, or with `None` be active.
     ///
     /// # Errors
-    /// That a successor leads back to it, or that an entry would have too many ends; or want of memory.
+    /// That a successor leads back to it, or that an entry would have too many ends; or that memory ran out.
     pub(crate) fn check(&self, number: u32, next: Option<&[u32]>) -> Result<(), EditFault>
         requires { IsChange (nodes_of_entries self.now) number (option_copied next) }
         ensures ok { OnOk result (change_fault (nodes_of_entries self.now) number (option_copied next.entry) ≡ None) }

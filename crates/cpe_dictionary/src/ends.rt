@@ -17,7 +17,7 @@ impl Dictionary<'_> {
     /// The numbers of the ends of an entry, rising. It searches the entry's chain.
     ///
     /// # Errors
-    /// Want of memory alone.
+    /// Only that memory ran out.
     pub fn ends(&self, alloc: Global, name: &Wfn, number: u32) -> Result<Vec<u32>, Memory>
         requires { position (is_named name.now) self.now ≡ Some number }
         ensures numbers { IfOk result (λ ks. ks.items ≡ ends_in (nodes_of_entries self.now) number) }
@@ -35,7 +35,7 @@ impl Dictionary<'_> {
     /// would have.
     ///
     /// # Errors
-    /// Want of memory alone.
+    /// Only that memory ran out.
     pub fn ends_after(
         &self,
         alloc: Global,

@@ -123,7 +123,7 @@ impl Entries<'_> {
     /// The places of the entries that a name in lower case covers, rising, with a step for each look at a name.
     ///
     /// # Errors
-    /// Want of memory alone. The bound on steps holds then, too.
+    /// Only that memory ran out. The bound on steps holds then, too.
     pub(crate) fn covered_places<L: Ledger>(
         &self,
         alloc: Global,

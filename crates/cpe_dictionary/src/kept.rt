@@ -65,7 +65,7 @@ fn push_note(notes: &mut List<Note>, note: Option<Note>) -> Result<(), Memory>
 /// Gives an entry this deprecation, or none, and a note, if there is one, that goes last.
 ///
 /// # Errors
-/// Want of memory alone; the entry is then as it was.
+/// Only that memory ran out; the entry is then as it was.
 pub(crate) fn rewrite(
     details: &mut Details,
     deprecation: Option<Deprecation>,

@@ -39,7 +39,7 @@ impl Dictionary<'_> {
     /// active before, or deprecated.
     ///
     /// # Errors
-    /// The first fault of such a change but for the weight, or want of memory.
+    /// The first fault of such a change but for the weight, or that memory ran out.
     pub fn plan(
         &self,
         name: &Wfn,

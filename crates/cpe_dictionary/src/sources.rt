@@ -52,7 +52,7 @@ impl<'d> Dictionary<'d> {
     /// entries and the edges that lead to them.
     ///
     /// # Errors
-    /// Want of memory alone.
+    /// Only that memory ran out.
     pub fn sources(self, alloc: Global, entry: &'d Wfn, number: u32) -> Result<Sources<'d>, Memory>
         requires { position (is_named entry.now) self ≡ Some number }
         ensures { IfOk result (λ s. s ≡ (self.entry, entry.now)) }

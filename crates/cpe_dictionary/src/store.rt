@@ -42,7 +42,7 @@ impl Model for KeptDictionary {
     ghost view = { λ d. record { names = d.names; details = d.details.items; nodes = d.graph.nodes } };
 }
 
-// Lets go what stands beside a name that memory was wanting for.
+// Lets go what stands beside a name for which memory ran out.
 fn let_go(details: Details, memory: Memory) -> Memory {
     drop(details);
     memory
@@ -153,7 +153,7 @@ impl KeptDictionary {
     /// The numbers in the table of the names of the entries of these numbers.
     ///
     /// # Errors
-    /// Want of memory alone.
+    /// Only that memory ran out.
     pub fn ids_at(&self, alloc: Global, numbers: &[u32]) -> Result<Vec<NameId>, Memory>
         ensures { IfOk result (λ v. v.items ≡ filter_map (slice_get self.now.names.numbers) numbers.now) }
     {
@@ -163,7 +163,7 @@ impl KeptDictionary {
     /// Puts an active entry last whose name has this number in the table, and which no entry has. What it brings is moved.
     ///
     /// # Errors
-    /// Want of memory alone; the dictionary is then as it was.
+    /// Only that memory ran out; the dictionary is then as it was.
     pub fn add(
         &mut self,
         table: &NameTable,
@@ -198,7 +198,7 @@ impl KeptDictionary {
     /// Makes a planned change: the entry gets this deprecation, or none, and a note, if there is one, that goes last.
     ///
     /// # Errors
-    /// Want of memory alone; the dictionary is then as it was.
+    /// Only that memory ran out; the dictionary is then as it was.
     pub fn commit(
         &mut self,
         table: &NameTable,

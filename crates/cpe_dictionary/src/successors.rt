@@ -94,7 +94,7 @@ fn find_different(
 /// The numbers of the successors that a deprecation gives the entry of this name and number, where it may have them.
 ///
 /// # Errors
-/// The first fault of the deprecation, or want of memory.
+/// The first fault of the deprecation, or that memory ran out.
 pub(crate) fn find_successors(
     alloc: Global,
     dictionary: &Dictionary,

@@ -17,7 +17,7 @@ use Rattle.cpe_drill.specs.Outcome.{rows_behind, refusals, findings, for_line, s
 use Rattle.cpe_drill.specs.Summary.{summary, drill_text}
 use Rattle.cpe_drill.specs.Drill.{undrilled, drill_session, drill_transcript, LeavesRows}
 
--- the rows behind one line more
+-- the rows after one line more
 rows_more : (n : ℕ) → line_edited (rows_behind n) (Some (generated n)) ≡ rows_behind (suc n)
 unfolding rows_behind
 rows_more n = sym (folded-append line_edited no_rows (made_lines generated n) (Some (generated n) ∷ []))
@@ -26,7 +26,7 @@ rows_more n = sym (folded-append line_edited no_rows (made_lines generated n) (S
 abbrev outcome : ℕ → Drilled
 outcome n = record { engine = rows_behind n; refused = summed refusals n; found = summed findings n }
 
--- behind a text more
+-- after a text more
 abbrev with_text : Drilled → List ℕ → Drilled
 with_text d text = record {
   engine = line_edited d.engine (Some text);

@@ -18,7 +18,7 @@ use Rattle.cpe_drill.specs.Summary.{summary, drill_text}
 abbrev pub undrilled : Drilled
 undrilled = record { engine = no_rows; refused = 0; found = 0 }
 
--- behind one record more
+-- after one record more
 abbrev pub drilled : Drilled → Result Record RecordFault → Drilled
 drilled before read = record {
   engine = edited before.engine read;

@@ -4,7 +4,7 @@ use Rattle.std.specs.Prelude.{ℕ, ◌/◌, ◌%◌, ◌==◌, List, [], ◌∷�
 use Rattle.std.specs.List.{flat_map}
 use Rattle.std.specs.Fmt.{decimal}
 
--- texts one behind the other
+-- texts one after the other
 abbrev pub joined : List (List ℕ) → List ℕ
 joined = flat_map (λ text. text)
 

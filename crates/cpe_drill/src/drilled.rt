@@ -50,7 +50,7 @@ impl Drilled {
     /// Reads a text as a record, and makes its edit or answers its question.
     ///
     /// # Errors
-    /// Want of memory, or of numbers of 64 bits. All is then as it was.
+    /// That memory or numbers of 64 bits ran out. All is then as it was.
     pub fn read<L: Ledger>(
         &mut self,
         alloc: Global,

@@ -30,7 +30,7 @@ const CHECKS: usize = 63;
 /// the statement or the restoration of the first.
 ///
 /// # Errors
-/// Want of memory alone.
+/// Only that memory ran out.
 pub fn generated(alloc: Global, k: u32) -> Result<Vec<u8>, Memory>
     requires { k < MOST_LINES }
     ensures { IfOk result (λ line. line.items ≡ generated k) }
@@ -40,7 +40,7 @@ pub fn generated(alloc: Global, k: u32) -> Result<Vec<u8>, Memory>
     Ok(page.into_bytes())
 }
 
-/// Puts line `k` from 0 behind what is gathered.
+/// Puts line `k` from 0 after what is gathered.
 #[tactic(auto, unfolding(crate::specs::Generated::generated))]
 pub fn push_generated(page: &mut Page, k: usize) -> Result<(), AllocError>
     ensures { OnOk result (page.new ≡ page.old ++ generated k) }

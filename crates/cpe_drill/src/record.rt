@@ -6,7 +6,7 @@ ghost use Rattle.cpe_drill.specs.Generated.{entry_record, item_record, statement
 use cpe_session::Page;
 use std::alloc::AllocError;
 
-// Puts texts behind what is gathered, one behind the other.
+// Puts texts after what is gathered, in turn.
 fn push_all(page: &mut Page, texts: &[&[u8]]) -> Result<(), AllocError>
     ensures { OnOk result (page.new ≡ page.old ++ flat_map (λ text. text.now) texts.now) }
 {

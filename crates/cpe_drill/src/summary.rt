@@ -13,10 +13,10 @@ use std::alloc::AllocError;
 #[derive(Clone, Copy)]
 struct Line(&'static [u8], u64);
 
-/// Puts the numbers of all that came of so many records behind what is gathered.
+/// Puts the numbers of all that came of so many records after what is gathered.
 ///
 /// # Errors
-/// Want of memory alone.
+/// Only that memory ran out.
 #[tactic(auto, unfolding(crate::specs::Summary::summary))]
 pub fn push_summary(page: &mut Page, count: u32, drilled: &Drilled) -> Result<(), AllocError>
     ensures { OnOk result (page.new ≡ page.old ++ summary count drilled.now.refused drilled.now.found drilled.now.engine) }

@@ -38,7 +38,7 @@ use Rattle.kept_verdicts.specs.Kept.{AreEnds, checks_in, known_in, Stands, state
 use Rattle.cpe_engine.specs.Parts.{AreKept, AreOf, rows_in}
 use Rattle.cpe_engine.specs.declared.parts.Parts.{Parts}
 
--- where there is no cause, this isn't one, and there is none behind it
+-- where there is no cause, this isn't one, and there is none after it
 pub none_here : (b : Bool) (f : EditFault) (os : List (Option EditFault)) → first_some (when b f ∷ os) ≡ None → b ≡ false
 none_here true f os h = let wrong : ⊥ = cc in absurd wrong
 none_here false f os h = refl

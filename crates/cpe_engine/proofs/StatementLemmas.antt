@@ -46,7 +46,7 @@ few_facts statements s none =
     let sum = ap length (flat_map-append facts statements (s ∷ [])) in
     omega (arith, ltb-false (most limit.Facts) (number_of_facts (statements ++ s ∷ [])) few, sum, length_both (flat_map facts statements) (fact_names s.test ++ []), length_both (fact_names s.test) [])
 
--- a statement that is put has the verdict at the place behind all others
+-- a statement that is put has the verdict at the place after all others
 pub put_told : (rows next : Rows) (s : Statement) (place : ℕ) (truth : Option Truth) → place ≡ length rows.statements → next.statements ≡ rows.statements ++ s ∷ []
     → truth ≡ option_map (verdict next) (slice_get next.statements place) → put_by place truth ≡ change (length rows.statements) None (Some (verdict next s)) ∷ []
 put_told rows next s place truth at same is =

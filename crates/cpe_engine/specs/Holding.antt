@@ -13,7 +13,7 @@ use Rattle.cpe_engine.specs.Parts.{AreOf}
 abbrev pub AreFew : Names → ℕ → Type 0
 AreFew table n = (list : List Values) × Shows table (holds_in table) list × (length list + n ≤ 4294967295)
 
--- more names are held, and their numbers stand behind those that were there: these others, and all that is kept, stay as they were
+-- more names are held, and their numbers stand after those that were there: these others, and all that is kept, stay as they were
 pub record Grows (old new : Registered) (before now : List NameId) : Type 0 where
   pub entries : new.entries ≡ old.entries
   pub items : new.items ≡ old.items

@@ -12,7 +12,7 @@ use Rattle.cpe_rows.specs.declared.edit.Query.{Query}
 use Rattle.cpe_rows.specs.declared.edit.Query.TheVariants.{Search, Items}
 use Rattle.kept_verdicts.specs.Looks.{item_looks, lead_looks, statement_looks}
 
--- for a search as many as entries have a product to which the asked one is near, for items as many as items so, and for each other query
+-- for a search as many as entries have a product to which the asked one is near, for items as many as such items, and for each other query
 -- none
 abbrev pub looks : Rows → Query → ℕ
 looks rows (Search asked active_only) = near_count asked (map (λ (e : Entry). e.name) rows.entries)

@@ -6,6 +6,6 @@ use cpe_dictionary::Plan;
 pub(crate) struct Checked {
     /// The plan of a change of a deprecation.
     pub(crate) plan: Option<Plan>,
-    /// The weight of all rows behind it.
+    /// The weight of all rows after it.
     pub(crate) weight: u64,
 }

@@ -13,7 +13,7 @@ impl Parts {
     /// Keeps the result of a check.
     ///
     /// # Errors
-    /// Want of memory alone; all is then as it was.
+    /// Only that memory ran out; all is then as it was.
     pub(crate) fn set_check(
         &mut self,
         key: CheckKey,

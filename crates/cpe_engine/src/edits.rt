@@ -31,7 +31,7 @@ impl Parts {
     /// Gives an edit in order its numbers. A name that comes is held for it; one that has to be there is found, and let go.
     ///
     /// # Errors
-    /// That there is no such name, or want of memory. All is then as it was.
+    /// That there is no such name, or that memory ran out. All is then as it was.
     pub(crate) fn number(&mut self, alloc: Global, edit: Edit) -> Result<Numbered, EditFault>
         requires kept { AreKept self.old }
         requires valid { is_valid_edit edit ≡ true }
@@ -115,7 +115,7 @@ impl Parts {
     /// Looks at an edit, and changes nothing.
     ///
     /// # Errors
-    /// The first fault of the edit, or want of memory.
+    /// The first fault of the edit, or that memory ran out.
     pub(crate) fn check(&self, numbered: &Numbered) -> Result<Checked, EditFault>
         requires { AreBeside self.now numbered.now }
         ensures ok { IfOk result (IsChecked (rows_in self.now) (edit_in self.now numbered.now)) }
@@ -135,7 +135,7 @@ impl Parts {
     // The plan of a change of a deprecation, or none.
     //
     // # Errors
-    // The first fault of the edit but for the weight, or want of memory.
+    // The first fault of the edit but for the weight, or that memory ran out.
     fn plan(&self, numbered: &Numbered) -> Result<Option<Plan>, EditFault>
         requires { IsFound self.now.registry.table numbered.now }
         ensures planned { IfOk result (λ p. IsPlanned (rows_in self.now).entries (edit_in self.now numbered.now) p) }
@@ -160,7 +160,7 @@ impl Parts {
 // ---- weight
 
 impl Parts {
-    // The weight of all rows behind an edit that has no other fault, or the largest number where it is more.
+    // The weight of all rows after an edit that has no other fault, or the largest number where it is more.
     fn weight_after(&self, numbered: &Numbered) -> u64
         requires found { IsFound self.now.registry.table numbered.now }
         requires weight { self.now.weight ≡ weight_of (rows_in self.now) }

@@ -101,7 +101,7 @@ impl Engine {
     /// The edit is in order ([`Edit::valid`]), so the rows stay lawful ([`rows_stay_lawful`]).
     ///
     /// # Errors
-    /// The first fault of the edit in the order of [`EditFault`], or want of memory. After either the rows are as they were.
+    /// The first fault of the edit in the order of [`EditFault`], or that memory ran out. After either the rows are as they were.
     pub fn apply<L: Ledger>(
         &mut self,
         edit: Edit,
@@ -127,13 +127,13 @@ impl Engine {
 
     /// The answer to a query. That there is no entry or statement of a name or id is an answer too. The name or id is moved
     /// into it. A step is a look at a name through an index: a search takes at most as many as there are entries to whose product
-    /// the asked one is near, a query for items as many as there are items so, and each other query none. A verdict is kept, and
-    /// none is evaluated.
+    /// the asked one is near, a query for items as many as there are such items, and each other query none. A verdict is kept,
+    /// and none is evaluated.
     ///
     /// The query is in order ([`Query::valid`]).
     ///
     /// # Errors
-    /// Want of memory alone.
+    /// Only that memory ran out.
     pub fn answer<L: Ledger>(
         &self,
         alloc: Global,
@@ -223,7 +223,7 @@ impl Engine {
     }
 }
 
-// Lets the name of a query go that memory was wanting for. Under a `?` each of its eleven values would be let go in place.
+// Lets the name of a query go where memory ran out. Under a `?` each of its eleven values would be let go in place.
 fn let_go(name: Wfn, memory: Memory) -> Memory {
     drop(name);
     memory

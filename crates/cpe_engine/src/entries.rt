@@ -41,7 +41,7 @@ impl Parts {
     /// An entry that comes: its name is held.
     ///
     /// # Errors
-    /// Want of memory alone; all is then as it was.
+    /// Only that memory ran out; all is then as it was.
     pub(crate) fn number_entry(&mut self, entry: Entry) -> Result<Numbered, Memory>
         requires kept { AreKept self.old }
         requires valid { is_valid_edit (edit.Entry entry) ≡ true }
@@ -114,7 +114,7 @@ impl Parts {
     /// The plan of a change of a deprecation.
     ///
     /// # Errors
-    /// The first fault of the edit but for the weight, or want of memory.
+    /// The first fault of the edit but for the weight, or that memory ran out.
     pub(crate) fn plan_change(&self, change: &Change) -> Result<Option<Plan>, EditFault>
         requires { IsLive self.now.registry.table change.now.id.0 }
         ensures planned { IfOk result (HasPlan (rows_in self.now).entries (name_in self.now.registry.table change.now.id) (given change.now.turn)) }
@@ -153,7 +153,7 @@ impl Parts {
     /// Puts an entry last that has no fault, or lets its name go. It changes no verdict.
     ///
     /// # Errors
-    /// Want of memory alone; the rows are then as they were.
+    /// Only that memory ran out; the rows are then as they were.
     pub(crate) fn add_entry(
         &mut self,
         id: NameId,
@@ -185,7 +185,7 @@ impl Parts {
     /// Makes the planned change of a deprecation.
     ///
     /// # Errors
-    /// Want of memory alone; the rows are then as they were.
+    /// Only that memory ran out; the rows are then as they were.
     pub(crate) fn change<L: Ledger>(
         &mut self,
         alloc: Global,
@@ -283,7 +283,7 @@ impl Parts {
     }
 }
 
-// Lets go what stands beside a name that memory was wanting for.
+// Lets go what stands beside a name for which memory ran out.
 fn let_go(title: Text, provenance: Provenance, memory: Memory) -> Memory {
     drop(title);
     drop(provenance);

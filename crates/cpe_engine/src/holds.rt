@@ -25,7 +25,7 @@ use std::alloc::Global;
 /// Holds the names of all fact references of a test, in their order, and puts their numbers last.
 ///
 /// # Errors
-/// Want of memory alone. What was held by then has its number among those.
+/// Only that memory ran out. What was held by then has its number among those.
 pub(crate) fn hold_facts(
     registry: &mut Registry,
     alloc: Global,

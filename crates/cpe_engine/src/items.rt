@@ -32,7 +32,7 @@ impl Parts {
     /// An item that comes: its name is held.
     ///
     /// # Errors
-    /// Want of memory alone; all is then as it was.
+    /// Only that memory ran out; all is then as it was.
     pub(crate) fn number_item(&mut self, name: Wfn) -> Result<Numbered, Memory>
         requires kept { AreKept self.old }
         requires valid { is_valid_edit (edit.Item name) ≡ true }
@@ -74,7 +74,7 @@ impl Parts {
     /// Puts an item last that has no fault, or lets its name go.
     ///
     /// # Errors
-    /// Want of memory alone; the rows are then as they were.
+    /// Only that memory ran out; the rows are then as they were.
     pub(crate) fn add_item<L: Ledger>(
         &mut self,
         alloc: Global,
@@ -99,7 +99,7 @@ impl Parts {
         }
     }
 
-    // Puts an item last that has no fault. Its name is held still where memory is wanting.
+    // Puts an item last that has no fault. Its name is held still where memory runs out.
     fn bring_item<L: Ledger>(
         &mut self,
         alloc: Global,
@@ -131,7 +131,7 @@ impl Parts {
     /// Drops an item, which is there, and lets its name go.
     ///
     /// # Errors
-    /// Want of memory alone; all is then as it was.
+    /// Only that memory ran out; all is then as it was.
     pub(crate) fn drop_item<L: Ledger>(
         &mut self,
         alloc: Global,

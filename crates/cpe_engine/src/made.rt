@@ -33,7 +33,7 @@ impl Parts {
     /// Looks at an edit, and makes room for the changes that it makes; it changes nothing.
     ///
     /// # Errors
-    /// The first fault of the edit, or want of memory.
+    /// The first fault of the edit, or that memory ran out.
     pub(crate) fn foresee(
         &self,
         alloc: Global,
@@ -53,7 +53,7 @@ impl Parts {
     // Room for the changes that an edit makes.
     //
     // # Errors
-    // Want of memory alone.
+    // Only that memory ran out.
     fn room(&self, alloc: Global, numbered: &Numbered) -> Result<Room<Changed>, Memory>
         ensures empty { IfOk result (λ r. r.list ≡ []) }
         ensures spare { IfOk result (λ r. places (rows_in self.now) numbered.now ≤ r.spare) }
@@ -76,7 +76,7 @@ impl Parts {
     /// Makes an edit that has no fault, and answers which verdicts it changes.
     ///
     /// # Errors
-    /// Want of memory alone; the rows are then as they were.
+    /// Only that memory ran out; the rows are then as they were.
     pub(crate) fn commit<L: Ledger>(
         &mut self,
         alloc: Global,

@@ -37,7 +37,7 @@ impl Parts {
     /// A statement that comes: the names of its fact references are held. Where it has a fault nothing is held.
     ///
     /// # Errors
-    /// The first fault of the statement but for the weight, or want of memory. All is then as it was.
+    /// The first fault of the statement but for the weight, or that memory ran out. All is then as it was.
     pub(crate) fn number_statement(
         &mut self,
         alloc: Global,
@@ -114,7 +114,7 @@ impl Parts {
     /// before.
     ///
     /// # Errors
-    /// Want of memory alone; the rows are then as they were.
+    /// Only that memory ran out; the rows are then as they were.
     pub(crate) fn put_statement<L: Ledger>(
         &mut self,
         alloc: Global,
@@ -151,7 +151,7 @@ impl Parts {
     /// verdict after.
     ///
     /// # Errors
-    /// Want of memory alone; all is then as it was.
+    /// Only that memory ran out; all is then as it was.
     pub(crate) fn drop_statement<L: Ledger>(
         &mut self,
         alloc: Global,

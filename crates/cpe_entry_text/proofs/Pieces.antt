@@ -7,7 +7,7 @@ use Rattle.json.specs.Json.{Json}
 use Rattle.json.specs.Tree.{json_tokens, items_tokens}
 use Rattle.cpe_entry_text.specs.Written.{items_by}
 
--- a piece, and what was put behind it
+-- a piece, and what was put after it
 pub two : {A : Type 0} (o a b t u : List A) → t ≡ o ++ a → u ≡ t ++ b → u ≡ o ++ (a ++ b)
 two o a b t u h k = k ∙ (ap (λ z. z ++ b) h ∙ append_assoc o a b)
 

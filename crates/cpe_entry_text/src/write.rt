@@ -146,10 +146,10 @@ fn put_entry(alloc: Global, writer: &mut Writer, entry: &Entry) -> Result<(), Me
     Ok(())
 }
 
-/// Puts the JSON of an entry, as [`write_entry`] gives it, behind what a buffer holds.
+/// Puts the JSON of an entry, as [`write_entry`] gives it, after what a buffer holds.
 ///
 /// # Errors
-/// Want of memory alone; the buffer is then dropped.
+/// Only that memory ran out; the buffer is then dropped.
 #[tactic(auto, unfolding(crate::specs::Written::entry_text))]
 pub fn append_entry(alloc: Global, buffer: Vec<u8>, entry: &Entry) -> Result<Vec<u8>, Memory>
     ensures { IfOk result (λ v. v.items ≡ buffer.items ++ entry_text entry.now) }
@@ -162,7 +162,7 @@ pub fn append_entry(alloc: Global, buffer: Vec<u8>, entry: &Entry) -> Result<Vec
 /// An entry as JSON without spaces, members sorted by their keys. Names stand there as formatted strings.
 ///
 /// # Errors
-/// Want of memory alone.
+/// Only that memory ran out.
 pub fn write_entry(alloc: Global, entry: &Entry) -> Result<Vec<u8>, Memory>
     ensures { IfOk result (λ v. v.items ≡ entry_text entry.now) }
 {

@@ -100,7 +100,7 @@ text_other : (c : ℕ) (s : List ℕ) → is_star c ≡ false → text_end (c �
 unfolding text_end
 text_other c s h = chosen_no is_star (both (one is_star) led_end) (both edge_end (stem_end style.Formatted)) c s h
 
--- behind a lead a stem is scanned
+-- after a lead a stem is scanned
 led_taken : (lead : Edge) (s : List ℕ) → IsEdge lead → Begins s → text_end (edge_text lead ++ s) ≡ stem_end style.Formatted s
 unfolding text_end led_end
 led_taken edge.None s good b =

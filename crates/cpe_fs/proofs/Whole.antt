@@ -292,7 +292,7 @@ no_ending : (r : List ℕ) → eqb (length r) 0 ≡ false → ending r ≡ Err (
 no_ending [] more = absurd cc
 no_ending (c ∷ r) more = refl
 
--- behind the last field
+-- after the last field
 pub end_leaves : (s fields rest : List ℕ) → literal prefix s ≡ Ok fields → fields_end attributes fields ≡ Ok rest → eqb (length rest) 0 ≡ false → Leaves s (length rest)
 unfolding whole_end
 end_leaves s fields rest start taken more = leaves s (length rest) (rw start (ap (λ (x : Result (List ℕ) ℕ). x >>= ending) taken ∙ no_ending rest more))

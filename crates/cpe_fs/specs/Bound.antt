@@ -7,7 +7,7 @@ use Rattle.cpe_fs.specs.Grammar.{fs_text}
 abbrev pub Binds : List ℕ → List ℕ → Type 0
 Binds s text = BindsBy fs_text s text
 
--- the same string behind what stood before
+-- the same string after what stood before
 abbrev pub WritesBound : List ℕ → List ℕ → List ℕ → Type 0
 WritesBound s old new = WritesBy fs_text s old new
 

@@ -33,7 +33,7 @@ IsFs s = (name : Values) × Fs name s
 abbrev pub LeavesAt : List ℕ → ℕ → Type 0
 LeavesAt s place = Leaves IsFs s place
 
--- what a fault says of a text; want of memory comes only where some name has it
+-- what a fault says of a text; memory runs out only where some name has it
 abbrev pub Refuses : FsFault → List ℕ → Type 0
 Refuses (fault.At place) s = LeavesAt s place
 Refuses fault.Memory s = IsFs s

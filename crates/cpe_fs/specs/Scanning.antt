@@ -20,7 +20,7 @@ is_hyphen c = c == 45
 
 -- ---- texts
 
--- behind an asterisk: nothing, or what it leads
+-- after an asterisk: nothing, or what it leads
 unfoldable pub led_end : Scanner
 led_end s = choose (starts_body style.Formatted) (stem_end style.Formatted) nothing s
 

@@ -41,7 +41,7 @@ abbrev left_of : Result (List ℕ) ℕ → List ℕ
 left_of (Ok rest) = rest
 left_of (Err left) = []
 
--- what is left behind a colon and what the scanner takes
+-- what is left after a colon and what the scanner takes
 unfoldable pub behind_field : Scanner → List ℕ → List ℕ
 behind_field component s = left_of (field_end component s)
 
@@ -50,7 +50,7 @@ abbrev pub between : List ℕ → List ℕ → List ℕ
 between [] rest = []
 between (colon ∷ s) rest = take (length s - length rest) s
 
--- what the scanner takes behind a colon
+-- what the scanner takes after a colon
 unfoldable pub component_at : Scanner → List ℕ → List ℕ
 component_at component s = between s (behind_field component s)
 

@@ -14,7 +14,7 @@ use Rattle.cpe_fs.specs.SpanValues.{value_at}
 abbrev pub Says : List ℕ → List ℕ → Type 0
 Says s text = SaysBy Fs output_text s text
 
--- the same text behind what stood before
+-- the same text after what stood before
 abbrev pub Writes : List ℕ → List ℕ → List ℕ → Type 0
 Writes s old new = PutsBy Fs output_text s old new
 

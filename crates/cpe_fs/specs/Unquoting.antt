@@ -3,7 +3,7 @@
 use Rattle.std.specs.Prelude.{ℕ, ◌-◌, Bool, false, List, [], ◌∷◌, ◌++◌, length, take, codes, ◌||◌, ◌&&◌, ◌==◌, if◌then◌else◌}
 use Rattle.cpe_name.specs.declared.written.Written.{Written}
 
--- a `.` or a `-` stands in front
+-- it begins with a `.` or a `-`
 abbrev pub begins_bare : List ℕ → Bool
 begins_bare [] = false
 begins_bare (c ∷ s) = c == 46 || c == 45

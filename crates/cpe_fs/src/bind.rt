@@ -35,17 +35,17 @@ fn push_fields(out: &mut Vec<u8>, name: &Wfn, which: &[Attribute]) -> Result<(),
 /// The formatted string of a name (NIST IR 7695, 6.2.2). Each name has exactly one, and letter case is kept.
 ///
 /// # Errors
-/// Want of memory alone.
+/// Only that memory ran out.
 pub fn bind_fs(alloc: Global, name: &Wfn) -> Result<Vec<u8>, Memory>
     ensures { IfOk result (λ text. text.items ≡ fs_text name.now) }
 {
     append_fs(Vec::new(alloc), name)
 }
 
-/// Puts the formatted string of a name, as [`bind_fs`] gives it, behind what a buffer holds.
+/// Puts the formatted string of a name, as [`bind_fs`] gives it, after what a buffer holds.
 ///
 /// # Errors
-/// Want of memory alone; the buffer is then dropped.
+/// Only that memory ran out; the buffer is then dropped.
 pub fn append_fs(buffer: Vec<u8>, name: &Wfn) -> Result<Vec<u8>, Memory>
     ensures { IfOk result (λ text. text.items ≡ buffer.items ++ fs_text name.now) }
 {

@@ -50,7 +50,7 @@ fn lend_values<'a>(written: &Written<'a>) -> Option<NameRef<'a>>
 }
 
 /// The name that has this formatted string (NIST IR 7695, 6.2.3), borrowed from it where each body stands there as it
-/// is: `None` where a character stands behind a backslash, and [`unbind_fs`](crate::unbind_fs) makes that name.
+/// is: `None` where a character stands after a backslash, and [`unbind_fs`](crate::unbind_fs) makes that name.
 /// It takes no memory.
 ///
 /// # Errors

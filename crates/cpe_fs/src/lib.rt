@@ -44,8 +44,8 @@ pub const BOUND_FRAME: usize = 29;
 /// Why a text has no name.
 #[derive(Clone, Copy, Debug, PartialEq, Eq, Error)]
 pub enum FsFault {
-    /// It is the formatted string of no name. The place is the length of its longest front with which some formatted
-    /// string begins: at the byte behind it the text goes wrong, or it is cut off there.
+    /// It is the formatted string of no name. The place is the length of its longest prefix with which some formatted
+    /// string begins: at the byte after it the text goes wrong, or it is cut off there.
     #[error("no name has this text: it goes wrong at byte {0}")]
     At(usize),
     /// Memory ran out.
@@ -88,7 +88,7 @@ pub fn unbind_fs(alloc: Global, text: &[u8]) -> Result<Wfn, FsFault>
 }
 
 /// Writes the output text of the name that has this formatted string into `room`, from `at` on, and
-/// makes no name. It answers the place behind what was written; what stands from there on is not told.
+/// makes no name. It answers the place after what was written; what stands from there on is not told.
 /// It takes no memory.
 ///
 /// # Errors
@@ -138,7 +138,7 @@ pub fn one_text()
 {}
 
 /// Writes the formatted string of the name that has this text (NIST IR 7695, 5 and 6.2.2) into `room`, from `at` on,
-/// and makes no name. It answers the place behind what was written; what stands from there on is not told.
+/// and makes no name. It answers the place after what was written; what stands from there on is not told.
 /// It takes no memory. There is no answer exactly where no name has the text; the room is then as it was.
 pub fn write_bound(room: &mut [u8], at: usize, text: &[u8]) -> Option<usize>
     requires { at + length text.now + BOUND_FRAME ≤ length room.old }

@@ -1,6 +1,6 @@
 // Where the components of a formatted string lie (NIST IR 7695, 6.2). Nothing here takes memory.
 //
-// Each function takes a front of a text. It answers what is left behind it, or how many bytes are
+// Each function takes a prefix of a text. It answers what is left after it, or how many bytes are
 // left where no formatted string goes on.
 ghost use Rattle.std.specs.Prelude.{◌≡◌, ◌==◌, ◌≤◌, ◌-◌, ◌+◌, [], take, length, Ok, Err, IfOk, IfErr};
 ghost use Rattle.cpe_grammar.specs.Scanners.{Scanner, Tells, one};
@@ -14,7 +14,7 @@ use cpe_name::{Hyphen, Written, scan_language_tag};
 use cpe_text::{scan_edge, scan_stem, starts_body};
 use cpe_values::Style;
 
-// Behind an asterisk: the end of the component, or what the asterisk leads.
+// After an asterisk: the end of the component, or what the asterisk leads.
 #[tactic(auto, unfolding(crate::specs::Scanning::led_end))]
 fn scan_led(bytes: &[u8]) -> Result<&[u8], usize>
     ensures { Tells (λ rest. rest.now) result (led_end bytes.now) }
@@ -118,7 +118,7 @@ impl Component for Language {
     }
 }
 
-// A colon and a component: the component, and what is left behind it.
+// A colon and a component: the component, and what is left after it.
 #[tactic(auto, unfolding(crate::specs::Scanning::field_end, crate::specs::Spans::behind_field, crate::specs::Spans::component_at))]
 fn scan_field<C: Component>(bytes: &[u8]) -> Result<(&[u8], &[u8]), usize>
     ensures told { Tells (λ x. x.1.now) result (field_end C.end bytes.now) }

@@ -6,7 +6,7 @@ use Rattle.cpe_grammar.specs.Scanners.{Scanner}
 use Rattle.cpe_grammar.proofs.Results.{ok≢err}
 use Rattle.cpe_grammar.proofs.Scans.{Scans}
 
--- a longer front goes over the byte behind this one
+-- a longer prefix goes over the byte after this one
 longer : (front rest : List ℕ) (n : ℕ) → length front < n → n ≤ length (front ++ rest) → (d : ℕ) × (r : List ℕ) × (u : List ℕ) × (rest ≡ d ∷ r) × (take n (front ++ rest) ≡ front ++ d ∷ u)
 longer [] [] zero lt le = absurd (omega arith)
 longer [] [] (suc n) lt le = absurd (omega arith)

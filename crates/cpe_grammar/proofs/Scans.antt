@@ -7,7 +7,7 @@ use Rattle.cpe_grammar.specs.Scanners.{Scanner, both, choose, nothing, ending, o
 pub use Rattle.cpe_grammar.specs.Scanned.{Takes, Stops, Scans, Empty, OneOf, Joined, Either, FewOf, Run, Only, HeadFails}
 use Rattle.cpe_grammar.proofs.Results.{left_over, stopped, went_on, stopped_at, chosen, ok_is, err_is, ok≢err}
 
--- what follows a byte behind what was taken doesn't matter, wherever that byte stands
+-- what follows a byte after what was taken doesn't matter, wherever that byte stands
 pub looks_no_further : (p : Scanner) → ((c : List ℕ) (d : ℕ) (r t : List ℕ) → p (c ++ d ∷ r) ≡ Ok (d ∷ r) → p (c ++ d ∷ t) ≡ Ok (d ∷ t))
     → (c front : List ℕ) (d : ℕ) (r t : List ℕ) → p (c ++ (front ++ d ∷ r)) ≡ Ok (front ++ d ∷ r) → p (c ++ (front ++ d ∷ t)) ≡ Ok (front ++ d ∷ t)
 looks_no_further p looks c [] d r t e = looks c d r t e
@@ -131,13 +131,13 @@ one_looks passes (x ∷ c) d r t e =
 pub one_scans : (passes : ℕ → Bool) (sample : ℕ) → passes sample ≡ true → Scans (OneOf passes) (one passes)
 one_scans passes sample good = record { takes = one_takes passes; stops = one_stops passes sample good; looks_at_one = one_looks passes }
 
--- ---- one scanner behind another
+-- ---- one scanner after another
 
 -- two cuts make one
 pub cut_twice : (s u m v r : List ℕ) → s ≡ u ++ m → m ≡ v ++ r → s ≡ (u ++ v) ++ r
 cut_twice s u m v r first second = first ∙ ap (λ (w : List ℕ). u ++ w) second ∙ sym (append_assoc u v r)
 
--- where the front was taken before this rest, it is taken before it
+-- where the prefix was taken before this rest, it is taken before it
 pub before_rest : (p : Scanner) (s u m n : List ℕ) → p s ≡ Ok m → s ≡ u ++ m → m ≡ n → p (u ++ n) ≡ Ok n
 before_rest p s u m n e cut is = ap (λ (v : List ℕ). p (u ++ v)) (sym is) ∙ ap p (sym cut) ∙ e ∙ ap left_over is
 
@@ -322,7 +322,7 @@ up_to_halts n passes [] h = refl
 up_to_halts zero passes (c ∷ r) h = rw h refl
 up_to_halts (suc n) passes (c ∷ r) h = rw h refl
 
--- so many equal bytes are taken where no more stands behind them
+-- so many equal bytes are taken where no more stands after them
 pub up_to_taken : (k n : ℕ) (passes : ℕ → Bool) (c : ℕ) (r : List ℕ) → k ≤ n → passes c ≡ true → HeadFails passes r → up_to n passes (replicate k c ++ r) ≡ Ok r
 up_to_taken zero n passes c r le good h = up_to_halts n passes r h
 up_to_taken (suc k) zero passes c r le good h = absurd (omega arith)

@@ -1,4 +1,4 @@
--- A scanner of pieces, one behind the other, for as long as the first byte lets a piece begin.
+-- A scanner of pieces, one after the other, for as long as the first byte lets a piece begin.
 use Rattle.std.proofs.Common.{◌≡◌, ◌≢◌, ℕ, zero, suc, ◌≤◌, Bool, true, false, List, [], ◌∷◌, ◌++◌, length, Ok, Err, refl, sym, ap, ◌∙◌, inl, inr, append_assoc, arith, length-append}
 use Rattle.std.proofs.lemmas.List.{append_cancel_right}
 use Rattle.std.proofs.lemmas.Bool.{cases_Bool}
@@ -6,7 +6,7 @@ use Rattle.cpe_grammar.specs.Scanners.{Scanner, both, choose, nothing}
 use Rattle.cpe_grammar.proofs.Results.{went_on, stopped_at, ok_is, ok≢err}
 use Rattle.cpe_grammar.proofs.Scans.{Takes, Stops, Scans, looks_no_further, chosen_yes, chosen_no, cut_twice, before_rest, head_is}
 
--- what is left behind some bytes is shorter
+-- what is left after some bytes is shorter
 shorter : (s u m : List ℕ) (n : ℕ) → s ≡ u ++ m → u ≢ [] → length s ≤ suc n → length m ≤ n
 shorter s [] m n cut some le = absurd (some refl)
 shorter s (c ∷ u) m n cut some le = omega (arith, ap length cut, length-append u m)

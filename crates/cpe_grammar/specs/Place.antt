@@ -5,7 +5,7 @@ use Rattle.std.specs.Prelude.{ℕ, ◌<◌, ◌≤◌, List, ◌++◌, length, t
 abbrev pub Begins : (List ℕ → Type 0) → List ℕ → Type 0
 Begins Grammar front = (rest : List ℕ) × Grammar (front ++ rest)
 
--- the length of the longest front of the text with which a text of the grammar begins
+-- the length of the longest prefix of the text with which a text of the grammar begins
 pub record IsPlace (Grammar : List ℕ → Type 0) (text : List ℕ) (place : ℕ) : Type 0 where
   pub within : place ≤ length text
   pub begins : Begins Grammar (take place text)

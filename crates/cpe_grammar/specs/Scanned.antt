@@ -21,7 +21,7 @@ pub record Stops (L : List ℕ → Type 0) (p : Scanner) (s : List ℕ) (left : 
   pub goes_on : L (front ++ more)
   pub refused : (d : ℕ) (r t : List ℕ) → rest ≡ d ∷ r → p (front ++ d ∷ t) ≡ Err (suc (length t))
 
--- A scanner of a language. Behind what it takes it looks at one byte at most.
+-- A scanner of a language. After what it takes it looks at one byte at most.
 pub record Scans (L : List ℕ → Type 0) (p : Scanner) : Type 0 where
   pub takes : (s r : List ℕ) → p s ≡ Ok r → Takes L s r
   pub stops : (s : List ℕ) (left : ℕ) → p s ≡ Err left → Stops L p s left
@@ -53,7 +53,7 @@ pub record FewOf (n : ℕ) (passes : ℕ → Bool) (c : List ℕ) : Type 0 where
   pub few : length c ≤ n
   pub passed : IsTrue (list_all passes c)
 
--- a text of the one language, and behind it one of the other
+-- a text of the one language, and after it one of the other
 pub record Joined (L M : List ℕ → Type 0) (c : List ℕ) : Type 0 where
   pub front : List ℕ
   pub back : List ℕ

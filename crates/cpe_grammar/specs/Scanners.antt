@@ -1,5 +1,5 @@
--- Scanners, and how they are put together. A scanner takes a front of a text. It answers what is left behind
--- the front, or how many bytes are left where the text goes wrong.
+-- Scanners, and how they are put together. A scanner takes a prefix of a text. It answers what is left after
+-- the prefix, or how many bytes are left where the text goes wrong.
 use Rattle.std.specs.Prelude.{◌≡◌, ℕ, zero, suc, List, [], ◌∷◌, length, Bool, Result, Ok, Err, ◌==◌, if◌then◌else◌}
 
 abbrev pub Scanner : Type 0
@@ -16,7 +16,7 @@ abbrev pub ◌>>=◌ : Result (List ℕ) ℕ → Scanner → Result (List ℕ) �
 (Ok rest) >>= next = next rest
 (Err left) >>= next = Err left
 
--- one behind the other
+-- one after the other
 abbrev pub both : Scanner → Scanner → Scanner
 both first second s = first s >>= second
 

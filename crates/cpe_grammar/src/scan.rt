@@ -2,7 +2,7 @@
 ghost use Rattle.std.specs.Prelude.{◌≡◌, ◌≤◌, ◌==◌, ◌-◌, length, take, Ok, Err};
 ghost use Rattle.cpe_grammar.specs.Scanners.{Tells, one, literal};
 
-/// Takes the byte that is expected: tells what is left behind it, or at another byte or the end how many bytes are left.
+/// Takes the byte that is expected: tells what is left after it, or at another byte or the end how many bytes are left.
 #[inline(always)]
 pub fn scan_byte(expected: u8, bytes: &[u8]) -> Result<&[u8], usize>
     ensures { Tells (λ rest. rest.now) result (one (λ d. d == expected) bytes.now) }
@@ -13,7 +13,7 @@ pub fn scan_byte(expected: u8, bytes: &[u8]) -> Result<&[u8], usize>
     }
 }
 
-/// Takes the bytes that are expected: tells what is left behind them, or how many bytes are left where the text goes another way.
+/// Takes the bytes that are expected: tells what is left after them, or how many bytes are left where the text goes another way.
 #[inline(always)]
 #[tactic(auto, unfolding(crate::specs::Scanners::literal))]
 pub fn scan_literal<'a>(expected: &[u8], bytes: &'a [u8]) -> Result<&'a [u8], usize>
@@ -35,7 +35,7 @@ pub fn but_last(bytes: &[u8]) -> &[u8]
     &bytes[..bytes.len().saturating_sub(1)]
 }
 
-/// The front of a slice before a rest of it.
+/// The prefix of a slice before a rest of it.
 #[inline(always)]
 pub fn front_of<'a>(all: &'a [u8], rest: &[u8]) -> &'a [u8]
     ensures { result.now ≡ take (length all.now - length rest.now) all.now }

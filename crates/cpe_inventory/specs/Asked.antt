@@ -14,7 +14,7 @@ use Rattle.cpe_inventory.specs.Slots.{slot_names}
 use Rattle.cpe_inventory.specs.declared.names.Names.{Names}
 use Rattle.cpe_inventory.specs.declared.results.Results.{Results}
 
--- those in front, those behind, and then the last
+-- those of the slots before, those of the slots after, and then the last
 abbrev pub all_names : Names → List Values
 all_names n = slot_names n.table.now n.front.now ++ (slot_names n.table.now n.back.now ++ cons_option (option_copied n.last) [])
 

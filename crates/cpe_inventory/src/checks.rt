@@ -78,7 +78,7 @@ impl Checks {
     /// Keeps a result: in the place of that of the same key where there is one, and last otherwise.
     ///
     /// # Errors
-    /// Want of memory alone; the results are then as they were.
+    /// Only that memory ran out; the results are then as they were.
     pub fn set(&mut self, key: CheckKey, truth: Truth) -> Result<(), Memory>
         ensures ok { OnOk result (self.new ≡ with_check key truth self.old) }
         ensures err { OnErr result (self.new ≡ self.old) }

@@ -80,7 +80,7 @@ impl<'t> Items<'t> {
     /// at each to whose product that of the name is near, and at no other.
     ///
     /// # Errors
-    /// Want of memory alone. The bound on steps holds then, too.
+    /// Only that memory ran out. The bound on steps holds then, too.
     pub fn covered<L: Ledger>(
         &self,
         alloc: Global,

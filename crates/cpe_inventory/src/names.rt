@@ -10,14 +10,14 @@ use cpe_name::Wfn;
 use cpe_relation::covers;
 use name_index::{NameId, NameTable};
 
-/// The names of items: those of the slots in front, those of the slots behind, and then the last.
+/// The names of items: those of the slots before, those of the slots after, and then the last.
 #[derive(Clone, Copy)]
 pub struct Names<'n> {
     /// The table of the names.
     pub table: &'n NameTable,
-    /// The slots in front.
+    /// The slots before.
     pub front: &'n [Option<NameId>],
-    /// The slots behind.
+    /// The slots after.
     pub back: &'n [Option<NameId>],
     /// The last.
     pub last: Option<&'n Wfn>,

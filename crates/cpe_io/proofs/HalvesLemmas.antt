@@ -45,7 +45,7 @@ found_first bytes k is =
 pub no_space : (line : List ℕ) → IsFirstByte (is_byte 32) line None → halves line ≡ None
 no_space line none = ap only_two (found_none line none)
 
--- what stands behind the first
+-- what stands after the first
 abbrev tail : List ℕ → ℕ → List ℕ
 tail line k = take (length line - (k + 1)) (drop (k + 1) line)
 
@@ -61,7 +61,7 @@ more_spaces line k n first second =
     ap only_two (found_behind line k first ∙ ap (λ (ps : List (List ℕ)). take k line ∷ ps) (found_first (tail line k) n second))
     ∙ three_pieces (take k line) (take n (tail line k)) (drop (n + 1) (tail line k))
 
--- one with a space alone has what stands before and behind it
+-- one with a space alone has what stands before and after it
 pub one_space : (line : List ℕ) (k : ℕ) → IsFirstByte (is_byte 32) line (Some k) → IsFirstByte (is_byte 32) (tail line k) None → halves line ≡ Some (take k line, tail line k)
 one_space line k first second =
     ap only_two (found_behind line k first ∙ ap (λ (ps : List (List ℕ)). take k line ∷ ps) (found_none (tail line k) second))

@@ -12,6 +12,6 @@ only_two (one ∷ []) = None
 only_two (one ∷ two ∷ []) = Some (one, two)
 only_two (one ∷ two ∷ three ∷ more) = None
 
--- what stands before and behind the only space of a line that has exactly one
+-- what stands before and after the only space of a line that has exactly one
 abbrev pub halves : List ℕ → Option (List ℕ × List ℕ)
 halves line = only_two (slice_split is_space line)

@@ -4,7 +4,7 @@ ghost use Rattle.cpe_io.specs.Halves.{halves};
 
 use memchr::memchr;
 
-/// What stands before and behind the only space of a line that has exactly one.
+/// What stands before and after the only space of a line that has exactly one.
 pub fn cut_in_halves(line: &[u8]) -> Option<(&[u8], &[u8])>
     ensures { MatchOption result (halves line.now ≡ None) (λ both. halves line.now ≡ Some (both.0.now, both.1.now)) }
 {

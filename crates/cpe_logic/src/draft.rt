@@ -208,7 +208,7 @@ fn test_in(alloc: Global, source: &Value) -> Result<Test, RecordFault>
 ///
 /// # Errors
 /// The first of these three that fails: the fault of the member `test`; `TooDeep`; the number of the fact reference whose text no
-/// name has, and its place. Else want of memory.
+/// name has, and its place. Else that memory ran out.
 pub fn test_at(alloc: Global, source: &Value) -> Result<Test, RecordFault>
     ensures { Gives result (test_at (view source.now)) }
 {

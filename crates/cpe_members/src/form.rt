@@ -29,7 +29,7 @@ pub fn text_of(source: &Value, member: Member) -> Option<&str>
 /// A member that is a text.
 ///
 /// # Errors
-/// The fault of the member, exactly where it is absent or no text; else want of memory.
+/// The fault of the member, exactly where it is absent or no text; else that memory ran out.
 pub fn text_at(alloc: Global, source: &Value, member: Member) -> Result<Text, RecordFault>
     ensures { Gives result (text_at member (view source.now)) }
 {
@@ -42,7 +42,7 @@ pub fn text_at(alloc: Global, source: &Value, member: Member) -> Result<Text, Re
 /// The text at a key, which may be absent and is then empty.
 ///
 /// # Errors
-/// The fault of the member, exactly where something else stands there; else want of memory.
+/// The fault of the member, exactly where something else stands there; else that memory ran out.
 pub fn text_or_empty(
     alloc: Global,
     source: &Value,
@@ -128,7 +128,7 @@ pub fn list_or_empty<'v>(
 /// The next number of a count. It takes no memory.
 ///
 /// # Errors
-/// Want of memory, exactly where the count would pass 2^32 - 1: so many things are in no memory.
+/// That memory ran out, exactly where the count would pass 2^32 - 1: so many things are in no memory.
 pub fn count_on(k: u32) -> Result<u32, RecordFault>
     ensures ok { IfOk result (λ n. n ≡ k + 1) }
     ensures err { IfErr result (λ e. (e ≡ RecordFault.Memory) × (2 ^ 32 ≤ k + 1)) }

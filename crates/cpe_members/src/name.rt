@@ -32,7 +32,7 @@ fn lowered(name: Wfn) -> Wfn
 /// The name that has this text as its URI or formatted string, in lower case.
 ///
 /// # Errors
-/// The place at which the text goes wrong, with the spot, exactly where no name has it; else want of memory.
+/// The place at which the text goes wrong, with the spot, exactly where no name has it; else that memory ran out.
 pub fn read_name(alloc: Global, spot: NameSpot, text: &str) -> Result<Wfn, RecordFault>
     ensures { Gives result (read_name spot text.now) }
 {
@@ -46,7 +46,7 @@ pub fn read_name(alloc: Global, spot: NameSpot, text: &str) -> Result<Wfn, Recor
 /// The member `name`: a text, and then that of a name. The name is in lower case.
 ///
 /// # Errors
-/// The first of the two faults; else want of memory.
+/// The first of the two faults; else that memory ran out.
 #[tactic(auto, unfolding(crate::specs::Names::name_at))]
 #[inline(never)]
 pub fn name_at(alloc: Global, source: &Value) -> Result<Wfn, RecordFault>
@@ -91,7 +91,7 @@ fn names_in(alloc: Global, texts: &[Text]) -> Result<List<Wfn>, RecordFault>
 ///
 /// # Errors
 /// The fault of the member, exactly where it is no array of texts; else the first text that no name has, by its number from 1
-/// and its place; else want of memory.
+/// and its place; else that memory ran out.
 #[tactic(auto, unfolding(crate::specs::Names::successors_at))]
 pub fn successors_at(alloc: Global, source: &Value) -> Result<List<Wfn>, RecordFault>
     ensures { Gives result (successors_at (view source.now)) }

@@ -69,7 +69,7 @@ fn provenance_in(alloc: Global, source: &Value) -> Result<Provenance, RecordFaul
 /// which may be absent and is then empty. A note has a `kind`, a `date`, and perhaps a `comment`. An absent provenance is empty.
 ///
 /// # Errors
-/// The fault of the member `provenance`, exactly where the value is something else; else want of memory.
+/// The fault of the member `provenance`, exactly where the value is something else; else that memory ran out.
 pub fn provenance_or_empty(alloc: Global, source: Option<&Value>) -> Result<Provenance, RecordFault>
     ensures { Gives result (provenance_or_empty (option_map (λ v. view v.now) source.entry)) }
 {

@@ -53,7 +53,7 @@ nothing_is_said bind s never = go (bound_by bind s) refl where
   go (Some text) e = let so = says_name bind s text e in absurd (never (so.name, so.has))
   go None e = e
 
--- ---- behind what stood before
+-- ---- after what stood before
 
 -- what the code put is that to which the name that it found is bound
 module _ (bind : Values → List ℕ) (s old new put : List ℕ) (t : Written) (are : AreWritten s t) (written : new ≡ old ++ put) (is : put ≡ bind are.name) where

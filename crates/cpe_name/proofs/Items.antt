@@ -237,7 +237,7 @@ not_lone (value.Text t) good = false_from_ne_true _ (λ h. no_text_is_lone t goo
 may : (a : Attribute) (v : Value) → Suits a v → may_have a (value_text v) ≡ true
 may a v h = and_from _ _ (not_from_false _ (not_lone v (good_of a v h))) (has a v h)
 
--- ---- the text of a value in front
+-- ---- the text of a value at the start
 
 pub between_is : (u r : List ℕ) → between (u ++ r) r ≡ u
 between_is u r =
@@ -292,7 +292,7 @@ pub item_again : (a : Attribute) (v : Value) (r : List ℕ) → Suits a v → it
 unfolding item_at
 item_again a v r h = ap item_at (regroup a (value_text v) r) ∙ rw (name_again a (value_text v ++ r), value_again v r (good_of a v h), may a v h) refl
 
--- ---- what stands behind
+-- ---- what stands after
 
 skip_reads : (s : List ℕ) → (k : ℕ) × (s ≡ replicate k 32 ++ skip s)
 unfolding skip

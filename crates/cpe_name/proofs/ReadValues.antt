@@ -27,6 +27,6 @@ one_filled value us i d v new goal x u lt so_far text is made =
     let given : new ≡ put v (get_or attributes i d) (value (slot us (get_or attributes i d))) = made ∙ ap (put v (get_or attributes i d)) (is ∙ ap value text) in
     ap (filled value us (drop (i + 1) attributes)) given ∙ sym (at_drop_more (λ (rest : List Attribute). filled value us rest v) attributes i d lt) ∙ so_far
 
--- behind the last attribute nothing is left to be given
+-- after the last attribute nothing is left to be given
 pub none_left : (value : List ℕ → Value) (us : List (List ℕ)) (i : ℕ) (v goal : Values) → 11 ≤ i → i ≤ 11 → filled value us (drop i attributes) v ≡ goal → v ≡ goal
 none_left value us i v goal over within so_far = let is : i ≡ 11 = omega (arith, over, within) in subst (λ (n : ℕ). filled value us (drop n attributes) v ≡ goal) is so_far

@@ -40,7 +40,7 @@ pub data CodeCase : List ℕ → Type 0 where
   letters : (x y : ℕ) → is_letter x ≡ true → is_letter y ≡ true → CodeCase (x ∷ y ∷ [])
   digits : (x y z : ℕ) → is_digit x ≡ true → is_digit y ≡ true → is_digit z ≡ true → CodeCase (x ∷ y ∷ z ∷ [])
 
--- a region is nothing, or a code behind a hyphen
+-- a region is nothing, or a code after a hyphen
 pub data RegionCase : List ℕ → Type 0 where
   none : RegionCase []
   behind : (u : List ℕ) → CodeCase u → RegionCase (45 ∷ u)

@@ -28,7 +28,7 @@ one_left m n e = cc
 abbrev pub text_of : Result Values ℕ → Result (List ℕ) ℕ
 text_of r = result_map_both output_text (λ (place : ℕ). place) r
 
--- the same behind what stood before
+-- the same after what stood before
 abbrev pub behind : List ℕ → Result (List ℕ) ℕ → Result (List ℕ) ℕ
 behind old r = result_map_both (λ said. old ++ said) (λ (place : ℕ). place) r
 
@@ -101,7 +101,7 @@ module _ (Has : Values → List ℕ → Type 0) (whole : Scanner) (names : List 
     go (Ok name) e = absurd (ok≢err (output_text name) place (sym (ap text_of e) ∙ is))
     go (Err other) e = subst (Leaves (IsHad Has) s) (err_is other place (sym (ap text_of e) ∙ is)) (place_is s other e)
 
-  -- ---- behind what stood before
+  -- ---- after what stood before
 
   -- what was written is what is said
   pub said_is : (s : List ℕ) (name : Values) (old new : List ℕ) → Has name s → new ≡ old ++ output_text name → left_over new ≡ behind old (text_of (read_by whole names s))

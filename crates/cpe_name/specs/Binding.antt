@@ -15,7 +15,7 @@ pub record SaysBy (Has : Values → List ℕ → Type 0) (write : Values → Lis
   pub has : Has name s
   pub is : text ≡ write name
 
--- the same text behind what stood before
+-- the same text after what stood before
 pub record PutsBy (Has : Values → List ℕ → Type 0) (write : Values → List ℕ) (s old new : List ℕ) : Type 0 where
   pub name : Values
   pub has : Has name s
@@ -31,7 +31,7 @@ IsHad Has s = (name : Values) × Has name s
 abbrev pub BindsBy : (Values → List ℕ) → List ℕ → List ℕ → Type 0
 BindsBy bind = SaysBy WfnText bind
 
--- the same text behind what stood before
+-- the same text after what stood before
 abbrev pub WritesBy : (Values → List ℕ) → List ℕ → List ℕ → List ℕ → Type 0
 WritesBy bind = PutsBy WfnText bind
 

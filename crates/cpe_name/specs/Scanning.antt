@@ -41,7 +41,7 @@ abbrev pub cut : List ℕ → Result (List ℕ) ℕ → Option (List ℕ × List
 cut s (Ok rest) = Some (between s rest, rest)
 cut s (Err left) = None
 
--- the text of a value, and what is left behind it
+-- the text of a value, and what is left after it
 unfoldable pub value_at : List ℕ → Option (List ℕ × List ℕ)
 value_at s = cut s (value_end s)
 
@@ -120,7 +120,7 @@ abbrev pub left_behind : Result (List ℕ) ℕ → Option (List ℕ)
 left_behind (Ok rest) = Some rest
 left_behind (Err left) = None
 
--- what stands behind these bytes
+-- what stands after these bytes
 unfoldable pub after_at : List ℕ → List ℕ → Option (List ℕ)
 after_at cs s = left_behind (literal cs s)
 
@@ -145,7 +145,7 @@ unfoldable pub skip : List ℕ → List ℕ
 skip [] = []
 skip (c ∷ s) = if c == 32 then skip s else c ∷ s
 
--- the end of the text, or what stands behind a comma and spaces
+-- the end of the text, or what stands after a comma and spaces
 unfoldable pub next_at : List ℕ → Option (Option (List ℕ))
 next_at [] = None
 next_at (c ∷ s) = if c == 44 then Some (Some (skip s)) else (if c == 93 && length s == 0 then Some None else None)

@@ -1,5 +1,5 @@
 -- The texts of a well-formed name (NIST IR 7695, 5): some of its attributes in any order, each at most once.
--- One that is missing is ANY. Spaces stand behind commas alone.
+-- One that is missing is ANY. Spaces stand after commas alone.
 use Rattle.std.specs.Prelude.{◌≡◌, ℕ, Bool, false, ◌==◌, List, [], ◌∷◌, ◌++◌, map, replicate, codes}
 use Rattle.std.specs.List.{flat_map, list_any, IsDistinct}
 use Rattle.cpe_values.specs.declared.value.Value.TheVariants as value
@@ -56,7 +56,7 @@ pub record WfnText (w : Values) (s : List ℕ) : Type 0 where
 abbrev pub IsWfnText : List ℕ → Type 0
 IsWfnText s = (w : Values) × WfnText w s
 
--- what a refusal says of a text; want of memory comes only where some name has it
+-- what a refusal says of a text; memory runs out only where some name has it
 abbrev pub Refuses : WfnFault → List ℕ → Type 0
 Refuses fault.NotWfn s = ¬ (IsWfnText s)
 Refuses fault.Memory s = IsWfnText s

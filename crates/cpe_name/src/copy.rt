@@ -38,7 +38,7 @@ impl Wfn {
     /// The same name again.
     ///
     /// # Errors
-    /// Want of memory alone.
+    /// Only that memory ran out.
     pub fn copy(&self, alloc: Global) -> Result<Wfn, Memory>
         ensures { IfOk result (λ w. w ≡ self.now) }
     {

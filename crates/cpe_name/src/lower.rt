@@ -29,7 +29,7 @@ impl Wfn {
     /// The name with every letter in lower case.
     ///
     /// # Errors
-    /// Want of memory alone.
+    /// Only that memory ran out.
     pub fn lower(&self, alloc: Global) -> Result<Wfn, Memory>
         ensures { IfOk result (λ w. w ≡ lower_name self.now) }
     {

@@ -55,7 +55,7 @@ pub enum NameFault {
     /// The part is a text, and not `a`, `h` or `o` alone (NIST IR 7695, 5.3).
     #[error("the part is not `a`, `h` or `o`")]
     BadPart,
-    /// The language is a text, and not two or three letters, perhaps with a region behind (NIST IR 7695, 5.3).
+    /// The language is a text, and not two or three letters, perhaps with a region after them (NIST IR 7695, 5.3).
     #[error("the language is not two or three letters, perhaps with a region")]
     BadLanguage,
 }

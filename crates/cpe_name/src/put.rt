@@ -12,7 +12,7 @@ pub trait PutValue {
 
     ghost spare: { ℕ };
 
-    /// Puts the text of the value for which this stands at a place, and tells the place behind it.
+    /// Puts the text of the value for which this stands at a place, and tells the place after it.
     fn put_value(room: &mut [u8], at: usize, span: &[u8]) -> usize
         requires { at + 2 * length span.now + spare ≤ length room.old }
         ensures at { result ≤ at + 2 * length span.now + spare }
@@ -32,7 +32,7 @@ fn put_keyed<P: PutValue>(room: &mut [u8], at: usize, key: &[u8], span: &[u8]) -
     P::put_value(room, at, span)
 }
 
-/// Puts the output text of the name whose values stand there at a place, and tells the place behind it. The names of the attributes,
+/// Puts the output text of the name whose values stand there at a place, and tells the place after it. The names of the attributes,
 /// the commas and the brackets take 105 bytes.
 pub fn put_output<P: PutValue>(room: &mut [u8], at: usize, written: &Written) -> usize
     requires { at + 2 * total_length (texts written.now) + (105 + 11 * P.spare) ≤ length room.old }

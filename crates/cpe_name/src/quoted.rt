@@ -1,6 +1,6 @@
 // The text of a value in a well-formed name (NIST IR 7695, 5.3). Nothing here takes memory.
 //
-// Each function takes a front of a text. It answers what is left behind it, or how many bytes are
+// Each function takes a prefix of a text. It answers what is left after it, or how many bytes are
 // left where no value goes on.
 ghost use Rattle.cpe_grammar.specs.Scanners.{Tells};
 ghost use Rattle.cpe_name.specs.Scanning.{quoted_end, value_end};

@@ -80,7 +80,7 @@ impl ReadValue for Quoted {
     }
 }
 
-/// The name that has this text (NIST IR 7695, 5): attributes in any order, each at most once, with spaces behind
+/// The name that has this text (NIST IR 7695, 5): attributes in any order, each at most once, with spaces after
 /// commas alone; a missing one is ANY. Letter case is kept.
 ///
 /// # Errors

@@ -26,7 +26,7 @@ fn after<'a>(expected: &[u8], bytes: &'a [u8]) -> Option<&'a [u8]>
     }
 }
 
-// What is left behind the value in front.
+// What is left after the value at the start.
 #[inline(never)]
 fn behind_value(bytes: &[u8]) -> Option<&[u8]>
     ensures { option_map (λ r. r.now) result ≡ left_behind (value_end bytes.now) }
@@ -141,7 +141,7 @@ fn has_shape(which: Attribute, text: &[u8]) -> bool
     }
 }
 
-// What stands behind the name of this attribute and `=`. Each key is a constant where it is compared, so its length
+// What stands after the name of this attribute and `=`. Each key is a constant where it is compared, so its length
 // is known there.
 #[inline(always)]
 fn after_key(which: Attribute, bytes: &[u8]) -> Option<&[u8]>
@@ -162,7 +162,7 @@ fn after_key(which: Attribute, bytes: &[u8]) -> Option<&[u8]>
     }
 }
 
-// Which of these attributes stands there, and what is left behind its key.
+// Which of these attributes stands there, and what is left after its key.
 #[inline(always)]
 #[tactic(auto, unfolding(crate::specs::Scanning::name_at))]
 fn name_among<'a>(which: &[Attribute], bytes: &'a [u8]) -> Option<(Attribute, &'a [u8])>
@@ -176,7 +176,7 @@ fn name_among<'a>(which: &[Attribute], bytes: &'a [u8]) -> Option<(Attribute, &'
     None
 }
 
-// Which attribute stands there, and what is left behind its key. The likely one is tried first.
+// Which attribute stands there, and what is left after its key. The likely one is tried first.
 #[inline(always)]
 #[tactic(auto, using(crate::proofs::Items::name_found))]
 fn scan_name(likely: Attribute, bytes: &[u8]) -> Option<(Attribute, &[u8])>
@@ -188,7 +188,7 @@ fn scan_name(likely: Attribute, bytes: &[u8]) -> Option<(Attribute, &[u8])>
     name_among(&ATTRIBUTES, bytes)
 }
 
-// The attribute that mostly stands behind this one. No answer depends on it.
+// The attribute that mostly stands after this one. No answer depends on it.
 fn following(which: Attribute) -> Attribute {
     match which {
         Attribute::Part => Attribute::Vendor,
@@ -228,7 +228,7 @@ fn skip_spaces(bytes: &[u8]) -> &[u8]
     rest
 }
 
-// The end of the text, or what stands behind a comma and spaces.
+// The end of the text, or what stands after a comma and spaces.
 #[tactic(auto, unfolding(crate::specs::Scanning::next_at))]
 fn scan_next(bytes: &[u8]) -> Option<Option<&[u8]>>
     ensures { Finds (λ next. option_map (λ r. r.now) next) result (next_at bytes.now) }
@@ -313,7 +313,7 @@ fn scan_all(text: &[u8]) -> Option<Written>
 
 /// Where the values of a name lie in one of its texts (NIST IR 7695, 5). It takes no memory.
 ///
-/// The list of attributes may be empty and stand in any order, each at most once, with any number of spaces behind
+/// The list of attributes may be empty and stand in any order, each at most once, with any number of spaces after
 /// a comma and nowhere else. There is no answer exactly where no name has the text.
 pub fn scan_wfn(text: &[u8]) -> Option<Written>
     ensures found { IfSome result (AreWritten text.now) }

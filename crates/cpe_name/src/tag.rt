@@ -1,6 +1,6 @@
 // Language tags (NIST IR 7695, 5.3), which the bindings spell alike but for the hyphen. Nothing here takes memory.
 //
-// Each function takes a front of a text. It answers what is left behind it, or how many bytes are
+// Each function takes a prefix of a text. It answers what is left after it, or how many bytes are
 // left where no tag goes on.
 ghost use Rattle.std.specs.Prelude.{◌≡◌, ◌++◌, true, ℕ, Bool, List, Ok};
 ghost use Rattle.cpe_grammar.specs.Scanners.{Scanner, Tells, both, one};
@@ -77,7 +77,7 @@ pub trait Hyphen {
     fn begins_with(byte: u8) -> bool
         ensures { result ≡ begins byte };
 
-    /// Takes a hyphen: tells what is left behind it, or how many bytes are left where none goes on.
+    /// Takes a hyphen: tells what is left after it, or how many bytes are left where none goes on.
     fn scan(bytes: &[u8]) -> Result<&[u8], usize>
         ensures { Tells (λ rest. rest.now) result (end bytes.now) };
 }
@@ -102,7 +102,7 @@ fn scan_region<H: Hyphen>(bytes: &[u8]) -> Result<&[u8], usize>
 }
 
 /// Takes a language tag (NIST IR 7695, 5.3), two letters or three and then a hyphen and the code of a region, or no region: tells
-/// what is left behind it, or how many bytes are left where no tag goes on.
+/// what is left after it, or how many bytes are left where no tag goes on.
 #[tactic(auto, unfolding(crate::specs::Tags::tag_end))]
 pub fn scan_language_tag<H: Hyphen>(bytes: &[u8]) -> Result<&[u8], usize>
     ensures { Tells (λ rest. rest.now) result (tag_end H.begins H.end bytes.now) }

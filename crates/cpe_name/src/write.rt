@@ -44,7 +44,7 @@ fn push_later(out: &mut Vec<u8>, name: &Wfn, later: &[Attribute]) -> Result<(), 
 /// The text of a name: `wfn:[part="a",..,other=ANY]`, with all eleven attributes in their order and no spaces.
 ///
 /// # Errors
-/// Want of memory alone.
+/// Only that memory ran out.
 pub fn write_wfn(alloc: Global, name: &Wfn) -> Result<Vec<u8>, Memory>
     ensures { IfOk result (λ out. out.items ≡ output_text name.now) }
 {

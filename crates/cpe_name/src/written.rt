@@ -92,7 +92,7 @@ pub trait ReadValue {
     /// The value for which this stands.
     ///
     /// # Errors
-    /// Want of memory alone.
+    /// Only that memory ran out.
     fn read(&mut self, text: &[u8]) -> Result<Value, Memory>
         requires { may_stand text.now }
         ensures { IfOk result (λ found. found ≡ value text.now) };
@@ -101,7 +101,7 @@ pub trait ReadValue {
 /// The values for which these stand.
 ///
 /// # Errors
-/// Want of memory alone.
+/// Only that memory ran out.
 pub fn read_values<R: ReadValue>(reader: &mut R, written: &Written) -> Result<Values, Memory>
     requires { AllByRecursion R.may_stand (texts written.now) }
     ensures { IfOk result (λ values. values ≡ named (map R.value (texts written.now))) }

@@ -33,7 +33,7 @@ pub found_by_id : (id : List ℕ) (es : Pairs) → find (has_id id) (advisories_
 found_by_id id [] = refl
 found_by_id id (e ∷ es) = one_found id e.0 e.1 (bytes_eq id e.0) refl (find (has_id id) (advisories_in es)) (lookup (bytes_eq id) es) (found_by_id id es)
 
--- what is found stands behind a reference
+-- what is found stands after a reference
 pub behind_reference : {R : Type 0} (now : R → Terms) (id : List ℕ) (o : Option R) → option_map (λ t. advisory_from (id, now t)) o ≡ option_map (with_id id) (option_map now o)
 behind_reference now id None = refl
 behind_reference now id (Some t) = refl

@@ -80,7 +80,7 @@ abbrev pub Refuses : AdviceFault → Result AdviceRows AdviceFault → Type 0
 Refuses fault.Memory stepped = ⊤
 Refuses f stepped = stepped ≡ Err f
 
--- the new rows are the step's; after a fault, want of memory too, they are the old ones
+-- the new rows are the step's; after a fault, and where memory ran out, they are the old ones
 abbrev pub Applied : {A : Type 0} → AdviceRows → AdviceRows → AdviceEdit → Result A AdviceFault → Type 0
 Applied old new e (Ok answer) = step old e ≡ Ok new
 Applied old new e (Err f) = (new ≡ old) × Refuses f (step old e)

@@ -108,7 +108,7 @@ fn remove_grouped(alloc: Global, groups: &mut Groups, terms: Terms, id: &Text)
     drop(terms);
 }
 
-// Makes room for an advisory, and puts its id into its group. No group changes where memory is wanting.
+// Makes room for an advisory, and puts its id into its group. No group changes where memory runs out.
 fn add_to_group(
     alloc: Global,
     by_id: &mut IndexMap<Text, Terms>,
@@ -129,7 +129,7 @@ fn add_to_group(
     )
 }
 
-// Puts an advisory last. Where there is room for one more, memory isn't wanting.
+// Puts an advisory last. Where there is room for one more, memory doesn't run out.
 fn put_last(by_id: &mut IndexMap<Text, Terms>, advisory: Advisory) -> Result<(), Memory>
     requires fresh { list_any (has_id advisory.id) (advisories_in by_id.old.entries) ≡ false }
     requires lower { IsLower advisory.name }
@@ -159,7 +159,7 @@ fn take_out(by_id: &mut IndexMap<Text, Terms>, id: &Text) -> Option<Terms>
     by_id.shift_remove(id)
 }
 
-// Lets an advisory go that memory was wanting for.
+// Lets an advisory go for which memory ran out.
 fn let_go(advisory: Advisory, memory: Memory) -> Memory {
     drop(advisory);
     memory
@@ -321,7 +321,7 @@ impl Advised {
     /// first of it.
     ///
     /// # Errors
-    /// Want of memory alone; the advisories are then as they were.
+    /// Only that memory ran out; the advisories are then as they were.
     pub(crate) fn put(&mut self, advisory: Advisory) -> Result<(), Memory>
         requires fresh { list_any (has_id advisory.id) self.old ≡ false }
         requires lower { IsLower advisory.name }
@@ -339,7 +339,7 @@ impl Advised {
         }
     }
 
-    /// Takes the one of this id out, if there is one. Those behind it close up: it costs as much as they and those of its product
+    /// Takes the one of this id out, if there is one. Those after it close up: it costs as much as they and those of its product
     /// are many.
     pub(crate) fn remove(&mut self, id: &Text)
         ensures { self.new ≡ without_first (has_id id.now) self.old }
@@ -354,7 +354,7 @@ impl Advised {
     /// over those whose product isn't plain.
     ///
     /// # Errors
-    /// Want of memory alone.
+    /// Only that memory ran out.
     pub(crate) fn affecting(&self, alloc: Global, name: &Wfn) -> Result<List<Text>, Memory>
         requires { IsLower name.now }
         ensures { IfOk result (λ ids. ids ≡ ids_affecting name.now self.now) }

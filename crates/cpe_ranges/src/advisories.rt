@@ -298,7 +298,7 @@ impl Advisories {
     /// it is the first of it. It takes no step.
     ///
     /// # Errors
-    /// The first fault of the edit in the order of [`AdviceFault`], or want of memory. After either the rows are as they were.
+    /// The first fault of the edit in the order of [`AdviceFault`], or that memory ran out. After either the rows are as they were.
     pub fn apply<L: Ledger>(
         &mut self,
         edit: AdviceEdit,
@@ -322,7 +322,7 @@ impl Advisories {
     /// advisory's name is near. Which advisories affect a name is asked of the advisories themselves, which is no step.
     ///
     /// # Errors
-    /// Want of memory alone.
+    /// Only that memory ran out.
     pub fn answer<L: Ledger>(
         &self,
         alloc: Global,
@@ -367,7 +367,7 @@ impl Advisories {
     }
 }
 
-// Lets the name of a question go that memory was wanting for. Under a `?` each of its eleven values would be let go in place.
+// Lets the name of a question go where memory ran out. Under a `?` each of its eleven values would be let go in place.
 fn let_go(name: Wfn, memory: Memory) -> Memory {
     drop(name);
     memory

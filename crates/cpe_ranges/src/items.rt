@@ -44,7 +44,7 @@ impl Model for Items {
     ghost invariant = { λ i. AreOwn i.table i.names.held i.names.numbers };
 }
 
-// Puts a held number last, or lets its name go where memory is wanting.
+// Puts a held number last, or lets its name go where memory runs out.
 fn put_last(table: &mut NameTable, names: &mut ChangingNames, id: NameId) -> Result<(), Memory>
     requires own { IsNew table.old names.old.held names.old.numbers id }
     ensures own { AreOwn table.new names.new.held names.new.numbers }
@@ -138,7 +138,7 @@ impl Items {
     /// Puts an item of a new name last, which is in lower case. The name is moved.
     ///
     /// # Errors
-    /// Want of memory alone; the items are then as they were.
+    /// Only that memory ran out; the items are then as they were.
     pub(crate) fn add(&mut self, name: Wfn) -> Result<(), Memory>
         requires lower { IsLower name }
         requires fresh { list_any (is_same name) self.old ≡ false }
@@ -161,7 +161,7 @@ impl Items {
     /// at each to whose product that of the name is near, and at no other.
     ///
     /// # Errors
-    /// Want of memory alone. The bound on steps holds then, too.
+    /// Only that memory ran out. The bound on steps holds then, too.
     pub(crate) fn covered<L: Ledger>(
         &self,
         alloc: Global,

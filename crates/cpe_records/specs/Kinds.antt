@@ -40,7 +40,7 @@ mode_at d = required member.Mode (or_default Plain (λ e. option_and_then mode_o
 
 -- ---- kinds
 
--- an entry, behind its name
+-- an entry, after its name
 unfoldable pub description_in : Data → Result Description RecordFault
 description_in d = do
   title ← text_or_empty member.Title (codes "title") d
@@ -59,7 +59,7 @@ remark_in d = do
   comment ← comment_at d
   Ok (record { date = date; comment = comment })
 
--- a deprecation, behind its name
+-- a deprecation, after its name
 unfoldable pub change_in : Data → Result Change RecordFault
 change_in d = do
   kind ← word_at kind_of member.Kind d

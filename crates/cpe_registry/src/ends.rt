@@ -19,7 +19,7 @@ impl Registry {
     /// the entry's chain.
     ///
     /// # Errors
-    /// Want of memory alone.
+    /// Only that memory ran out.
     pub fn ends_of(&self, alloc: Global, id: NameId) -> Result<Vec<NameId>, Memory>
         requires { IsLive self.now.table id.0 }
         ensures live { IfOk result (λ v. AreLive self.now.table v.items) }
@@ -46,7 +46,7 @@ impl Registry {
     /// have.
     ///
     /// # Errors
-    /// Want of memory alone.
+    /// Only that memory ran out.
     pub fn ends_after(&self, alloc: Global, plan: &Plan, id: NameId) -> Result<Vec<NameId>, Memory>
         requires live { IsLive self.now.table id.0 }
         requires allowed { IsAllowed self.now.entries plan.now.number plan.now.next }
@@ -83,7 +83,7 @@ impl Registry {
     /// graph backwards, and costs these entries and the edges that lead to them.
     ///
     /// # Errors
-    /// Want of memory alone.
+    /// Only that memory ran out.
     pub fn sources_of(&self, alloc: Global, id: NameId, number: u32) -> Result<Vec<NameId>, Memory>
         requires live { IsLive self.now.table id.0 }
         requires number { position (is_named (name_in self.now.table id)) self.now.entries ≡ Some number }

@@ -2,7 +2,7 @@
 //! (NIST IR 7697, 7698), which keep numbers of it.
 //!
 //! A [`Registry`] holds a name once for each entry and each item that it is; others, an edit on its way or a statement, may hold names
-//! besides. A name is moved in and found by its hash once ([`Registry::hold`], [`Registry::find`]); what comes behind goes by its
+//! besides. A name is moved in and found by its hash once ([`Registry::hold`], [`Registry::find`]); what comes later goes by its
 //! number, where a name leads and what leads to it too ([`Registry::ends_of`], [`Registry::sources_of`]). That the table has these
 //! names and no other is one fact, `AreHeld`, which each call says how it changes.
 #![tactic(auto)]

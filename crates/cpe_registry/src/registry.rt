@@ -137,7 +137,7 @@ impl Registry {
     /// [released](Registry::release). It is moved, and found by its hash.
     ///
     /// # Errors
-    /// Want of memory alone; all is then as it was.
+    /// Only that memory ran out; all is then as it was.
     pub fn hold(&mut self, name: Wfn) -> Result<NameId, Memory>
         requires lower { IsLower name }
         requires few { (id : ℕ) → HasName self.old.table id name → (kept_at self.old.table id).holds < 4294967295 }
@@ -169,10 +169,10 @@ impl Registry {
         self.table.release(id);
     }
 
-    /// Puts an active entry last, which takes a hold of its name over. No entry has the name.
+    /// Puts an active entry last, which takes over a hold of its name. No entry has the name.
     ///
     /// # Errors
-    /// Want of memory alone; all is then as it was.
+    /// Only that memory ran out; all is then as it was.
     pub fn add_entry(
         &mut self,
         id: NameId,
@@ -196,7 +196,7 @@ impl Registry {
     /// Makes a planned change: the entry gets this deprecation, or none, and a note, if there is one, that goes last.
     ///
     /// # Errors
-    /// Want of memory alone; all is then as it was.
+    /// Only that memory ran out; all is then as it was.
     pub fn change(
         &mut self,
         plan: &Plan,
@@ -215,10 +215,10 @@ impl Registry {
         self.dictionary.commit(&self.table, plan, deprecation, note)
     }
 
-    /// Puts an item last, which takes a hold of its name over. No item has the name.
+    /// Puts an item last, which takes over a hold of its name. No item has the name.
     ///
     /// # Errors
-    /// Want of memory alone; all is then as it was.
+    /// Only that memory ran out; all is then as it was.
     pub fn add_item(&mut self, id: NameId) -> Result<(), Memory>
         requires live { IsLive self.old.table id.0 }
         requires absent { list_any (is_same (name_in self.old.table id)) self.old.items ≡ false }
@@ -234,7 +234,7 @@ impl Registry {
         self.items.push(&self.table, id)
     }
 
-    /// Takes an item out. Its hold of the name is another's then, until it is [released](Registry::release). It takes no memory.
+    /// Takes an item out. Its hold of the name is the caller's then, until it is [released](Registry::release). It takes no memory.
     pub fn drop_item(&mut self, id: NameId)
         requires live { IsLive self.old.table id.0 }
         requires has { list_any (is_same (name_in self.old.table id)) self.old.items ≡ true }

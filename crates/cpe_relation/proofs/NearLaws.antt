@@ -44,7 +44,7 @@ ends-Decides t b =
           and_from _ _ (le-leb (length b) (length t) (omega arith)) (begins_from (drop k t) b [] (rest ∙ sym (append-nil (lower b)))),
     )
 
--- the front of the text is the body exactly where the text begins with it
+-- the prefix of the text is the body exactly where the text begins with it
 pub same_front : (t b : List ℕ) → length b ≤ length t → same_lower (take (length b) t) b ≡ begins_with t b
 same_front t [] le = refl
 same_front [] (c ∷ b) le = absurd (omega (arith, le))

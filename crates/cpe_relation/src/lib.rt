@@ -15,7 +15,7 @@
 //! attributes soonest decide, and most targets are then told by one of them.
 //!
 //! [`near`] compares products alone, and more coarsely: a name covers no name to whose product its own is not near, and which
-//! products are near is found by their texts' fronts and ends.
+//! products are near is found by the prefixes and the ends of their texts.
 //!
 //! Some laws are stated as functions that do nothing: [`one_relation`], [`cover_laws`] and [`relation_laws`].
 //! What does not hold:

@@ -50,7 +50,7 @@ fn is_near(source: &Value, target: &Value) -> bool
 }
 
 /// Whether a source product is near a target product: the source is ANY; or both are NA; or the target is a plain text, and
-/// the source is the same text, or has a trail alone and its body stands at the target's front, or has a lead alone and its
+/// the source is the same text, or has a trail alone and its body stands at the target's start, or has a lead alone and its
 /// body stands at the target's end, or has both a lead and a trail. Letters are compared in lower case.
 ///
 /// Where a name [`covers`](crate::covers) another, their products are near ([`cover_laws`](crate::cover_laws)). Near is a
@@ -59,7 +59,7 @@ fn is_near(source: &Value, target: &Value) -> bool
 pub fn near(source: &Value, target: &Value) -> bool
     // By a function.
     ensures value { result ≡ near source.now target.now }
-    // By statements: something stands before the body, or behind it.
+    // By statements: something stands before the body, or after it.
     ensures table { IsTrue result ↔ Near source.now target.now }
 {
     is_near(source, target)

@@ -12,10 +12,10 @@ use cpe_values::{Memory, Value};
 use std::alloc::Global;
 
 /// The attributes in the order in which they soonest decide whether the source covers a target: those for which it has
-/// ANY come last, and of the others the part, which most names share, stands behind what tells more.
+/// ANY come last, and of the others the part, which most names share, stands after what tells more.
 ///
 /// # Errors
-/// Want of memory alone.
+/// Only that memory ran out.
 pub fn deciding_order(alloc: Global, source: &Wfn) -> Result<Vec<Attribute>, Memory>
     ensures { IfOk result (λ order. IsOrder order.items) }
 {

@@ -1,4 +1,4 @@
--- The reasons why the line of a record is refused, as they are written. Want of memory refuses no line.
+-- The reasons why the line of a record is refused, as they are written. Memory that runs out refuses no line.
 use Rattle.std.specs.Prelude.{ℕ, List, [], ◌++◌, codes}
 use Rattle.std.specs.Fmt.{decimal}
 use Rattle.cpe_rows.specs.declared.fault.EditFault.{EditFault}

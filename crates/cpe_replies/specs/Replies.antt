@@ -31,7 +31,7 @@ state_word (Deprecated kind) = kind_word kind
 unfoldable pub name_text : Values → List ℕ
 name_text name = fs_text name
 
--- a word, and a name behind it
+-- a word, and a name after it
 abbrev pub name_line : List ℕ → Values → List ℕ
 name_line word name = word ++ name_text name ++ codes "\n"
 

@@ -7,11 +7,11 @@ use cpe_rows::{Changed, Truth};
 use cpe_session::Page;
 use std::alloc::AllocError;
 
-/// Puts the line of a change behind what is gathered: the number of the line whose edit made it, the id of the statement, and its
+/// Puts the line of a change after what is gathered: the number of the line whose edit made it, the id of the statement, and its
 /// truth before and after, each a truth or `none`.
 ///
 /// # Errors
-/// Want of memory alone. What is gathered may have a front of the line then.
+/// Only that memory ran out. What is gathered may have a prefix of the line then.
 pub fn push_change(
     page: &mut Page,
     number: u64,

@@ -11,10 +11,10 @@ use cpe_rows::{Entry, Reply, State, Truth};
 use cpe_session::Page;
 use std::alloc::{AllocError, Global};
 
-/// Puts the lines of an answer behind what is gathered.
+/// Puts the lines of an answer after what is gathered.
 ///
 /// # Errors
-/// Want of memory alone. What is gathered may be lost then.
+/// Only that memory ran out. What is gathered may be lost then.
 pub fn push_reply(alloc: Global, page: &mut Page, reply: &Reply) -> Result<(), AllocError>
     ensures { OnOk result (page.new ≡ page.old ++ reply_text reply.now) }
 {
@@ -115,10 +115,10 @@ fn push_entry(alloc: Global, page: &mut Page, entry: &Entry) -> Result<(), Alloc
     page.with_bytes(alloc, |bytes| append_entry(alloc, bytes, entry))
 }
 
-/// Puts the line of a verdict behind what is gathered: the id of the statement, and its truth or `absent`.
+/// Puts the line of a verdict after what is gathered: the id of the statement, and its truth or `absent`.
 ///
 /// # Errors
-/// Want of memory alone. What is gathered may have a front of the line then.
+/// Only that memory ran out. What is gathered may have a prefix of the line then.
 pub fn push_verdict(page: &mut Page, id: &str, truth: Option<Truth>) -> Result<(), AllocError>
     ensures { OnOk result (page.new ≡ page.old ++ verdict_line id.now truth) }
 {

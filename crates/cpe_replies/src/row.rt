@@ -10,7 +10,7 @@ use cpe_rows::{Row, State};
 use cpe_session::Page;
 use std::alloc::{AllocError, Global};
 
-/// Puts the formatted string of a name behind what is gathered.
+/// Puts the formatted string of a name after what is gathered.
 #[tactic(auto, unfolding(crate::specs::Replies::name_text))]
 pub(crate) fn push_name(alloc: Global, page: &mut Page, name: &Wfn) -> Result<(), AllocError>
     ensures { OnOk result (page.new ≡ page.old ++ name_text name.now) }

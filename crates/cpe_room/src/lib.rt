@@ -3,7 +3,7 @@
 
 ghost use Rattle.std.specs.Prelude.{◌≡◌, ◌≤◌, ◌+◌, ◌++◌, ◌∷◌, [], length, take, drop};
 
-/// Puts bytes at a place, and tells the place behind them.
+/// Puts bytes at a place, and tells the place after them.
 pub fn put(room: &mut [u8], at: usize, bytes: &[u8]) -> usize
     requires { at + length bytes.now ≤ length room.old }
     ensures at { result ≡ at + length bytes.now }
@@ -16,7 +16,7 @@ pub fn put(room: &mut [u8], at: usize, bytes: &[u8]) -> usize
     end
 }
 
-/// Puts one byte at a place, and tells the place behind it.
+/// Puts one byte at a place, and tells the place after it.
 pub fn put_byte(room: &mut [u8], at: usize, byte: u8) -> usize
     requires { at + 1 ≤ length room.old }
     ensures at { result ≡ at + 1 }

@@ -95,7 +95,7 @@ module _ (es : List Entry) where
         let before = subst (Leads is_successor es (is_named s) path.3) (same_entry es named path.0 a path.1 k (sym path.2)) path.4 in
         path_leads s b (a ∷ path.3) m (k, edge, before)
 
-    -- one path behind another, by a successor of the first one's end
+    -- one path after another, by a successor of the first one's end
     leads_along : (s t : Values) (a : Entry) → Among es a → Among (successors_of a) t → leads_to es s a.name ≡ true
         → (before : List Entry) (b : Entry) → Among es b → Leads is_successor es (is_named t) before b → leads_to es s b.name ≡ true
     leads_along s t a k edge h [] b m l =

@@ -59,7 +59,7 @@ module _ {A : Type 0} where
   all_where_none_not p (x ∷ xs) h = let parts = or_parts (not (p x)) (list_any (λ x. not (p x)) xs) h in
       and_from (p x) (list_all p xs) (not-false (p x) parts.0) (all_where_none_not p xs parts.1)
 
-  -- what doesn't equal what was seen before it equals nothing behind it
+  -- what doesn't equal what was seen before it equals nothing after it
   module _ (same : A → A → Bool) (other : (a b : A) → same a b ≡ false → same b a ≡ false) where
     abbrev Apart : List A → List A → Type 0
     Apart xs seen = (a : A) → Among xs a → (c : A) → Among seen c → same a c ≡ false

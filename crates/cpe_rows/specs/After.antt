@@ -26,12 +26,12 @@ noted kind date comment v = record v { notes = v.notes ++ record { kind = kind; 
 abbrev pub deprecated : Option Deprecation → NoteKind → List ℕ → List ℕ → Entry → Entry
 deprecated d kind date comment e = record e { deprecation = d; provenance = noted kind date comment e.provenance }
 
--- the list closed up behind the first that passes, which is left out
+-- the list closed up after the first that passes, which is left out
 abbrev pub without_first : {A : Type 0} → (A → Bool) → List A → List A
 without_first passes [] = []
 without_first passes (x ∷ xs) = if passes x then xs else x ∷ without_first passes xs
 
--- the result stands where that of an equal key stood, or else behind all others
+-- the result stands where that of an equal key stood, or else after all others
 abbrev pub with_check : CheckKey → Truth → List (CheckKey × Truth) → List (CheckKey × Truth)
 with_check k t [] = (k, t) ∷ []
 with_check k t (c ∷ cs) = if has_key k c then (c.0, t) ∷ cs else c ∷ with_check k t cs

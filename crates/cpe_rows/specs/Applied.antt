@@ -11,7 +11,7 @@ abbrev pub Refuses : EditFault → Result Rows EditFault → Type 0
 Refuses Memory stepped = ⊤
 Refuses f stepped = stepped ≡ Err f
 
--- the new rows are the step's, whatever is answered beside them; after a fault, want of memory too, they are the old ones
+-- the new rows are the step's, whatever is answered beside them; after a fault, and where memory ran out, they are the old ones
 abbrev pub Applied : {A : Type 0} → Rows → Rows → Edit → Result A EditFault → Type 0
 Applied old new e (Ok answer) = step old e ≡ Ok new
 Applied old new e (Err f) = (new ≡ old) × Refuses f (step old e)

@@ -13,7 +13,7 @@ use Rattle.cpe_rows.specs.Formed.{AreFormed}
 use Rattle.cpe_rows.specs.declared.entry.Entry.{Entry}
 use Rattle.cpe_rows.specs.declared.statement.Statement.{Statement}
 
--- each is told apart from those behind it
+-- each is told apart from those after it
 abbrev pub are_different : {A : Type 0} → (A → A → Bool) → List A → Bool
 are_different same [] = true
 are_different same (x ∷ xs) = not (list_any (same x) xs) && are_different same xs

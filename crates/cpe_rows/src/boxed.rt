@@ -26,7 +26,7 @@ impl BoxedName {
     /// The name, moved to memory of its own.
     ///
     /// # Errors
-    /// Want of memory alone; the name is then dropped.
+    /// Only that memory ran out; the name is then dropped.
     pub fn new(alloc: Global, name: Wfn) -> Result<BoxedName, Memory>
         ensures { IfOk result (λ b. b ≡ name) }
     {
@@ -46,7 +46,7 @@ impl BoxedName {
     /// The same name again.
     ///
     /// # Errors
-    /// Want of memory alone.
+    /// Only that memory ran out.
     pub fn copy(&self, alloc: Global) -> Result<BoxedName, Memory>
         ensures { IfOk result (λ b. b ≡ self.now) }
     {

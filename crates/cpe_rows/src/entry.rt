@@ -79,7 +79,7 @@ impl Note {
     /// The same note again.
     ///
     /// # Errors
-    /// Want of memory alone.
+    /// Only that memory ran out.
     pub fn copy(&self, alloc: Global) -> Result<Note, Memory>
         ensures { IfOk result (λ n. n ≡ self.now) }
     {
@@ -95,7 +95,7 @@ impl Deprecation {
     /// The same deprecation again.
     ///
     /// # Errors
-    /// Want of memory alone.
+    /// Only that memory ran out.
     pub fn copy(&self, alloc: Global) -> Result<Deprecation, Memory>
         ensures { IfOk result (λ d. d ≡ self.now) }
     {
@@ -114,7 +114,7 @@ impl Provenance {
     /// The same provenance again.
     ///
     /// # Errors
-    /// Want of memory alone.
+    /// Only that memory ran out.
     pub fn copy(&self, alloc: Global) -> Result<Provenance, Memory>
         ensures { IfOk result (λ p. p ≡ self.now) }
     {
@@ -139,7 +139,7 @@ fn copy_of_notes(alloc: Global, notes: &[Note]) -> Result<List<Note>, Memory>
 /// The deprecation of an entry again, if it has one.
 ///
 /// # Errors
-/// Want of memory alone.
+/// Only that memory ran out.
 pub fn copy_of_deprecation(
     alloc: Global,
     deprecation: &Option<Deprecation>,
@@ -156,7 +156,7 @@ impl Entry {
     /// The same entry again.
     ///
     /// # Errors
-    /// Want of memory alone.
+    /// Only that memory ran out.
     pub fn copy(&self, alloc: Global) -> Result<Entry, Memory>
         ensures { IfOk result (λ e. e ≡ self.now) }
     {

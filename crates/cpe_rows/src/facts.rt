@@ -47,7 +47,7 @@ pub fn evaluate<F: Facts>(test: &Test, facts: &F) -> Truth
     }
 }
 
-/// What is known of facts and checks, where a fact has to be looked for, and that may want memory.
+/// What is known of facts and checks, where a fact has to be looked for, which may run out of memory.
 pub trait FindFacts {
     ghost fact_truth: { Self → Values → Truth };
 
@@ -56,7 +56,7 @@ pub trait FindFacts {
     /// The truth of a fact reference.
     ///
     /// # Errors
-    /// Want of memory alone.
+    /// Only that memory ran out.
     fn find_fact(&self, alloc: Global, name: &Wfn) -> Result<Truth, Memory>
         ensures { IfOk result (λ truth. truth ≡ fact_truth self.now name.now) };
 
@@ -68,7 +68,7 @@ pub trait FindFacts {
 /// The truth of a test as [`evaluate`] has it, where facts have to be looked for.
 ///
 /// # Errors
-/// Want of memory alone.
+/// Only that memory ran out.
 pub fn find_truth<F: FindFacts>(alloc: Global, test: &Test, facts: &F) -> Result<Truth, Memory>
     ensures { IfOk result (λ truth. truth ≡ test_truth (F.fact_truth facts.now) (F.check_truth facts.now) test.now) }
 {

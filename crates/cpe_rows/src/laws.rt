@@ -43,7 +43,7 @@ pub fn rows_stay_lawful()
     ensures kept { (rows next : Rows) (e : Edit) → IsAccepted rows e next → IsLawful next }
 {}
 
-/// An edit is refused for its first fault, or for want of memory, and makes the rows that it leaves where it has none.
+/// An edit is refused for its first fault, or where memory runs out, and makes the rows that it leaves where it has none.
 pub fn faults_refuse()
     ensures refused { (rows : Rows) (e : Edit) (f : EditFault) → IsCause f (first_some (faults rows e)) → Refuses f (step rows e) }
     ensures accepted { (rows : Rows) (e : Edit) → first_some (faults rows e) ≡ None → step rows e ≡ Ok (after rows e) }
@@ -55,7 +55,7 @@ pub fn causes_are_faults()
     ensures { (rows : Rows) (e : Edit) → AreWithin rows → first_some (faults rows e) ≡ first_some (causes rows e ++ heavy (after rows e) ∷ []) }
 {}
 
-/// So rows within their limits refuse an edit for its first cause, or for want of memory; behind that, where it leaves rows that
+/// So rows within their limits refuse an edit for its first cause, or where memory runs out; after that, where it leaves rows that
 /// weigh too much; and where neither is so they accept it. What is dropped makes nothing weigh more.
 pub fn causes_refuse()
     ensures refused { (rows : Rows) (e : Edit) (f : EditFault) → AreWithin rows → IsCause f (first_some (causes rows e)) → Refuses f (step rows e) }

@@ -37,7 +37,7 @@ impl<T> List<T> {
     /// least, and lists are kept by the million.
     ///
     /// # Errors
-    /// Want of memory alone.
+    /// Only that memory ran out.
     pub fn with_room(alloc: Global, count: usize) -> Result<List<T>, Memory>
         ensures { IfOk result (λ items. items ≡ []) }
     {
@@ -102,7 +102,7 @@ impl<T: Drop> List<T> {
     /// Puts the item last.
     ///
     /// # Errors
-    /// Want of memory alone; the list is then as it was, and the item is dropped.
+    /// Only that memory ran out; the list is then as it was, and the item is dropped.
     pub fn push(&mut self, item: T) -> Result<(), Memory>
         ensures ok { OnOk result (self.new ≡ self.old ++ item ∷ []) }
         ensures err { OnErr result (self.new ≡ self.old) }
@@ -116,7 +116,7 @@ impl<T: Drop> List<T> {
     /// and mostly short. Of more items the room doubles.
     ///
     /// # Errors
-    /// Want of memory alone; the list is then as it was, and the item is dropped.
+    /// Only that memory ran out; the list is then as it was, and the item is dropped.
     pub fn push_close(&mut self, item: T) -> Result<(), Memory>
         ensures ok { OnOk result (self.new ≡ self.old ++ item ∷ []) }
         ensures err { OnErr result (self.new ≡ self.old) }

@@ -31,7 +31,7 @@ impl Statement {
     /// The same statement again.
     ///
     /// # Errors
-    /// Want of memory alone.
+    /// Only that memory ran out.
     pub fn copy(&self, alloc: Global) -> Result<Statement, Memory>
         ensures { IfOk result (λ s. s ≡ self.now) }
     {

@@ -48,7 +48,7 @@ impl CheckKey {
     /// The same key again.
     ///
     /// # Errors
-    /// Want of memory alone.
+    /// Only that memory ran out.
     pub fn copy(&self, alloc: Global) -> Result<CheckKey, Memory>
         ensures { IfOk result (λ k. k ≡ self.now) }
     {
@@ -71,7 +71,7 @@ impl Test {
     /// The same test again.
     ///
     /// # Errors
-    /// Want of memory alone.
+    /// Only that memory ran out.
     pub fn copy(&self, alloc: Global) -> Result<Test, Memory>
         ensures { IfOk result (λ t. t ≡ self.now) }
     {

@@ -24,7 +24,7 @@ impl Text {
     /// The text of a string.
     ///
     /// # Errors
-    /// Want of memory alone.
+    /// Only that memory ran out.
     pub fn new(alloc: Global, text: &str) -> Result<Text, Memory>
         ensures { IfOk result (λ t. t ≡ text.now) }
     {
@@ -43,7 +43,7 @@ impl Text {
     /// The same text again.
     ///
     /// # Errors
-    /// Want of memory alone.
+    /// Only that memory ran out.
     pub fn copy(&self, alloc: Global) -> Result<Text, Memory>
         ensures { IfOk result (λ t. t ≡ self.now) }
     {

@@ -33,7 +33,7 @@ Answered-none held session first steps text number refused none counted none_ref
   spent = omega arith;
 }
 
--- behind the last line the text and the status are those of all lines, or a fault is told
+-- after the last line the text and the status are those of all lines, or a fault is told
 abbrev pub EndTold : Transcript → List ℕ → Status → Type 0
 EndTold all written status.Done = (written ≡ all.text) × (status.Done ≡ all.status)
 EndTold all written status.SomeRefused = (written ≡ all.text) × (status.SomeRefused ≡ all.status)
@@ -41,7 +41,7 @@ EndTold all written status.WriteFault = Unit {0}
 EndTold all written status.Memory = Unit {0}
 EndTold all written ending = ⊥
 
--- the session ended behind all of these lines
+-- the session ended after all of these lines
 pub record Ended {State : Type 0} (held0 held_now : Option (List ℕ)) (session : Session State) (first now : State) (steps0 steps_now : ℕ) (all whole_ones : List (Option (List ℕ))) (ending : Status) : Type 0 where
   pub written : List ℕ
   pub wrote : Appends held0 held_now written
@@ -70,7 +70,7 @@ module _ {State : Type 0} {held0 held : Option (List ℕ)} {session : Session St
     state = behind ∙ ap (λ (t : Stage State). (after_next session t line).state) answered.stage ∙ ap (λ (t : Stage State). t.state) (sym (after-append session (start first) seen (line ∷ [])));
   }
 
-  -- a flush writes a front of what is gathered
+  -- a flush writes a prefix of what is gathered
   pub Answered-poured : {held_now : Option (List ℕ)} {kept : List ℕ} → Pours held held_now text kept [] → Answered held0 held_now session first steps0 steps seen kept s
   Answered-poured {held_now = held_now} {kept = kept} pours = record {
     written = answered.written ++ pours.front;
@@ -121,7 +121,7 @@ module _ {State : Type 0} {held0 held : Option (List ℕ)} {session : Session St
         ∙ append_assoc (answered.written ++ text) (out_from session s later) end
         ∙ append_assoc answered.written text (out_from session s later ++ end)
 
-    -- a front of what is gathered, behind what is written, is a front of what all lines write
+    -- a prefix of what is gathered, after what is written, is a prefix of what all lines write
     pub begins_front : (front : List ℕ) → BeginsWith text front → BeginsWith (spoken (speech session first) all).text (answered.written ++ front)
     begins_front front begins = record {
       rest = begins.rest ++ rest;

@@ -10,7 +10,7 @@ use Rattle.cpe_session.specs.declared.status.Status.TheVariants.{Done, SomeRefus
 abbrev pub ChangesBy : {State : Type 0} → Session State → (State → Option (List ℕ) → State) → Type 0
 ChangesBy {State = State} session change = (state : State) (number : ℕ) (line : Option (List ℕ)) → state_of state (line_says session state number line) ≡ change state line
 
--- the state behind these lines, where each changes it by this function
+-- the state after these lines, where each changes it by this function
 abbrev pub folded : {State : Type 0} → (State → Option (List ℕ) → State) → State → List (Option (List ℕ)) → State
 folded change state [] = state
 folded change state (line ∷ more) = folded change (change state line) more
@@ -24,7 +24,7 @@ abbrev pub summed_by : {State : Type 0} → (State → Option (List ℕ) → Sta
 summed_by change cost state [] = 0
 summed_by change cost state (line ∷ more) = cost state line + summed_by change cost (change state line) more
 
--- the state behind some of these lines, from the first on
+-- the state after some of these lines, from the first on
 pub record FoldsPrefix {State : Type 0} (change : State → Option (List ℕ) → State) (first now : State) (all : List (Option (List ℕ))) : Type 0 where
   pub answered : List (Option (List ℕ))
   pub later : List (Option (List ℕ))

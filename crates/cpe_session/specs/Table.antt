@@ -2,7 +2,7 @@
 use Rattle.std.specs.Prelude.{ℕ, zero, suc, List, [], ◌∷◌, ◌++◌, Some}
 use Rattle.std.specs.declared.option.Option.{Option}
 
--- the first n rows, one behind the other
+-- the first n rows, one after the other
 abbrev pub rows_text : (ℕ → List ℕ) → ℕ → List ℕ
 rows_text row zero = []
 rows_text row (suc n) = rows_text row n ++ row n

@@ -4,7 +4,7 @@ ghost use Rattle.std.specs.declared.option.Option.{Option};
 ghost use Rattle.cpe_session.specs.Session.{Session, Stage, after, costs};
 ghost use Rattle.cpe_session.specs.Folding.{ChangesBy, CostsBy, folded, summed_by};
 
-/// Where each line changes the state by a function of the state and the line alone, the state behind lines is the fold of
+/// Where each line changes the state by a function of the state and the line alone, the state after lines is the fold of
 /// that function. So two sessions that change states alike come to the same state, whatever they write.
 pub fn state_is_folded<State>()
     ensures { (session : Session State) (change : State → Option (List ℕ) → State) → ChangesBy session change

@@ -20,11 +20,11 @@ use std::alloc::{AllocError, Global};
 use std::mem::replace;
 use std::sync::ledger::Ledger;
 
-/// Answers the next line of a session, which is given without the newline behind it: the page has what the line writes, and
+/// Answers the next line of a session, which is given without the newline after it: the page has what the line writes, and
 /// nothing else.
 ///
 /// # Errors
-/// Want of memory. The line has changed the state as a whole then, or not at all; the page may be lost, and no further line can be
+/// That memory ran out. The line has changed the state as a whole then, or not at all; the page may be lost, and no further line can be
 /// answered.
 pub fn answer_given<T: Speaker, L: Ledger>(
     alloc: Global,
@@ -73,7 +73,7 @@ fn without_return(piece: &[u8]) -> &[u8]
 /// refused.
 ///
 /// # Errors
-/// Want of memory. The page may be lost then.
+/// That memory ran out. The page may be lost then.
 pub fn end_given<T: Speaker, L: Ledger>(
     alloc: Global,
     speaker: &T,
@@ -94,7 +94,7 @@ pub fn end_given<T: Speaker, L: Ledger>(
     }
 }
 
-/// A page takes all that it is given, and fails only for want of memory.
+/// A page takes all that it is given, and fails only where memory runs out.
 impl Sink for Page {
     ghost held = { λ page. Some page };
 

@@ -23,7 +23,7 @@ pub trait Stateless {
     /// What a text writes, or why it is refused.
     ghost says: { Self → List ℕ → Result (List ℕ) Self.Reason };
 
-    /// Puts what a text writes behind what is gathered; or tells why it is refused, and changes nothing.
+    /// Puts what a text writes after what is gathered; or tells why it is refused, and changes nothing.
     fn say(
         &self,
         alloc: Global,

@@ -20,13 +20,13 @@ pub trait Table {
     fn len(&self) -> usize
         ensures { result ≡ count self.now };
 
-    /// Puts the text of a row behind what is gathered.
+    /// Puts the text of a row after what is gathered.
     fn put(&self, alloc: Global, k: usize, page: &mut Page) -> Result<(), AllocError>
         requires { k < count self.now }
         ensures { OnOk result (page.new ≡ page.old ++ text self.now k) };
 }
 
-/// Puts all rows of a table behind what is gathered, and gives full pages to the sink on the way.
+/// Puts all rows of a table after what is gathered, and gives full pages to the sink on the way.
 pub fn pour_table<R: Table, K: Sink>(
     alloc: Global,
     table: &R,

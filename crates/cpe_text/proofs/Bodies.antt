@@ -17,7 +17,7 @@ module _ (here : Style) where
   body_bare c [] h = rw h refl
   body_bare c (d ∷ s) h = rw h refl
 
-  -- so is one behind its backslash
+  -- so is one after its backslash
   pub body_quoted : (c : ℕ) (s : List ℕ) → is_quoted here c ≡ true → body_end here (92 ∷ c ∷ s) ≡ body_end here s
   unfolding body_end
   body_quoted c s h = rw (slash_not_bare here, h) refl
@@ -40,9 +40,9 @@ module _ (here : Style) where
   skip_same [] = refl
   skip_same (c ∷ s) = elim (cases_Bool (is_bare here c)) [ inl h ↦ rw h (skip_same s ∙ sym (body_bare c s h)) | inr h ↦ rw h refl ]
 
-  -- ---- behind a backslash
+  -- ---- after a backslash
 
-  -- behind a backslash, what may be quoted is taken
+  -- after a backslash, what may be quoted is taken
   quoted_step : (s t : List ℕ) → one (is_quoted here) s ≡ Ok t → body_end here (92 ∷ s) ≡ body_end here t
   quoted_step [] t e = absurd (ok≢err t 0 (sym e))
   quoted_step (c ∷ s) t e =
@@ -99,7 +99,7 @@ module _ (here : Style) where
 
   -- ---- a step of the loop
 
-  -- behind a character the body goes on
+  -- after a character the body goes on
   pub character_step : (s t : List ℕ) → character_end here s ≡ Ok t → body_end here s ≡ body_end here t
   unfolding character_end
   character_step [] t e = absurd (ok≢err t 0 (sym e))
@@ -124,7 +124,7 @@ module _ (here : Style) where
       let quoted : one (is_quoted here) s ≡ Err n = rw h at e in
       ap (λ (d : ℕ). body_end here (d ∷ s)) is ∙ quoted_stop s n quoted
 
-  -- what is left behind a character is shorter
+  -- what is left after a character is shorter
   pub shorter_character : (s t : List ℕ) → character_end here s ≡ Ok t → length t < length s
   unfolding character_end
   shorter_character [] t e = absurd (ok≢err t 0 (sym e))

@@ -20,7 +20,7 @@ module _ (here : Style) where
   pub bare_text : (c : ℕ) → is_bare here c ≡ true → character here c ≡ c ∷ []
   bare_text c h = rw h refl
 
-  -- any other stands behind a backslash
+  -- any other stands after a backslash
   pub quoted_text : (c : ℕ) → is_bare here c ≡ false → character here c ≡ 92 ∷ c ∷ []
   quoted_text c h = rw h refl
 

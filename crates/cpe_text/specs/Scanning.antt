@@ -9,7 +9,7 @@ pub use Rattle.cpe_values.specs.Unspelling.{is_star, is_mark, is_backslash}
 
 -- ---- bytes
 
--- what stands behind a backslash
+-- what stands after a backslash
 abbrev pub is_quoted : Style → ℕ → Bool
 is_quoted here c = is_character c && not (is_bare here c)
 
@@ -33,7 +33,7 @@ edge_end s = choose is_star (one is_star) marks_end s
 
 -- ---- bodies
 
--- a character: bare, or behind a backslash
+-- a character: bare, or after a backslash
 unfoldable pub character_end : Style → Scanner
 character_end here s = choose is_backslash (both (one is_backslash) (one (is_quoted here))) (one (is_bare here)) s
 

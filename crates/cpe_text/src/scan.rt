@@ -1,6 +1,6 @@
 // Where the lead, the body and the trail of a spelled text end. Nothing here takes memory.
 //
-// Each function takes a front of a text. It answers what is left behind it, or how many bytes are
+// Each function takes a prefix of a text. It answers what is left after it, or how many bytes are
 // left where no text goes on. They are inlined, so that the style is known where a caller names it.
 ghost use Rattle.std.specs.Prelude.{◌≡◌};
 ghost use Rattle.cpe_grammar.specs.Scanners.{Tells, one};
@@ -29,7 +29,7 @@ fn scan_marks(bytes: &[u8]) -> Result<&[u8], usize>
 }
 
 /// Takes a lead or a trail, which may be nothing (NIST IR 7695, 5.3): an asterisk, or question marks, of which there are
-/// 4,294,967,295 at most. Tells what is left behind it, or how many bytes are left at a further mark.
+/// 4,294,967,295 at most. Tells what is left after it, or how many bytes are left at a further mark.
 #[inline(always)]
 #[tactic(auto, unfolding(crate::specs::Scanning::edge_end))]
 pub fn scan_edge(bytes: &[u8]) -> Result<&[u8], usize>
@@ -108,7 +108,7 @@ pub fn starts_body(style: Style, byte: u8) -> bool
     is_bare_byte(style, byte) || byte == b'\\'
 }
 
-/// Takes a body of one character at least, and a trail (NIST IR 7695, 5.3 and 6.2): tells what is left behind them, or how many
+/// Takes a body of one character at least, and a trail (NIST IR 7695, 5.3 and 6.2): tells what is left after them, or how many
 /// bytes are left where no such text goes on.
 #[inline(always)]
 #[tactic(auto, unfolding(crate::specs::Scanning::stem_end))]

@@ -310,7 +310,7 @@ module _ (w : Values) (name : IsName w) where
     | inr some ↦ rw some (packed_uncoloned (Edition ∷ extended))
   ]
 
-  -- the components behind the first
+  -- the components after the first
   abbrev pub behind : List (List ℕ)
   behind = component w.vendor ∷ component w.product ∷ component w.version ∷ component w.update ∷ edition_component w ∷ component w.language ∷ []
 

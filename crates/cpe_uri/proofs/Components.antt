@@ -51,7 +51,7 @@ module _ (packed : Bool) where
   body_stays : (c : ℕ) → is_bare style.Formatted c ≡ true → step packed (Whole Body) c ≡ Some (Whole Body)
   body_stays c h = rw (bare_no_percent c h, h, bare_no_mark c h, bare_no_star c h, bare_character c h) refl
 
-  -- behind bare characters a body is still one
+  -- after bare characters a body is still one
   pub skip_same : (s : List ℕ) → read_from packed (Whole Body) (skip_while (is_bare style.Formatted) s) ≡ read_from packed (Whole Body) s
   skip_same [] = refl
   skip_same (c ∷ s) = elim (cases_Bool (is_bare style.Formatted c)) [
@@ -91,7 +91,7 @@ module _ (packed : Bool) where
   body_begins : (c : ℕ) → is_bare style.Formatted c ≡ true → eqb c 45 ≡ false → step packed (Whole Start) c ≡ Some (Whole Body)
   body_begins c h k = rw (bare_no_percent c h, h, bare_no_mark c h, bare_no_star c h, bare_character c h, k) refl
 
-  -- a component that begins with bare characters is a body behind them
+  -- a component that begins with bare characters is a body after them
   begun : (c : ℕ) (s : List ℕ) → begins_body c ≡ true → read_from packed (Whole Body) (skip_while (is_bare style.Formatted) s) ≡ read_from packed (Whole Start) (c ∷ s)
   begun c s h =
       let p = and_parts (is_bare style.Formatted c) (not (eqb c 45)) h in
@@ -207,14 +207,14 @@ read_more q t c u s e good low r = record {
 read_end : (q : Stage) → is_over q ≡ true → Read q []
 read_end q h = record { codes = []; spelled = refl; lower = refl; end = q; runs = refl; over = h }
 
--- or the lone hyphen in front
+-- or the lone hyphen at the start
 abbrev pub Outcome : Stage → List ℕ → Type 0
 Outcome q s = Read q s ⊎ ((is_start q ≡ true) × (s ≡ 45 ∷ []))
 
 not_lone : (q : Stage) (s : List ℕ) → is_start q ≡ false → Outcome q s → Read q s
 not_lone q s h o = elim o [ inl r ↦ r | inr lone ↦ absurd (both_ways (is_start q) h lone.0) ]
 
--- behind a hyphen it goes on as from the stage of one
+-- after a hyphen it goes on as from the stage of one
 hyphen_read : (q : Stage) (s : List ℕ) → is_start q ≡ true → Read Na s → Outcome q (45 ∷ s)
 hyphen_read Start s h r = go r.codes r.spelled r.lower r.runs where
   go : (codes : List ℕ) → Spelled codes s → map to_ascii_lowercase codes ≡ codes → run Na codes ≡ Some r.end → Outcome Start (45 ∷ s)
@@ -235,7 +235,7 @@ module _ (packed : Bool) where
     | inr tilde ↦ or_right _ _ (and_parts (eqb b 126) (not packed) tilde).0
   ]) (eq-eqb _ _ refl)
 
-  -- behind a bare byte
+  -- after a bare byte
   bare_read : (q : Stage) (b : ℕ) (s : List ℕ) (t : State) → ((p : Stage) → read_from packed (Whole p) s ≡ Ok [] → Outcome p s) → eqb b 37 ≡ false → step packed (Whole q) b ≡ Some t → read_from packed t s ≡ Ok [] → Outcome q (b ∷ s)
   bare_read q b s t again other taken e =
       let bare = chose (stands_bare packed b) (after_bare q b) t (sym (when_false (eqb b 37) (after_percent q) _ other) ∙ taken) in
@@ -251,7 +251,7 @@ module _ (packed : Bool) where
             inl (read_more q so.0 (to_ascii_lowercase b) (b ∷ []) s (next_lower q b ∙ so.1) (bare_unit b bare.0) (lower_lower b) rest)
       ]
 
-  -- ---- behind a percent sign, and behind its digits
+  -- ---- after a percent sign and its digits
 
   from_state : (t u : State) (s : List ℕ) → t ≡ u → read_from packed u s ≡ Ok [] → read_from packed t s ≡ Ok []
   from_state t u s same e = ap (λ (x : State). read_from packed x s) same ∙ e
@@ -289,7 +289,7 @@ module _ (packed : Bool) where
   form_after q h l s again hex hex2 code =
       read_more q code.stage (16 * hex_value h + hex_value l) (37 ∷ h ∷ l ∷ []) s code.goes (form_spells h l hex hex2 code.form) (coded_lower (16 * hex_value h + hex_value l) code.form) (not_lone code.stage s (later_next q code.stage (16 * hex_value h + hex_value l) code.goes) (again code.stage code.rest))
 
-  -- behind a percent form
+  -- after a percent form
   form_read : (q : Stage) (h l : ℕ) (s : List ℕ) → ((p : Stage) → read_from packed (Whole p) s ≡ Ok [] → Outcome p s) → read_from packed (Whole q) (37 ∷ h ∷ l ∷ s) ≡ Ok [] → Read q (37 ∷ h ∷ l ∷ s)
   form_read q h l s again e =
       let high = digit_read q h (l ∷ s) (percent_read q (h ∷ l ∷ s) e) in
@@ -382,7 +382,7 @@ module _ (packed : Bool) where
     | inr h ↦ h
   ]
 
-  -- behind a percent form of a code
+  -- after a percent form of a code
   form_unit : (q t : Stage) (c b h l : ℕ) (r : List ℕ) → eqb b 37 ≡ true → is_hex h ≡ true → is_hex l ≡ true → 16 * hex_value h + hex_value l ≡ c → has_percent_form c ≡ true → next q c ≡ Some t
       → read_from packed (Whole q) (b ∷ h ∷ l ∷ r) ≡ read_from packed (Whole t) r
   form_unit q t c b h l r sign hex hex2 code form e =
@@ -391,7 +391,7 @@ module _ (packed : Bool) where
       let low : step packed (Half q (hex_value h)) l ≡ Some (Whole t) = rw (hex2, code, form, e) refl in
       went packed (Whole q) (Percent q) b (h ∷ l ∷ r) percent ∙ went packed (Percent q) (Half q (hex_value h)) h (l ∷ r) high ∙ went packed (Half q (hex_value h)) (Whole t) l r low
 
-  -- a code in one of its spellings leads to the stage behind it, but for the hyphen in front
+  -- a code in one of its spellings leads to the stage after it, but for the hyphen at the start
   pub unit_read : (q t : Stage) (c : ℕ) (u r : List ℕ) → spells c u ≡ true → NoTilde u → next q c ≡ Some t → ((is_start q ≡ true) × (u ≡ 45 ∷ []) → ⊥) → read_from packed (Whole q) (u ++ r) ≡ read_from packed (Whole t) r
   unit_read q t c [] r good none e other = absurd cc
   unit_read q t c (b ∷ []) r good none e other =

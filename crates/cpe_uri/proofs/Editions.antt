@@ -83,7 +83,7 @@ packed_scans : Scans (AreFields 5) packed_end
 unfolding packed_end
 packed_scans = fields_scan 5
 
--- a field in front
+-- a field at the start
 field_text : (L : List ℕ → Type 0) (u : List ℕ) (j : Joined Field L u) → u ≡ 126 ∷ j.first.back ++ j.back
 field_text L u j = j.is ∙ ap (λ (v : List ℕ). v ++ j.back) (j.first.is ∙ ap (λ (v : List ℕ). v ++ j.first.back) (j.first.first.is ∙ ap (λ (d : ℕ). d ∷ []) (eqb-true j.first.first.byte 126 j.first.first.passed)))
 
@@ -148,7 +148,7 @@ fields_end_in w (a ∷ rest) s r h ends = subst (EndsIn true) (sym (taken_then s
 abbrev pub AreGood : Values → List Attribute → Type 0
 AreGood w which = AllByRecursion (λ a. IsValue (value_of w a)) which
 
--- a field in front is taken
+-- a field at the start is taken
 first_taken : (w : Values) (a : Attribute) (rest : List Attribute) (s r : List ℕ) (h : Fields w (a ∷ rest) s) → IsValue (value_of w a) → Ends r → text_end true (h.0 ++ (h.1 ++ r)) ≡ Ok (h.1 ++ r)
 first_taken w a rest s r h good ends = text_taken true (value_of w a) h.0 (h.1 ++ r) good h.3 (λ p. h.4) (fields_end_in w rest h.1 r h.5 ends)
 
@@ -169,7 +169,7 @@ packed_taken : (w : Values) (s r : List ℕ) → AreGood w (Edition ∷ extended
 unfolding packed_end
 packed_taken w s r good h ends = fields_taken w (Edition ∷ extended) s r good h ends
 
--- nothing packed stands there, nor behind it
+-- nothing packed stands there, nor after it
 pub bare_then : (s r : List ℕ) → begins_with_tilde s ≡ false → Ends r → begins_with_tilde (s ++ r) ≡ false
 bare_then [] [] h ends = refl
 bare_then [] (c ∷ r) h ends = rw ends refl

@@ -23,7 +23,7 @@ use Rattle.cpe_uri.proofs.ValueLemmas.{StandIn, named_back, one_name}
 pub prefix_length : (prefix : List ℕ) → str_to_ascii_lowercase prefix ≡ codes "cpe:/" → length prefix ≡ 5
 prefix_length prefix e = sym (length-map prefix _) ∙ ap length e
 
--- ---- components behind colons
+-- ---- components after colons
 
 behind_tail : (cs : List (List ℕ)) → behind_colon (tail_of cs) ≡ first_of cs ++ tail_of (behind_first cs)
 behind_tail [] = refl

@@ -105,7 +105,7 @@ nothing_requoted : (quoted : Bool) → requoted quoted [] ≡ []
 unfolding requoted
 nothing_requoted quoted = refl
 
--- nothing is left behind the last byte
+-- nothing is left after the last byte
 pub requoted_done : (quoted : Bool) (s new : List ℕ) → length s ≡ 0 → new ++ requoted quoted s ≡ new
 requoted_done quoted s new none =
     ap (λ (u : List ℕ). new ++ requoted quoted u) (nil_from_length s none) ∙ ap (λ (u : List ℕ). new ++ u) (nothing_requoted quoted) ∙ append-nil new

@@ -26,7 +26,7 @@ bare_rewritten b [] h = sym (append-nil (bare_text b))
 bare_rewritten b (d ∷ []) h = refl
 bare_rewritten b (d ∷ e ∷ s) h = rw h refl
 
--- and so is a percent sign without two bytes behind it
+-- and so is a percent sign without two bytes after it
 pub bare_at : (s : List ℕ) → 1 ≤ length s → eqb (slice_index s 0) 37 ≡ false → rewritten s ≡ bare_text (slice_index s 0) ++ rewritten (take (length s - 1) (drop 1 s))
 bare_at [] some h = absurd (omega (arith, some))
 bare_at (c ∷ s) some h =
@@ -51,7 +51,7 @@ digits_rewritten (d ∷ e ∷ s) h =
     let all : take (length (d ∷ e ∷ s) - 2) s ≡ s = take_all (length (d ∷ e ∷ s) - 2) s (omega arith) in
     percent_rewritten d e s ∙ ap (λ (u : List ℕ). code_text (code_of d e) ++ rewritten u) (sym all)
 
--- what is put of the front of a text, before what is left of it
+-- what is put of the prefix of a text, before what is left of it
 pub put_front : (now old front left text : List ℕ) → now ≡ old ++ front → text ≡ front ++ left → now ++ left ≡ old ++ text
 put_front now old front left text put is = ap (λ (u : List ℕ). u ++ left) put ∙ append_assoc old front left ∙ ap (λ (u : List ℕ). old ++ u) (sym is)
 

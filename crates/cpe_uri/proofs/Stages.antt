@@ -181,7 +181,7 @@ text_of cs rest lead r good is some other = record {
   is = is ∙ ap (λ (u : List ℕ). edge_codes lead ++ u) r.is ∙ sym (append_assoc (edge_codes lead) r.body (edge_codes r.trail));
 }
 
--- a hyphen in front, and something behind it
+-- a hyphen at the start, and something after it
 hyphen_text : (cs : List ℕ) (end : Stage) → run Hyphen cs ≡ Some end → is_over end ≡ true → TextOf (45 ∷ cs)
 hyphen_text [] end e over = let is : Hyphen ≡ end = stage_is Hyphen end e in absurd (both_ways (is_over end) (ap is_over (sym is)) over)
 hyphen_text (c ∷ cs) end e over =

@@ -59,7 +59,7 @@ module _ (packed : Bool) where
     go (Some t) is = (t, is, rw is at e)
     go None is = absurd (no_stage_is end (rw is at e))
 
-  -- a text, cut behind the spelling of its first code
+  -- a text, cut after the spelling of its first code
   cut_behind : (c : ℕ) (cs s r : List ℕ) (h : Spelled (c ∷ cs) s) → NoTilde packed s → (s ++ r ≡ h.0 ++ (h.1 ++ r)) × NoTilde packed h.0 × NoTilde packed h.1
   cut_behind c cs s r h none =
       (ap (λ (w : List ℕ). w ++ r) h.2 ∙ append_assoc h.0 h.1 r, λ is. (all_parts h.0 h.1 (ap no_tilde (sym h.2) ∙ none is)).0, λ is. (all_parts h.0 h.1 (ap no_tilde (sym h.2) ∙ none is)).1)
@@ -75,7 +75,7 @@ module _ (packed : Bool) where
       ∙ unit_read packed q so.0 c u (v ++ r) spelled.3 cut.1 so.1 (λ lone. both_ways (is_start q) later lone.0)
       ∙ rest_read so.0 cs v r end (later_next q so.0 c so.1) spelled.4 cut.2 so.2
 
-  -- a hyphen that stands bare in front, and something behind it
+  -- a hyphen that stands bare at the start, and something after it
   hyphen_read : (cs s r : List ℕ) (end : Stage) → Spelled cs s → NoTilde packed s → run Hyphen cs ≡ Some end → is_over end ≡ true → read_from packed (Whole Na) (s ++ r) ≡ read_from packed (Whole end) r
   hyphen_read [] s r end spelled none e over = let is : Hyphen ≡ end = stage_is Hyphen end e in absurd (both_ways (is_over end) (ap is_over (sym is)) over)
   hyphen_read (c ∷ cs) s r end spelled none e over = rest_read Na (c ∷ cs) s r end refl spelled none e

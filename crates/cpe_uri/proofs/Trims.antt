@@ -48,7 +48,7 @@ trimmed_stays [] h = refl
 trimmed_stays (d ∷ []) h = rw (other_last d [] h) refl
 trimmed_stays (d ∷ e ∷ s) h = rw (other_last d (e ∷ s) h) (ap (λ (u : List ℕ). d ∷ u) (trimmed_stays (e ∷ s) h))
 
--- ---- fronts of a text
+-- ---- prefixes of a text
 
 take_front : (n : ℕ) (s : List ℕ) → n ≤ length s → take (length (take n s) - 1) (take n s) ≡ take (n - 1) s
 take_front zero s h = refl
@@ -64,7 +64,7 @@ take_front (suc (suc n)) (c ∷ d ∷ s) h =
 pub trimmed_one : (s : List ℕ) (n : ℕ) → n ≤ length s → ends_in_colon (take n s) ≡ true → trimmed 58 (take (n - 1) s) ≡ trimmed 58 (take n s)
 trimmed_one s n h e = ap (trimmed 58) (sym (take_front n s h)) ∙ trimmed_front (take n s) e
 
--- the last byte of a front is that before its end
+-- the last byte of a prefix is that before its end
 pub last_is : (s : List ℕ) (n : ℕ) → 0 < n → n ≤ length s → nat_eq (get_or s (n - 1) 0) 58 ≡ ends_in_colon (take n s)
 last_is s zero h k = absurd (omega arith)
 last_is [] (suc n) h k = absurd (omega arith)
@@ -74,13 +74,13 @@ last_is (c ∷ d ∷ s) (suc (suc n)) h k =
     let one : suc (suc n) - 1 ≡ suc (suc n - 1) = omega arith in
     rw one (last_is (d ∷ s) (suc n) (omega arith) (omega arith))
 
--- ---- behind what stood before
+-- ---- after what stood before
 
 some_behind : (c : ℕ) (p s : List ℕ) → list_all (nat_eq c) s ≡ false → list_all (nat_eq c) (p ++ s) ≡ false
 some_behind c [] s h = h
 some_behind c (b ∷ p) s h = rw (some_behind c p s h) (and_false (nat_eq c b))
 
--- what stood before stays, as not all behind it is colons
+-- what stood before stays, as not all after it is colons
 pub trimmed_behind : (p s : List ℕ) → list_all (nat_eq 58) s ≡ false → trimmed 58 (p ++ s) ≡ p ++ trimmed 58 s
 trimmed_behind [] s h = refl
 trimmed_behind (b ∷ p) s h = let more : list_all (nat_eq 58) (b ∷ (p ++ s)) ≡ false = some_behind 58 (b ∷ p) s h in rw more (ap (λ (u : List ℕ). b ∷ u) (trimmed_behind p s h))

@@ -68,9 +68,9 @@ empty_slot TargetSw = empty_text true [] refl
 empty_slot TargetHw = empty_text true [] refl
 empty_slot Other = empty_text true [] refl
 
--- ---- components one behind the other: one of an attribute only where those before it stand there
+-- ---- components one after the other: one of an attribute only where those before it stand there
 
--- as many of these components as there are, each behind a colon
+-- as many of these components as there are, each after a colon
 abbrev pub Tail : List Attribute → List (List ℕ) → List ℕ → Type 0
 Tail which [] s = s ≡ []
 Tail [] (c ∷ cs) s = ⊥
@@ -125,7 +125,7 @@ at_once (a ∷ rest) s = go (later_end (component_end a) s) (λ r. at_once rest 
 
 -- ---- what stands there
 
--- the first, and those behind it; what is missing is empty
+-- the first, and those after it; what is missing is empty
 abbrev pub first_of : List (List ℕ) → List ℕ
 first_of [] = []
 first_of (c ∷ cs) = c

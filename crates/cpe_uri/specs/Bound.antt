@@ -7,7 +7,7 @@ use Rattle.cpe_uri.specs.Canon.{canon}
 abbrev pub BindsUri : List ℕ → List ℕ → Type 0
 BindsUri s text = BindsBy canon s text
 
--- the same URI behind what stood before
+-- the same URI after what stood before
 abbrev pub WritesUri : List ℕ → List ℕ → List ℕ → Type 0
 WritesUri s old new = WritesBy canon s old new
 

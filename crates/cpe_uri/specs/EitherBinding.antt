@@ -31,7 +31,7 @@ IsUriOrFs s = (w : Values) × UriOrFs w s
 abbrev pub LeavesUriOrFs : List ℕ → ℕ → Type 0
 LeavesUriOrFs s place = MatchBool (begins_as_uri s) (LeavesUri s place) (LeavesAt s place)
 
--- what a fault says of a text; want of memory comes only where some name has it
+-- what a fault says of a text; memory runs out only where some name has it
 abbrev pub RefusesUriOrFs : UriFault → List ℕ → Type 0
 RefusesUriOrFs (fault.At place) s = LeavesUriOrFs s place
 RefusesUriOrFs fault.Memory s = IsUriOrFs s
@@ -45,7 +45,7 @@ same_fault fs_fault.Memory = fault.Memory
 abbrev pub SaysAny : List ℕ → List ℕ → Type 0
 SaysAny s text = SaysBy UriOrFs output_text s text
 
--- the same text behind what stood before
+-- the same text after what stood before
 abbrev pub WritesAny : List ℕ → List ℕ → List ℕ → Type 0
 WritesAny s old new = PutsBy UriOrFs output_text s old new
 
@@ -57,7 +57,7 @@ read_any s = if begins_as_uri s then read_uri s else read_fs s
 unfoldable pub unbound_any : List ℕ → Result (List ℕ) ℕ
 unbound_any s = result_map_both output_text (λ (place : ℕ). place) (read_any s)
 
--- what a fault says of what is read; want of memory says nothing
+-- what a fault says of what is read; that memory ran out says nothing
 abbrev pub SaysFault : UriFault → Result Values ℕ → Type 0
 SaysFault (fault.At place) read = read ≡ Err place
 SaysFault fault.Memory read = Unit {0}

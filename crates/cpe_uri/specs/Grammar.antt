@@ -69,7 +69,7 @@ IsUri s = (w : Values) × Uri w s
 abbrev pub LeavesUri : List ℕ → ℕ → Type 0
 LeavesUri s place = Leaves IsUri s place
 
--- what a fault says of a text; want of memory comes only where some name has it
+-- what a fault says of a text; memory runs out only where some name has it
 abbrev pub RefusesUri : UriFault → List ℕ → Type 0
 RefusesUri (fault.At place) s = LeavesUri s place
 RefusesUri fault.Memory s = IsUri s

@@ -15,7 +15,7 @@ abbrev pub rest_of : Result (List ℕ) ℕ → List ℕ
 rest_of (Ok rest) = rest
 rest_of (Err left) = []
 
--- what is left behind what it takes
+-- what is left after what it takes
 abbrev pub left_by : Scanner → List ℕ → List ℕ
 left_by p s = rest_of (p s)
 
@@ -32,24 +32,24 @@ abbrev pub begins_with_colon : List ℕ → Bool
 begins_with_colon [] = false
 begins_with_colon (c ∷ s) = is_colon c
 
--- what stands behind a colon, where one stands
+-- what stands after a colon, where one stands
 abbrev pub behind_colon : List ℕ → List ℕ
 behind_colon [] = []
 behind_colon (c ∷ s) = if is_colon c then s else []
 
--- the components of these attributes, each behind a colon; one that is missing is empty
+-- the components of these attributes, each after a colon; one that is missing is empty
 abbrev pub later_pieces : List Attribute → List ℕ → List (List ℕ)
 later_pieces [] s = []
 later_pieces (a ∷ rest) s = piece (component_end a) (behind_colon s) ∷ later_pieces rest (left_by (later_end (component_end a)) s)
 
--- what is left behind these
+-- what is left after these
 abbrev pub left_behind : List Attribute → List ℕ → List ℕ
 left_behind [] s = s
 left_behind (a ∷ rest) s = left_behind rest (left_by (later_end (component_end a)) s)
 
 -- ---- the edition
 
--- so many fields, each behind a tilde
+-- so many fields, each after a tilde
 abbrev pub field_pieces : ℕ → List ℕ → List (List ℕ)
 field_pieces zero s = []
 field_pieces (suc n) s = piece (text_end true) (drop 1 s) ∷ field_pieces n (left_by field_end s)
@@ -67,7 +67,7 @@ in_order cs es = get_or cs 0 [] ∷ get_or cs 1 [] ∷ get_or cs 2 [] ∷ get_or
 abbrev pub before_edition : List Attribute
 before_edition = Vendor ∷ Product ∷ Version ∷ Update ∷ []
 
--- behind the prefix
+-- after the prefix
 abbrev pub all_pieces : List ℕ → List (List ℕ)
 all_pieces s = in_order (piece part_end s ∷ later_pieces later (left_by part_end s)) (edition_pieces (behind_colon (left_behind before_edition (left_by part_end s))))
 

@@ -1,4 +1,4 @@
--- The canonical URI of a name, made from the texts of its values byte by byte: a backslash is dropped, and the byte behind it has its
+-- The canonical URI of a name, made from the texts of its values byte by byte: a backslash is dropped, and the byte after it has its
 -- spelling; an unquoted `?` or `*` is a special. No public clause rests on it.
 use Rattle.std.specs.Prelude.{ℕ, ◌-◌, Bool, true, false, not, ◌&&◌, ◌||◌, ◌==◌, nat_lt, if◌then◌else◌, List, [], ◌∷◌, ◌++◌, length, take, codes}
 use Rattle.std.specs.List.{list_all}
@@ -10,7 +10,7 @@ use Rattle.cpe_uri.specs.Canon.{trimmed}
 
 -- ---- texts of values
 
--- a backslash that quotes the byte behind it
+-- a backslash that quotes the byte after it
 abbrev pub quotes : Bool → ℕ → Bool
 quotes quoted c = not quoted && c == 92
 
@@ -50,7 +50,7 @@ says_any (c ∷ s) = not (c == 34 || c == 78)
 unfoldable pub first_from : List ℕ → List ℕ
 first_from u = codes "cpe:/" ++ component_from u
 
--- the component of a value behind a byte
+-- the component of a value after a byte
 unfoldable pub behind : ℕ → List ℕ → List ℕ
 behind before u = before ∷ component_from u
 

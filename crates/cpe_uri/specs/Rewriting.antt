@@ -8,7 +8,7 @@ use Rattle.cpe_uri.specs.Spelling.{hex_value}
 abbrev pub code_of : ℕ → ℕ → ℕ
 code_of h l = (16 * hex_value h + hex_value l) % 256
 
--- what has the code: a special, or a character behind a backslash
+-- what has the code: a special, or a character after a backslash
 abbrev pub code_text : ℕ → List ℕ
 code_text c = if c == 1 then 63 ∷ [] else (if c == 2 then 42 ∷ [] else 92 ∷ c ∷ [])
 

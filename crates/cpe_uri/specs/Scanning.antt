@@ -42,7 +42,7 @@ component_end TargetSw = text_end true
 component_end TargetHw = text_end true
 component_end Other = text_end true
 
--- the attributes behind the part that have components of their own
+-- the attributes after the part that have components of their own
 abbrev pub later : List Attribute
 later = Vendor ∷ Product ∷ Version ∷ Update ∷ Edition ∷ Language ∷ []
 
@@ -50,7 +50,7 @@ later = Vendor ∷ Product ∷ Version ∷ Update ∷ Edition ∷ Language ∷ [
 unfoldable pub later_end : Scanner → Scanner
 later_end component s = choose is_colon (both (one is_colon) component) nothing s
 
--- the components of these attributes, one behind the other
+-- the components of these attributes, one after the other
 abbrev pub components_end : List Attribute → Scanner
 components_end [] s = Ok s
 components_end (a ∷ rest) s = later_end (component_end a) s >>= components_end rest

@@ -65,7 +65,7 @@ spells c (b ∷ d ∷ []) = false
 spells c (p ∷ h ∷ l ∷ []) = p == 37 && is_hex h && is_hex l && 16 * hex_value h + hex_value l == c && has_percent_form c
 spells c (p ∷ h ∷ l ∷ d ∷ u) = false
 
--- these codes one behind the other, each in one of its spellings
+-- these codes one after the other, each in one of its spellings
 abbrev pub Spelled : List ℕ → List ℕ → Type 0
 Spelled [] s = s ≡ []
 Spelled (c ∷ cs) s = (u v : List ℕ) × (s ≡ u ++ v) × IsTrue (spells c u) × Spelled cs v

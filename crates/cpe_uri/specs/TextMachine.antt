@@ -14,7 +14,7 @@ use Rattle.cpe_uri.specs.declared.text.State.TheVariants.{Whole, Percent, Half}
 
 -- ---- whole characters and specials
 
--- behind a question mark
+-- after a question mark
 abbrev pub after_mark : Stage → Option Stage
 after_mark Start = Some (LeadMarks 1)
 after_mark Na = Some (TrailMarks 1)
@@ -25,7 +25,7 @@ after_mark Body = Some (TrailMarks 1)
 after_mark (TrailMarks n) = if nat_lt n 4294967295 then Some (TrailMarks (n + 1)) else None
 after_mark TrailStar = None
 
--- behind an asterisk
+-- after an asterisk
 abbrev pub after_star : Stage → Option Stage
 after_star Start = Some LeadStar
 after_star Na = Some TrailStar
@@ -57,11 +57,11 @@ is_start Body = false
 is_start (TrailMarks n) = false
 is_start TrailStar = false
 
--- behind a character; a hyphen that comes first must not stay alone
+-- after a character; a hyphen that comes first must not stay alone
 abbrev pub after_character : Stage → ℕ → Option Stage
 after_character q c = if takes_character q then Some (if is_start q && c == 45 then Hyphen else Body) else None
 
--- behind what has this code
+-- after what has this code
 abbrev pub next : Stage → ℕ → Option Stage
 next q c = if c == 1 then after_mark q else (if c == 2 then after_star q else (if is_character c then after_character q c else None))
 

@@ -14,7 +14,7 @@ use Rattle.cpe_uri.specs.SpanValues.{value_at}
 abbrev pub SaysUri : List ℕ → List ℕ → Type 0
 SaysUri s text = SaysBy Uri output_text s text
 
--- the same text behind what stood before
+-- the same text after what stood before
 abbrev pub WritesUnbound : List ℕ → List ℕ → List ℕ → Type 0
 WritesUnbound s old new = PutsBy Uri output_text s old new
 

@@ -134,7 +134,7 @@ fn push_components(out: &mut Vec<u8>, name: &Wfn) -> Result<(), Memory>
 /// The canonical URI of a name (NIST IR 7695, 6.1.2). Each name has exactly one; letters stand as they are.
 ///
 /// # Errors
-/// Want of memory alone.
+/// Only that memory ran out.
 pub fn bind_uri(alloc: Global, name: &Wfn) -> Result<Vec<u8>, Memory>
     ensures { IfOk result (λ text. text.items ≡ canon name.now) }
 {

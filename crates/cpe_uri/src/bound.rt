@@ -41,7 +41,7 @@ fn put_kept(room: &mut [u8], at: usize, byte: u8, count: u8) -> usize
     at + usize::from(count)
 }
 
-// Tells beside the place whether the byte quotes the one behind it.
+// Tells beside the place whether the byte quotes the next one.
 fn put_spelled(room: &mut [u8], at: usize, quoted: bool, byte: u8) -> (usize, bool)
     requires { at + 3 ≤ length room.old }
     ensures at { result.0 ≤ at + 3 }
@@ -57,7 +57,7 @@ fn put_spelled(room: &mut [u8], at: usize, quoted: bool, byte: u8) -> (usize, bo
     (put_kept(room, at, byte, count), count == 0)
 }
 
-// Letters, digits and `_` in front, many at a time.
+// Letters, digits and `_` at the start, many at a time.
 fn put_word<'a>(room: &mut [u8], at: usize, bytes: &'a [u8]) -> (usize, &'a [u8])
     requires { at + 3 * length bytes.now ≤ length room.old }
     ensures at { result.0 + 3 * length result.1.now ≤ at + 3 * length bytes.now }
@@ -69,7 +69,7 @@ fn put_word<'a>(room: &mut [u8], at: usize, bytes: &'a [u8]) -> (usize, &'a [u8]
     (put(room, at, front_of(bytes, behind)), behind)
 }
 
-// One byte, and the word behind it. Tells beside the place whether the byte quotes the one behind it, and what is left.
+// One byte, and the word after it. Tells beside the place whether the byte quotes the next one, and what is left.
 fn put_next<'a>(
     room: &mut [u8],
     at: usize,

@@ -1,6 +1,6 @@
 // The part and the language of a URI (NIST IR 7695, 6.1). Nothing here takes memory.
 //
-// Each function takes a front of a text. It answers what is left behind it, or how many bytes are
+// Each function takes a prefix of a text. It answers what is left after it, or how many bytes are
 // left where no such component goes on.
 ghost use Rattle.std.specs.Prelude.{◌≡◌, Ok, Err};
 ghost use Rattle.cpe_grammar.specs.Scanners.{Tells, one};

@@ -67,8 +67,8 @@ pub const UNBOUND_FRAME: usize = 138;
 /// Why a text has no name.
 #[derive(Clone, Copy, Debug, PartialEq, Eq, Error)]
 pub enum UriFault {
-    /// No name has this text. The place is the length of its longest front with which some text of its binding begins, a URI, or in
-    /// [`unbind_any`] a formatted string where the text doesn't begin as a URI: at the byte behind it the text goes wrong, or it
+    /// No name has this text. The place is the length of its longest prefix with which some text of its binding begins, a URI, or in
+    /// [`unbind_any`] a formatted string where the text doesn't begin as a URI: at the byte after it the text goes wrong, or it
     /// is cut off there.
     #[error("no name has this text: it goes wrong at byte {0}")]
     At(usize),
@@ -89,7 +89,7 @@ impl From<Memory> for UriFault {
 }
 
 /// Writes the canonical URI of the name that has this text (NIST IR 7695, 5 and 6.1.2) into `room`, from `at` on,
-/// and makes no name. It answers the place behind what was written; what stands from there on is not told.
+/// and makes no name. It answers the place after what was written; what stands from there on is not told.
 /// It takes no memory. There is no answer exactly where no name has the text; the room is then as it was.
 ///
 /// A byte of the text gives three bytes of the URI at most, and what stands beside the values in the text is enough for

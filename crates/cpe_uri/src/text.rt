@@ -257,7 +257,7 @@ fn skip_from(state: State, bytes: &[u8]) -> &[u8]
     }
 }
 
-// Most components begin with a character that stands bare: the machine then begins behind all of these.
+// Most components begin with a character that stands bare: the machine then begins after all of these.
 #[inline(always)]
 fn begin(bytes: &[u8]) -> (State, &[u8])
     ensures same { (packed : Bool) → read_from packed result.0 result.1.now ≡ read_from packed (Whole Start) bytes.now }
@@ -284,7 +284,7 @@ fn scan_from(packed: bool, start: State, bytes: &[u8]) -> Result<&[u8], usize>
     finish(state, rest)
 }
 
-// Behind its bare characters most often a colon ends a component, or the text.
+// After its bare characters most often a colon ends a component, or the text.
 #[inline(always)]
 #[tactic(auto, unfolding(crate::specs::TextMachine::text_end))]
 pub(crate) fn scan_text(packed: bool, bytes: &[u8]) -> Result<&[u8], usize>

@@ -39,7 +39,7 @@ pub fn unbind_uri(alloc: Global, text: &[u8]) -> Result<Wfn, UriFault>
 }
 
 /// Writes the output text of the name that has this URI into `room`, from `at` on, and makes no name. It answers the
-/// place behind what was written; what stands from there on is not told. It takes no memory.
+/// place after what was written; what stands from there on is not told. It takes no memory.
 ///
 /// # Errors
 ///
@@ -133,7 +133,7 @@ fn read_either(alloc: Global, text: &[u8]) -> Result<Wfn, UriFault>
 }
 
 /// Writes the output text of the name that has this text in one binding or the other, as [`unbind_any`] reads it, into
-/// `room`, from `at` on, and makes no name. It answers the place behind what was written; what stands from there on
+/// `room`, from `at` on, and makes no name. It answers the place after what was written; what stands from there on
 /// is not told. It takes no memory.
 ///
 /// # Errors

@@ -18,7 +18,7 @@ pub(crate) fn is_hyphen(span: &[u8]) -> bool
     matches!(span, [b'-'])
 }
 
-// One scratch serves all values of a name: it only grows, and its front is written anew for each.
+// One scratch serves all values of a name: it only grows, and a prefix of it is written anew for each.
 fn rewrite(scratch: &mut Vec<u8>, span: &[u8]) -> Result<usize, Memory>
     ensures within { IfOk result (λ end. end ≤ length scratch.new.items) }
     ensures written { IfOk result (λ end. take end scratch.new.items ≡ rewritten span.now) }

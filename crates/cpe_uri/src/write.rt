@@ -107,7 +107,7 @@ fn put_next<'a>(room: &mut [u8], at: usize, byte: u8, behind: &'a [u8]) -> (usiz
     (put_bare(room, at, byte), behind)
 }
 
-// Small letters, digits and `_` in front, many at a time.
+// Small letters, digits and `_` at the start, many at a time.
 fn put_word<'a>(room: &mut [u8], at: usize, bytes: &'a [u8]) -> (usize, &'a [u8])
     requires { at + 2 * length bytes.now ≤ length room.old }
     ensures at { result.0 + 2 * length result.1.now ≤ at + 2 * length bytes.now }

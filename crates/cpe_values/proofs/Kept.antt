@@ -1,4 +1,4 @@
--- What stands in front is kept where more is put behind it.
+-- What stands there is kept where more is put after it.
 use Rattle.std.proofs.Common.{◌≡◌, ℕ, List, [], ◌∷◌, ◌++◌, length, take, refl, ap, ◌∙◌}
 use Rattle.std.proofs.Math.Seq.{take-append_seam}
 

@@ -1,10 +1,10 @@
--- What a front of a list says of the elements that are skipped.
+-- What a prefix of a list says of the elements that are skipped.
 use Rattle.std.proofs.Common.{◌≡◌, ℕ, zero, suc, ◌-◌, ◌<◌, ◌≤◌, Bool, true, false, List, [], ◌∷◌, ◌++◌, length, take, drop, refl, ap, sym, ◌∙◌, one-add, inl, inr, arith}
 use Rattle.std.specs.List.{prefix_len}
 use Rattle.std.proofs.lemmas.Bool.{cases_Bool}
 use Rattle.cpe_values.specs.Skipping.{skip_while}
 
--- what passes in a front of the list is skipped, and the rest alike
+-- what passes in a prefix of the list is skipped, and the rest alike
 pub skip_while-front : (p : ℕ → Bool) (k : ℕ) (s : List ℕ) → skip_while p (drop (prefix_len p (take k s)) s) ≡ skip_while p s
 skip_while-front p zero s = refl
 skip_while-front p (suc k) [] = refl
@@ -14,7 +14,7 @@ skip_while-front p (suc k) (c ∷ s) =
       | inr fails ↦ simp fails refl
     ]
 
--- where a front has an element that fails, nothing behind it is skipped
+-- where a prefix has an element that fails, nothing after it is skipped
 pub skip_while_within : (p : ℕ → Bool) (k : ℕ) (s : List ℕ) → prefix_len p (take k s) < k → k ≤ length s → skip_while p s ≡ drop (prefix_len p (take k s)) s
 skip_while_within p zero s lt le = absurd (omega arith)
 skip_while_within p (suc k) [] lt le = absurd (omega arith)

@@ -17,7 +17,7 @@ use Rattle.cpe_values.proofs.SkippingLemmas.{length-skip_while}
 
 -- ---- specials
 
--- no special stands in front
+-- no special stands at the start
 abbrev NoSpecial : List ℕ → Type 0
 NoSpecial [] = Unit {0}
 NoSpecial (c ∷ s) = is_special c ≡ false

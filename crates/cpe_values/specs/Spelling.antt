@@ -26,7 +26,7 @@ abbrev pub is_bare : Style → ℕ → Bool
 is_bare style.Wfn c = is_word c
 is_bare style.Formatted c = is_word c || c == 46 || c == 45
 
--- a character of a body, behind a backslash where it doesn't stand bare
+-- a character of a body, after a backslash where it doesn't stand bare
 abbrev pub character : Style → ℕ → List ℕ
 character s c = if is_bare s c then c ∷ [] else 92 ∷ c ∷ []
 

@@ -14,16 +14,16 @@ is_mark c = c == 63
 abbrev pub is_backslash : ℕ → Bool
 is_backslash c = c == 92
 
--- how many marks stand in front
+-- how many marks stand at the start
 abbrev pub marks_count : List ℕ → ℕ
 marks_count s = prefix_len is_mark s
 
--- the special in front
+-- the special at the start
 abbrev pub edge_at : List ℕ → Edge
 edge_at [] = edge.None
 edge_at (c ∷ s) = if is_star c then edge.Star else (if is_mark c then edge.Marks (marks_count (c ∷ s)) else edge.None)
 
--- what is behind it
+-- what is after it
 abbrev pub behind_edge : List ℕ → List ℕ
 behind_edge [] = []
 behind_edge (c ∷ s) = if is_star c then s else (if is_mark c then drop (marks_count (c ∷ s)) (c ∷ s) else c ∷ s)
@@ -32,7 +32,7 @@ behind_edge (c ∷ s) = if is_star c then s else (if is_mark c then drop (marks_
 abbrev pub is_special : ℕ → Bool
 is_special c = is_star c || is_mark c
 
--- a special stands in front, or nothing
+-- a special stands at the start, or nothing
 abbrev pub ends_body : List ℕ → Bool
 ends_body [] = true
 ends_body (c ∷ s) = is_special c
@@ -43,7 +43,7 @@ body_at [] = []
 body_at (c ∷ []) = if is_special c then [] else c ∷ []
 body_at (c ∷ d ∷ s) = if is_special c then [] else (if is_backslash c then d ∷ body_at s else c ∷ body_at (d ∷ s))
 
--- what is behind them
+-- what is after them
 unfoldable pub behind_body : List ℕ → List ℕ
 behind_body [] = []
 behind_body (c ∷ []) = if is_special c then c ∷ [] else []

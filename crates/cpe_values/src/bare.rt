@@ -71,7 +71,7 @@ fn skip_by_one<C: Class>(bytes: &[u8]) -> &[u8]
     rest
 }
 
-// What is left behind the bytes of a class. A run is mostly short and much is left behind it, so one block tells its
+// What is left after the bytes of a class. A run is mostly short and much follows it, so one block tells its
 // length with no branch on any byte.
 fn skip<C: Class>(bytes: &[u8]) -> &[u8]
     ensures { result.now ≡ skip_while C.contains bytes.now }
@@ -102,7 +102,7 @@ impl Class for Word {
     }
 }
 
-/// What is left behind the characters that stand bare in a well-formed name: letters, digits and `_`
+/// What is left after the characters that stand bare in a well-formed name: letters, digits and `_`
 /// (NIST IR 7695, 5.3).
 pub fn skip_word(bytes: &[u8]) -> &[u8]
     ensures { result.now ≡ skip_while (is_bare style.Wfn) bytes.now }
@@ -125,7 +125,7 @@ impl Class for LowerWord {
     }
 }
 
-/// What is left behind small letters, digits and `_`, which stand bare in a well-formed name and in lower case
+/// What is left after small letters, digits and `_`, which stand bare in a well-formed name and in lower case
 /// (NIST IR 7695, 5.3).
 pub fn skip_lower_word(bytes: &[u8]) -> &[u8]
     ensures { result.now ≡ skip_while is_lower_word bytes.now }
@@ -150,7 +150,7 @@ impl Class for Bare {
     }
 }
 
-/// What is left behind the characters that stand bare in a formatted string: letters, digits, `_`, `.` and `-`
+/// What is left after the characters that stand bare in a formatted string: letters, digits, `_`, `.` and `-`
 /// (NIST IR 7695, 6.2).
 pub fn skip_bare(bytes: &[u8]) -> &[u8]
     ensures { result.now ≡ skip_while (is_bare style.Formatted) bytes.now }

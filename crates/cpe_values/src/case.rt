@@ -33,7 +33,7 @@ impl Pattern {
     /// The text with every letter in lower case.
     ///
     /// # Errors
-    /// Want of memory alone.
+    /// Only that memory ran out.
     pub fn lower(&self, alloc: Global) -> Result<Pattern, Memory>
         ensures { IfOk result (λ p. p ≡ lower_parts self.now) }
     {
@@ -89,7 +89,7 @@ impl Value {
     /// The value with every letter in lower case.
     ///
     /// # Errors
-    /// Want of memory alone.
+    /// Only that memory ran out.
     pub fn lower(&self, alloc: Global) -> Result<Value, Memory>
         ensures { IfOk result (λ v. v ≡ lower_value self.now) }
     {

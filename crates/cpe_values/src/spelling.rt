@@ -113,8 +113,8 @@ fn push_body(out: &mut Vec<u8>, style: Style, body: &[u8]) -> Result<(), Memory>
     Ok(())
 }
 
-/// Puts the spelling of a text behind what `out` holds: its lead, its body character by character, and its trail.
-/// On want of memory a front of it may stand there.
+/// Puts the spelling of a text after what `out` holds: its lead, its body character by character, and its trail.
+/// Where memory runs out, a prefix of it may stand there.
 #[tactic(auto, using(crate::proofs::Kept::keeping))]
 pub fn push_spelling(out: &mut Vec<u8>, style: Style, text: &Pattern) -> Result<(), Memory>
     ensures spelled { OnOk result (out.new.items ≡ out.old.items ++ spelling style text.now) }

@@ -11,7 +11,7 @@ use crate::value::{own_text, text_of};
 use crate::{Edge, Memory, Pattern, TextRef, skip_bare};
 use std::alloc::Global;
 
-// How many marks stand in front.
+// How many marks stand at the start.
 fn count_marks(bytes: &[u8]) -> usize
     ensures count { result ≡ marks_count bytes.now }
     ensures within { result ≤ length bytes.now }
@@ -19,7 +19,7 @@ fn count_marks(bytes: &[u8]) -> usize
     bytes.iter().take_while(|byte| **byte == b'?').count()
 }
 
-// The special in front, and what is left behind it.
+// The special at the start, and what is left after it.
 fn split_edge(bytes: &[u8]) -> (Edge, &[u8])
     requires { marks_count bytes.now < 2 ^ 32 }
     ensures edge { result.0 ≡ edge_at bytes.now }
@@ -35,7 +35,7 @@ fn split_edge(bytes: &[u8]) -> (Edge, &[u8])
     }
 }
 
-// The next character of a body, if one stands there, and what is left behind it.
+// The next character of a body, if one stands there, and what is left after it.
 #[tactic(auto, unfolding(crate::specs::Unspelling::body_at, crate::specs::Unspelling::behind_body))]
 fn next_character(bytes: &[u8]) -> Option<(u8, &[u8])>
     ensures body { MatchOption result (body_at bytes.now ≡ []) (λ x. body_at bytes.now ≡ x.0 ∷ body_at x.1.now) }
@@ -49,7 +49,7 @@ fn next_character(bytes: &[u8]) -> Option<(u8, &[u8])>
     }
 }
 
-// The body in front, without its backslashes, and what is left behind it.
+// The body at the start, without its backslashes, and what is left after it.
 fn split_body(alloc: Global, bytes: &[u8]) -> Result<(Vec<u8>, &[u8]), Memory>
     ensures body { IfOk result (λ x. x.0.items ≡ body_at bytes.now) }
     ensures rest { IfOk result (λ x. x.1.now ≡ behind_body bytes.now) }
@@ -63,7 +63,7 @@ fn split_body(alloc: Global, bytes: &[u8]) -> Result<(Vec<u8>, &[u8]), Memory>
     Ok((body, rest))
 }
 
-// The text in front, its body taken character by character.
+// The text at the start, its body taken character by character.
 #[tactic(auto, using(crate::proofs::Unspelled::marks_fit))]
 fn split_text(alloc: Global, bytes: &[u8]) -> Result<Pattern, Memory>
     requires { IsText (parts_at bytes.now) }
@@ -75,14 +75,14 @@ fn split_text(alloc: Global, bytes: &[u8]) -> Result<Pattern, Memory>
     own_text(alloc, lead, body, trail)
 }
 
-// Whether a body ends in front: at a special, or at the end of the spelling.
+// Whether a body ends at the start: at a special, or at the end of the spelling.
 fn ends_body(bytes: &[u8]) -> bool
     ensures { result ≡ ends_body bytes.now }
 {
     matches!(bytes, [] | [b'*' | b'?', ..])
 }
 
-// The body in front and what is left behind it, where the body stands there as it is.
+// The body at the start, and what is left after it, where the body stands there as it is.
 #[inline(always)]
 fn lend_body(bytes: &[u8]) -> Option<(&[u8], &[u8])>
     ensures body { IfSome result (λ x. x.0.now ≡ body_at bytes.now) }
@@ -106,7 +106,7 @@ fn lend_text(bytes: &[u8]) -> Option<TextRef<'_>>
     Some(TextRef { lead, stem, trail })
 }
 
-// The text in front. Where its body stands there as it is, it is copied at once.
+// The text at the start. Where its body stands there as it is, it is copied at once.
 fn read_text(alloc: Global, bytes: &[u8]) -> Result<Pattern, Memory>
     requires { IsText (parts_at bytes.now) }
     ensures { IfOk result (λ text. text ≡ parts_at bytes.now) }
@@ -120,7 +120,7 @@ fn read_text(alloc: Global, bytes: &[u8]) -> Result<Pattern, Memory>
 /// The text that is spelled so, in one style or the other: no two texts are spelled alike.
 ///
 /// # Errors
-/// Want of memory alone.
+/// Only that memory ran out.
 pub fn read_spelling(alloc: Global, bytes: &[u8]) -> Result<Pattern, Memory>
     requires { IsSpelling bytes.now }
     ensures { (style : Style) (t : Parts) → IsText t → spelling style t ≡ bytes.now → IfOk result (λ text. text ≡ t) }
@@ -129,7 +129,7 @@ pub fn read_spelling(alloc: Global, bytes: &[u8]) -> Result<Pattern, Memory>
 }
 
 /// The text that is spelled so, borrowed from its spelling where its body stands there as it is: `None` where a
-/// character stands behind a backslash.
+/// character stands after a backslash.
 pub fn lend_spelling(bytes: &[u8]) -> Option<TextRef<'_>>
     requires { IsSpelling bytes.now }
     ensures { (style : Style) (t : Parts) → IsText t → spelling style t ≡ bytes.now → IfSome result (λ text. text_lent text ≡ t) }

@@ -192,7 +192,7 @@ impl Pattern {
         ensures text { IfOk result (λ p. p ≡ parts lead body.now trail) }
         ensures lawful { OnOk result (IsText (parts lead body.now trail)) }
 
-        // What is a text is refused for want of memory alone, and what has a fault is refused for the first one.
+        // What is a text is refused only where memory runs out, and what has a fault is refused for the first one.
         ensures made { IsText (parts lead body.now trail) → IfErr result (λ f. f ≡ ValueFault.Memory) }
         ensures refused { IfSome (first_fault (parts lead body.now trail)) (λ f. result ≡ Err f) }
         ensures fault { IfErr result (λ f. f ≢ ValueFault.Memory → first_fault (parts lead body.now trail) ≡ Some f) }
@@ -264,7 +264,7 @@ impl Pattern {
     /// The same text again.
     ///
     /// # Errors
-    /// Want of memory alone.
+    /// Only that memory ran out.
     pub fn copy(&self, alloc: Global) -> Result<Pattern, Memory>
         ensures { IfOk result (λ p. p ≡ self.now) }
     {
@@ -295,7 +295,7 @@ impl Value {
     /// The same value again.
     ///
     /// # Errors
-    /// Want of memory alone.
+    /// Only that memory ran out.
     pub fn copy(&self, alloc: Global) -> Result<Value, Memory>
         ensures { IfOk result (λ v. v ≡ self.now) }
     {

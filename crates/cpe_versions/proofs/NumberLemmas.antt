@@ -76,7 +76,7 @@ same_length (x ∷ xs) (y ∷ ys) e hx hy =
             by Equal h = let moved : k + v ≡ k + w = omega (arith, h) in nat_cmp_is (k + v) (k + w) Equal moved
             by Greater h = let moved : k + w < k + v = omega (arith, h) in nat_cmp_is (k + v) (k + w) Greater moved
 
--- more digits without a zero in front write more
+-- more digits without a leading zero write more
 at_least : (ds : List ℕ) → AreDigits ds → begins (λ d. d == 48) ds ≡ false → (n : ℕ) → n < length ds → 10 ^ n ≤ value ds
 at_least [] h first n lt = absurd (omega (arith, lt))
 at_least (d ∷ ds) h first n lt =
@@ -108,9 +108,9 @@ by_length xs ys hx hy fx fy = go (nat_cmp (length xs) (length ys)) (ranked (leng
         let less : value ys < value xs = omega (arith, small, large) in
         nat_cmp_is (value xs) (value ys) Greater less
 
--- ---- without the zeros in front
+-- ---- without the leading zeros
 
--- digits that are worth the same, without a zero in front
+-- digits that are worth the same, without a leading zero
 record IsShort (ds short : List ℕ) : Type 0 where
   digits : AreDigits short
   first : begins (λ d. d == 48) short ≡ false

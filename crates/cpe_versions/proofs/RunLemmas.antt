@@ -94,7 +94,7 @@ word_first s no_digit h =
     ap (λ rs. map piece_of rs ++ End ∷ []) (first_run_of is_ascii_alphabetic letters_are s h)
     ∙ ap (λ q. made (cond q (Number (without_zeros run)) (Word (str_to_ascii_lowercase run))) (runs (drop n s))) first
 
--- a byte that is neither goes on to what stands behind it
+-- a byte that is neither goes on to what stands after it
 pub passed_over : (b : ℕ) (bs : List ℕ) → is_ascii_digit b ≡ false → is_ascii_alphabetic b ≡ false → pieces bs ≡ pieces (b ∷ bs)
 passed_over b bs no_digit no_letter =
     let both : separates b ≡ true = ap (λ q. not (q || is_ascii_alphabetic b)) no_digit ∙ ap not no_letter in

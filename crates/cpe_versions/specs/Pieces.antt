@@ -17,25 +17,25 @@ abbrev pub begins : (ℕ → Bool) → List ℕ → Bool
 begins passes [] = false
 begins passes (b ∷ bs) = passes b
 
--- the maximal runs of digits, and those of letters. A byte stands in the run of the byte behind it where both are of one kind, and all
+-- the maximal runs of digits, and those of letters. A byte stands in the run of the byte after it where both are of one kind, and all
 -- other bytes only separate runs
 abbrev pub runs : List ℕ → List (List ℕ)
 runs [] = []
 runs (b ∷ bs) = if separates b then runs bs else (if begins (is_kin b) bs then onto_first b (runs bs) else (b ∷ []) ∷ runs bs)
 
--- letters in lower case, what stands behind the last of the others, or digits without the zeros in front
+-- letters in lower case, what stands after the last of the others, or digits without the leading zeros
 pub data Piece : Type 0 where
   Word : List ℕ → Piece
   End : Piece
   Number : List ℕ → Piece
 
--- what is left behind the zeros in front
+-- what is left after the leading zeros
 abbrev pub without_zeros : List ℕ → List ℕ
 without_zeros ds = drop (prefix_len (λ d. d == 48) ds) ds
 
 abbrev pub piece_of : List ℕ → Piece
 piece_of run = if begins is_ascii_digit run then Number (without_zeros run) else Word (str_to_ascii_lowercase run)
 
--- behind the last piece stands the end
+-- after the last piece stands the end
 abbrev pub pieces : List ℕ → List Piece
 pieces version = map piece_of (runs version) ++ End ∷ []

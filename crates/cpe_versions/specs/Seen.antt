@@ -1,4 +1,4 @@
--- Which piece a scanned one is, and which stand behind it. No public clause speaks of it.
+-- Which piece a scanned one is, and which stand after it. No public clause speaks of it.
 use Rattle.std.specs.Prelude.{ℕ, Bool, true, false, List, []}
 use Rattle.std.specs.Str.{str_to_ascii_lowercase}
 use Rattle.cpe_versions.specs.declared.piece.Kind.{Kind}

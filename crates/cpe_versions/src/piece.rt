@@ -10,17 +10,17 @@ ghost use Rattle.cpe_versions.specs.Seen.{is_last, piece_seen, pieces_behind};
 pub(crate) enum Kind {
     /// Letters.
     Word,
-    /// What stands behind the last piece.
+    /// What stands after the last piece.
     End,
     /// Digits.
     Number,
 }
 
-/// A piece, and the bytes that stand behind it.
+/// A piece, and the bytes that stand after it.
 #[derive(Clone, Copy, Debug)]
 pub(crate) struct Piece<'v> {
     pub(crate) kind: Kind,
-    /// Letters in either case, or digits without the zeros in front.
+    /// Letters in either case, or digits without the leading zeros.
     pub(crate) text: &'v [u8],
     pub(crate) behind: &'v [u8],
 }
@@ -88,7 +88,7 @@ fn word(text: &[u8]) -> Piece<'_>
     }
 }
 
-/// The first piece. It takes no memory, and looks at each byte in front of what stands behind the piece once.
+/// The first piece. It takes no memory, and looks once at each byte up to the end of the piece.
 pub(crate) fn first_piece(text: &[u8]) -> Piece<'_>
     ensures pieces { pieces text.now ≡ piece_seen result ∷ pieces_behind result }
     ensures shorter { is_last result.kind ≡ false → length result.behind.now < length text.now }

@@ -23,7 +23,7 @@ module _ {A : Type 0} (w : A → ℕ) (xs : List A) (i : ℕ) (x : A) (below : i
       ap total (map_more w xs i x below)
       ∙ (total-last (map w (take i xs)) (w (get_or xs i x)) ∙ ap (λ y. total (map w (take i xs)) + w y) (sym is))
 
-  -- one more behind those before it
+  -- one more after those before it
   pub one_more : {sum next : ℕ} (start : ℕ) → sum ≡ capped (start + total (map w (take i xs))) → next ≡ capped (sum + w x)
       → next ≡ capped (start + total (map w (take (i + 1) xs)))
   one_more start so_far last = capped-more start (total (map w (take i xs))) (w x) so_far last total-more

@@ -11,14 +11,14 @@ ghost use Rattle.cpe_weight.specs.Gain.{gain, loss};
 
 use cpe_rows::{Edit, names_are_equal};
 
-/// The weight behind an edit is that before it, with what the edit adds and without what it takes away; and what it takes away
+/// The weight after an edit is that before it, with what the edit adds and without what it takes away; and what it takes away
 /// is no more than there was.
 pub fn edits_weigh()
     ensures weight { (rows : Rows) (e : Edit) → weight (after rows e) + loss rows e ≡ weight rows + gain rows e }
     ensures loss { (rows : Rows) (e : Edit) → loss rows e ≤ weight rows }
 {}
 
-/// What is dropped weighs as much as the name or the key by which it is found, and after no drop is the weight greater.
+/// What is dropped weighs as much as the name or the key by which it is found, and no drop makes the weight greater.
 pub fn losses_are_known()
     ensures items { (rows : Rows) (n : Values) → list_any (is_same n) rows.items ≡ true → loss rows (Edit.DropItem n) ≡ name_weight n }
     ensures checks { (rows : Rows) (k : CheckKey) → is_checked rows k ≡ true → loss rows (Edit.DropCheck k) ≡ key_weight k }

@@ -315,7 +315,7 @@ successors_below nodes a to xs change e = subst (All (λ x. x < length nodes)) (
 pub chain_below : (next : ℕ → List ℕ) (count a : ℕ) → IsClosed next count → a < count → All (λ x. x < count) (chain_of next count a)
 chain_below next count a ok lt = All-below (chain_of next count a) count (λ x c. Leads-below ok lt ((Contains-chain next count a ok lt x).0 c))
 
--- ---- the nodes behind a graph's value
+-- ---- the nodes after a graph's value
 
 pub led_to_is : (read value : List Node) (a b : ℕ) {led : Bool} → read ≡ value → IsClosed (next_in read) (length read) → a < length value → led ≡ reaches (next_in read) (length read) a b → IsTrue led ↔ Leads (next_in value) a b
 led_to_is read value a b {led} e ok lt f =

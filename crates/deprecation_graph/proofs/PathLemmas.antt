@@ -1,4 +1,4 @@
--- Paths: a step more, one path behind another, and what a path can't leave.
+-- Paths: a step more, one path after another, and what a path can't leave.
 use Rattle.std.proofs.Common.{◌≡◌, ℕ, ◌<◌, List, [], ◌∷◌, refl, sym, subst}
 use Rattle.deprecation_graph.specs.Paths.{HasEdge, IsPathFrom, last_from, Leads, IsClosed}
 

@@ -104,7 +104,7 @@ impl DeprecationGraph {
     /// Else, where the node is a successor of none, it costs no search if it gets one successor, none, or active ones alone, and
     /// otherwise one of the chain that it would have. Where the node is a successor of another, the chain of each new successor
     /// that has some itself is searched, up to the first from which a path leads to the node. Then, where the node is active,
-    /// the chain that it would have is searched; has that one end at most, no node can get too wide. Else the node's sources are
+    /// the chain that it would have is searched; if it has one end at most, no node can get too wide. Else the node's sources are
     /// searched, and the chain that each of them would have which is a successor of none, up to the first that is too wide. Only
     /// where one is, the chain that each source would have is searched, up to the least that is too wide.
     ///

@@ -60,7 +60,7 @@ impl FollowedFacts {
     /// Enters a fact under each of these ends, where it isn't there yet. Its own ends stay.
     ///
     /// # Errors
-    /// Want of memory. The fact may then be under some of them.
+    /// That memory ran out. The fact may then be under some of them.
     pub fn link(&mut self, alloc: Global, fact: NameId, ends: &[NameId]) -> Result<(), Memory>
         ensures under { OnOk result (IsUnder (facts_at self.new) fact.0 ends.now) }
         ensures links { KeepsLinks (facts_at self.old) (facts_at self.new) }
@@ -74,7 +74,7 @@ impl FollowedFacts {
     /// Follows a fact, which is then among the facts of each of these ends.
     ///
     /// # Errors
-    /// Want of memory. The ends of all facts are then as they were; the fact may be under some of these.
+    /// That memory ran out. The ends of all facts are then as they were; the fact may be under some of these.
     pub fn put(&mut self, alloc: Global, fact: NameId, ends: Vec<NameId>) -> Result<(), Memory>
         ensures ends { OnOk result (ends_at self.new fact.0 ≡ Some ends.items) }
         ensures under { OnOk result (IsUnder (facts_at self.new) fact.0 ends.items) }

@@ -22,7 +22,7 @@ const VERSIONS: &[u8; 10] = b"0123456789";
 
 const NAMES: usize = 2180;
 
-// Asked are all products, and behind them a body longer than each of theirs, under the nine pairs of edges.
+// Asked are all products, and after them a body longer than each of theirs, under the nine pairs of edges.
 const QUESTIONS: usize = 227;
 
 fn edge_at(number: usize) -> Edge {

@@ -1,4 +1,4 @@
--- What boards show behind an edit.
+-- What boards show after an edit.
 use Rattle.std.proofs.Common.{◌≡◌, ℕ, ◌<◌, length, true, cond, List, [], ◌++◌, refl, sym, ap, subst, ◌∙◌, arith, Some}
 use Rattle.std.specs.Prelude.{filter, find, nat_lt, not}
 use Rattle.std.proofs.lemmas.Option.{same_Some}
@@ -122,7 +122,7 @@ reordered names board mode rows next same still s = record {
   there = subst (Shows names (target_times board)) (sym still) s.there;
 }
 
--- the same elements, in front of others
+-- the same elements, before others
 in_front : (new same list other : List Values) → SameElements new same → SameElements (same ++ list) other → SameElements (new ++ list) other
 in_front new same list other e h f = omega (arith, e f, h f, sum_by-append f new list, sum_by-append f same list)
 

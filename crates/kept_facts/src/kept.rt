@@ -79,7 +79,7 @@ impl KeptFacts {
     /// Makes room for so many names more in each mode, of the products that live names of the table have.
     ///
     /// # Errors
-    /// Want of memory; all is then as it was, but that there may be more room.
+    /// That memory ran out; all is then as it was, but that there may be more room.
     pub fn reserve(
         &mut self,
         table: &NameTable,
@@ -161,9 +161,9 @@ impl KeptFacts {
         leave(&mut self.follow, table, ends, steps);
     }
 
-    /// A statement of a mode comes. These are the names to which those of its facts lead to which no statement refers yet, in any order:
-    /// of each fact once, however often this one refers to it ([`keep_each_once`](crate::keep_each_once)). So there may be none. It
-    /// takes no memory.
+    /// A statement of a mode comes. These are the names to which its new facts lead (those to which no statement refers yet), in any
+    /// order: the names of each fact once, however often the statement refers to it ([`keep_each_once`](crate::keep_each_once)). So
+    /// there may be none. It takes no memory.
     pub fn ask<L: Ledger>(
         &mut self,
         table: &NameTable,
@@ -192,8 +192,8 @@ impl KeptFacts {
         }
     }
 
-    /// A statement of a mode goes, or one that came is taken back. These are the names to which those of its facts lead to which no
-    /// other refers, as for [`ask`](KeptFacts::ask). It takes no step and no memory.
+    /// A statement of a mode goes, or one that came is taken back. These are the names to which its own facts lead (those to which no
+    /// other statement refers), as for [`ask`](KeptFacts::ask). It takes no step and no memory.
     pub fn unask<L: Ledger>(
         &mut self,
         table: &NameTable,

@@ -68,8 +68,8 @@ pub fn releases_are_safe()
         → FitBoards boards old → FitBoards boards new }
 {}
 
-/// The looks that a board takes are those by the different names that the rows ask or have there; and it keeps no more numbers than
-/// these names are many.
+/// A board takes the looks that the different names take which the rows ask or have there; and it keeps at most as many numbers as
+/// there are such names.
 pub fn looks_are_by_names()
     ensures asked { (names : Names) (board : Board) (rows : Rows) (mode : Mode) (numbers : List NameId) → AreNames names → IsOn board → ShowsRows names board rows mode
         → looks names side.Target board.probe_ids numbers ≡ looks_by side.Target (asked rows mode) (names_at names numbers) }

@@ -1,4 +1,4 @@
--- Verdicts behind boards that moved, and behind tables.
+-- Verdicts once boards moved, and once tables did.
 use Rattle.std.proofs.Common.{◌≡◌, ◌≤◌, ℕ, Bool, true, List, Option, Some, None, IsSome, refl, sym, ap, subst, ◌∙◌}
 use Rattle.std.proofs.lemmas.Bool.{true≢false}
 use Rattle.std.specs.List.{AllByRecursion}

@@ -168,7 +168,7 @@ impl KeptVerdicts {
     /// Makes room for an item that comes, of which these are the ends.
     ///
     /// # Errors
-    /// Want of memory alone; all is then as it was, but that there may be more room.
+    /// Only that memory ran out; all is then as it was, but that there may be more room.
     pub fn reserve_item(&mut self, table: &NameTable, ends: &[NameId]) -> Result<(), Memory>
         requires stood { (rows : Rows) × IsLawful rows × Stands table.now self.old rows }
         requires few { length ends.now ≤ 256 }
@@ -242,7 +242,7 @@ impl KeptVerdicts {
     /// Keeps the result of a check: in the place of that of the same key where there is one, and last otherwise.
     ///
     /// # Errors
-    /// Want of memory alone; all is then as it was.
+    /// Only that memory ran out; all is then as it was.
     pub fn set_check(&mut self, key: CheckKey, truth: Truth) -> Result<(), Memory>
         ensures ok { (names : Names) (rows : Rows) → Stands names self.old rows → OnOk result (Stands names self.new (after rows (edit.SetCheck key truth))) }
         ensures err { OnErr result (self.new ≡ self.old) }

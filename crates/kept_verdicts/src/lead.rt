@@ -59,7 +59,7 @@ impl KeptVerdicts {
     /// Finds what a planned change of the deprecation of an entry will move, and makes room for it.
     ///
     /// # Errors
-    /// Want of memory alone; all is then as it was, but that there may be more room.
+    /// Only that memory ran out; all is then as it was, but that there may be more room.
     pub fn foresee(
         &mut self,
         alloc: Global,
@@ -167,7 +167,7 @@ impl KeptVerdicts {
 // Of names those that are items.
 //
 // # Errors
-// Want of memory alone.
+// Only that memory ran out.
 fn items_among(
     alloc: Global,
     registry: &Registry,
@@ -196,7 +196,7 @@ fn has_users(board: &Board, fact: NameId) -> bool
 // Of names those to which a statement in mode follow refers.
 //
 // # Errors
-// Want of memory alone.
+// Only that memory ran out.
 fn facts_among(alloc: Global, board: &Board, sources: &[NameId]) -> Result<Vec<NameId>, Memory>
     ensures { IfOk result (λ v. v.items ≡ filter (is_in_use board.now.rows) sources.now) }
 {
@@ -212,7 +212,7 @@ fn facts_among(alloc: Global, board: &Board, sources: &[NameId]) -> Result<Vec<N
 // The ends of names, one after the other.
 //
 // # Errors
-// Want of memory alone.
+// Only that memory ran out.
 fn all_ends(alloc: Global, registry: &Registry, numbers: &[NameId]) -> Result<Vec<NameId>, Memory>
     requires live { AreLive registry.now.table numbers.now }
     ensures live { IfOk result (λ v. AreLive registry.now.table v.items) }
@@ -229,7 +229,7 @@ fn all_ends(alloc: Global, registry: &Registry, numbers: &[NameId]) -> Result<Ve
 // The same, once the planned change is made.
 //
 // # Errors
-// Want of memory alone.
+// Only that memory ran out.
 fn all_ends_after(
     alloc: Global,
     registry: &Registry,
@@ -262,7 +262,7 @@ fn kept_ends(followed: &FollowedFacts, fact: NameId) -> &[NameId]
 // The same of facts, one after the other.
 //
 // # Errors
-// Want of memory alone.
+// Only that memory ran out.
 fn all_kept_ends(
     alloc: Global,
     followed: &FollowedFacts,
@@ -280,7 +280,7 @@ fn all_kept_ends(
 // Enters a fact under the ends to which it will lead.
 //
 // # Errors
-// Want of memory alone.
+// Only that memory ran out.
 fn link_one(
     alloc: Global,
     followed: &mut FollowedFacts,
@@ -303,7 +303,7 @@ fn link_one(
 // Enters facts under the ends to which they will lead.
 //
 // # Errors
-// Want of memory alone.
+// Only that memory ran out.
 fn link_all(
     alloc: Global,
     followed: &mut FollowedFacts,
@@ -328,7 +328,7 @@ fn link_all(
 // The ends to which facts will lead, one after the other.
 //
 // # Errors
-// Want of memory alone.
+// Only that memory ran out.
 fn led_ends(alloc: Global, facts: &[Led]) -> Result<Vec<NameId>, Memory>
     ensures { IfOk result (λ v. v.items ≡ flat_map (λ (x : Led). x.ends.items) facts.now) }
 {
@@ -342,7 +342,7 @@ fn led_ends(alloc: Global, facts: &[Led]) -> Result<Vec<NameId>, Memory>
 // Makes room for names more that are there, and for others that are asked. Lawful rows never come near the limits.
 //
 // # Errors
-// Want of memory alone; the boards are then as they were, but that there may be more room.
+// Only that memory ran out; the boards are then as they were, but that there may be more room.
 fn reserve_lead(
     facts: &mut KeptFacts,
     table: &NameTable,

@@ -46,7 +46,7 @@ impl KeptVerdicts {
     /// Puts a statement of a new id last. Its fact references have these numbers, in the order of its test.
     ///
     /// # Errors
-    /// Want of memory alone; the rows are then as they were.
+    /// Only that memory ran out; the rows are then as they were.
     pub fn put<L: Ledger>(
         &mut self,
         alloc: Global,
@@ -77,11 +77,11 @@ impl KeptVerdicts {
         }
     }
 
-    /// Takes out the statement of this id, which is there, and answers the numbers of its fact references: their holds are another's
-    /// then. It takes no step.
+    /// Takes out the statement of this id, which is there, and answers the numbers of its fact references: their holds are the
+    /// caller's then. It takes no step.
     ///
     /// # Errors
-    /// Want of memory alone; all is then as it was.
+    /// Only that memory ran out; all is then as it was.
     pub fn drop_statement<L: Ledger>(
         &mut self,
         alloc: Global,
@@ -113,7 +113,7 @@ impl KeptVerdicts {
     // Of facts, each once, those to which so many statements of a mode refer.
     //
     // # Errors
-    // Want of memory alone.
+    // Only that memory ran out.
     fn facts_used(
         &self,
         alloc: Global,
@@ -132,7 +132,7 @@ impl KeptVerdicts {
     // Puts a statement in mode follow, of which these facts aren't followed yet.
     //
     // # Errors
-    // Want of memory alone; nothing that stands has changed then.
+    // Only that memory ran out; nothing that stands has changed then.
     fn put_followed<L: Ledger>(
         &mut self,
         alloc: Global,
@@ -175,10 +175,10 @@ impl KeptVerdicts {
         }
     }
 
-    // Puts a statement for whose facts these names are asked that weren't; those facts have no truth yet.
+    // Puts a statement with new facts, for which these names are asked from now on; those facts have no truth yet.
     //
     // # Errors
-    // Want of memory alone; the boards then show what they showed.
+    // Only that memory ran out; the boards then show what they showed.
     fn put_asked<L: Ledger>(
         &mut self,
         alloc: Global,
@@ -231,7 +231,7 @@ impl KeptVerdicts {
 // Of numbers, those that so many statements of a mode use.
 //
 // # Errors
-// Want of memory alone.
+// Only that memory ran out.
 fn used_by(
     board: &Board,
     alloc: Global,
@@ -277,7 +277,7 @@ fn settle(facts: &mut KeptFacts)
 // Makes room for so many names more that are asked in a mode.
 //
 // # Errors
-// Want of memory; all is then as it was, but that there may be more room.
+// That memory ran out; all is then as it was, but that there may be more room.
 fn reserve_asked(
     facts: &mut KeptFacts,
     table: &NameTable,
@@ -312,7 +312,7 @@ fn reserve_asked(
 // Asks the names to which the fresh facts of a statement lead.
 //
 // # Errors
-// Want of memory; the boards then show what they showed.
+// That memory ran out; the boards then show what they showed.
 fn ask_all<L: Ledger>(
     facts: &mut KeptFacts,
     table: &NameTable,
@@ -367,7 +367,7 @@ fn unask_all<L: Ledger>(
 // Puts a statement all of whose facts are asked.
 //
 // # Errors
-// Want of memory alone; the statements are then as they were.
+// Only that memory ran out; the statements are then as they were.
 fn put_told(
     board: &mut Board,
     facts: &KeptFacts,
@@ -443,7 +443,7 @@ fn truth_followed(facts: &KeptFacts, followed: &FollowedFacts, fact: NameId) -> 
 // The truths of facts that are asked.
 //
 // # Errors
-// Want of memory alone.
+// Only that memory ran out.
 fn find_truths(
     alloc: Global,
     facts: &KeptFacts,
@@ -470,7 +470,7 @@ fn find_truths(
 // Follows facts, and answers their ends, one after the other.
 //
 // # Errors
-// Want of memory alone; none of them is followed then.
+// Only that memory ran out; none of them is followed then.
 fn follow(
     followed: &mut FollowedFacts,
     alloc: Global,
@@ -561,7 +561,7 @@ impl KeptVerdicts {
     // The numbers of the fact references of the statement of this id.
     //
     // # Errors
-    // Want of memory alone.
+    // Only that memory ran out.
     fn numbers_of(&self, alloc: Global, id: &Text) -> Result<Vec<NameId>, Memory>
         ensures { (j : Judged) → find (is_of id.now) self.now.board.rows ≡ Some j → IfOk result (λ v. map (λ x. x.0) v.items ≡ j.ids) }
     {
@@ -577,7 +577,7 @@ impl KeptVerdicts {
     // Takes out a statement of a mode, to whose facts of these numbers no other refers.
     //
     // # Errors
-    // Want of memory alone; all is then as it was.
+    // Only that memory ran out; all is then as it was.
     fn drop_with<L: Ledger>(
         &mut self,
         alloc: Global,
@@ -659,7 +659,7 @@ fn let_go<L: Ledger>(
 // These numbers as those of names.
 //
 // # Errors
-// Want of memory alone.
+// Only that memory ran out.
 fn numbered(alloc: Global, numbers: &[u32]) -> Result<Vec<NameId>, Memory>
     ensures { IfOk result (λ v. map (λ (x : NameId). x.0) v.items ≡ numbers.now) }
 {
@@ -673,7 +673,7 @@ fn numbered(alloc: Global, numbers: &[u32]) -> Result<Vec<NameId>, Memory>
 // The ends of facts that are followed, one after the other.
 //
 // # Errors
-// Want of memory alone.
+// Only that memory ran out.
 fn ends_of_all(
     alloc: Global,
     followed: &FollowedFacts,

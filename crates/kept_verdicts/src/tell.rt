@@ -77,7 +77,7 @@ fn tell_plain(board: &mut Board, facts: &KeptFacts, numbers: &[NameId])
     }
 }
 
-/// Asks the facts anew that a flipped name is asked for. Those that aren't have to be right already.
+/// Asks those facts anew for which a flipped name is asked. The others have to be right already.
 pub(crate) fn tell_flips(board: &mut Board, facts: &KeptFacts, followed: &FollowedFacts)
     ensures same { SameRows board.old board.new }
     ensures right { (names : Names) (rows : Rows) → FitBoards facts.now names → ShowRows names facts.now rows → AreAnswered names board.old.rows rows.entries facts.now followed.now

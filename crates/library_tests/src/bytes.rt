@@ -52,11 +52,11 @@ fn takes(alloc: Global, before: &[u8], behind: &[u8], accepted: &[u8]) -> bool {
 #[test]
 fn a_text_takes_these_bytes_alone(rt: HostRuntime) {
     let alloc = rt.alloc();
-    // the part; within a body; behind a backslash
+    // the part; within a body; after a backslash
     assert!(rt; takes(alloc, b"cpe:2.3:", b":v:p:1:u:e:*:*:*:*:*", b"*-aho"));
     assert!(rt; takes(alloc, b"cpe:2.3:a:v:p:1", b"0:u:e:*:*:*:*:*", BARE));
     assert!(rt; takes(alloc, b"cpe:2.3:a:v:p:1:u\\", b":e:*:*:*:*:*", QUOTED));
-    // behind a leading asterisk and a leading mark; behind a trailing asterisk and a trailing mark
+    // after a leading asterisk and a leading mark; after a trailing asterisk and a trailing mark
     assert!(rt; takes(alloc, b"cpe:2.3:a:v:p:1:u:*", b":*:*:*:*:*", BARE));
     assert!(rt; takes(alloc, b"cpe:2.3:a:v:p:1:u:e:*:?", b"s:*:*:*", BARE_OR_MARK));
     assert!(rt; takes(alloc, b"cpe:2.3:a:v:p:1:u:e:*:*:s*", b"h:*", b":"));

@@ -1,4 +1,4 @@
-// Texts that are written in another form without a name, behind three bytes that stay; and names that are lent.
+// Texts that are written in another form without a name, after three bytes that stay; and names that are lent.
 use cpe_fs::{lend_fs, write_bound, write_unbound};
 use cpe_name::NameRef;
 use cpe_uri::{lend_any, write_bound_uri, write_unbound_any};

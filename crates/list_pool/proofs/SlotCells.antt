@@ -17,7 +17,7 @@ use Rattle.list_pool.proofs.SlotChanges.{Rewrites-then, Rewrites-set, Rewrites-t
 use Rattle.list_pool.proofs.SlotsPlaced.{head_is_no_cell, keeps_takes, keeps_head, keeps_cell, stands_pushed, stands_nowhere}
 use Rattle.list_pool.proofs.SlotWalks.{found, find-lists_of, length-walk, cell_of, list_at_head}
 
--- what stands behind a cell
+-- what stands after a cell
 abbrev pub FollowedBy : ℕ → Option Row → Type 0
 FollowedBy next None = next ≡ END
 FollowedBy next (Some y) = (next ≡ y.0) × (next < END)

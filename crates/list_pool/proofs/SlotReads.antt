@@ -26,7 +26,7 @@ module _ {X : Type 0} where
   slice_get-push_other (y ∷ xs) x zero h = refl
   slice_get-push_other (y ∷ xs) x (suc j) h = slice_get-push_other xs x j (λ e. h (ap suc e))
 
--- lists of optional things, read as if `None` stood behind their ends
+-- lists of optional things, read as if `None` stood after their ends
 module _ {X : Type 0} (f : Option X → ℕ) (f-none : f None ≡ 0) where
   sum_none : (ls : List (Option X)) → ((j : ℕ) → get_or ls j None ≡ None) → sum_by f ls ≡ 0
   sum_none [] h = refl

@@ -69,7 +69,7 @@ IsOn ls name cell = (k : ℕ) × (cell_at ls name k ≡ Some cell)
 abbrev pub last_cell_of : List (Option (List Row)) → ℕ → Option ℕ
 last_cell_of ls name = cell_at ls name (length (list_at ls name) - 1)
 
--- what stands behind the cell, wherever it stands
+-- what stands after the cell, wherever it stands
 abbrev pub NextIs : List (Option (List Row)) → ℕ → Option ℕ → Type 0
 NextIs ls cell next = (name k : ℕ) → cell_at ls name k ≡ Some cell → next ≡ cell_at ls name (k + 1)
 

@@ -1,4 +1,4 @@
-// Want of memory.
+// Memory ran out.
 use std::alloc::AllocError;
 use thiserror::Error;
 

@@ -213,7 +213,7 @@ impl Pool {
         self.store.has_cell(cell.0, list.0)
     }
 
-    /// The cell of the position behind the cell's own; `None` exactly where that is the last. A constant time.
+    /// The cell of the position after the cell's own; `None` exactly where that is the last. A constant time.
     pub fn next(&self, cell: CellName) -> Option<CellName>
         requires { IsCell self.now.lists cell.0 }
         ensures { NextIs self.now.lists cell.0 (option_map (λ c. c.0) result) }

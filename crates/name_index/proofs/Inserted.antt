@@ -80,7 +80,7 @@ pub as_before : (names : List Values) (name : Values) (new_names fewer : List Va
 as_before names name new_names fewer place put cut =
     cut ∙ ap (λ (k : ℕ). take k new_names) put.at ∙ ap (λ (ws : List Values). take (length names) ws) put.keys ∙ take-append_seam names (name ∷ [])
 
--- what is so in any case is so where memory is wanting
+-- what is so in any case is so where memory runs out
 pub on_err : {A B P : Type 0} (r : Result A B) → P → OnErr r P
 on_err (Ok x) p = tt
 on_err (Err e) p = p

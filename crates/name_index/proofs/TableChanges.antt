@@ -181,7 +181,7 @@ grown names rows numbers products a full few =
     number_new : (p : ℕ) → p ≡ length rows → number_at (numbers ++ length rows ∷ []) p ≡ length rows
     number_new p is = get_or_push numbers (length rows) 0 p (omega (arith, is, a.paired))
 
--- the new number has nothing kept, as all numbers behind the last
+-- the new number has nothing kept, as all numbers after the last
 pub find_grown : (names : List Values) (rows : List Row) (m : ℕ) → find_kept (names_of names (rows ++ row_with (length rows) 0 0 ∷ [])) m ≡ find_kept (names_of names rows) m
 find_grown names rows m = elim (cases_Bool (ltb m (length rows))) [
   | inl l ↦

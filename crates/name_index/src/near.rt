@@ -121,7 +121,7 @@ impl NameIndex {
     ///
     /// # Errors
     ///
-    /// Want of memory alone. The bound on steps holds then, too.
+    /// Only that memory ran out. The bound on steps holds then, too.
     pub fn covered_by<L: Ledger>(
         &self,
         alloc: Global,

@@ -30,7 +30,7 @@ pub struct NameId(pub u32);
 #[derive(Clone, Copy, Debug, PartialEq, Eq, PartialOrd, Ord)]
 pub struct ProductId(pub u32);
 
-// What is kept of a number. Without holds it is free, and its place lies behind those of the names.
+// What is kept of a number. Without holds it is free, and its place lies after those of the names.
 #[derive(Clone, Copy)]
 pub(crate) struct Row {
     pub(crate) place: u32,
@@ -47,7 +47,7 @@ pub(crate) struct Row {
 #[derive(Drop)]
 pub struct NameTable {
     alloc: Global,
-    // The live names, and the number of each place; behind them the numbers that are free.
+    // The live names, and the number of each place; after them the numbers that are free.
     names: IndexSet<Wfn>,
     numbers: Vec<u32>,
     rows: Vec<Row>,
@@ -160,7 +160,7 @@ fn row_of(rows: &Vec<Row>, number: u32) -> Row
     rows[number as usize]
 }
 
-// Makes room for a number at the first place behind the names.
+// Makes room for a number at the first place after the names.
 fn reserve_number(numbers: &mut Vec<u32>, rows: &mut Vec<Row>, place: usize) -> Result<(), Memory>
     ensures numbers { numbers.new.items ≡ numbers.old.items }
     ensures rows { rows.new.items ≡ rows.old.items }
@@ -216,7 +216,7 @@ fn make_room(
     product_number(alloc, products, counts, product_of(names, place))
 }
 
-// The number of the first place behind the names; a new one where none is free.
+// The number of the first place after the names; a new one where none is free.
 fn free_number(numbers: &mut Vec<u32>, rows: &mut Vec<Row>, place: usize) -> u32
     requires paired { length numbers.old.items ≡ length rows.old.items }
     requires within { place ≤ length rows.old.items }
@@ -276,7 +276,7 @@ fn insert_name(names: &mut IndexSet<Wfn>, name: Wfn) -> Result<(usize, bool), Me
     }
 }
 
-// Lets a name go that memory was wanting for.
+// Lets a name go for which memory ran out.
 fn let_name_go(name: Wfn, memory: Memory) -> Memory {
     drop(name);
     memory
@@ -366,7 +366,7 @@ impl NameTable {
     /// The number of a name, with one hold more: its own, where it has one, and else one that no name has. It is copied then.
     ///
     /// # Errors
-    /// Want of memory, or of a number below 2^32 - 1; the table is then as it was.
+    /// That memory or numbers below 2^32 - 1 ran out; the table is then as it was.
     pub fn hold(&mut self, name: &Wfn) -> Result<NameId, Memory>
         requires lower { IsLower name.now }
         requires few { (id : ℕ) → HasName self.old id name.now → (kept_at self.old id).holds < 4294967295 }
@@ -385,7 +385,7 @@ impl NameTable {
     /// The same by moving the name: it isn't copied, and goes where it had a number. It is hashed once, new or not.
     ///
     /// # Errors
-    /// Want of memory, or of a number below 2^32 - 1; the table is then as it was, and the name is gone.
+    /// That memory or numbers below 2^32 - 1 ran out; the table is then as it was, and the name is gone.
     pub fn hold_moved(&mut self, name: Wfn) -> Result<NameId, Memory>
         requires lower { IsLower name }
         requires few { (id : ℕ) → HasName self.old id name → (kept_at self.old id).holds < 4294967295 }

@@ -10,7 +10,7 @@ abbrev pub numbers_in : List (Option NameId) → List NameId
 numbers_in [] = []
 numbers_in (slot ∷ slots) = cons_option slot (numbers_in slots)
 
--- the list closed up behind the first that passes, which is left out
+-- the list closed up after the first that passes, which is left out
 abbrev pub without_first : {A : Type 0} → (A → Bool) → List A → List A
 without_first passes [] = []
 without_first passes (x ∷ xs) = if passes x then xs else x ∷ without_first passes xs
@@ -24,7 +24,7 @@ abbrev pub found_place : List (Option NameId) → Option ℕ → NameId → Opti
 found_place slots None id = None
 found_place slots (Some place) id = cond (is_slot_of id (get_or slots place None)) (Some place) None
 
--- the slots before a place, and those behind it; all, and none, where there is no place
+-- the slots before a place, and those after it; all, and none, where there is no place
 abbrev pub slots_before : Option ℕ → List (Option NameId) → List (Option NameId)
 slots_before None slots = slots
 slots_before (Some place) slots = take place slots

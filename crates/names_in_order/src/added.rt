@@ -9,7 +9,7 @@ ghost use Rattle.names_in_order.specs.InOrder.{AreInOrder, names_numbered};
 use cpe_values::Memory;
 use name_index::{NameId, NameIndex, NameTable, fitting_laws};
 
-/// Different numbers in an order, behind which one more may be put.
+/// Different numbers in an order, after which one more may be put.
 pub(crate) trait PushNumber {
     /// The numbers, in their order.
     ghost numbers: { Self → List NameId };
@@ -17,7 +17,7 @@ pub(crate) trait PushNumber {
     /// Puts a number last that isn't there.
     ///
     /// # Errors
-    /// Want of memory, or of places below 2^32; the numbers are then as they were.
+    /// That memory or places below 2^32 ran out; the numbers are then as they were.
     fn push(&mut self, id: NameId) -> Result<(), Memory>
         requires { (k : ℕ) → slice_get (numbers self.old) k ≢ Some id }
         ensures ok { OnOk result (numbers self.new ≡ numbers self.old ++ id ∷ []) }
@@ -27,7 +27,7 @@ pub(crate) trait PushNumber {
 /// Puts a live number last whose name isn't there, in both.
 ///
 /// # Errors
-/// Want of memory alone; what both hold is then as it was.
+/// Only that memory ran out; what both hold is then as it was.
 pub(crate) fn add_number<N: PushNumber>(
     table: &NameTable,
     index: &mut NameIndex,

@@ -139,7 +139,7 @@ impl ChangingNames {
         self.numbers.slots()
     }
 
-    /// The slots before that of a number and those behind it; all, and none, where it isn't there.
+    /// The slots before that of a number and those after it; all, and none, where it isn't there.
     pub fn around(&self, id: NameId) -> (&[Option<NameId>], &[Option<NameId>])
         ensures { numbers_in result.0.now ++ numbers_in result.1.now ≡ without_first (same_id id) self.now.numbers }
     {
@@ -150,7 +150,7 @@ impl ChangingNames {
     /// product that is new.
     ///
     /// # Errors
-    /// Want of memory alone; the numbers are then as they were.
+    /// Only that memory ran out; the numbers are then as they were.
     pub fn push(&mut self, table: &NameTable, id: NameId) -> Result<(), Memory>
         requires order { AreInOrder table.now self.old.held self.old.numbers }
         requires live { IsLive table.now id.0 }
@@ -178,7 +178,7 @@ impl ChangingNames {
     /// whose product that of the name is near, and at no other.
     ///
     /// # Errors
-    /// Want of memory alone. The bound on steps holds then, too.
+    /// Only that memory ran out. The bound on steps holds then, too.
     pub fn covered<L: Ledger>(
         &self,
         alloc: Global,

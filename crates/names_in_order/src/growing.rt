@@ -199,7 +199,7 @@ impl GrowingNames {
     /// product that is new.
     ///
     /// # Errors
-    /// Want of memory alone; the numbers are then as they were.
+    /// Only that memory ran out; the numbers are then as they were.
     pub fn push(&mut self, table: &NameTable, id: NameId) -> Result<(), Memory>
         requires order { AreInOrder table.now self.old.held self.old.numbers }
         requires live { IsLive table.now id.0 }
@@ -241,7 +241,7 @@ impl NamesInOrder<'_> {
     /// whose product that of the name is near, and at no other.
     ///
     /// # Errors
-    /// Want of memory alone. The bound on steps holds then, too.
+    /// Only that memory ran out. The bound on steps holds then, too.
     pub fn covered_places<L: Ledger>(
         &self,
         alloc: Global,

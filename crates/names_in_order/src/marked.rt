@@ -83,7 +83,7 @@ fn find_place(slots: &[Option<NameId>], places: &[u32], id: NameId) -> Option<us
     }
 }
 
-// The slots before and behind a place.
+// The slots before and after a place.
 fn slots_around(
     slots: &[Option<NameId>],
     place: Option<usize>,
@@ -323,7 +323,7 @@ impl MarkedNumbers {
         }
     }
 
-    /// The slots before that of a number and those behind it; all, and none, where it isn't there.
+    /// The slots before that of a number and those after it; all, and none, where it isn't there.
     pub(crate) fn around(&self, id: NameId) -> (&[Option<NameId>], &[Option<NameId>])
         ensures { numbers_in result.0.now ++ numbers_in result.1.now ≡ without_first (same_id id) self.now }
     {
@@ -334,7 +334,7 @@ impl MarkedNumbers {
     /// there it says nothing.
     ///
     /// # Errors
-    /// Want of memory alone.
+    /// Only that memory ran out.
     pub(crate) fn in_order(&self, alloc: Global, found: &[NameId]) -> Result<Vec<NameId>, Memory>
         ensures { IfOk result (λ ids. PutsInOrder self.now found.now ids.items) }
     {

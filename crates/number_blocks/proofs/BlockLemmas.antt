@@ -77,7 +77,7 @@ module _ (p : ℕ → Bool) where
   failing_blocks (b ∷ bs) (suc i) some s h lt =
       failing_blocks bs i some.1 (parted_back p b.items (flat bs) s) (λ k d low high. h (suc k) d (omega (arith, low)) (omega (arith, high))) (omega (arith, lt))
 
-  -- nothing stands behind the last block
+  -- nothing stands after the last block
   pub none_behind : (bs : List Block) (i : ℕ) → suc i ≡ length bs → AllAre p false (behind bs i (length (block_at bs i)))
   none_behind [] i e = tt
   none_behind (b ∷ []) zero e = all_append (λ y. p y ≡ false) (drop (length b.items) b.items) [] (all_past (λ y. p y ≡ false) b.items) tt
@@ -149,7 +149,7 @@ front_is [] j at lt = absurd (omega (arith, lt))
 front_is (b ∷ bs) zero at lt = refl
 front_is (b ∷ bs) (suc j) at lt = ap (λ (u : List ℕ). b.items ++ u) (front_is bs j at (omega (arith, lt))) ∙ sym (append_assoc b.items (flat (take j bs)) (take at (block_at bs j)))
 
--- two places in two blocks: what is left of the first, the blocks between, and the front of the second
+-- two places in two blocks: what is left of the first, the blocks between, and a prefix of the second
 abbrev pub over : List Block → ℕ → ℕ → ℕ → ℕ → ℕ → ℕ → List ℕ
 over bs i from k n j to = drop from (block_at bs i) ++ (flat (take n (drop k bs)) ++ take to (block_at bs j))
 

@@ -82,7 +82,7 @@ still p bs i h = elim (cases_lt i (length bs)) [ inl lt ↦ lt | inr le ↦ absu
     true_false : true ≡ false → ⊥
     true_false e = absurd cc
 
--- a number that fails the test stands behind what passes it
+-- a number that fails the test stands after what passes it
 pub not_before : (p : ℕ → Bool) (n : ℕ) (xs : List ℕ) → p n ≡ false → AllAre p true xs → list_any (is n) xs ≡ false
 not_before p n [] fails h = refl
 not_before p n (x ∷ xs) fails h = elim (cases_Bool (is n x)) [

@@ -1,4 +1,4 @@
--- A list of numbers, and a test that holds of a front of it.
+-- A list of numbers, and a test that holds of a prefix of it.
 use Rattle.std.specs.Prelude.{◌≡◌, ℕ, Bool, true, false, List, [], ◌∷◌, ◌++◌}
 use Rattle.std.specs.List.{AllByRecursion}
 
@@ -10,12 +10,12 @@ pub record Numbers : Type 0 where
 abbrev pub AllAre : {X : Type 0} → (X → Bool) → Bool → List X → Type 0
 AllAre p answer xs = AllByRecursion (λ x. p x ≡ answer) xs
 
--- behind an element that fails the test all others fail
+-- after an element that fails the test all others fail
 abbrev pub IsParted : {X : Type 0} → (X → Bool) → List X → Type 0
 IsParted p [] = Unit {0}
 IsParted p (x ∷ xs) = (p x ≡ false → AllAre p false xs) × IsParted p xs
 
--- a number was put behind those that pass, and before those that fail
+-- a number was put after those that pass, and before those that fail
 pub record IsPut (p : ℕ → Bool) (number : ℕ) (old new : List ℕ) : Type 0 where
   pub front : List ℕ
   pub back : List ℕ

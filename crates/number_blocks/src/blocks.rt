@@ -45,7 +45,7 @@ impl Blocks {
     /// Takes the memory for one more number: a block of 4 KB, where none is spare.
     ///
     /// # Errors
-    /// Want of memory, where there was none for one more.
+    /// That memory ran out, where there was none for one more.
     pub fn reserve(&mut self) -> Result<(), AllocError>
         ensures items { self.new.items ≡ self.old.items }
         ensures ready { OnOk result (self.new.ready ≡ true) }
@@ -55,7 +55,7 @@ impl Blocks {
         self.spare.reserve_exact(BLOCK)
     }
 
-    /// Puts a number behind those that pass the test, and before those that fail. It takes no memory.
+    /// Puts a number after those that pass the test, and before those that fail. It takes no memory.
     pub fn put<T: Test>(&mut self, test: &T, number: u32)
         requires ready { self.old.ready ≡ true }
         requires parted { IsParted (T.passes test.now) self.old.items }

@@ -10,7 +10,7 @@ use std::marker::Model;
 /// Numbers of a list that stand side by side, from the first on. Contracts see those that are left. A step takes no memory.
 #[derive(Drop)]
 pub struct Piece<'a> {
-    // What is left of a block, whole blocks, and the front of one more.
+    // What is left of a block, whole blocks, and a prefix of one more.
     here: &'a [u32],
     whole: &'a [Vec<u32>],
     last: &'a [u32],

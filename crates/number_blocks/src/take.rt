@@ -84,7 +84,7 @@ fn append(block: &mut Vec<u32>, more: &[u32])
     }
 }
 
-// Puts the numbers of the next block behind those of a block.
+// Puts the numbers of the next block after those of a block.
 fn join_next(blocks: &mut Vec<Vec<u32>>, first: usize)
     requires inside { first + 1 < length blocks.old.items }
     requires few { length (block_at blocks.old.items first) + length (block_at blocks.old.items (first + 1)) ≤ HALF }

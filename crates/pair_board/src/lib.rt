@@ -58,7 +58,7 @@ impl PairBoard {
     /// Makes room for so many probes and targets more. Afterwards `wide` is above the product number of each live name.
     ///
     /// # Errors
-    /// Want of memory; the same is then on the board.
+    /// That memory ran out; the same is then on the board.
     pub fn reserve(&mut self, table: &NameTable, probes: u32, targets: u32) -> Result<(), Memory>
         requires probes { length self.old.probe_ids + probes ≤ 536870912 }
         requires targets { length self.old.target_ids + targets ≤ 536870912 }
@@ -108,7 +108,7 @@ impl PairBoard {
     /// name's is near, and at no other.
     ///
     /// # Errors
-    /// Want of memory alone. The bound on steps holds then, too.
+    /// Only that memory ran out. The bound on steps holds then, too.
     pub fn covered_targets<L: Ledger>(
         &self,
         alloc: Global,

@@ -108,7 +108,7 @@ near_to p whole e body says (value.Text t) h =
     ap (λ (b : Bool). not (has_special t) && b) (says t.body (lower_body (value.Text t) h))
     ∙ ap (λ (b : Bool). b && has_by whole e body t.body) (sym (no_special (is_nothing t.lead) (is_nothing t.trail)))
 
--- whether nothing stands before the body of such a text, and nothing behind it
+-- whether nothing stands before the body of such a text, and nothing after it
 abbrev edges_of : Shape → Bool × Bool
 edges_of shape.Any = (true, true)
 edges_of shape.Na = (true, true)

@@ -135,7 +135,7 @@ module _ (r : Shape) (n : ℕ) (piece : ℕ → List ℕ) (v : Value) (s : Bool)
       whole true f = lt-ltb (length (body_of v)) (n + 1) (omega (arith, f refl))
       whole false f = refl
 
--- a body is the front of its own length
+-- a body is the prefix of its own length
 front_piece : (t b : List ℕ) (k : ℕ) → k ≤ length t → pointwise nat_eq (take k t) b ≡ (starts_with nat_eq t b && eqb (length b) k)
 front_piece t b k le =
     let d = starts_is nat_Decides t b (starts_with nat_eq t b) refl in

@@ -60,7 +60,7 @@ pointwise_turned end.Back a b = agree (pointwise nat_eq a b) (pointwise nat_eq (
     (λ h. text_same (reverse a) (reverse b) (ap reverse (same_text a b h)))
     (λ h. text_same a b (sym (reverse-reverse a) ∙ ap reverse (same_text (reverse a) (reverse b) h) ∙ reverse-reverse b))
 
--- to be in a run is to have its key, or its key in front
+-- to be in a run is to have its key, or to begin with it
 pub in_key : (e : End) (s : Shape) (body : List ℕ) (whole : Bool) (v : Value) → in_run e s body whole v ≡ meets whole (rank s ∷ turned e body) (key e v)
 in_key e s body true v = ap (λ (b : Bool). nat_eq (rank s) (rank (shape_of v)) && b) (pointwise_turned e body (body_of v))
 in_key e s body false v = ap (λ (b : Bool). nat_eq (rank s) (rank (shape_of v)) && b) (touches_key e body (body_of v))

@@ -177,7 +177,7 @@ get_push (y ∷ xs) x = get_push xs x
 -- ---- a number is made ready
 
 module _ (values : List Value) (numbers places : List ℕ) (a : ArePlaced values numbers places) where
-  -- a new number, behind all others
+  -- a new number, after all others
   pub grown : length values ≡ length places → length places < 4294967295 → ArePlaced values (numbers ++ length places ∷ []) (places ++ length places ∷ [])
   grown full few =
       let n = length places in
@@ -209,7 +209,7 @@ module _ (values : List Value) (numbers places : List ℕ) (a : ArePlaced values
       len : length (places ++ length places ∷ []) ≡ length places + 1
       len = length_push places (length places)
 
-  -- a product goes to the first place behind the others, whose number is free
+  -- a product goes to the first place after the others, whose number is free
   module _ (v : Value) (free : length values < length places) where
     abbrev p : ℕ
     p = length values

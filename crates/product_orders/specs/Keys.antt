@@ -14,7 +14,7 @@ use Rattle.product_orders.specs.declared.keys.Shape.{Shape}
 use Rattle.product_orders.specs.declared.keys.Shape.TheVariants as shape
 use Rattle.product_orders.specs.Listed.{Listed, value_at}
 
--- by whether nothing stands before the body, and nothing behind it
+-- by whether nothing stands before the body, and nothing after it
 abbrev pub shape_by : Bool → Bool → Shape
 shape_by no_lead no_trail =
     if no_lead then (if no_trail then shape.Plain else shape.WithTrail) else (if no_trail then shape.WithLead else shape.WithBoth)

@@ -8,7 +8,7 @@ use Rattle.product_orders.specs.Listed.{Listed}
 abbrev pub number_at : List ℕ → ℕ → ℕ
 number_at numbers place = get_or numbers place 0
 
--- the places behind the products are those of the numbers that are free
+-- the places after the products are those of the numbers that are free
 abbrev pub by_number : List Value → List ℕ → Listed
 by_number values places = map (λ place. slice_get values place) places
 

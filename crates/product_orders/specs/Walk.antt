@@ -1,4 +1,4 @@
--- What a walk over products still has to come to: the products whose bodies are fronts and ends of a text.
+-- What a walk over products still has to come to: the products whose bodies are prefixes and ends of a text.
 use Rattle.std.specs.Prelude.{ℕ, zero, suc, ◌+◌, ◌-◌, ◌≤◌, true, List, [], ◌++◌, length, take, drop}
 use Rattle.std.specs.List.{filter}
 use Rattle.product_orders.specs.declared.keys.End.TheVariants as end
@@ -12,7 +12,7 @@ abbrev pub runs : Listed → List ℕ → Shape → (ℕ → List ℕ) → ℕ �
 runs values order s piece zero = []
 runs values order s piece (suc k) = filter (λ n. in_run end.Front s (piece k) true (value_at values n)) order ++ runs values order s piece k
 
--- so many fronts, and then so many ends, of the text
+-- so many prefixes, and then so many ends, of the text
 abbrev pub all_runs : Listed → List ℕ → List ℕ → ℕ → ℕ → List ℕ
 all_runs values order text fronts ends = runs values order shape.WithTrail (λ k. take k text) fronts ++ runs values order shape.WithLead (λ k. drop (length text - k) text) ends
 

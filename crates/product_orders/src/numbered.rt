@@ -18,7 +18,7 @@ use std::marker::Model;
 // Different products by number. Contracts see what each number has.
 #[derive(Drop)]
 pub(crate) struct Numbered {
-    // The products, and the number of each place; behind them the numbers that are free.
+    // The products, and the number of each place; after them the numbers that are free.
     values: IndexSet<Value>,
     numbers: Vec<u32>,
     // The place of each number.
@@ -51,7 +51,7 @@ fn number_alone(numbers: &Vec<u32>, place: usize) -> &[u32]
     &numbers[place..place + 1]
 }
 
-// Makes room for a number at the first place behind the products.
+// Makes room for a number at the first place after the products.
 fn reserve_number(numbers: &mut Vec<u32>, places: &mut Vec<u32>, place: usize) -> Result<(), Memory>
     ensures numbers { numbers.new.items ≡ numbers.old.items }
     ensures places { places.new.items ≡ places.old.items }
@@ -70,7 +70,7 @@ fn reserve_number(numbers: &mut Vec<u32>, places: &mut Vec<u32>, place: usize) -
     Ok(())
 }
 
-// The number of the first place behind the products; a new one where none is free.
+// The number of the first place after the products; a new one where none is free.
 fn free_number(numbers: &mut Vec<u32>, places: &mut Vec<u32>, place: usize) -> u32
     requires paired { length numbers.old.items ≡ length places.old.items }
     requires within { place ≤ length places.old.items }

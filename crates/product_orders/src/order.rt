@@ -94,7 +94,7 @@ pub(crate) fn in_run<'a>(values: &Numbered, order: &'a Blocks, run: Run) -> Piec
     order.between(&below, &within)
 }
 
-// Puts a number behind those whose products stand before its own. It takes no memory.
+// Puts a number after those whose products stand before its own. It takes no memory.
 pub(crate) fn put_number(values: &Numbered, order: &mut Blocks, end: End, number: u32)
     requires rises { Rises end values.now order.old.items }
     requires ready { order.old.ready ≡ true }

@@ -82,7 +82,7 @@ impl Products {
     /// Adds a product, which gets a number that is free, or the next one.
     ///
     /// # Errors
-    /// Want of memory, or of a number below 2^32 - 1; the products are then as they were.
+    /// That memory or numbers below 2^32 - 1 ran out; the products are then as they were.
     pub fn add(&mut self, value: Value) -> Result<u32, Memory>
         requires fresh { (number : ℕ) → product_at self.old number ≡ Some value → ⊥ }
         requires lower { lower_value value ≡ value }

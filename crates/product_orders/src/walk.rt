@@ -30,7 +30,7 @@ pub struct NearProducts<'a> {
     first: Piece<'a>,
     second: Piece<'a>,
     third: Piece<'a>,
-    // A plain text, and how many of its fronts and of its ends, from the longest, may still be the body of a product with
+    // A plain text, and how many of its prefixes and of its ends, from the longest, may still be the body of a product with
     // only a trail or only a lead.
     text: &'a [u8],
     fronts: usize,
@@ -103,7 +103,7 @@ impl<'a> Iterator for NearProducts<'a> {
 }
 
 impl Products {
-    // The products of a shape that have the body in front, or whose body it is.
+    // The products of a shape that begin with the body, or whose body it is.
     fn front_run(&self, shape: Shape, body: &[u8], whole: bool) -> Piece<'_>
         ensures { SameElements (filter (λ n. in_run end.Front shape body.now whole (value_at self.now n)) (live self.now)) result }
     {
@@ -171,7 +171,7 @@ impl Products {
         }
     }
 
-    // How many fronts of a text, or ends of it, may be the body of a product of the shape: none where no product has the shape.
+    // How many prefixes of a text, or ends of it, may be the body of a product of the shape: none where no product has the shape.
     fn piece_count(&self, shape: Shape, text: &[u8]) -> usize
         ensures few { result ≤ length text.now + 1 }
         ensures enough { (piece : ℕ → List ℕ) → SameElements (runs self.now (live self.now) shape piece (length text.now + 1)) (runs self.now (live self.now) shape piece result) }
@@ -182,7 +182,7 @@ impl Products {
         text.len() + 1
     }
 
-    // Three runs, and then the products with only a trail whose bodies are fronts of the text that are shorter than `fronts`,
+    // Three runs, and then the products with only a trail whose bodies are prefixes of the text that are shorter than `fronts`,
     // and those with only a lead whose bodies are ends of it that are shorter than `ends`.
     fn in_runs<'a>(
         &'a self,
@@ -254,10 +254,10 @@ impl Products {
         }
     }
 
-    /// A walk over the numbers of the products that are near a product which is the source, or the target. It takes no
-    /// memory. A plain text is found by its hash. Any other source looks up one run of one of the orders; a target where ANY is
-    /// a product, or one has a special, those of each such shape, and where products with a trail alone are there, one run more
-    /// for each of its fronts, and so with a lead alone for its ends.
+    /// A walk over the numbers of the products that are near this one, which is the source or the target. It takes no memory. A
+    /// plain text is found by its hash. Any other source looks up one run of one of the orders. A target looks up, where ANY is
+    /// a product or one has a special, those of each such shape; where products with a trail alone are there, one run more for
+    /// each of its prefixes; and where products with a lead alone are there, one for each of its ends.
     pub fn near<'a>(&'a self, asked: &'a Value, side: Side) -> NearProducts<'a>
         requires { lower_value asked.now ≡ asked.now }
         ensures { SameElements (filter (λ n. near_on side asked.now (value_at self.now n)) (live self.now)) result }

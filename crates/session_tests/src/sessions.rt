@@ -303,7 +303,7 @@ fn writes_usage(sink: &mut MemSink, status: Status) -> bool {
     write_text(sink, b"usage", Status::Usage) == status
 }
 
-// Whether three rows and a text behind them end and are written so, where these writes fail. A write takes two bytes.
+// Whether three rows and a text after them end and are written so, where these writes fail. A write takes two bytes.
 fn are_written(alloc: Global, writes: &[u64], rows: Status, text: Status, output: &[u8]) -> bool {
     match MemSink::new(alloc, 2, writes) {
         Ok(mut sink) => {

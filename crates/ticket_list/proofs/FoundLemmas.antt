@@ -22,7 +22,7 @@ module _ {X : Type 0} (ticket_of : X → ℕ) (t : ℕ) where
   abbrev pub AreOthers : List X → Type 0
   AreOthers xs = AllByRecursion (λ x. has_ticket ticket_of t x ≡ false) xs
 
-  -- behind a slot whose ticket isn't below, no element has the ticket
+  -- after a slot whose ticket isn't below, no element has the ticket
   pub others_behind : (n : ℕ) (slots : List (Slot X)) → AllByRecursion (λ s. n < slot_ticket ticket_of s) slots → nat_lt n t ≡ false → AreOthers (elements slots)
   others_behind n [] h low = tt
   others_behind n (Element x ∷ slots) h low = (differs_above n (ticket_of x) t h.0 low, others_behind n slots h.1 low)

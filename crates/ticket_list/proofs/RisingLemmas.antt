@@ -9,7 +9,7 @@ use Rattle.std.proofs.lemmas.List.Elements.{All-from_recursion}
 use Rattle.ticket_list.specs.Rising.{IsRisingBy, front}
 use Rattle.ticket_list.specs.Marks.{put_in}
 
--- behind an element that fails all others fail
+-- after an element that fails all others fail
 abbrev IsParted : {X : Type 0} → (X → Bool) → List X → Type 0
 IsParted p [] = Unit {0}
 IsParted p (x ∷ xs) = (p x ≡ false → AllByRecursion (λ y. p y ≡ false) xs) × IsParted p xs

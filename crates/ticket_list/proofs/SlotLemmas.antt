@@ -78,7 +78,7 @@ module _ {X : Type 0} where
     go true h = omega (arith, h)
     go false h = omega arith
 
-  -- the element of a place stands as many slots behind it as there are marks up to there
+  -- the element of a place stands as many slots after it as there are marks up to there
   reached : (n p q : ℕ) (slots : List (Slot X)) (j : ℕ) → q ≡ n + p → skipped q (marks_from n slots) ≡ n + j → element_at slots j ≡ slice_get (elements slots) p
   reached n p q [] j e h = refl
   reached n zero q (Element x ∷ slots) zero e h = refl

@@ -2,7 +2,7 @@
 use Rattle.std.specs.Prelude.{ℕ, suc, ◌<◌, Bool, cond, List, [], ◌∷◌}
 use Rattle.std.specs.List.{AllByRecursion}
 
--- the number of each is below those of the ones behind it
+-- the number of each is below those of the ones after it
 abbrev pub IsRisingBy : {X : Type 0} → (X → ℕ) → List X → Type 0
 IsRisingBy number [] = Unit {0}
 IsRisingBy number (x ∷ xs) = AllByRecursion (λ y. number x < number y) xs × IsRisingBy number xs

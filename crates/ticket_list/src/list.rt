@@ -85,7 +85,7 @@ impl<T: Ticketed + Drop> TicketList<T> {
     /// Takes the memory for one more element.
     ///
     /// # Errors
-    /// Want of memory alone.
+    /// Only that memory ran out.
     pub fn reserve(&mut self) -> Result<(), AllocError>
         ensures items { self.new.items ≡ self.old.items }
         ensures ready { OnOk result (self.new.ready ≡ true) }

@@ -71,7 +71,7 @@ fn a_word_is_less_than_the_end_and_the_end_less_than_a_number(rt: HostRuntime) {
     assert!(rt; rise(&["alpha", "", "0"]));
 }
 
-// Those of semver 2.0.0, 11.4, where `alpha.beta` stands behind `alpha.1`; here a word behind a word makes it less.
+// Those of semver 2.0.0, 11.4, where `alpha.beta` stands after `alpha.1`; here a word that follows a word makes it less.
 #[test]
 fn pre_releases_of_semver(rt: HostRuntime) {
     assert!(rt;

@@ -1,4 +1,4 @@
-// Commands that read nothing: no read is made, so none fails, and a write that fails leaves a front.
+// Commands that read nothing: no read is made, so none fails, and a write that fails leaves a prefix of the output.
 ghost use Rattle.std.specs.Prelude.{◌<◌, ◌≤◌};
 
 use crate::faults::{ALL, Ends, front, goes_over};
@@ -58,7 +58,7 @@ fn drill_stands_at_each_fault(rt: HostRuntime) {
     assert!(rt; stands(rt.alloc(), &["drill", "16"], DRILLED));
 }
 
-// Puts a line behind others.
+// Puts a line after others.
 fn push_line(alloc: Global, lines: &mut Vec<u8>, k: u32) -> bool
     requires { k < MOST_LINES }
 {

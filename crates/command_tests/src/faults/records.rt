@@ -15,7 +15,7 @@ fn resolve_stands_at_each_fault(rt: HostRuntime) {
     assert!(rt; stands_at_each_fault(rt.alloc(), &["resolve"], SESSION, ANSWERS));
 }
 
-// Behind a read that fails there is no table: what stands is what resolve says of the same lines.
+// After a read that fails there is no table: what stands is what resolve says of the same lines.
 #[test]
 fn evaluate_stands_at_each_fault(rt: HostRuntime) {
     let without_table = &["resolve"];

@@ -14,7 +14,7 @@ fn writes(alloc: Global, entry: &Entry, text: &str) -> bool {
     }
 }
 
-// Whether an entry is written so behind a front.
+// Whether an entry is written so after a prefix.
 fn appends(alloc: Global, front: &[u8], entry: &Entry, text: &str) -> bool {
     let Ok(buffer) = front.to_vec(alloc) else {
         return false;
@@ -29,7 +29,7 @@ fn copy_of(alloc: Global, entry: &Entry) -> Option<Entry> {
     entry.copy(alloc).ok()
 }
 
-// Whether an entry and its copy are written so, the copy behind a word.
+// Whether an entry and its copy are written so, the copy after a word.
 fn is_copied(alloc: Global, entry: &Entry, text: &str, shown: &str) -> bool {
     match copy_of(alloc, entry) {
         Some(copy) => {

@@ -1,7 +1,7 @@
 use Rattle.std.proofs.Common.{◌≡◌, ℕ, List, ◌++◌, ap, append_assoc, ◌∙◌}
 use Rattle.cpe_fs.proofs.bound.put_string.Goals as goal
 
--- what was put behind what was put
+-- what was put after what was put
 behind : (x y z a b : List ℕ) → y ≡ x ++ a → z ≡ y ++ b → z ≡ x ++ (a ++ b)
 behind x y z a b first second = second ∙ ap (λ (u : List ℕ). u ++ b) first ∙ append_assoc x a b
 
