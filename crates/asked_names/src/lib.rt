@@ -6,10 +6,4 @@
 //! is asked once, however many statements refer to it: the first asks its names, and with the last they are asked no more.
 #![tactic(auto)]
 
-mod laws;
-
-pub use laws::{
-    asked_names_are_kept, checks_ask_nothing, deprecations_lead_elsewhere,
-    entries_lead_to_themselves, facts_are_asked, facts_stand_once, items_arrive,
-    lawful_rows_ask_few, led_are_sources, statements_ask,
-};
+pub mod law;

@@ -10,7 +10,7 @@ mod count;
 mod facts;
 mod faults;
 mod held;
-mod laws;
+pub mod law;
 mod parts;
 mod row;
 mod rows;
@@ -20,4 +20,3 @@ mod users;
 
 pub use board::Board;
 pub use facts::FactTruth;
-pub use laws::{changes_are_differences, verdicts_are_truths};

@@ -5,12 +5,10 @@
 mod begin;
 mod forms;
 mod kept;
-mod laws;
+pub mod law;
 mod pairs;
 mod parts;
 mod sessions;
 mod speaking;
 mod talk;
 mod told;
-
-pub use laws::joined_answers;

@@ -10,7 +10,7 @@ ghost use Rattle.cpe_c.specs.Told.{Tells};
 
 use crate::told::{Answer, Told};
 use cpe_name::{NameRef, Wfn};
-use cpe_relation::{Relation, Relations, compare_lent, cover_laws};
+use cpe_relation::{Relation, Relations, compare_lent};
 use cpe_uri::{UriFault, lend_any, unbind_any};
 use std::alloc::{AllocError, Global};
 
@@ -134,7 +134,7 @@ fn compare(source: &NameRef, target: &NameRef) -> Compared
 fn tells_cover(compared: &Compared) -> bool
     ensures { (a b : Values) → AreRelations a b compared.now → result ≡ covers a b }
 {
-    cover_laws();
+    cpe_relation::law::cover_laws();
     is_above(compared.whole)
 }
 

@@ -6,9 +6,4 @@
 //! ([`entries_change_nothing`]). All of it together is [`untouched_verdicts_stay`].
 #![tactic(auto)]
 
-mod laws;
-
-pub use laws::{
-    checks_touch, deprecations_touch, entries_change_nothing, items_touch, untouched_tests_stay,
-    untouched_verdicts_stay,
-};
+pub mod law;

@@ -2,7 +2,7 @@
 #![tactic(auto)]
 
 mod fault;
-mod laws;
+pub mod law;
 mod limits;
 mod marks;
 mod names;
@@ -11,6 +11,5 @@ mod rows;
 mod shapes;
 
 pub use fault::{NamesFault, NamesWhich};
-pub use laws::cover_list_laws;
 pub use limits::MOST_NAMES;
 pub use names::Names;

@@ -9,8 +9,8 @@ ghost use Rattle.owned_names.specs.Owned.{AreOwn, IsNew};
 
 use cpe_name::Wfn;
 use cpe_values::Memory;
-use name_index::{NameId, NameTable, fitting_laws};
-use names_in_order::{GrowingNames, NamesInOrder, orders_stay};
+use name_index::{NameId, NameTable};
+use names_in_order::{GrowingNames, NamesInOrder};
 use std::alloc::Global;
 use std::marker::Model;
 
@@ -41,7 +41,7 @@ fn put_last(table: &mut NameTable, names: &mut GrowingNames, id: NameId) -> Resu
     ensures ok { OnOk result (names_numbered table.new names.new.numbers ≡ names_numbered table.old names.old.numbers ++ (kept_at table.old id.0).name ∷ []) }
     ensures err { OnErr result (names_numbered table.new names.new.numbers ≡ names_numbered table.old names.old.numbers) }
 {
-    orders_stay();
+    names_in_order::law::orders_stay();
     match names.push(table, id) {
         Ok(()) => Ok(()),
         Err(memory) => {
@@ -60,8 +60,8 @@ fn add_name(table: &mut NameTable, names: &mut GrowingNames, name: Wfn) -> Resul
     ensures ok { OnOk result (names_numbered table.new names.new.numbers ≡ names_numbered table.old names.old.numbers ++ name ∷ []) }
     ensures err { OnErr result (names_numbered table.new names.new.numbers ≡ names_numbered table.old names.old.numbers) }
 {
-    fitting_laws();
-    orders_stay();
+    name_index::law::fitting_laws();
+    names_in_order::law::orders_stay();
     let id = table.hold_moved(name)?;
     put_last(table, names, id)
 }
@@ -71,7 +71,7 @@ impl OwnNames {
     pub(crate) fn new(alloc: Global) -> OwnNames
         ensures { result ≡ [] }
     {
-        orders_stay();
+        names_in_order::law::orders_stay();
         OwnNames {
             table: NameTable::new(alloc),
             names: GrowingNames::new(alloc),

@@ -18,10 +18,7 @@ use crate::entries::Entries;
 use crate::kept::{entry_of, state_of};
 use crate::search::wanted_at;
 use cpe_name::Wfn;
-use cpe_rows::{
-    Deprecation, EditFault, Entry, List, MOST_ENTRIES, Note, Row, State, Which,
-    absent_names_stand_alone,
-};
+use cpe_rows::{Deprecation, EditFault, Entry, List, MOST_ENTRIES, Note, Row, State, Which};
 use cpe_steps::Steps;
 use cpe_values::Memory;
 use deprecation_graph::{DeprecationGraph, GraphFault};
@@ -195,7 +192,7 @@ impl Dictionary<'_> {
         ensures links { IfOk result (λ r. r.0 ≡ map row_of (chain_of self.now name.now)) }
         ensures ends { IfOk result (λ r. r.1 ≡ ends self.now name.now) }
     {
-        absent_names_stand_alone();
+        cpe_rows::law::absent_names_stand_alone();
         match self.number_of(name) {
             Some(number) => self.chain_at(alloc, name, number),
             None => chain_of_none(alloc, name),

@@ -20,7 +20,7 @@ mod dictionary;
 mod ends;
 mod entries;
 mod kept;
-mod laws;
+pub mod law;
 mod plans;
 mod search;
 mod sources;
@@ -32,7 +32,6 @@ pub use by_number::{
     entries_are_numbered, faults_by_number,
 };
 pub use dictionary::Dictionary;
-pub use laws::plans_lead;
 pub use plans::Plan;
 pub use sources::Sources;
 pub use store::KeptDictionary;

@@ -8,9 +8,7 @@ ghost use Rattle.cpe_dictionary.specs.Sources.{AreSourcesOf};
 use crate::by_number::{chains_by_number, entries_are_numbered};
 use crate::dictionary::Dictionary;
 use cpe_name::Wfn;
-use cpe_rows::absent_names_stand_alone;
 use cpe_values::Memory;
-use deprecation_graph::chains_are_paths;
 use std::alloc::Global;
 use std::marker::Model;
 
@@ -59,7 +57,7 @@ impl<'d> Dictionary<'d> {
     {
         chains_by_number();
         entries_are_numbered();
-        chains_are_paths();
+        deprecation_graph::law::chains_are_paths();
         match self.graph.sources(alloc, number) {
             Ok(numbers) => Ok(Sources {
                 dictionary: self,
@@ -84,7 +82,7 @@ impl Sources<'_> {
     pub fn has(&self, name: &Wfn) -> bool
         ensures { result ≡ leads_to self.now.0 name.now self.now.1 }
     {
-        absent_names_stand_alone();
+        cpe_rows::law::absent_names_stand_alone();
         match self.dictionary.number_of(name) {
             Some(number) => has_number(&self.numbers, number),
             None => false,

@@ -18,7 +18,7 @@ use cpe_rows::{Deprecation, Note, Provenance, Text};
 use cpe_values::Memory;
 use deprecation_graph::DeprecationGraph;
 use name_index::{NameId, NameTable};
-use names_in_order::{GrowingNames, orders_stay};
+use names_in_order::GrowingNames;
 use std::alloc::Global;
 use std::marker::Model;
 
@@ -66,7 +66,7 @@ fn put_last(
     ensures names { OnErr result (names.new ≡ names.old) }
     ensures err { OnErr result (all.new.items ≡ all.old.items) }
 {
-    orders_stay();
+    names_in_order::law::orders_stay();
     if all.reserve(1).is_err() {
         return Err(let_go(details, Memory));
     }

@@ -16,12 +16,9 @@ use crate::holds::release_coming;
 use crate::numbered::{Change, Numbered, Turn};
 use crate::parts::Parts;
 use cpe_dictionary::Plan;
-use cpe_rows::{
-    Edit, EditFault, MOST_WEIGHT, Which, causes_are_faults, causes_refuse, rows_stay_lawful,
-};
+use cpe_rows::{Edit, EditFault, MOST_WEIGHT, Which};
 use cpe_weight::{
-    edits_weigh, losses_are_known, with_active_entry, with_deprecation, with_key, with_name,
-    with_note, with_statement,
+    with_active_entry, with_deprecation, with_key, with_name, with_note, with_statement,
 };
 use std::alloc::Global;
 
@@ -43,7 +40,7 @@ impl Parts {
         ensures err { IfErr result (λ f. Refuses f (step (rows_in self.old) edit)) }
     {
         edit.formed();
-        causes_refuse();
+        cpe_rows::law::causes_refuse();
         self.find_numbers(alloc, edit)
     }
 
@@ -121,9 +118,9 @@ impl Parts {
         ensures ok { IfOk result (IsChecked (rows_in self.now) (edit_in self.now numbered.now)) }
         ensures err { IfErr result (λ f. Refuses f (step (rows_in self.now) (edit_in self.now numbered.now))) }
     {
-        causes_are_faults();
-        causes_refuse();
-        rows_stay_lawful();
+        cpe_rows::law::causes_are_faults();
+        cpe_rows::law::causes_refuse();
+        cpe_rows::law::rows_stay_lawful();
         let plan = self.plan(numbered)?;
         let weight = self.weight_after(numbered);
         if weight > MOST_WEIGHT {
@@ -168,7 +165,7 @@ impl Parts {
         requires none { first_some (causes (rows_in self.now) (edit_in self.now numbered.now)) ≡ None }
         ensures { result ≡ capped (weight_of (after (rows_in self.now) (edit_in self.now numbered.now))) }
     {
-        edits_weigh();
+        cpe_weight::law::edits_weigh();
         self.with_gain(self.weight - self.loss(numbered), numbered)
     }
 
@@ -179,8 +176,8 @@ impl Parts {
         requires none { first_some (causes (rows_in self.now) (edit_in self.now numbered.now)) ≡ None }
         ensures { result ≡ loss (rows_in self.now) (edit_in self.now numbered.now) }
     {
-        edits_weigh();
-        losses_are_known();
+        cpe_weight::law::edits_weigh();
+        cpe_weight::law::losses_are_known();
         match numbered {
             Numbered::DropItem(id) => with_name(0, self.registry.name(*id)),
             Numbered::DropStatement(id) => self.statement_weight(id),

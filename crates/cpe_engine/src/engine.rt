@@ -10,10 +10,7 @@ ghost use Rattle.cpe_engine.specs.Looks.{edit_looks, looks};
 
 use crate::parts::Parts;
 use cpe_name::Wfn;
-use cpe_rows::{
-    Changed, Counts, Edit, EditFault, List, Query, Reply, Statement, Text, Truth, names_are_equal,
-    rows_stay_lawful,
-};
+use cpe_rows::{Changed, Counts, Edit, EditFault, List, Query, Reply, Statement, Text, Truth};
 use cpe_steps::Steps;
 use cpe_values::Memory;
 use std::alloc::Global;
@@ -47,7 +44,7 @@ impl Engine {
     pub fn new(alloc: Global) -> Engine
         ensures { result ≡ no_rows }
     {
-        rows_stay_lawful();
+        cpe_rows::law::rows_stay_lawful();
         Engine {
             alloc,
             parts: Parts::new(alloc),
@@ -181,7 +178,7 @@ impl Engine {
         ensures answer { IfOk result (λ r. r ≡ answer self.now (Query.Search name active_only)) }
         ensures steps { StepsWithin steps.old steps.new (looks self.now (Query.Search name active_only)) }
     {
-        names_are_equal();
+        cpe_rows::law::names_are_equal();
         let dictionary = self.parts.registry.dictionary();
         match dictionary.rows_found(alloc, &name, active_only, steps) {
             Ok(rows) => Ok(Reply::Search { name, rows }),
@@ -199,7 +196,7 @@ impl Engine {
         ensures answer { IfOk result (λ r. r ≡ answer self.now (Query.Items name)) }
         ensures steps { StepsWithin steps.old steps.new (looks self.now (Query.Items name)) }
     {
-        names_are_equal();
+        cpe_rows::law::names_are_equal();
         match self.parts.registry.items().covered(alloc, &name, steps) {
             Ok(rows) => Ok(Reply::Items { name, rows }),
             Err(memory) => Err(let_go(name, memory)),

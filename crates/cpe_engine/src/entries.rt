@@ -18,20 +18,14 @@ ghost use Rattle.cpe_engine.specs.Ready.{IsReady};
 use crate::holds::release_all;
 use crate::numbered::{Change, Numbered, Turn};
 use crate::parts::Parts;
-use asked_names::{deprecations_lead_elsewhere, entries_lead_to_themselves, lawful_rows_ask_few};
-use cpe_changes::{deprecations_touch, entries_change_nothing};
 use cpe_dictionary::{Plan, edits_by_number};
 use cpe_name::Wfn;
-use cpe_rows::{
-    Changed, Date, EditFault, Entry, List, Provenance, Room, Text, names_are_equal,
-    rows_stay_lawful,
-};
+use cpe_rows::{Changed, Date, EditFault, Entry, List, Provenance, Room, Text};
 use cpe_steps::Steps;
 use cpe_values::Memory;
 use cpe_weight::with_deprecation;
-use kept_verdicts::{Lead, verdicts_stand};
+use kept_verdicts::Lead;
 use name_index::NameId;
-use numbered_names::{lists_are_shown, tables_are_lists};
 use std::alloc::Global;
 use std::sync::ledger::Ledger;
 
@@ -53,11 +47,11 @@ impl Parts {
         ensures are { IfOk result (λ n. AreOf self.new.registry self.new.verdicts (rows_in self.old) (names_coming self.new.registry.table n)) }
         ensures err { OnErr result (AreOf self.new.registry self.new.verdicts (rows_in self.old) []) }
     {
-        names_are_equal();
-        lists_are_shown();
-        tables_are_lists();
-        verdicts_stand();
-        lawful_rows_ask_few();
+        cpe_rows::law::names_are_equal();
+        numbered_names::law::lists_are_shown();
+        numbered_names::law::tables_are_lists();
+        kept_verdicts::law::verdicts_stand();
+        asked_names::law::lawful_rows_ask_few();
         let Entry {
             name,
             title,
@@ -167,11 +161,11 @@ impl Parts {
         ensures weight { self.new.weight ≡ self.old.weight }
         ensures changes { IfOk result (λ cs. cs ≡ changes (rows_in self.old) (edit_in self.old (Numbered.Entry id title provenance))) }
     {
-        entries_change_nothing();
-        entries_lead_to_themselves();
-        lists_are_shown();
-        rows_stay_lawful();
-        verdicts_stand();
+        cpe_changes::law::entries_change_nothing();
+        asked_names::law::entries_lead_to_themselves();
+        numbered_names::law::lists_are_shown();
+        cpe_rows::law::rows_stay_lawful();
+        kept_verdicts::law::verdicts_stand();
         match self.registry.add_entry(id, title, provenance) {
             Ok(()) => Ok(room.into_list()),
             Err(memory) => {
@@ -202,7 +196,7 @@ impl Parts {
         ensures changes { IfOk result (λ cs. cs ≡ changes (rows_in self.old) (edit_in self.old (Numbered.Change change))) }
         ensures steps { StepsWithin steps.old steps.new (edit_looks (rows_in self.old) (edit_in self.old (Numbered.Change change))) }
     {
-        rows_stay_lawful();
+        cpe_rows::law::rows_stay_lawful();
         let Some(plan) = plan else {
             unreachable!();
         };
@@ -267,8 +261,8 @@ impl Parts {
         ensures steps { StepsWithin steps.old steps.new (edit_looks (rows_in self.old) (edit_in self.old (Numbered.Change change))) }
     {
         edits_by_number();
-        deprecations_touch();
-        deprecations_lead_elsewhere();
+        cpe_changes::law::deprecations_touch();
+        asked_names::law::deprecations_lead_elsewhere();
         let (deprecation, note) = change.into_parts();
         match self.registry.change(plan, deprecation, Some(note)) {
             Ok(()) => {

@@ -15,11 +15,9 @@ ghost use Rattle.cpe_engine.specs.Parts.{AreOf};
 use crate::numbered::Coming;
 use cpe_name::Wfn;
 use cpe_registry::Registry;
-use cpe_rows::{Test, names_are_equal};
+use cpe_rows::Test;
 use cpe_values::Memory;
-use kept_verdicts::verdicts_stand;
 use name_index::NameId;
-use numbered_names::{lists_are_shown, tables_are_lists};
 use std::alloc::Global;
 
 /// Holds the names of all fact references of a test, in their order, and puts their numbers last.
@@ -65,10 +63,10 @@ fn hold_fact(
     ensures names { OnOk result (names_at registry.new.table ids.new.items ≡ names_at registry.old.table ids.old.items ++ name.now ∷ []) }
     ensures few { (n : ℕ) → AreFew registry.old.table (1 + n) → OnOk result (AreFew registry.new.table n) }
 {
-    names_are_equal();
-    lists_are_shown();
-    tables_are_lists();
-    verdicts_stand();
+    cpe_rows::law::names_are_equal();
+    numbered_names::law::lists_are_shown();
+    numbered_names::law::tables_are_lists();
+    kept_verdicts::law::verdicts_stand();
     reserve_one(ids)?;
     let copy = name.copy(alloc)?;
     let id = registry.hold(copy)?;
@@ -130,9 +128,9 @@ fn release_one(registry: &mut Registry, id: NameId)
         → AreOf registry.old v rows (name_in registry.old.table id ∷ (names_at registry.old.table rest ++ others))
         → AreLive registry.new.table rest × AreOf registry.new v rows (names_at registry.new.table rest ++ others) }
 {
-    lists_are_shown();
-    tables_are_lists();
-    verdicts_stand();
+    numbered_names::law::lists_are_shown();
+    numbered_names::law::tables_are_lists();
+    kept_verdicts::law::verdicts_stand();
     registry.lawful();
     registry.release(id);
 }

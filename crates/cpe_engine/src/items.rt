@@ -17,14 +17,11 @@ ghost use Rattle.cpe_engine.specs.Ready.{IsReady};
 use crate::holds::release_all;
 use crate::numbered::Numbered;
 use crate::parts::Parts;
-use asked_names::{items_arrive, lawful_rows_ask_few};
 use cpe_name::Wfn;
-use cpe_rows::{Changed, EditFault, List, Room, names_are_equal};
+use cpe_rows::{Changed, EditFault, List, Room};
 use cpe_steps::Steps;
 use cpe_values::Memory;
-use kept_verdicts::verdicts_stand;
 use name_index::NameId;
-use numbered_names::{lists_are_shown, tables_are_lists};
 use std::alloc::Global;
 use std::sync::ledger::Ledger;
 
@@ -44,11 +41,11 @@ impl Parts {
         ensures are { IfOk result (λ n. AreOf self.new.registry self.new.verdicts (rows_in self.old) (names_coming self.new.registry.table n)) }
         ensures err { OnErr result (AreOf self.new.registry self.new.verdicts (rows_in self.old) []) }
     {
-        names_are_equal();
-        lists_are_shown();
-        tables_are_lists();
-        verdicts_stand();
-        lawful_rows_ask_few();
+        cpe_rows::law::names_are_equal();
+        numbered_names::law::lists_are_shown();
+        numbered_names::law::tables_are_lists();
+        kept_verdicts::law::verdicts_stand();
+        asked_names::law::lawful_rows_ask_few();
         let id = self.registry.hold(name)?;
         Ok(Numbered::Item(id))
     }
@@ -117,9 +114,9 @@ impl Parts {
         ensures weight { self.new.weight ≡ self.old.weight }
         ensures steps { StepsWithin steps.old steps.new (item_looks (rows_in self.old) (name_in self.old.registry.table id)) }
     {
-        items_arrive();
-        lawful_rows_ask_few();
-        lists_are_shown();
+        asked_names::law::items_arrive();
+        asked_names::law::lawful_rows_ask_few();
+        numbered_names::law::lists_are_shown();
         let ends = self.registry.ends_of(alloc, id)?;
         self.verdicts.reserve_item(self.registry.table(), &ends)?;
         self.registry.add_item(id)?;
@@ -171,8 +168,8 @@ impl Parts {
         ensures weight { self.new.weight ≡ self.old.weight }
         ensures steps { StepsWithin steps.old steps.new (item_looks (rows_in self.old) (name_in self.old.registry.table id)) }
     {
-        items_arrive();
-        lists_are_shown();
+        asked_names::law::items_arrive();
+        numbered_names::law::lists_are_shown();
         let ends = self.registry.ends_of(alloc, id)?;
         self.verdicts
             .item_goes(self.registry.table(), id, &ends, steps);

@@ -13,7 +13,7 @@ use crate::checked::Checked;
 use crate::numbered::Numbered;
 use crate::parts::Parts;
 use cpe_dictionary::Plan;
-use cpe_rows::{Changed, EditFault, List, Room, rows_stay_lawful};
+use cpe_rows::{Changed, EditFault, List, Room};
 use cpe_steps::Steps;
 use cpe_values::Memory;
 use std::alloc::Global;
@@ -96,7 +96,7 @@ impl Parts {
         ensures changes { IfOk result (λ cs. cs ≡ changes (rows_in self.old) (edit_in self.old numbered)) }
         ensures steps { StepsWithin steps.old steps.new (edit_looks (rows_in self.old) (edit_in self.old numbered)) }
     {
-        rows_stay_lawful();
+        cpe_rows::law::rows_stay_lawful();
         let changes = self.make(alloc, numbered, &checked.plan, room, steps)?;
         self.weight = checked.weight;
         Ok(changes)

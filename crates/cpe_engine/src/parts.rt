@@ -4,7 +4,6 @@ ghost use Rattle.cpe_rows.specs.Prelude.{no_rows};
 ghost use Rattle.cpe_engine.specs.Parts.{AreOf, rows_in};
 
 use cpe_registry::Registry;
-use cpe_rows::rows_stay_lawful;
 use kept_verdicts::KeptVerdicts;
 use std::alloc::Global;
 
@@ -24,7 +23,7 @@ impl Parts {
         ensures weight { result.weight ≡ 0 }
         ensures are { AreOf result.registry result.verdicts no_rows [] }
     {
-        rows_stay_lawful();
+        cpe_rows::law::rows_stay_lawful();
         Parts {
             registry: Registry::new(alloc),
             verdicts: KeptVerdicts::new(alloc),

@@ -20,14 +20,12 @@ ghost use Rattle.cpe_engine.specs.Told.{dropped_by, put_by};
 use crate::holds::{hold_facts, release_all};
 use crate::numbered::Numbered;
 use crate::parts::Parts;
-use asked_names::{lawful_rows_ask_few, statements_ask};
-use cpe_rows::{Changed, EditFault, List, Room, Statement, Text, Truth, statements_stand_alone};
+use cpe_rows::{Changed, EditFault, List, Room, Statement, Text, Truth};
 use cpe_steps::Steps;
 use cpe_values::Memory;
 use cpe_weight::with_statement;
 use kept_verdicts::KeptVerdicts;
 use name_index::NameId;
-use numbered_names::lists_are_shown;
 use std::alloc::Global;
 use std::sync::ledger::Ledger;
 
@@ -76,7 +74,7 @@ impl Parts {
         ensures are { IfOk result (λ n. AreOf self.new.registry self.new.verdicts (rows_in self.old) (names_coming self.new.registry.table n)) }
         ensures left { OnErr result (AreOf self.new.registry self.new.verdicts (rows_in self.old) []) }
     {
-        lawful_rows_ask_few();
+        asked_names::law::lawful_rows_ask_few();
         let mut ids = Vec::new(alloc);
         match hold_facts(&mut self.registry, alloc, &statement.test, &mut ids) {
             Ok(()) => Ok(Numbered::PutStatement { statement, ids }),
@@ -130,9 +128,9 @@ impl Parts {
         ensures changes { IfOk result (λ cs. cs ≡ changes (rows_in self.old) (edit_in self.old (Numbered.PutStatement statement ids))) }
         ensures steps { StepsWithin steps.old steps.new (edit_looks (rows_in self.old) (edit_in self.old (Numbered.PutStatement statement ids))) }
     {
-        statements_ask();
-        statements_stand_alone();
-        lists_are_shown();
+        asked_names::law::statements_ask();
+        cpe_rows::law::statements_stand_alone();
+        numbered_names::law::lists_are_shown();
         let place = self.verdicts.len();
         match self
             .verdicts
@@ -166,7 +164,7 @@ impl Parts {
         ensures changes { IfOk result (λ cs. cs ≡ changes (rows_in self.old) (edit_in self.old (Numbered.DropStatement id))) }
         ensures steps { StepsWithin steps.old steps.new (edit_looks (rows_in self.old) (edit_in self.old (Numbered.DropStatement id))) }
     {
-        statements_stand_alone();
+        cpe_rows::law::statements_stand_alone();
         let place = self.verdicts.place_of(&id);
         let truth = self.verdicts.verdict(&id);
         let changes = dropped_change(room, place, truth);
@@ -194,8 +192,8 @@ impl Parts {
         ensures weight { self.new.weight ≡ self.old.weight }
         ensures steps { steps.new ≡ steps.old }
     {
-        statements_ask();
-        lists_are_shown();
+        asked_names::law::statements_ask();
+        numbered_names::law::lists_are_shown();
         let ids = self
             .verdicts
             .drop_statement(alloc, self.registry.table(), id, steps)?;

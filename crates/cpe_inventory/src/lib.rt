@@ -11,7 +11,7 @@ mod facts;
 mod faults;
 mod items;
 mod kept;
-mod laws;
+pub mod law;
 mod names;
 mod results;
 
@@ -19,6 +19,5 @@ pub use checks::Checks;
 pub use facts::{PlainFacts, plain_verdict};
 pub use faults::check_fault;
 pub use items::Items;
-pub use laws::item_laws;
 pub use names::Names;
 pub use results::Results;

@@ -18,7 +18,7 @@ use crate::groups::Groups;
 use crate::range::is_in_range;
 use cpe_advisories::{Advisory, Bound};
 use cpe_name::{Attribute, Wfn};
-use cpe_relation::{cover_laws, covers};
+use cpe_relation::covers;
 use cpe_rows::{List, Text};
 use cpe_values::{Memory, Value};
 use indexmap::IndexMap;
@@ -359,7 +359,7 @@ impl Advised {
         requires { IsLower name.now }
         ensures { IfOk result (λ ids. ids ≡ ids_affecting name.now self.now) }
     {
-        cover_laws();
+        cpe_relation::law::cover_laws();
         let product = name.get(Attribute::Product);
         let places = find_places(alloc, &self.by_id, &self.groups, product)?;
         find_affecting(alloc, &self.by_id, &places, name)

@@ -25,7 +25,7 @@ use cpe_advisories::{
     AdviceEdit, AdviceFault, AdviceQuery, AdviceReply, AdviceWhich, Advisory, Bound,
 };
 use cpe_name::{Attribute, Wfn};
-use cpe_rows::{List, MOST_ITEMS, MOST_WEIGHT, Text, has_wildcards, names_are_equal};
+use cpe_rows::{List, MOST_ITEMS, MOST_WEIGHT, Text, has_wildcards};
 use cpe_steps::Steps;
 use cpe_values::{Memory, Value};
 use cpe_weight::with_name;
@@ -213,7 +213,7 @@ impl Advisories {
         requires { is_lower name ≡ true }
         ensures { Applied self.old self.new (AdviceEdit.Item name) result }
     {
-        names_are_equal();
+        cpe_rows::law::names_are_equal();
         let weight = with_name(self.weight, &name);
         match self.item_fault(&name, weight) {
             Some(fault) => refused_name(name, fault),
@@ -228,7 +228,7 @@ impl Advisories {
         requires weight { weight ≡ capped (weight_of (after self.old (AdviceEdit.Item name))) }
         ensures { Applied self.old self.new (AdviceEdit.Item name) result }
     {
-        names_are_equal();
+        cpe_rows::law::names_are_equal();
         self.items.add(name)?;
         self.weight = weight;
         Ok(())
@@ -237,7 +237,7 @@ impl Advisories {
     fn drop_item(&mut self, name: Wfn) -> Result<(), AdviceFault>
         ensures { Applied self.old self.new (AdviceEdit.DropItem name) result }
     {
-        names_are_equal();
+        cpe_rows::law::names_are_equal();
         let lost = with_name(0, &name);
         if !self.items.remove(&name) {
             return refused_name(name, AdviceFault::Unknown);
@@ -251,7 +251,7 @@ impl Advisories {
         requires { is_valid_advisory advisory ≡ true }
         ensures { Applied self.old self.new (AdviceEdit.Put advisory) result }
     {
-        names_are_equal();
+        cpe_rows::law::names_are_equal();
         let weight = with_advisory(self.weight, &advisory);
         match self.advisory_fault(&advisory, weight) {
             Some(fault) => refused_advisory(advisory, fault),
@@ -266,7 +266,7 @@ impl Advisories {
         requires weight { weight ≡ capped (weight_of (after self.old (AdviceEdit.Put advisory))) }
         ensures { Applied self.old self.new (AdviceEdit.Put advisory) result }
     {
-        names_are_equal();
+        cpe_rows::law::names_are_equal();
         self.advised.put(advisory)?;
         self.weight = weight;
         Ok(())
@@ -359,7 +359,7 @@ impl Advisories {
         requires { is_lower name ≡ true }
         ensures { IfOk result (λ r. r ≡ answer self.now (AdviceQuery.Advisories name)) }
     {
-        names_are_equal();
+        cpe_rows::law::names_are_equal();
         match self.advised.affecting(alloc, &name) {
             Ok(ids) => Ok(AdviceReply::Advisories { name, ids }),
             Err(memory) => Err(let_go(name, memory)),

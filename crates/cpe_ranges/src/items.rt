@@ -12,13 +12,13 @@ ghost use Rattle.names_in_order.specs.InOrder.{names_numbered, same_id};
 ghost use Rattle.names_in_order.specs.Places.{near_count};
 ghost use Rattle.owned_names.specs.Owned.{AreOwn, IsNew};
 
-use cpe_inventory::{Items as View, item_laws};
+use cpe_inventory::Items as View;
 use cpe_name::Wfn;
 use cpe_rows::List;
 use cpe_steps::Steps;
 use cpe_values::Memory;
-use name_index::{NameId, NameTable, fitting_laws};
-use names_in_order::{ChangingNames, orders_stay};
+use name_index::{NameId, NameTable};
+use names_in_order::ChangingNames;
 use std::alloc::Global;
 use std::marker::Model;
 use std::sync::ledger::Ledger;
@@ -51,7 +51,7 @@ fn put_last(table: &mut NameTable, names: &mut ChangingNames, id: NameId) -> Res
     ensures ok { OnOk result (names_numbered table.new names.new.numbers ≡ names_numbered table.old names.old.numbers ++ (kept_at table.old id.0).name ∷ []) }
     ensures err { OnErr result (names_numbered table.new names.new.numbers ≡ names_numbered table.old names.old.numbers) }
 {
-    orders_stay();
+    names_in_order::law::orders_stay();
     match names.push(table, id) {
         Ok(()) => Ok(()),
         Err(memory) => {
@@ -70,9 +70,9 @@ fn add_name(table: &mut NameTable, names: &mut ChangingNames, name: Wfn) -> Resu
     ensures ok { OnOk result (names_numbered table.new names.new.numbers ≡ names_numbered table.old names.old.numbers ++ name ∷ []) }
     ensures err { OnErr result (names_numbered table.new names.new.numbers ≡ names_numbered table.old names.old.numbers) }
 {
-    fitting_laws();
-    item_laws();
-    orders_stay();
+    name_index::law::fitting_laws();
+    cpe_inventory::law::item_laws();
+    names_in_order::law::orders_stay();
     let id = table.hold_moved(name)?;
     put_last(table, names, id)
 }
@@ -84,8 +84,8 @@ fn remove_number(table: &mut NameTable, names: &mut ChangingNames, id: NameId)
     ensures own { AreOwn table.new names.new.held names.new.numbers }
     ensures names { names_numbered table.new names.new.numbers ≡ without_first (is_same (kept_at table.old id.0).name) (names_numbered table.old names.old.numbers) }
 {
-    item_laws();
-    orders_stay();
+    cpe_inventory::law::item_laws();
+    names_in_order::law::orders_stay();
     table.lawful();
     names.remove(table, id);
     table.release(id);
@@ -99,7 +99,7 @@ fn remove_name(table: &mut NameTable, names: &mut ChangingNames, name: &Wfn) -> 
     ensures names { names_numbered table.new names.new.numbers ≡ without_first (is_same name.now) (names_numbered table.old names.old.numbers) }
     ensures unchanged { OnFalse result (names_numbered table.new names.new.numbers ≡ names_numbered table.old names.old.numbers) }
 {
-    item_laws();
+    cpe_inventory::law::item_laws();
     match names.find(table, name) {
         Some(id) => {
             remove_number(table, names, id);
@@ -114,7 +114,7 @@ impl Items {
     pub(crate) fn new(alloc: Global) -> Items
         ensures { result ≡ [] }
     {
-        orders_stay();
+        names_in_order::law::orders_stay();
         Items {
             table: NameTable::new(alloc),
             names: ChangingNames::new(alloc),

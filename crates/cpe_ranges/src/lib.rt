@@ -5,7 +5,7 @@ mod advised;
 mod advisories;
 mod groups;
 mod items;
-mod laws;
+pub mod law;
 mod limits;
 mod range;
 
@@ -15,5 +15,4 @@ pub use cpe_advisories::{
     AdviceWhich, Advisory, Bound, read_advice,
 };
 pub use cpe_versions::version_cmp;
-pub use laws::drops_are_never_full;
 pub use limits::MOST_ADVISORIES;

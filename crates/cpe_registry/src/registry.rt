@@ -13,13 +13,12 @@ ghost use Rattle.cpe_dictionary.specs.Plans.{IsAllowed, numbered};
 ghost use Rattle.cpe_registry.specs.Registered.{AreHeld, name_in};
 
 use cpe_dictionary::{Dictionary, KeptDictionary, Plan};
-use cpe_inventory::{Items, item_laws};
+use cpe_inventory::Items;
 use cpe_name::Wfn;
-use cpe_rows::{Deprecation, Note, Provenance, Text, names_are_equal, rows_stay_lawful};
+use cpe_rows::{Deprecation, Note, Provenance, Text};
 use cpe_values::Memory;
 use name_index::{NameId, NameTable};
-use names_in_order::{ChangingNames, orders_stay};
-use numbered_names::{lists_are_shown, tables_are_lists};
+use names_in_order::ChangingNames;
 use std::alloc::Global;
 use std::marker::Model;
 
@@ -48,9 +47,9 @@ impl Registry {
         ensures rows { result ≡ record { table = []; entries = []; items = [] } }
         ensures held { AreHeld result [] }
     {
-        lists_are_shown();
-        orders_stay();
-        rows_stay_lawful();
+        numbered_names::law::lists_are_shown();
+        names_in_order::law::orders_stay();
+        cpe_rows::law::rows_stay_lawful();
         Registry {
             table: NameTable::new(alloc),
             dictionary: KeptDictionary::new(alloc),
@@ -101,7 +100,7 @@ impl Registry {
         ensures no_entry { IsNone result → list_any (is_named name.now) self.now.entries ≡ false }
         ensures no_item { IsNone result → list_any (is_same name.now) self.now.items ≡ false }
     {
-        item_laws();
+        cpe_inventory::law::item_laws();
         self.table.find(name)
     }
 
@@ -127,7 +126,7 @@ impl Registry {
         ensures { result ≡ list_any (is_same (name_in self.now.table id)) self.now.items }
     {
         self.table.lawful();
-        item_laws();
+        cpe_inventory::law::item_laws();
         self.items.has(id)
     }
 }
@@ -149,8 +148,8 @@ impl Registry {
         ensures others { (others : List Values) → AreHeld self.old others → OnOk result (AreHeld self.new (name ∷ others)) }
         ensures err { OnErr result (self.new ≡ self.old) }
     {
-        orders_stay();
-        tables_are_lists();
+        names_in_order::law::orders_stay();
+        numbered_names::law::tables_are_lists();
         self.table.hold_moved(name)
     }
 
@@ -164,8 +163,8 @@ impl Registry {
         ensures others { (others : List Values) → AreHeld self.old (name_in self.old.table id ∷ others) → AreHeld self.new others }
     {
         self.table.lawful();
-        orders_stay();
-        tables_are_lists();
+        names_in_order::law::orders_stay();
+        numbered_names::law::tables_are_lists();
         self.table.release(id);
     }
 
@@ -189,7 +188,7 @@ impl Registry {
         ensures others { (others : List Values) → AreHeld self.old (name_in self.old.table id ∷ others) → OnOk result (AreHeld self.new others) }
         ensures err { OnErr result (self.new ≡ self.old) }
     {
-        lists_are_shown();
+        numbered_names::law::lists_are_shown();
         self.dictionary.add(&self.table, id, title, provenance)
     }
 
@@ -228,9 +227,9 @@ impl Registry {
         ensures others { (others : List Values) → AreHeld self.old (name_in self.old.table id ∷ others) → OnOk result (AreHeld self.new others) }
         ensures err { OnErr result (self.new ≡ self.old) }
     {
-        item_laws();
-        orders_stay();
-        lists_are_shown();
+        cpe_inventory::law::item_laws();
+        names_in_order::law::orders_stay();
+        numbered_names::law::lists_are_shown();
         self.items.push(&self.table, id)
     }
 
@@ -244,8 +243,8 @@ impl Registry {
         ensures others { (others : List Values) → AreHeld self.old others → AreHeld self.new (name_in self.old.table id ∷ others) }
     {
         self.table.lawful();
-        item_laws();
-        lists_are_shown();
+        cpe_inventory::law::item_laws();
+        numbered_names::law::lists_are_shown();
         self.items.remove(&self.table, id);
     }
 }

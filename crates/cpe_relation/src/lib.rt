@@ -26,7 +26,7 @@
 #![tactic(auto)]
 
 mod above;
-mod laws;
+pub mod law;
 mod matching;
 mod names;
 mod nearness;
@@ -35,7 +35,6 @@ mod relation;
 mod seen;
 mod table;
 
-pub use laws::{cover_laws, one_relation, relation_laws};
 pub use names::{compare_lent, compare_names, covers};
 pub use nearness::near;
 pub use order::{covers_in_order, deciding_order};

@@ -14,7 +14,7 @@ mod entry;
 mod facts;
 mod fault;
 mod formed;
-mod laws;
+pub mod law;
 mod limits;
 mod list;
 mod names;
@@ -32,12 +32,6 @@ pub use edit::{Edit, Query, is_id};
 pub use entry::{Deprecation, Entry, Kind, Note, NoteKind, Provenance, copy_of_deprecation};
 pub use facts::{Facts, FindFacts, evaluate, find_truth};
 pub use fault::{EditFault, Which};
-pub use laws::{
-    absent_names_stand_alone, causes_are_faults, causes_refuse, chains_are_paths,
-    checks_after_edits, entries_stand_alone, faults_refuse, names_are_equal, negation_moves_inward,
-    negation_swaps_tables, rows_stay_lawful, statements_stand_alone, tables_are_folds,
-    tables_are_of_members, tables_have_deciding_truths,
-};
 pub use limits::{
     MOST_CHECKS, MOST_ENDS, MOST_ENTRIES, MOST_FACTS, MOST_ID_BYTES, MOST_ITEMS, MOST_LEVELS,
     MOST_STATEMENTS, MOST_SUCCESSORS, MOST_WEIGHT,

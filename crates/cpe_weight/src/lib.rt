@@ -5,12 +5,11 @@
 //! number, and the laws say what an edit does to the weight of all rows: so it can be kept as a running number.
 #![tactic(auto)]
 
-mod laws;
+pub mod law;
 #[cfg(test)]
 mod tests;
 mod weigh;
 
-pub use laws::{edits_weigh, losses_are_known};
 pub use weigh::{
     with_active_entry, with_deprecation, with_entry, with_key, with_name, with_note,
     with_statement, with_test,

@@ -19,7 +19,7 @@ mod few;
 mod graph;
 mod groups;
 mod kept;
-mod laws;
+pub mod law;
 mod limits;
 mod lists;
 mod mirror;
@@ -27,5 +27,4 @@ mod search;
 
 pub use fault::{GraphFault, Memory};
 pub use graph::DeprecationGraph;
-pub use laws::{additions_are_local, chains_are_paths, changes_are_local};
 pub use limits::{MOST_EDGES, MOST_ENDS, MOST_NODES, MOST_SUCCESSORS};

@@ -5,8 +5,8 @@ ghost use Rattle.names_in_order.specs.InOrder.{AreInOrder};
 use crate::held::HeldNames;
 use crate::names::three_names;
 use cpe_name::Wfn;
-use name_index::{NameId, fitting_laws};
-use names_in_order::{ChangingNames, orders_stay};
+use name_index::NameId;
+use names_in_order::ChangingNames;
 use std::alloc::Global;
 use std::marker::Model;
 
@@ -32,8 +32,8 @@ fn push_changing(alloc: Global, names: &mut HeldNames, list: &mut ChangingNames,
     requires lower { IsLower name.now }
     ensures { AreInOrder names.new list.new.held list.new.numbers }
 {
-    fitting_laws();
-    orders_stay();
+    name_index::law::fitting_laws();
+    names_in_order::law::orders_stay();
     if list.find(names.table(), name).is_some() {
         return false;
     }
@@ -45,7 +45,7 @@ fn push_changing(alloc: Global, names: &mut HeldNames, list: &mut ChangingNames,
 
 impl Changing {
     fn new(alloc: Global) -> Changing {
-        orders_stay();
+        names_in_order::law::orders_stay();
         Changing {
             names: HeldNames::new(alloc),
             list: ChangingNames::new(alloc),

@@ -7,7 +7,7 @@ ghost use Rattle.name_index.specs.Table.{IsLive, HasName, kept_at};
 use crate::names::{name_of, text};
 use cpe_name::Wfn;
 use cpe_values::{Edge, Value};
-use name_index::{NameId, NameIndex, NameTable, fitting_laws};
+use name_index::{NameId, NameIndex, NameTable};
 use std::alloc::Global;
 
 fn hold_first(table: &mut NameTable, index: &mut NameIndex, name: &Wfn) -> Option<NameId>
@@ -17,7 +17,7 @@ fn hold_first(table: &mut NameTable, index: &mut NameIndex, name: &Wfn) -> Optio
     ensures live { IfSome result (λ id. IsLive table.new id.0) }
     ensures held { IfSome result (λ id. Contains index.new.held (id.0, (kept_at table.new id.0).product)) }
 {
-    fitting_laws();
+    name_index::law::fitting_laws();
     let Ok(id) = table.hold(name) else {
         return None;
     };

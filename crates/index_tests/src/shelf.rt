@@ -10,7 +10,7 @@ ghost use Rattle.index_tests.specs.Shelves.{near_count, one_if};
 use cpe_name::Wfn;
 use cpe_steps::Steps;
 use cpe_values::Memory;
-use name_index::{NameId, NameIndex, NameTable, Near, Side, fitting_laws};
+use name_index::{NameId, NameIndex, NameTable, Near, Side};
 use std::alloc::Global;
 use std::marker::Model;
 use std::sync::ledger::Ledger;
@@ -39,7 +39,7 @@ fn put(table: &mut NameTable, index: &mut NameIndex, name: &Wfn) -> Result<(), M
     ensures fits { Fits index.new.held table.new }
     ensures counted { (asked : Value) → count_by (is_near table.new side.Source asked) (ids index.new.held) ≤ count_by (is_near table.old side.Source asked) (ids index.old.held) + one_if (near asked name.now.product) }
 {
-    fitting_laws();
+    name_index::law::fitting_laws();
     if let Some(_) = table.find(name) {
         return Ok(());
     }

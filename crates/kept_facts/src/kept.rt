@@ -22,7 +22,6 @@ ghost use Rattle.kept_facts.specs.Lists.{IsWide, looks};
 ghost use Rattle.kept_facts.specs.Kept.{AreLive, AreSettled, AreSound, board_of, ends_of_led, FitBoards, KeepKnown, KeepsRoom, SameBoards, ShowRows};
 
 use crate::lists::{arrive, ask, holds_one, leave, unask};
-use asked_names::facts_are_asked;
 use cpe_rows::Mode;
 use cpe_steps::Steps;
 use cpe_values::Memory;
@@ -270,7 +269,7 @@ impl KeptFacts {
         ensures { AllByRecursion (λ (x : NameId). 1 ≤ probe_times (board_of self.now mode) x.0) numbers.now → (names : Names) (rows : Rows) (fact : Values)
             → FitBoards self.now names → ShowRows names self.now rows → names_at names numbers.now ≡ leads rows.entries mode fact → truth result ≡ fact_truth rows mode fact }
     {
-        facts_are_asked();
+        asked_names::law::facts_are_asked();
         match mode {
             Mode::Plain => holds_one(&self.plain, numbers),
             Mode::Follow => holds_one(&self.follow, numbers),

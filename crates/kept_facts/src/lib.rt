@@ -12,13 +12,9 @@
 #![tactic(auto)]
 
 mod kept;
-mod laws;
+pub mod law;
 mod lists;
 mod once;
 
 pub use kept::{KeptFacts, Wanted};
-pub use laws::{
-    asked_facts_are_on, boards_stay, facts_are_kept, few_stand, looks_are_by_names,
-    releases_are_safe, tables_change, unflipped_facts_stay,
-};
 pub use once::keep_each_once;

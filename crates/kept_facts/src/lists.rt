@@ -14,7 +14,6 @@ ghost use Rattle.kept_facts.specs.Lists.{Arrives, Asks, IsWide, Leaves, Unasks, 
 
 use cpe_steps::Steps;
 use name_index::{NameId, NameTable};
-use numbered_names::lists_are_shown;
 use pair_board::PairBoard;
 use std::sync::ledger::Ledger;
 
@@ -101,7 +100,7 @@ pub(crate) fn unask<L: Ledger>(
 fn holds(board: &PairBoard, id: NameId) -> bool
     ensures { 1 ≤ probe_times board.now id.0 → (names : Names) (there : List Values) → FitsBoard board.now names → Shows names (target_times board.now) there → result ≡ list_any (covers (name_at names id)) there }
 {
-    lists_are_shown();
+    numbered_names::law::lists_are_shown();
     board.holds(id)
 }
 

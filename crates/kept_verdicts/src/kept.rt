@@ -17,15 +17,13 @@ ghost use Rattle.kept_verdicts.specs.Looks.{item_looks};
 ghost use Rattle.kept_verdicts.specs.Telling.{IsMoved};
 
 use crate::tell::tell_flips;
-use asked_names::{items_arrive, lawful_rows_ask_few};
-use cpe_applicability::{Board, verdicts_are_truths};
+use cpe_applicability::Board;
 use cpe_rows::{Changed, CheckKey, EditFault, List, Room, Statement, Text, Truth};
 use cpe_steps::Steps;
 use cpe_values::Memory;
 use followed_facts::FollowedFacts;
-use kept_facts::{KeptFacts, Wanted, few_stand, looks_are_by_names};
+use kept_facts::{KeptFacts, Wanted};
 use name_index::{NameId, NameTable};
-use numbered_names::lists_are_shown;
 use std::alloc::Global;
 use std::marker::Model;
 use std::sync::ledger::Ledger;
@@ -125,7 +123,7 @@ impl KeptVerdicts {
         ensures statement { option_map (λ p. p.0.now) result ≡ slice_get (statements_in self.now) place }
         ensures verdict { (names : Names) (rows : Rows) → Stands names self.now rows → option_map (λ p. p.1) result ≡ option_map (verdict rows) (slice_get rows.statements place) }
     {
-        verdicts_are_truths();
+        cpe_applicability::law::verdicts_are_truths();
         self.board.at(place)
     }
 
@@ -133,7 +131,7 @@ impl KeptVerdicts {
     pub fn verdict(&self, id: &Text) -> Option<Truth>
         ensures { (names : Names) (rows : Rows) → Stands names self.now rows → result ≡ option_map (verdict rows) (find (has_id id.now) rows.statements) }
     {
-        verdicts_are_truths();
+        cpe_applicability::law::verdicts_are_truths();
         self.board.verdict(id)
     }
 
@@ -144,7 +142,7 @@ impl KeptVerdicts {
         ensures statements { statements_in self.new ≡ statements_in self.old }
         ensures checks { checks_in self.new ≡ checks_in self.old }
     {
-        verdicts_are_truths();
+        cpe_applicability::law::verdicts_are_truths();
         self.board.clear_changed();
     }
 
@@ -155,7 +153,7 @@ impl KeptVerdicts {
         requires room { length (statements_in self.now) ≤ room.spare }
         ensures { (names : Names) (next : Rows) → Stands names self.now next → result ≡ differing 0 (known_in self.now) (map (verdict next) next.statements) }
     {
-        verdicts_are_truths();
+        cpe_applicability::law::verdicts_are_truths();
         let mut room = room;
         self.board.change_list(&mut room);
         room.into_list()
@@ -178,7 +176,7 @@ impl KeptVerdicts {
     {
         self.facts.lawful();
         table.lawful();
-        few_stand();
+        kept_facts::law::few_stand();
         let plain = Wanted { asked: 0, there: 1 };
         let follow = Wanted {
             asked: 0,
@@ -206,9 +204,9 @@ impl KeptVerdicts {
     {
         self.facts.lawful();
         table.lawful();
-        few_stand();
-        lawful_rows_ask_few();
-        looks_are_by_names();
+        kept_facts::law::few_stand();
+        asked_names::law::lawful_rows_ask_few();
+        kept_facts::law::looks_are_by_names();
         self.facts.item_comes(table, item, ends, steps);
         self.facts.lawful();
         self.tell();
@@ -231,9 +229,9 @@ impl KeptVerdicts {
     {
         self.facts.lawful();
         table.lawful();
-        items_arrive();
-        lists_are_shown();
-        looks_are_by_names();
+        asked_names::law::items_arrive();
+        numbered_names::law::lists_are_shown();
+        kept_facts::law::looks_are_by_names();
         self.facts.item_goes(table, item, ends, steps);
         self.facts.lawful();
         self.tell();

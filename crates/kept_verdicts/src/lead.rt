@@ -26,14 +26,13 @@ ghost use Rattle.kept_verdicts.specs.declared.lead.Led.{Led};
 use crate::kept::KeptVerdicts;
 use crate::tell::tell_followed;
 use cpe_applicability::Board;
-use cpe_changes::deprecations_touch;
-use cpe_dictionary::{Plan, plans_lead};
+use cpe_dictionary::Plan;
 use cpe_registry::Registry;
 use cpe_rows::Mode;
 use cpe_steps::Steps;
 use cpe_values::Memory;
 use followed_facts::FollowedFacts;
-use kept_facts::{KeptFacts, Wanted, few_stand, looks_are_by_names};
+use kept_facts::{KeptFacts, Wanted};
 use name_index::{NameId, NameTable};
 use std::alloc::Global;
 use std::sync::ledger::Ledger;
@@ -79,7 +78,7 @@ impl KeptVerdicts {
         if self.is_unled(registry, id, plan.number) {
             return self.foresee_nothing(alloc, registry.table());
         }
-        plans_lead();
+        cpe_dictionary::law::plans_lead();
         let table = registry.table();
         table.lawful();
         let sources = registry.sources_of(alloc, id, plan.number)?;
@@ -150,9 +149,9 @@ impl KeptVerdicts {
             facts_to,
             facts,
         } = lead;
-        deprecations_touch();
-        few_stand();
-        looks_are_by_names();
+        cpe_changes::law::deprecations_touch();
+        kept_facts::law::few_stand();
+        kept_facts::law::looks_are_by_names();
         table.lawful();
         self.facts.lawful();
         self.facts.lead(table, &items_from, &items_to, &facts_from, &facts_to, steps);
@@ -362,7 +361,7 @@ fn reserve_lead(
     if come > 268_435_456 || more > 268_435_456 {
         return Err(Memory);
     }
-    few_stand();
+    kept_facts::law::few_stand();
     let plain = Wanted { asked: 0, there: 0 };
     let follow = Wanted {
         asked: more as u32,

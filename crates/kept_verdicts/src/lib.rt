@@ -8,11 +8,10 @@
 #![tactic(auto)]
 
 mod kept;
-mod laws;
+pub mod law;
 mod lead;
 mod statements;
 mod tell;
 
 pub use kept::KeptVerdicts;
-pub use laws::verdicts_stand;
 pub use lead::{Lead, Led};

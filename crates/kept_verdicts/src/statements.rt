@@ -35,7 +35,7 @@ use cpe_rows::{Mode, Statement, Text, Truth};
 use cpe_steps::Steps;
 use cpe_values::Memory;
 use followed_facts::FollowedFacts;
-use kept_facts::{KeptFacts, Wanted, few_stand, keep_each_once};
+use kept_facts::{KeptFacts, Wanted, keep_each_once};
 use name_index::{NameId, NameTable};
 use std::alloc::Global;
 use std::collections::HashMap;
@@ -293,7 +293,7 @@ fn reserve_asked(
 {
     table.lawful();
     facts.lawful();
-    few_stand();
+    kept_facts::law::few_stand();
     // The facts of lawful rows lead to far fewer names.
     if count > 268_435_456 {
         return Err(Memory);
@@ -335,7 +335,7 @@ fn ask_all<L: Ledger>(
     table.lawful();
     let room = reserve_asked(facts, table, mode, asked.len());
     facts.lawful();
-    few_stand();
+    kept_facts::law::few_stand();
     room?;
     facts.ask(table, mode, asked, steps);
     facts.lawful();

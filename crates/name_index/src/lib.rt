@@ -13,12 +13,11 @@
 #![tactic(auto)]
 
 mod index;
-mod laws;
+pub mod law;
 mod near;
 mod table;
 
 pub use index::NameIndex;
-pub use laws::fitting_laws;
 pub use near::Near;
 pub use product_orders::Side;
 pub use table::{NameId, NameTable, ProductId};

@@ -13,7 +13,7 @@ ghost use Rattle.name_index.specs.Index.{ids, Fits, is_near, is_covered};
 use crate::index::NameIndex;
 use crate::{NameId, NameTable};
 use cpe_name::{Attribute, Wfn};
-use cpe_relation::{cover_laws, covers_in_order, deciding_order};
+use cpe_relation::{covers_in_order, deciding_order};
 use cpe_steps::Steps;
 use cpe_values::{Memory, Value};
 use list_pool::{CellName, ListName, Pool};
@@ -136,7 +136,7 @@ impl NameIndex {
         ensures steps { StepsWithin steps.old steps.new (count_by (is_near table.now side.Source name.now.product) (ids self.now.held)) }
     {
         self.lawful();
-        cover_laws();
+        cpe_relation::law::cover_laws();
         let order = deciding_order(alloc, name)?;
         let mut found = Vec::new(alloc);
         for id in self.near(table, name, Side::Source) {

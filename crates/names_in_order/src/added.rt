@@ -7,7 +7,7 @@ ghost use Rattle.name_index.specs.declared.table.NameId.{NameId};
 ghost use Rattle.names_in_order.specs.InOrder.{AreInOrder, names_numbered};
 
 use cpe_values::Memory;
-use name_index::{NameId, NameIndex, NameTable, fitting_laws};
+use name_index::{NameId, NameIndex, NameTable};
 
 /// Different numbers in an order, after which one more may be put.
 pub(crate) trait PushNumber {
@@ -42,7 +42,7 @@ pub(crate) fn add_number<N: PushNumber>(
     ensures held { OnErr result (index.new.held ≡ index.old.held) }
     ensures err { OnErr result (N.numbers numbers.new ≡ N.numbers numbers.old) }
 {
-    fitting_laws();
+    name_index::law::fitting_laws();
     index.reserve(table, 1)?;
     numbers.push(id)?;
     index.add(table, id);

@@ -16,7 +16,7 @@ use crate::marked::MarkedNumbers;
 use cpe_name::Wfn;
 use cpe_steps::Steps;
 use cpe_values::Memory;
-use name_index::{NameId, NameIndex, NameTable, fitting_laws};
+use name_index::{NameId, NameIndex, NameTable};
 use std::alloc::Global;
 use std::marker::Model;
 use std::sync::ledger::Ledger;
@@ -48,7 +48,7 @@ fn remove_number(table: &NameTable, index: &mut NameIndex, numbers: &mut MarkedN
     ensures numbers { numbers.new ≡ without_first (same_id id) numbers.old }
     ensures gone { (k : ℕ) → slice_get numbers.new k ≢ Some id }
 {
-    fitting_laws();
+    name_index::law::fitting_laws();
     numbers.lawful();
     index.drop_name(table, id);
     numbers.remove(id);

@@ -16,7 +16,7 @@ ghost use Rattle.names_in_order.specs.Places.{near_count, places_covered};
 use crate::added::add_number;
 use crate::numbers::NumbersInOrder;
 use cpe_name::{Attribute, Wfn};
-use cpe_relation::{cover_laws, covers_in_order, deciding_order};
+use cpe_relation::{covers_in_order, deciding_order};
 use cpe_steps::Steps;
 use cpe_values::Memory;
 use name_index::{NameId, NameIndex, NameTable, Side};
@@ -138,7 +138,7 @@ fn find_places<L: Ledger>(
     ensures covered { IfOk result (λ places. SameElements (places_covered name.now (names_numbered table.now numbers.now)) places.items) }
     ensures steps { StepsWithin steps.old steps.new (near_count name.now (names_numbered table.now numbers.now)) }
 {
-    cover_laws();
+    cpe_relation::law::cover_laws();
     table.lawful();
     numbers.lawful();
     let order = deciding_order(alloc, name)?;

@@ -10,10 +10,9 @@
 mod added;
 mod changing;
 mod growing;
-mod laws;
+pub mod law;
 mod marked;
 mod numbers;
 
 pub use changing::ChangingNames;
 pub use growing::{GrowingNames, NamesInOrder};
-pub use laws::{orders_stay, orders_without};

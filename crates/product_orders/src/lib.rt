@@ -12,12 +12,11 @@
 #![tactic(auto)]
 
 mod keys;
-mod laws;
+pub mod law;
 mod numbered;
 mod order;
 mod products;
 mod walk;
 
-pub use laws::same_elements_rearrange;
 pub use products::{Products, Side};
 pub use walk::NearProducts;

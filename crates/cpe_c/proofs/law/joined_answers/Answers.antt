@@ -1,0 +1,5 @@
+use Rattle.cpe_c.proofs.Joining.{joined_transcript}
+use Rattle.cpe_c.proofs.law.joined_answers.Goals as goal
+
+pub returns : goal.returns
+returns c = joined_transcript

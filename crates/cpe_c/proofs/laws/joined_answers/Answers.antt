@@ -1,5 +1,0 @@
-use Rattle.cpe_c.proofs.Joining.{joined_transcript}
-use Rattle.cpe_c.proofs.laws.joined_answers.Goals as goal
-
-pub returns : goal.returns
-returns c = joined_transcript

@@ -1,5 +1,0 @@
-use Rattle.kept_facts.proofs.Answers.{facts_stay}
-use Rattle.kept_facts.proofs.laws.unflipped_facts_stay.Goals as goal
-
-pub returns : goal.returns
-returns c = facts_stay
