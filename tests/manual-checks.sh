@@ -64,7 +64,7 @@ reasons_of_code() {
     codes read_fault_text "$reasons"
     codes edit_fault_text "$reasons" | grep -v '^full'
     codes which_word "$reasons" | sed 's/^/full /'
-    codes which_word crates/cpe_cover_lines/specs/Reasons.antt | sed 's/^/full /'
+    codes which_word crates/cover_lines/specs/Reasons.antt | sed 's/^/full /'
 }
 
 # The limits, as a word and a number.

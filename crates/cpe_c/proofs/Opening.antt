@@ -15,7 +15,7 @@ use Rattle.cpe_command.specs.Names.{name_session}
 use Rattle.cpe_command.specs.Pairs.{pair_session}
 use Rattle.cpe_command.specs.Records.{record_session}
 use Rattle.cpe_advise.specs.Records.{advice_session}
-use Rattle.cpe_cover_lines.specs.Lines.{cover_session}
+use Rattle.cover_lines.specs.Lines.{cover_session}
 use Rattle.cpe_rows.specs.Rows.{no_rows}
 use Rattle.cpe_ranges.specs.Rows.{no_rows as no_advice}
 use Rattle.cpe_c.specs.declared.speaking.Speaking.{Speaking}

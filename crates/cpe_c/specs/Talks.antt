@@ -7,7 +7,7 @@ use Rattle.cpe_session.specs.Task.{Transcript}
 use Rattle.cpe_session.specs.Pages.{stage_of}
 use Rattle.cpe_session.specs.declared.progress.Progress.{Progress}
 use Rattle.cpe_advise.specs.Records.{advice_session}
-use Rattle.cpe_cover_lines.specs.Lines.{cover_session}
+use Rattle.cover_lines.specs.Lines.{cover_session}
 use Rattle.cpe_command.specs.Names.{name_session}
 use Rattle.cpe_command.specs.Pairs.{pair_session}
 use Rattle.cpe_command.specs.Records.{record_session}

@@ -4,10 +4,10 @@ ghost use Rattle.std.specs.declared.option.Option.{Option};
 ghost use Rattle.cpe_io.specs.Lines.{line_of};
 ghost use Rattle.cpe_c.specs.Talks.{behind, goes_on};
 
+use cover_lines::Cover;
 use cpe_advise::Advise;
 use cpe_command::{Compare, NameCommand, RecordCommand};
 use cpe_cover::Names;
-use cpe_cover_lines::Cover;
 use cpe_engine::Engine;
 use cpe_ranges::Advisories;
 use cpe_session::{Each, Progress, Status, answer_given, end_given};

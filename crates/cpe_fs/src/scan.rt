@@ -11,7 +11,7 @@ ghost use Rattle.cpe_fs.specs.Spans.{AreComponents, Leaves, behind_field, compon
 
 use cpe_grammar::{front_of, scan_byte, scan_literal};
 use cpe_name::{Hyphen, Written, scan_language_tag};
-use cpe_text::{scan_edge, scan_stem, starts_body};
+use cpe_spelling::{scan_edge, scan_stem, starts_body};
 use cpe_values::Style;
 
 // After an asterisk: the end of the component, or what the asterisk leads.

@@ -6,7 +6,7 @@ ghost use Rattle.cpe_grammar.specs.Scanners.{Tells};
 ghost use Rattle.cpe_name.specs.Scanning.{quoted_end, value_end};
 
 use cpe_grammar::{scan_byte, scan_literal};
-use cpe_text::{scan_edge, scan_stem};
+use cpe_spelling::{scan_edge, scan_stem};
 use cpe_values::Style;
 
 #[tactic(auto, unfolding(crate::specs::Scanning::quoted_end))]
