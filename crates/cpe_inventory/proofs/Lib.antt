@@ -1,6 +1,5 @@
 pub mod KeptLemmas
 pub mod NameLemmas
-pub mod PlainLemmas
 pub mod ResultLemmas
 pub mod SlotLemmas
 pub mod TicketLemmas

@@ -2,10 +2,8 @@
 use Rattle.std.proofs.Common.{◌≡◌, suc, Bool, true, false, cond, ◌||◌, List, [], ◌∷◌, Option, Some, None, refl, sym, ap, subst, ◌∙◌}
 use Rattle.std.specs.Prelude.{option_map}
 use Rattle.std.specs.List.{cons_option, list_any}
-use Rattle.std.specs.Option.{option_map_or}
 use Rattle.cpe_name.specs.declared.name.Values.{Values}
 use Rattle.cpe_name.specs.Equal.{same_name}
-use Rattle.cpe_relation.specs.NameRelation.{covers}
 use Rattle.cpe_rows.specs.After.{without_first}
 use Rattle.cpe_rows.specs.Names.{is_same}
 use Rattle.name_index.specs.declared.table.NameId.{NameId}
@@ -13,7 +11,7 @@ use Rattle.name_index.specs.Table.{Names as Table, Kept, kept_at, kept_or, IsLiv
 use Rattle.names_in_order.specs.InOrder.{AreLive, names_numbered}
 use Rattle.names_in_order.specs.Marked.{numbers_in, without_first as without_number}
 use Rattle.names_in_order.proofs.OrderLemmas.{kept_live}
-use Rattle.cpe_inventory.specs.Slots.{slot_name, slot_names, slot_covered, names_kept}
+use Rattle.cpe_inventory.specs.Slots.{slot_name, slot_names, names_kept}
 
 -- a live number has its name
 live_name : (table : Table) (id : NameId) → IsLive table id.0 → slot_name table (Some id) ≡ Some (kept_at table id.0).name
@@ -59,16 +57,6 @@ all_stay p (x ∷ xs) h = by (p x) (list_any p xs) h (λ none. all_stay p xs non
     by : (b rest : Bool) → (b || rest) ≡ false → (rest ≡ false → without_first p xs ≡ xs) → cond b xs (x ∷ without_first p xs) ≡ x ∷ xs
     by true rest h more = absurd cc
     by false rest h more = ap (λ (ys : List _). x ∷ ys) (more h)
-
--- ---- what a name covers of the slots
-
-pub covered_slots : (table : Table) (name : Values) (slots : List (Option NameId)) → list_any (slot_covered table name) slots ≡ list_any (covers name) (slot_names table slots)
-covered_slots table name [] = refl
-covered_slots table name (slot ∷ slots) = ap (λ (b : Bool). slot_covered table name slot || b) (covered_slots table name slots) ∙ step (slot_name table slot)
-  where
-    step : (o : Option Values) → (option_map_or (covers name) o false || list_any (covers name) (slot_names table slots)) ≡ list_any (covers name) (cons_option o (slot_names table slots))
-    step None = refl
-    step (Some n) = refl
 
 -- ---- the names of all slots
 

@@ -1,4 +1,3 @@
 pub mod Kept
 pub mod Slots
-pub mod Asked
 pub mod Results

@@ -1,9 +1,7 @@
 -- The names of slots, each with a number of a table or a mark.
-use Rattle.std.specs.Prelude.{Bool, false, List, [], ◌∷◌, Option, Some, None, option_map}
+use Rattle.std.specs.Prelude.{List, [], ◌∷◌, Option, Some, None, option_map}
 use Rattle.std.specs.List.{cons_option, filter_map}
-use Rattle.std.specs.Option.{option_map_or}
 use Rattle.cpe_name.specs.declared.name.Values.{Values}
-use Rattle.cpe_relation.specs.NameRelation.{covers}
 use Rattle.name_index.specs.declared.table.NameId.{NameId}
 use Rattle.name_index.specs.Table.{Names as Table, find_kept}
 
@@ -16,10 +14,6 @@ slot_name table (Some id) = option_map (λ k. k.name) (find_kept table id.0)
 abbrev pub slot_names : Table → List (Option NameId) → List Values
 slot_names table [] = []
 slot_names table (slot ∷ slots) = cons_option (slot_name table slot) (slot_names table slots)
-
--- it has a name, which is covered
-abbrev pub slot_covered : Table → Values → Option NameId → Bool
-slot_covered table name slot = option_map_or (covers name) (slot_name table slot) false
 
 -- the names of the live ones of these numbers
 abbrev pub names_kept : Table → List NameId → List Values

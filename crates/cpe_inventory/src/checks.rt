@@ -12,10 +12,8 @@ ghost use Rattle.cpe_rows.specs.declared.truth.Truth.TheVariants.{Unknown};
 ghost use Rattle.ticket_list.specs.Rising.{IsRisingBy};
 ghost use Rattle.ticket_list.specs.TicketList.{has_ticket, with_change, without_ticket};
 ghost use Rattle.cpe_inventory.specs.Kept.{kept_truth};
-ghost use Rattle.cpe_inventory.specs.Asked.{result_truth};
 ghost use Rattle.cpe_inventory.specs.Results.{AreKept, retold, seen, ticket_of};
 
-use crate::Results;
 use crate::kept::{KeptResult, SetTruth};
 use cpe_rows::{CheckKey, Truth};
 use cpe_values::Memory;
@@ -123,13 +121,6 @@ impl Checks {
             Some(ticket) => truth_of(&self.results, ticket),
             None => Truth::Unknown,
         }
-    }
-
-    /// The results as they are kept.
-    pub fn results(&self) -> Results<'_>
-        ensures { (key : CheckKey) → result_truth result key ≡ kept_truth self.now key }
-    {
-        Results { kept: self }
     }
 }
 

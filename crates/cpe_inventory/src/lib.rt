@@ -3,21 +3,14 @@
 //! Each keeps its rows in the order in which they came, and finds them by their hashes: the cost of putting and of finding a
 //! row is the same whatever the number of rows, and that of one that goes nearly so, in the mean. Results have rising tickets, so that
 //! none is renumbered where another goes. Items are numbers of a table of names that others use, too: [`Items`] is a view of both.
-//! What a statement says of some names and results (NIST IR 7698) tells [`plain_verdict`].
 #![tactic(auto)]
 
 mod checks;
-mod facts;
 mod faults;
 mod items;
 mod kept;
 pub mod law;
-mod names;
-mod results;
 
 pub use checks::Checks;
-pub use facts::{PlainFacts, plain_verdict};
 pub use faults::check_fault;
 pub use items::Items;
-pub use names::Names;
-pub use results::Results;

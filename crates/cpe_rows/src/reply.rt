@@ -11,7 +11,7 @@ pub enum State {
     Deprecated(Kind),
 }
 
-/// An entry in short.
+/// The summary of an entry: its name, and whether it is active.
 #[derive(Debug, Drop)]
 pub struct Row {
     /// Its name.

@@ -14,7 +14,7 @@ use Rattle.product_orders.specs.Elements.{SameElements}
 use Rattle.name_index.specs.declared.table.NameId.{NameId}
 use Rattle.name_index.specs.Index.{name_id}
 use Rattle.names_in_order.specs.InOrder.{same_id}
-use Rattle.names_in_order.specs.Marked.{AreClosing, AreMarked, HavePlaces, PutsInOrder, closing_numbers, found_place, is_slot_of, numbers_in, places_of, slots_before, slots_behind, standing_at, without_first}
+use Rattle.names_in_order.specs.Marked.{AreClosing, AreMarked, HavePlaces, PutsInOrder, closing_numbers, found_place, is_slot_of, numbers_in, places_of, standing_at, without_first}
 use Rattle.names_in_order.proofs.Rising.{sorted_filter}
 
 abbrev pub Slots : Type 0
@@ -200,13 +200,6 @@ module _ (slots : Slots) (places : List ℕ) (placed : HavePlaces slots places) 
     | inl at ↦ absurd (none-some at.0 (sym e ∙ at.1))
     | inr absent ↦ stays_whole id slots absent.1
   ]
-
-  pub around_number : (id : NameId) → numbers_in (slots_before (found id) slots) ++ numbers_in (slots_behind (found id) slots) ≡ without_first (same_id id) (numbers_in slots)
-  around_number id = by (found id) refl
-    where
-      by : (o : Option ℕ) → found id ≡ o → numbers_in (slots_before o slots) ++ numbers_in (slots_behind o slots) ≡ without_first (same_id id) (numbers_in slots)
-      by None e = append-nil (numbers_in slots) ∙ sym (not_found id e)
-      by (Some k) e = rw add-one (sym (cleared slots k) ∙ found_gone id k e)
 
   pub distinct : IsDistinct same_id (numbers_in slots)
   unfolding IsDistinct

@@ -24,15 +24,6 @@ abbrev pub found_place : List (Option NameId) → Option ℕ → NameId → Opti
 found_place slots None id = None
 found_place slots (Some place) id = cond (is_slot_of id (get_or slots place None)) (Some place) None
 
--- the slots before a place, and those after it; all, and none, where there is no place
-abbrev pub slots_before : Option ℕ → List (Option NameId) → List (Option NameId)
-slots_before None slots = slots
-slots_before (Some place) slots = take place slots
-
-abbrev pub slots_behind : Option ℕ → List (Option NameId) → List (Option NameId)
-slots_behind None slots = []
-slots_behind (Some place) slots = drop (place + 1) slots
-
 -- what is kept of each of these numbers
 abbrev pub places_of : List ℕ → List NameId → List ℕ
 places_of places ids = filter_map (λ (id : NameId). slice_get places id.0) ids

@@ -139,13 +139,6 @@ impl ChangingNames {
         self.numbers.slots()
     }
 
-    /// The slots before that of a number and those after it; all, and none, where it isn't there.
-    pub fn around(&self, id: NameId) -> (&[Option<NameId>], &[Option<NameId>])
-        ensures { numbers_in result.0.now ++ numbers_in result.1.now ≡ without_first (same_id id) self.now.numbers }
-    {
-        self.numbers.around(id)
-    }
-
     /// Puts a number of the table last whose name isn't there. It costs the same whatever their number, but for the place of a
     /// product that is new.
     ///

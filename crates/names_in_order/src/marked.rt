@@ -2,7 +2,7 @@
 ghost use Rattle.std.specs.Prelude.{◌≡◌, ◌≤◌, ◌<◌, ◌+◌, ◌^◌, ◌++◌, ◌∷◌, [], IfOk, IfSome, IsSome, OnErr, OnOk, cond, false, get_or, length, set, slice_get, take, None, Some};
 ghost use Rattle.std.specs.List.{IsDistinct, list_any};
 ghost use Rattle.names_in_order.specs.InOrder.{same_id};
-ghost use Rattle.names_in_order.specs.Marked.{AreClosing, AreMarked, HavePlaces, PutsInOrder, closing_numbers, found_place, is_slot_of, numbers_in, places_of, slots_before, slots_behind, standing_at, without_first};
+ghost use Rattle.names_in_order.specs.Marked.{AreClosing, AreMarked, HavePlaces, PutsInOrder, closing_numbers, found_place, is_slot_of, numbers_in, places_of, standing_at, without_first};
 
 use crate::added::PushNumber;
 use cpe_values::Memory;
@@ -80,21 +80,6 @@ fn find_place(slots: &[Option<NameId>], places: &[u32], id: NameId) -> Option<us
     match kept_place(places, id) {
         Some(place) => confirmed(slots, place as usize, id),
         None => None,
-    }
-}
-
-// The slots before and after a place.
-fn slots_around(
-    slots: &[Option<NameId>],
-    place: Option<usize>,
-) -> (&[Option<NameId>], &[Option<NameId>])
-    requires { IfSome place (λ k. k < length slots.now) }
-    ensures before { result.0.now ≡ slots_before place slots.now }
-    ensures behind { result.1.now ≡ slots_behind place slots.now }
-{
-    match place {
-        Some(place) => (&slots[..place], &slots[place + 1..]),
-        None => slots.split_at(slots.len()),
     }
 }
 
@@ -321,13 +306,6 @@ impl MarkedNumbers {
         if let Some(place) = find_place(&self.slots, &self.places, id) {
             self.len = take_out(&mut self.slots, &mut self.places, self.len, place);
         }
-    }
-
-    /// The slots before that of a number and those after it; all, and none, where it isn't there.
-    pub(crate) fn around(&self, id: NameId) -> (&[Option<NameId>], &[Option<NameId>])
-        ensures { numbers_in result.0.now ++ numbers_in result.1.now ≡ without_first (same_id id) self.now }
-    {
-        slots_around(&self.slots, find_place(&self.slots, &self.places, id))
     }
 
     /// Some of the numbers, found in any order, in this order. It sorts their places, and looks at no other. Of a number that isn't

@@ -1,15 +1,9 @@
-// Statements that are read and copied, and their truths: over facts of a type of our own, and over the names and results that an
-// inventory lends.
-ghost use Rattle.std.specs.Prelude.{◌≡◌, []};
-
+// Statements that are read and copied, and their truths over facts of a type of our own.
 use super::reading::read;
-use cpe_inventory::{Checks, Names, Results, plain_verdict};
 use cpe_name::Wfn;
 use cpe_records::Record;
 use cpe_rows::{CheckKey, Edit, Facts, List, Mode, Operator, Statement, Test, Truth, evaluate};
-use name_index::{NameId, NameTable};
 use std::alloc::Global;
-use std::slice::from_ref;
 
 fn statement_of(alloc: Global, line: &str) -> Option<Statement> {
     match read(alloc, line.as_bytes()) {
@@ -114,60 +108,10 @@ fn truth_of(statement: &Statement, check: Truth) -> Truth {
     evaluate(&statement.test, &Known { check })
 }
 
-fn verdict(names: &Names, results: &Results, statement: &Statement) -> Truth {
-    plain_verdict(names, results, statement)
-}
-
-fn verdict_by(alloc: Global, names: &Names, statement: &Statement) -> Truth {
-    let checks = Checks::new(alloc);
-    verdict(names, &checks.results(), statement)
-}
-
-// Over the names of these slots.
-fn verdict_of<'n>(
-    alloc: Global,
-    table: &'n NameTable,
-    slots: &'n [Option<NameId>],
-    statement: &Statement,
-) -> Truth {
-    let names = Names {
-        table,
-        front: slots,
-        back: &[],
-        last: None,
-    };
-    verdict_by(alloc, &names, statement)
-}
-
-// A slot without a number has no name.
-fn verdict_of_none(alloc: Global, statement: &Statement) -> Truth {
-    let table = NameTable::new(alloc);
-    let truth = verdict_of(alloc, &table, &[None], statement);
-    drop(table);
-    truth
-}
-
-// The number of the name that covers any.
-fn hold_any(table: &mut NameTable) -> Option<NameId>
-    requires { table.old ≡ [] }
-{
-    table.hold_moved(Wfn::any()).ok()
-}
-
-fn verdict_of_any(alloc: Global, statement: &Statement) -> Truth {
-    let mut table = NameTable::new(alloc);
-    let slot = hold_any(&mut table);
-    let truth = verdict_of(alloc, &table, from_ref(&slot), statement);
-    drop(table);
-    truth
-}
-
 // Whether the statement says that not both are so, a fact that any name is and a check.
 fn denies_both(alloc: Global, statement: &Statement) -> bool {
     truth_of(statement, Truth::True) == Truth::False
         && truth_of(statement, Truth::Error) == Truth::Error
-        && verdict_of_none(alloc, statement) == Truth::True
-        && verdict_of_any(alloc, statement) == Truth::Unknown
 }
 
 fn is_denial(alloc: Global, line: &str) -> bool {
