@@ -71,6 +71,10 @@ abbrev pub fields_end : List Attribute → Scanner
 fields_end [] s = Ok s
 fields_end (a ∷ rest) s = field_end (component_end a) s >>= fields_end rest
 
+-- what comes after the version where each value is ANY
+abbrev pub any_tail : List ℕ
+any_tail = codes ":*:*:*:*:*:*:*"
+
 -- the prefix, eleven fields, and the end
 unfoldable pub whole_end : Scanner
 whole_end s = literal (codes "cpe:2.3") s >>= both (fields_end attributes) ending

@@ -1,5 +1,5 @@
 -- Where the components of a formatted string lie, as the code finds them. Of the public words `read_fs` alone rests on it.
-use Rattle.std.specs.Prelude.{◌≡◌, ℕ, ◌-◌, ◌≤◌, Bool, false, List, [], ◌∷◌, length, take, map, Result, Ok, Err, ◌==◌}
+use Rattle.std.specs.Prelude.{◌≡◌, ℕ, ◌-◌, ◌≤◌, Bool, false, List, [], ◌∷◌, length, take, map, codes, Result, Ok, Err, ◌==◌}
 use Rattle.cpe_grammar.specs.Scanners.{Scanner}
 use Rattle.cpe_values.specs.declared.value.Value.{Value}
 use Rattle.cpe_values.specs.Values.{IsValue}
@@ -58,3 +58,7 @@ component_at component s = between s (behind_field component s)
 abbrev pub components_at : List Attribute → List ℕ → List (List ℕ)
 components_at [] s = []
 components_at (a ∷ rest) s = component_at (component_end a) s ∷ components_at rest (behind_field (component_end a) s)
+
+-- those after the version where each value is ANY
+abbrev pub any_components : List (List ℕ)
+any_components = codes "*" ∷ codes "*" ∷ codes "*" ∷ codes "*" ∷ codes "*" ∷ codes "*" ∷ codes "*" ∷ []

@@ -2,12 +2,12 @@
 //
 // Each function takes a prefix of a text. It answers what is left after it, or how many bytes are
 // left where no formatted string goes on.
-ghost use Rattle.std.specs.Prelude.{◌≡◌, ◌==◌, ◌≤◌, ◌-◌, ◌+◌, [], take, length, Ok, Err, IfOk, IfErr};
+ghost use Rattle.std.specs.Prelude.{◌≡◌, ◌==◌, ◌≤◌, ◌-◌, ◌+◌, ◌∷◌, [], true, take, length, Ok, Err, IfOk, IfErr};
 ghost use Rattle.cpe_grammar.specs.Scanners.{Scanner, Tells, one};
 ghost use Rattle.cpe_name.specs.Names.{attributes};
 ghost use Rattle.cpe_name.specs.Spans.{texts};
-ghost use Rattle.cpe_fs.specs.Scanning.{is_hyphen, led_end, text_end, part_end, language_end, field_end, fields_end};
-ghost use Rattle.cpe_fs.specs.Spans.{AreComponents, Leaves, behind_field, component_at, components_at};
+ghost use Rattle.cpe_fs.specs.Scanning.{is_hyphen, led_end, text_end, part_end, language_end, field_end, fields_end, any_tail};
+ghost use Rattle.cpe_fs.specs.Spans.{AreComponents, Leaves, behind_field, component_at, components_at, any_components};
 
 use cpe_grammar::{front_of, scan_byte, scan_literal};
 use cpe_name::{Hyphen, Written, scan_language_tag};
@@ -130,6 +130,38 @@ fn scan_field<C: Component>(bytes: &[u8]) -> Result<(&[u8], &[u8]), usize>
     Ok((front_of(start, rest), rest))
 }
 
+// What follows the version of most names: seven times ANY.
+#[inline(always)]
+fn is_any_tail(bytes: &[u8]) -> bool
+    ensures { result ≡ true → bytes.now ≡ any_tail }
+{
+    bytes.len() == 14 && bytes == b":*:*:*:*:*:*:*".as_slice()
+}
+
+#[inline(always)]
+fn with_any_tail<'a>(
+    part: &'a [u8],
+    vendor: &'a [u8],
+    product: &'a [u8],
+    version: &'a [u8],
+) -> Written<'a>
+    ensures { texts result ≡ part.now ∷ vendor.now ∷ product.now ∷ version.now ∷ any_components }
+{
+    Written {
+        part,
+        vendor,
+        product,
+        version,
+        update: b"*",
+        edition: b"*",
+        language: b"*",
+        sw_edition: b"*",
+        target_sw: b"*",
+        target_hw: b"*",
+        other: b"*",
+    }
+}
+
 fn scan_fields(bytes: &[u8]) -> Result<(Written, &[u8]), usize>
     ensures told { Tells (λ x. x.1.now) result (fields_end attributes bytes.now) }
     ensures texts { IfOk result (λ x. texts x.0 ≡ components_at attributes bytes.now) }
@@ -138,6 +170,9 @@ fn scan_fields(bytes: &[u8]) -> Result<(Written, &[u8]), usize>
     let (vendor, rest) = scan_field::<Text>(rest)?;
     let (product, rest) = scan_field::<Text>(rest)?;
     let (version, rest) = scan_field::<Text>(rest)?;
+    if is_any_tail(rest) {
+        return Ok((with_any_tail(part, vendor, product, version), &[]));
+    }
     let (update, rest) = scan_field::<Text>(rest)?;
     let (edition, rest) = scan_field::<Text>(rest)?;
     let (language, rest) = scan_field::<Language>(rest)?;

@@ -68,6 +68,12 @@ impl PutValue for FromComponents {
     ghost spare = { 2 };
 
     #[inline(always)]
+    #[tactic(auto, unfolding(crate::specs::Rewriting::span_text))]
+    fn is_any(span: &[u8]) -> bool {
+        matches!(span, [b'*'])
+    }
+
+    #[inline(always)]
     fn put_value(room: &mut [u8], at: usize, span: &[u8]) -> usize {
         put_span(room, at, span)
     }

@@ -11,3 +11,4 @@ pub mod Bindings
 pub mod PutLemmas
 pub mod ReadValues
 pub mod Unbinding
+pub mod AnyTail

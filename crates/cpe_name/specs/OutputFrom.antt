@@ -12,3 +12,17 @@ output_from text w =
     keyed text (codes "wfn:[part=") w.part.now ++ keyed text (codes ",vendor=") w.vendor.now ++ keyed text (codes ",product=") w.product.now ++ keyed text (codes ",version=") w.version.now
     ++ keyed text (codes ",update=") w.update.now ++ keyed text (codes ",edition=") w.edition.now ++ keyed text (codes ",language=") w.language.now ++ keyed text (codes ",sw_edition=") w.sw_edition.now
     ++ keyed text (codes ",target_sw=") w.target_sw.now ++ keyed text (codes ",target_hw=") w.target_hw.now ++ keyed text (codes ",other=") w.other.now ++ codes "]"
+
+-- what comes up to the version
+abbrev pub start_from : (List ℕ → List ℕ) → Written → List ℕ
+start_from text w = keyed text (codes "wfn:[part=") w.part.now ++ keyed text (codes ",vendor=") w.vendor.now ++ keyed text (codes ",product=") w.product.now ++ keyed text (codes ",version=") w.version.now
+
+-- what comes after it
+abbrev pub tail_from : (List ℕ → List ℕ) → Written → List ℕ
+tail_from text w =
+    keyed text (codes ",update=") w.update.now ++ keyed text (codes ",edition=") w.edition.now ++ keyed text (codes ",language=") w.language.now ++ keyed text (codes ",sw_edition=") w.sw_edition.now
+    ++ keyed text (codes ",target_sw=") w.target_sw.now ++ keyed text (codes ",target_hw=") w.target_hw.now ++ keyed text (codes ",other=") w.other.now ++ codes "]"
+
+-- that where each value is ANY
+abbrev pub any_tail : List ℕ
+any_tail = codes ",update=ANY,edition=ANY,language=ANY,sw_edition=ANY,target_sw=ANY,target_hw=ANY,other=ANY]"

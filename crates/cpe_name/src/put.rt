@@ -1,7 +1,7 @@
 // The text of a well-formed name, put into a room from where its values stand in another text. Nothing here takes memory.
-ghost use Rattle.std.specs.Prelude.{◌≡◌, ◌≤◌, ◌+◌, ◌*◌, ◌++◌, ◌∷◌, [], ℕ, List, length, take, codes};
+ghost use Rattle.std.specs.Prelude.{◌≡◌, ◌≤◌, ◌+◌, ◌*◌, ◌++◌, ◌∷◌, [], ℕ, List, true, length, take, drop, codes};
 ghost use Rattle.cpe_name.specs.Spans.{texts, total_length};
-ghost use Rattle.cpe_name.specs.OutputFrom.{keyed, output_from};
+ghost use Rattle.cpe_name.specs.OutputFrom.{keyed, output_from, start_from, tail_from, any_tail};
 
 use crate::Written;
 use cpe_room::{put, put_byte};
@@ -11,6 +11,11 @@ pub trait PutValue {
     ghost text: { List ℕ → List ℕ };
 
     ghost spare: { ℕ };
+
+    /// Whether this is known to stand for ANY.
+    fn is_any(span: &[u8]) -> bool
+        ensures any { result ≡ true → text span.now ≡ codes "ANY" }
+        ensures room { result ≡ true → 3 ≤ 2 * length span.now + spare };
 
     /// Puts the text of the value for which this stands at a place, and tells the place after it.
     fn put_value(room: &mut [u8], at: usize, span: &[u8]) -> usize
@@ -32,18 +37,43 @@ fn put_keyed<P: PutValue>(room: &mut [u8], at: usize, key: &[u8], span: &[u8]) -
     P::put_value(room, at, span)
 }
 
-/// Puts the output text of the name whose values stand there at a place, and tells the place after it. The names of the attributes,
-/// the commas and the brackets take 105 bytes.
-pub fn put_output<P: PutValue>(room: &mut [u8], at: usize, written: &Written) -> usize
-    requires { at + 2 * total_length (texts written.now) + (105 + 11 * P.spare) ≤ length room.old }
-    ensures at { result ≤ at + 2 * total_length (texts written.now) + (105 + 11 * P.spare) }
+// What comes up to the version.
+#[inline(always)]
+fn put_start<P: PutValue>(room: &mut [u8], at: usize, written: &Written) -> usize
+    requires { at + 2 * total_length (take 4 (texts written.now)) + (36 + 4 * P.spare) ≤ length room.old }
+    ensures at { result ≤ at + 2 * total_length (take 4 (texts written.now)) + (36 + 4 * P.spare) }
     ensures room { length room.new ≡ length room.old }
-    ensures written { take result room.new ≡ take at room.old ++ output_from P.text written.now }
+    ensures written { take result room.new ≡ take at room.old ++ start_from P.text written.now }
 {
     let at = put_keyed::<P>(room, at, b"wfn:[part=", written.part);
     let at = put_keyed::<P>(room, at, b",vendor=", written.vendor);
     let at = put_keyed::<P>(room, at, b",product=", written.product);
-    let at = put_keyed::<P>(room, at, b",version=", written.version);
+    put_keyed::<P>(room, at, b",version=", written.version)
+}
+
+// Whether each value after the version is known to be ANY, as in most names.
+#[inline(always)]
+#[tactic(auto, using(crate::proofs::AnyTail::any_tail_is))]
+fn is_any_tail<P: PutValue>(written: &Written) -> bool
+    ensures any { result ≡ true → tail_from P.text written.now ≡ any_tail }
+    ensures room { result ≡ true → length any_tail ≤ 2 * total_length (drop 4 (texts written.now)) + (69 + 7 * P.spare) }
+{
+    P::is_any(written.update)
+        && P::is_any(written.edition)
+        && P::is_any(written.language)
+        && P::is_any(written.sw_edition)
+        && P::is_any(written.target_sw)
+        && P::is_any(written.target_hw)
+        && P::is_any(written.other)
+}
+
+#[inline(always)]
+fn put_tail_by_keys<P: PutValue>(room: &mut [u8], at: usize, written: &Written) -> usize
+    requires { at + 2 * total_length (drop 4 (texts written.now)) + (69 + 7 * P.spare) ≤ length room.old }
+    ensures at { result ≤ at + 2 * total_length (drop 4 (texts written.now)) + (69 + 7 * P.spare) }
+    ensures room { length room.new ≡ length room.old }
+    ensures written { take result room.new ≡ take at room.old ++ tail_from P.text written.now }
+{
     let at = put_keyed::<P>(room, at, b",update=", written.update);
     let at = put_keyed::<P>(room, at, b",edition=", written.edition);
     let at = put_keyed::<P>(room, at, b",language=", written.language);
@@ -52,4 +82,34 @@ pub fn put_output<P: PutValue>(room: &mut [u8], at: usize, written: &Written) ->
     let at = put_keyed::<P>(room, at, b",target_hw=", written.target_hw);
     let at = put_keyed::<P>(room, at, b",other=", written.other);
     put_byte(room, at, b']')
+}
+
+// What comes after the version. Seven times ANY is put at once.
+#[inline(always)]
+fn put_tail<P: PutValue>(room: &mut [u8], at: usize, written: &Written) -> usize
+    requires { at + 2 * total_length (drop 4 (texts written.now)) + (69 + 7 * P.spare) ≤ length room.old }
+    ensures at { result ≤ at + 2 * total_length (drop 4 (texts written.now)) + (69 + 7 * P.spare) }
+    ensures room { length room.new ≡ length room.old }
+    ensures written { take result room.new ≡ take at room.old ++ tail_from P.text written.now }
+{
+    if is_any_tail::<P>(written) {
+        return put(
+            room,
+            at,
+            b",update=ANY,edition=ANY,language=ANY,sw_edition=ANY,target_sw=ANY,target_hw=ANY,other=ANY]",
+        );
+    }
+    put_tail_by_keys::<P>(room, at, written)
+}
+
+/// Puts the output text of the name whose values stand there at a place, and tells the place after it. The names of the attributes,
+/// the commas and the brackets take 105 bytes.
+pub fn put_output<P: PutValue>(room: &mut [u8], at: usize, written: &Written) -> usize
+    requires { at + 2 * total_length (texts written.now) + (105 + 11 * P.spare) ≤ length room.old }
+    ensures at { result ≤ at + 2 * total_length (texts written.now) + (105 + 11 * P.spare) }
+    ensures room { length room.new ≡ length room.old }
+    ensures written { take result room.new ≡ take at room.old ++ output_from P.text written.now }
+{
+    let at = put_start::<P>(room, at, written);
+    put_tail::<P>(room, at, written)
 }

@@ -47,10 +47,18 @@ pub fn covers_in_order(order: &[Attribute], source: &Wfn, target: &Wfn) -> bool
     is_above_each_in(order, source, target)
 }
 
+// Called at each attribute, since which one it is isn't known before.
+#[inline(never)]
+fn is_above_at_next(source: &Wfn, target: &Wfn, which: Attribute) -> bool
+    ensures { result ≡ above_at source.now target.now which }
+{
+    is_above_at(source, target, which)
+}
+
 fn is_above_each_in(order: &[Attribute], source: &Wfn, target: &Wfn) -> bool
     ensures { result ≡ list_all (above_at source.now target.now) order.now }
 {
     order
         .iter()
-        .all(|which| is_above_at(source, target, *which))
+        .all(|which| is_above_at_next(source, target, *which))
 }

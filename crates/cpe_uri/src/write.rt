@@ -234,6 +234,12 @@ impl PutValue for FromPieces {
     ghost spare = { 3 };
 
     #[inline(always)]
+    #[tactic(auto, unfolding(crate::specs::Rewriting::span_text))]
+    fn is_any(span: &[u8]) -> bool {
+        span.is_empty()
+    }
+
+    #[inline(always)]
     fn put_value(room: &mut [u8], at: usize, span: &[u8]) -> usize {
         put_span(room, at, span)
     }
