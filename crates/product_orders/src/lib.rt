@@ -11,6 +11,7 @@
 //! the other in another order.
 #![tactic(auto)]
 
+mod covered;
 mod keys;
 mod laws;
 mod numbered;
@@ -18,6 +19,6 @@ mod order;
 mod products;
 mod walk;
 
+pub use covered::NearProducts;
 pub use laws::same_elements_rearrange;
 pub use products::{Products, Side};
-pub use walk::NearProducts;
