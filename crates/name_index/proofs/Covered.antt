@@ -1,17 +1,27 @@
 -- The covered names among the near ones, sorted.
 use Rattle.std.proofs.Common.{◌≡◌, ℕ, zero, suc, ◌+◌, ◌<◌, ◌≤◌, Bool, true, false, cond, eqb, List, [], ◌∷◌, ◌++◌, map, length, get_or, Option, Some, None, is_some, count_by, refl, sym, ap, subst, ◌∙◌, inl, inr, arith, eq-eqb, add-one, append_assoc}
 use Rattle.std.specs.Prelude.{nat_eq, IsSome}
-use Rattle.std.specs.List.{sum_by, filter, AllByRecursion, slice_index_or}
+use Rattle.std.specs.List.{list_all, sum_by, filter, AllByRecursion, slice_index_or}
 use Rattle.std.specs.List.Sorted.{IsPermutation, IsNonDecreasingBy, IsStrictlyIncreasing}
-use Rattle.std.proofs.lemmas.Bool.{cases_Bool, both_ways}
-use Rattle.std.proofs.lemmas.List.Sums.{sum_by-cons, length-filter}
+use Rattle.std.proofs.lemmas.Bool.{cases_Bool, both_ways, and_parts, false≢true}
+use Rattle.std.proofs.lemmas.List.Sums.{sum_by-cons, sum_by-le-sum_by, length-filter}
 use Rattle.std.proofs.lemmas.List.Sorted.{sum_by-IsPermutation}
 use Rattle.std.proofs.lemmas.List.Elements.{recursion_from_All, All-weaker}
+use Rattle.cpe_values.specs.declared.value.Value.{Value}
+use Rattle.cpe_name.specs.declared.name.Values.{Values}
+use Rattle.cpe_name.specs.declared.attribute.Attribute.{Attribute}
+use Rattle.cpe_name.specs.declared.attribute.Attribute.TheVariants.{Vendor, Product, Version, Update, Edition, Language, SwEdition, TargetSw, TargetHw, Other}
+use Rattle.cpe_name.specs.Names.{value_of}
+use Rattle.cpe_relation.specs.Table.{relation}
+use Rattle.cpe_relation.specs.NameRelation.{is_above, covers}
+use Rattle.cpe_relation.proofs.NearLaws.{above_near}
+use Rattle.product_orders.specs.declared.products.Side.TheVariants as side
 use Rattle.product_orders.specs.Elements.{SameElements}
+use Rattle.product_orders.specs.Near.{covers_product}
 use Rattle.product_orders.proofs.Sums.{if_passes, sum_filter}
 use Rattle.name_index.specs.declared.table.NameId.{NameId}
-use Rattle.name_index.specs.Table.{Names, Kept, find_kept, IsLive}
-use Rattle.name_index.specs.Index.{ids, name_id, Fits, times_held}
+use Rattle.name_index.specs.Table.{Names, Kept, find_kept, kept_at, IsLive}
+use Rattle.name_index.specs.Index.{ids, name_id, Fits, is_near, is_product_covered, times_held}
 use Rattle.name_index.proofs.Postings.{sum_map}
 use Rattle.name_index.proofs.NearSums.{none_all}
 
@@ -88,6 +98,31 @@ covered_same p q held walk found imp same sorted f =
     both : (x : NameId) (b : Bool) → q x ≡ b → cond (q x) (f x) 0 ≡ cond (p x) (cond (q x) (f x) 0) 0
     both x true e = sym (ap {B = ℕ} (λ (c : Bool). cond c (cond (q x) (f x) 0) 0) (imp x e))
     both x false e = ap {B = ℕ} (λ (c : Bool). cond c (f x) 0) e ∙ zero_either (p x) ∙ sym (ap {B = ℕ} (λ (c : Bool). cond (p x) (cond c (f x) 0) 0) e)
+
+-- ---- products that are covered
+
+above_in : Values → Values → List Attribute → Bool
+above_in a b ws = list_all is_above (map (λ w. relation (value_of a w) (value_of b w)) ws)
+
+-- a name covers none whose product its own doesn't cover
+pub product_covered : (a b : Values) → covers a b ≡ true → covers_product a.product b.product ≡ true
+unfolding covers above_in
+product_covered a b h =
+    let from_version = Version ∷ Update ∷ Edition ∷ Language ∷ SwEdition ∷ TargetSw ∷ TargetHw ∷ Other ∷ [] in
+    let p = and_parts (is_above (relation a.part b.part)) (above_in a b (Vendor ∷ Product ∷ from_version)) h in
+    let q = and_parts (is_above (relation a.vendor b.vendor)) (above_in a b (Product ∷ from_version)) p.1 in
+    (and_parts (is_above (relation a.product b.product)) (above_in a b from_version) q.1).0
+
+-- the asked product is near those that it covers
+pub fewer_covered : (names : Names) (asked : Value) (xs : List NameId) → count_by (is_product_covered names asked) xs ≤ count_by (is_near names side.Source asked) xs
+fewer_covered names asked xs =
+    sum_by-le-sum_by (λ id. cond (is_product_covered names asked id) 1 0) (λ id. cond (is_near names side.Source asked id) 1 0) xs
+    (λ id. by (is_product_covered names asked id) (is_near names side.Source asked id) 1 (above_near asked (kept_at names id.0).name.product))
+  where
+    by : (a b : Bool) (n : ℕ) → (a ≡ true → b ≡ true) → cond a n 0 ≤ cond b n 0
+    by true true n h = omega arith
+    by true false n h = absurd (false≢true (h refl))
+    by false b n h = omega arith
 
 -- ---- rising, since each stands once
 

@@ -1,4 +1,4 @@
--- A walk over the lists of the near products gives the held numbers that are near.
+-- A walk over the lists of the products that pass a test gives the held numbers whose products pass it.
 use Rattle.std.proofs.Common.{◌≡◌, ℕ, zero, suc, ◌+◌, ◌<◌, ◌≤◌, Bool, true, false, cond, ltb, List, [], ◌∷◌, ◌++◌, map, length, Option, Some, None, refl, sym, ap, subst, ◌∙◌, inl, inr, arith}
 use Rattle.std.specs.Prelude.{is_some}
 use Rattle.std.specs.List.{sum_by, flat_map, range_with_len, filter, AllByRecursion}
@@ -9,14 +9,12 @@ use Rattle.std.proofs.lemmas.List.Sums.{sum_by-cons}
 use Rattle.cpe_values.specs.declared.value.Value.{Value}
 use Rattle.list_pool.specs.Pool.{Row as CellRow}
 use Rattle.list_pool.specs.declared.ListName.{ListName}
-use Rattle.product_orders.specs.declared.products.Side.{Side}
 use Rattle.product_orders.specs.Listed.{product_at, value_or, value_at, numbers, live}
 use Rattle.product_orders.proofs.Live.{none_past}
-use Rattle.product_orders.specs.Near.{near_on}
 use Rattle.product_orders.proofs.Sums.{if_passes, sum_filter, sum_agree}
 use Rattle.name_index.specs.declared.table.NameId.{NameId}
 use Rattle.name_index.specs.Table.{Names, Kept, kept_or, kept_at, find_kept}
-use Rattle.name_index.specs.Index.{ids, name_id, is_near, Fits, posting_of, posting, pairs, walk_left, WalksNear}
+use Rattle.name_index.specs.Index.{ids, name_id, Fits, posting_of, posting, pairs, walk_left, WalksProducts}
 use Rattle.name_index.proofs.Postings.{sum_map, sum_flat, range_agree, range_none, weighs, pairs_sum}
 use Rattle.name_index.proofs.TableChanges.{at_least}
 use Rattle.name_index.proofs.WalkSteps.{none_left}
@@ -56,15 +54,18 @@ range_same g m n f h =
     let swap_ : m + n ≡ n + m = omega arith in
     sym (range_tail g 0 m n (λ p low. f p (omega (arith, low)))) ∙ ap (λ (k : ℕ). sum_by g (numbers k)) swap_ ∙ range_tail g 0 n m (λ p low. h p (omega (arith, low)))
 
-module _ (names : Names) (side : Side) (asked : Value) (lists : List (Option (List CellRow))) (heads : List ListName) (walk : List ℕ) (fits : Fits (pairs lists heads) names) (w : WalksNear names side asked walk) where
+module _ (names : Names) (test : Value → Bool) (lists : List (Option (List CellRow))) (heads : List ListName) (walk : List ℕ) (fits : Fits (pairs lists heads) names) (w : WalksProducts names test walk) where
+  abbrev has_passing : NameId → Bool
+  has_passing id = test (kept_at names id.0).name.product
+
   abbrev passes : ℕ → Bool
-  passes p = near_on side asked (value_at w.products p)
+  passes p = test (value_at w.products p)
 
   product_of : (x : ℕ × ℕ) (k : Kept) → find_kept names x.0 ≡ Some k → k.product ≡ x.1 → product_at w.products x.1 ≡ Some (kept_at names x.0).name.product
   product_of x k e is = ap (product_at w.products) (sym is) ∙ w.of x.0 k e ∙ ap {B = Option Value} (λ (o : Option Kept). Some (kept_or o).name.product) (sym e)
 
-  near_is : (x : ℕ × ℕ) (k : Kept) → find_kept names x.0 ≡ Some k → k.product ≡ x.1 → is_near names side asked (name_id x.0) ≡ passes x.1
-  near_is x k e is = ap (near_on side asked) (sym (ap value_or (product_of x k e is)))
+  passes_is : (x : ℕ × ℕ) (k : Kept) → find_kept names x.0 ≡ Some k → k.product ≡ x.1 → has_passing (name_id x.0) ≡ passes x.1
+  passes_is x k e is = ap test (sym (ap value_or (product_of x k e is)))
 
   abbrev beyond_ : ℕ × ℕ → ℕ
   beyond_ x = cond (is_some (product_at w.products x.1)) 0 1
@@ -104,16 +105,16 @@ module _ (names : Names) (side : Side) (asked : Value) (lists : List (Option (Li
       by None e = sym (no_more (passes p) (all_of f p) (free_products f p e))
       by (Some v) e = refl
 
-  pub near_sum : (f : NameId → ℕ) → sum_by f (filter (is_near names side asked) (ids (pairs lists heads))) ≡ sum_by f (walk_left lists heads 0 0 walk)
-  near_sum f =
+  pub passing_sum : (f : NameId → ℕ) → sum_by f (filter has_passing (ids (pairs lists heads))) ≡ sum_by f (walk_left lists heads 0 0 walk)
+  passing_sum f =
       let g = λ (v : ℕ). f (name_id v) in
       let by_pair = λ (x : ℕ × ℕ). cond (passes x.1) (f (name_id x.0)) 0 in
       let each = λ (p : ℕ). cond (passes p) (all_of f p) 0 in
-      let left : sum_by f (filter (is_near names side asked) (ids (pairs lists heads))) ≡ sum_by each (numbers (length heads)) =
-      sum_filter f (is_near names side asked) (ids (pairs lists heads))
-      ∙ sum_map (if_passes (is_near names side asked) f) (λ (x : ℕ × ℕ). name_id x.0) (pairs lists heads)
-      ∙ agree_all (λ (x : ℕ × ℕ). if_passes (is_near names side asked) f (name_id x.0)) by_pair (pairs lists heads) (recursion_from_All (λ (x : ℕ × ℕ). if_passes (is_near names side asked) f (name_id x.0) ≡ by_pair x) (pairs lists heads)
-      (All-weaker (λ (x : ℕ × ℕ). (k : Kept) × (find_kept names x.0 ≡ Some k) × (k.product ≡ x.1)) (λ (x : ℕ × ℕ). if_passes (is_near names side asked) f (name_id x.0) ≡ by_pair x) (λ x h. ap {B = ℕ} (λ (b : Bool). cond b (f (name_id x.0)) 0) (near_is x h.0 h.1 h.2)) (pairs lists heads) fits))
+      let left : sum_by f (filter has_passing (ids (pairs lists heads))) ≡ sum_by each (numbers (length heads)) =
+      sum_filter f has_passing (ids (pairs lists heads))
+      ∙ sum_map (if_passes has_passing f) (λ (x : ℕ × ℕ). name_id x.0) (pairs lists heads)
+      ∙ agree_all (λ (x : ℕ × ℕ). if_passes has_passing f (name_id x.0)) by_pair (pairs lists heads) (recursion_from_All (λ (x : ℕ × ℕ). if_passes has_passing f (name_id x.0) ≡ by_pair x) (pairs lists heads)
+      (All-weaker (λ (x : ℕ × ℕ). (k : Kept) × (find_kept names x.0 ≡ Some k) × (k.product ≡ x.1)) (λ (x : ℕ × ℕ). if_passes has_passing f (name_id x.0) ≡ by_pair x) (λ x h. ap {B = ℕ} (λ (b : Bool). cond b (f (name_id x.0)) 0) (passes_is x h.0 h.1 h.2)) (pairs lists heads) fits))
       ∙ pairs_sum lists heads by_pair
       ∙ range_agree (weighs lists heads by_pair) each 0 (length heads) (λ p low high. cond_sum (passes p) g (posting lists heads p)) in
       let right : sum_by f (walk_left lists heads 0 0 walk) ≡ sum_by each (numbers (length w.products)) =

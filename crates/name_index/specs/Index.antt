@@ -9,7 +9,7 @@ use Rattle.list_pool.specs.declared.ListName.{ListName}
 use Rattle.product_orders.specs.declared.products.Side.{Side}
 use Rattle.product_orders.specs.Elements.{SameElements}
 use Rattle.product_orders.specs.Listed.{Listed, product_at, value_at, numbers, live}
-use Rattle.product_orders.specs.Near.{near_on}
+use Rattle.product_orders.specs.Near.{near_on, covers_product}
 use Rattle.name_index.specs.declared.table.NameId.{NameId}
 use Rattle.name_index.specs.Table.{Names, Kept, find_kept, kept_at}
 
@@ -36,6 +36,10 @@ Fits held names = All (λ (x : ℕ × ℕ). (k : Kept) × (find_kept names x.0 �
 -- the number's name has a product near the asked one
 abbrev pub is_near : Names → Side → Value → NameId → Bool
 is_near names side asked id = near_on side asked (kept_at names id.0).name.product
+
+-- the number's name has a product that the asked one covers
+abbrev pub is_product_covered : Names → Value → NameId → Bool
+is_product_covered names asked id = covers_product asked (kept_at names id.0).name.product
 
 abbrev pub is_covered : Names → Values → NameId → Bool
 is_covered names name id = covers name (kept_at names id.0).name
@@ -65,12 +69,12 @@ pub record IsIndex (lists : List (Option (List CellRow))) (heads : List ListName
   pub apart : (p q : ℕ) (h g : ListName) → slice_get heads p ≡ Some h → slice_get heads q ≡ Some g → h.0 ≡ g.0 → p ≡ q
   pub once : (id : ℕ) → times_held (pairs lists heads) id ≤ 1
 
--- ---- the products near a product, by numbers of a table
+-- ---- the products that pass a test, by numbers of a table
 
-pub record WalksNear (names : Names) (side : Side) (asked : Value) (walk : List ℕ) : Type 0 where
+pub record WalksProducts (names : Names) (test : Value → Bool) (walk : List ℕ) : Type 0 where
   pub products : Listed
   pub of : (id : ℕ) (k : Kept) → find_kept names id ≡ Some k → product_at products k.product ≡ Some k.name.product
-  pub walks : SameElements (filter (λ n. near_on side asked (value_at products n)) (live products)) walk
+  pub walks : SameElements (filter (λ n. test (value_at products n)) (live products)) walk
 
 -- ---- a walk over the lists of products
 

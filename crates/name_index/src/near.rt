@@ -1,5 +1,5 @@
-// A walk over the held names whose products are near a product.
-ghost use Rattle.std.specs.Prelude.{◌≡◌, map, filter, slice_get, count_by, IfOk};
+// A walk over the held names whose products are near a product, or are covered by it.
+ghost use Rattle.std.specs.Prelude.{◌≡◌, ◌+◌, Bool, map, filter, slice_get, count_by, IfOk, OnOk};
 ghost use Rattle.std.specs.List.Sorted.{IsStrictlyIncreasing};
 ghost use Rattle.std.specs.Iterator.{YieldsFirst, item_count};
 ghost use Rattle.cpe_name.specs.Lower.{IsLower};
@@ -7,8 +7,10 @@ ghost use Rattle.product_orders.specs.Elements.{SameElements};
 ghost use Rattle.cpe_relation.specs.NameRelation.{covers};
 ghost use Rattle.cpe_steps.specs.Within.{StepsWithin};
 ghost use Rattle.cpe_relation.specs.Order.{IsOrder};
+ghost use Rattle.cpe_values.specs.declared.value.Value.{Value};
 ghost use Rattle.product_orders.specs.declared.products.Side.TheVariants as side;
-ghost use Rattle.name_index.specs.Index.{ids, Fits, is_near, is_covered};
+ghost use Rattle.name_index.specs.Table.{Names, kept_at};
+ghost use Rattle.name_index.specs.Index.{ids, Fits, WalksProducts, is_near, is_product_covered, is_covered};
 
 use crate::index::NameIndex;
 use crate::{NameId, NameTable};
@@ -22,7 +24,7 @@ use std::alloc::Global;
 use std::marker::Model;
 use std::sync::ledger::Ledger;
 
-/// The held names that are near, each once. Contracts see those that are left. A step takes no memory.
+/// The held names whose products are near, or are covered, each once. Contracts see those that are left. A step takes no memory.
 #[derive(Drop)]
 pub struct Near<'a> {
     pool: &'a Pool,
@@ -99,6 +101,20 @@ impl<'a> Iterator for Near<'a> {
 }
 
 impl NameIndex {
+    // A walk over the held names by the products that pass a test.
+    fn walk<'a>(&'a self, products: NearProducts<'a>) -> Near<'a>
+        ensures { (names : Names) (test : Value → Bool) → Fits self.now.held names → WalksProducts names test products.entry → SameElements (filter (λ id. test (kept_at names id.0).name.product) (ids self.now.held)) result }
+    {
+        Near {
+            pool: &self.pool,
+            heads: &self.heads,
+            products,
+            list: ListName(0),
+            left: 0,
+            cell: CellName(0),
+        }
+    }
+
     /// A walk over the held names whose products are near the name's: with `Source` those to which it is near, and with `Target`
     /// those that are near it. It takes no memory and no step.
     pub fn near<'a>(&'a self, table: &'a NameTable, name: &'a Wfn, side: Side) -> Near<'a>
@@ -106,18 +122,21 @@ impl NameIndex {
         requires lower { IsLower name.now }
         ensures { SameElements (filter (is_near table.now side name.now.product) (ids self.now.held)) result }
     {
-        Near {
-            pool: &self.pool,
-            heads: &self.heads,
-            products: table.near_products(product_of(name), side),
-            list: ListName(0),
-            left: 0,
-            cell: CellName(0),
-        }
+        self.walk(table.near_products(product_of(name), side))
     }
 
-    /// The held names that the name covers, in rising order of their numbers. It looks at most once at each held name to whose
-    /// product the name's is near, and at no other.
+    /// A walk over the held names whose products the name's covers. It compares the name's product with each product of the table to
+    /// which it is near, and passes over all names of a product that isn't covered. It takes no memory and no step.
+    pub fn with_covered_product<'a>(&'a self, table: &'a NameTable, name: &'a Wfn) -> Near<'a>
+        requires fits { Fits self.now.held table.now }
+        requires lower { IsLower name.now }
+        ensures { SameElements (filter (is_product_covered table.now name.now.product) (ids self.now.held)) result }
+    {
+        self.walk(table.covered_products(product_of(name)))
+    }
+
+    /// The held names that the name covers, in rising order of their numbers. It looks once at each held name whose product the name's
+    /// covers, and at no other: all these are names to whose product the name's is near.
     ///
     /// # Errors
     ///
@@ -134,12 +153,12 @@ impl NameIndex {
         ensures covered { IfOk result (λ v. SameElements (filter (is_covered table.now name.now) (ids self.now.held)) v.items) }
         ensures rising { IfOk result (λ v. IsStrictlyIncreasing (map (λ id. id.0) v.items)) }
         ensures steps { StepsWithin steps.old steps.new (count_by (is_near table.now side.Source name.now.product) (ids self.now.held)) }
+        ensures looked { OnOk result (steps.new ≡ steps.old + count_by (is_product_covered table.now name.now.product) (ids self.now.held)) }
     {
         self.lawful();
-        cpe_relation::law::cover_laws();
         let order = deciding_order(alloc, name)?;
         let mut found = Vec::new(alloc);
-        for id in self.near(table, name, Side::Source) {
+        for id in self.with_covered_product(table, name) {
             let other = table.look(id, steps);
             if is_covering(&order, name, other) {
                 found.push(id)?;

@@ -9,9 +9,10 @@ ghost use Rattle.cpe_values.specs.declared.value.Value.{Value};
 ghost use Rattle.cpe_values.specs.Lower.{lower_value};
 ghost use Rattle.cpe_name.specs.Lower.{IsLower};
 ghost use Rattle.name_index.specs.Table.{Kept, find_kept, IsLive, kept_at, HasName, Holds, Releases, AreNames};
-ghost use Rattle.name_index.specs.Index.{WalksNear};
+ghost use Rattle.name_index.specs.Index.{WalksProducts};
 ghost use Rattle.name_index.specs.Rows.{row_with, row_at, number_at, name_at, Grows, freed_rows, freed_numbers, count_at, IsGiven};
 ghost use Rattle.product_orders.specs.Listed.{product_at, Removes};
+ghost use Rattle.product_orders.specs.Near.{near_on, covers_product};
 
 use cpe_name::{Attribute, Wfn};
 use cpe_steps::Steps;
@@ -518,8 +519,16 @@ impl NameTable {
     // The numbers of the products near a product on a side.
     pub(crate) fn near_products<'a>(&'a self, asked: &'a Value, side: Side) -> NearProducts<'a>
         requires { lower_value asked.now ≡ asked.now }
-        ensures { WalksNear self.now side asked.now result }
+        ensures { WalksProducts self.now (near_on side asked.now) result }
     {
         self.products.near(asked, side)
+    }
+
+    // The numbers of the products that a product covers.
+    pub(crate) fn covered_products<'a>(&'a self, asked: &'a Value) -> NearProducts<'a>
+        requires { lower_value asked.now ≡ asked.now }
+        ensures { WalksProducts self.now (covers_product asked.now) result }
+    {
+        self.products.covered(asked)
     }
 }

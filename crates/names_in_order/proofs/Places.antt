@@ -1,10 +1,10 @@
 -- The places of the names that are found are those of the names that are covered.
-use Rattle.std.proofs.Common.{◌≡◌, ℕ, zero, suc, ◌+◌, ◌<◌, Bool, true, false, cond, ltb, List, [], ◌∷◌, ◌++◌, length, Some, None, refl, sym, ap, subst, ◌∙◌, arith, add-one, append_assoc, lt-ltb}
+use Rattle.std.proofs.Common.{◌≡◌, ℕ, zero, suc, ◌+◌, ◌<◌, ◌≤◌, Bool, true, false, cond, ltb, List, [], ◌∷◌, ◌++◌, length, Some, None, refl, sym, ap, subst, ◌∙◌, arith, add-one, append_assoc, lt-ltb}
 use Rattle.std.specs.List.{sum_by, filter, flat_map, range_with_len, position_or_len, cons_option, IsDistinct}
 use Rattle.std.specs.List.Sorted.{IsSorted, IsPermutation}
 use Rattle.std.specs.Ordering.{nat_cmp}
-use Rattle.std.proofs.lemmas.Bool.{both_ways, false_from_ne_true}
-use Rattle.std.proofs.lemmas.List.Sums.{sum_by-cons, position_or_len_is}
+use Rattle.std.proofs.lemmas.Bool.{both_ways, false_from_ne_true, false≢true}
+use Rattle.std.proofs.lemmas.List.Sums.{sum_by-cons, sum_by-le-sum_by, position_or_len_is}
 use Rattle.std.proofs.lemmas.List.Sorted.{IsPermutation-refl}
 use Rattle.std.proofs.lemmas.Map.Keys.{apart_from_distinct}
 use Rattle.cpe_name.specs.declared.name.Values.{Values}
@@ -12,16 +12,17 @@ use Rattle.cpe_name.specs.Equal.{same_name, same_name-Decides}
 use Rattle.cpe_name.specs.Put.{any_values}
 use Rattle.cpe_relation.specs.NameRelation.{covers}
 use Rattle.cpe_relation.specs.Near.{near}
-use Rattle.product_orders.specs.declared.products.Side.TheVariants as side
+use Rattle.cpe_relation.proofs.NearLaws.{above_near}
 use Rattle.product_orders.specs.Elements.{SameElements}
+use Rattle.product_orders.specs.Near.{covers_product}
 use Rattle.product_orders.proofs.Sums.{if_passes, sum_filter}
 use Rattle.name_index.specs.declared.table.NameId.{NameId}
 use Rattle.name_index.specs.Table.{Names, kept_at}
-use Rattle.name_index.specs.Index.{ids, name_id, is_near, is_covered}
+use Rattle.name_index.specs.Index.{ids, name_id, is_product_covered, is_covered}
 use Rattle.name_index.proofs.Postings.{sum_map, sum_flat, range_agree}
 use Rattle.name_index.proofs.Covered.{covered_same, walk_length}
 use Rattle.names_in_order.specs.Held.{names_held, place_list, placed}
-use Rattle.names_in_order.specs.Places.{name_at, places_covered, near_count}
+use Rattle.names_in_order.specs.Places.{name_at, places_covered, looked_count, near_count}
 use Rattle.names_in_order.proofs.Rising.{sorted_filter}
 
 -- ---- sums over a list, by its places
@@ -81,27 +82,38 @@ places_more place q found new all rest xs x b e t is h =
     go false k = k
 
 module _ (ns : List Values) (names : Names) (held : List (ℕ × ℕ)) (name : Values) (walk : List NameId) (different : IsDistinct same_name ns) (same : SameElements ns (names_held names held))
-    (near_ones : SameElements (filter (is_near names side.Source name.product) (ids held)) walk) where
-  pub found_places : ((x : NameId) → is_covered names name x ≡ true → is_near names side.Source name.product x ≡ true) → SameElements (places_covered name ns) (flat_map (placed ns names) (filter (is_covered names name) walk))
+    (passing_ones : SameElements (filter (is_product_covered names name.product) (ids held)) walk) where
+  pub found_places : ((x : NameId) → is_covered names name x ≡ true → is_product_covered names name.product x ≡ true) → SameElements (places_covered name ns) (flat_map (placed ns names) (filter (is_covered names name) walk))
   found_places imp g =
       let q = is_covered names name in
       let h : NameId → ℕ = λ id. sum_by g (placed ns names id) in
       let w : Values → ℕ = λ n. cond (covers name n) (sum_by g (place_list ns n)) 0 in
       sym (sum_flat g (placed ns names) (filter q walk)
-      ∙ sym (covered_same (is_near names side.Source name.product) q (ids held) walk (filter q walk) imp near_ones (IsPermutation-refl (filter q walk)) h)
+      ∙ sym (covered_same (is_product_covered names name.product) q (ids held) walk (filter q walk) imp passing_ones (IsPermutation-refl (filter q walk)) h)
       ∙ sum_filter h q (ids held)
       ∙ sum_map (if_passes q h) (λ (x : ℕ × ℕ). name_id x.0) held
       ∙ sym (sum_map w (λ (x : ℕ × ℕ). (kept_at names x.0).name) held)
       ∙ sym (same w)
       ∙ covered_sum ns different name g)
 
-  -- as many as are near
-  pub walked : length walk ≡ near_count name ns
+  -- as many as have a covered product
+  pub walked : length walk ≡ looked_count name ns
   walked =
-      walk_length (is_near names side.Source name.product) (ids held) walk near_ones
-      ∙ sum_map (λ (id : NameId). cond (is_near names side.Source name.product id) 1 0) (λ (x : ℕ × ℕ). name_id x.0) held
-      ∙ sym (sum_map (λ (n : Values). cond (near name.product n.product) 1 0) (λ (x : ℕ × ℕ). (kept_at names x.0).name) held)
-      ∙ sym (same (λ (n : Values). cond (near name.product n.product) 1 0))
+      walk_length (is_product_covered names name.product) (ids held) walk passing_ones
+      ∙ sum_map (λ (id : NameId). cond (is_product_covered names name.product id) 1 0) (λ (x : ℕ × ℕ). name_id x.0) held
+      ∙ sym (sum_map (λ (n : Values). cond (covers_product name.product n.product) 1 0) (λ (x : ℕ × ℕ). (kept_at names x.0).name) held)
+      ∙ sym (same (λ (n : Values). cond (covers_product name.product n.product) 1 0))
+
+-- a name's product is near those that it covers
+pub fewer_looked : (name : Values) (ns : List Values) → looked_count name ns ≤ near_count name ns
+fewer_looked name ns =
+    sum_by-le-sum_by (λ (n : Values). cond (covers_product name.product n.product) 1 0) (λ (n : Values). cond (near name.product n.product) 1 0) ns
+    (λ n. by (covers_product name.product n.product) (near name.product n.product) 1 (above_near name.product n.product))
+  where
+    by : (a b : Bool) (n : ℕ) → (a ≡ true → b ≡ true) → cond a n 0 ≤ cond b n 0
+    by true true n h = omega arith
+    by true false n h = absurd (false≢true (h refl))
+    by false b n h = omega arith
 
 -- ---- the sorted places
 

@@ -1,10 +1,11 @@
--- Where names stand in a list, and how many of them are near a name.
+-- Where names stand in a list, how many of them are near a name, and how many a search for it looks at.
 use Rattle.std.specs.Prelude.{ℕ, List, [], ◌∷◌, length, get_or, filter, count_by, slice_get}
 use Rattle.std.specs.List.{cons_option, range_with_len}
 use Rattle.cpe_name.specs.declared.name.Values.{Values}
 use Rattle.cpe_name.specs.Put.{any_values}
 use Rattle.cpe_relation.specs.NameRelation.{covers}
 use Rattle.cpe_relation.specs.Near.{near}
+use Rattle.product_orders.specs.Near.{covers_product}
 
 -- the name at a place from 0
 abbrev pub name_at : List Values → ℕ → Values
@@ -17,6 +18,10 @@ places_covered name names = filter (λ k. covers name (name_at names k)) (range_
 -- how many names have a product to which that of a name is near
 abbrev pub near_count : Values → List Values → ℕ
 near_count name names = count_by (λ n. near name.product n.product) names
+
+-- how many names have a product that that of a name covers
+abbrev pub looked_count : Values → List Values → ℕ
+looked_count name names = count_by (λ n. covers_product name.product n.product) names
 
 -- what stands at these places of a list
 abbrev pub rows_at : {A : Type 0} → List A → List ℕ → List A

@@ -9,7 +9,7 @@ ghost use Rattle.name_index.specs.Index.{is_covered};
 ghost use Rattle.name_index.specs.Table.{HasName, IsLive, kept_at};
 ghost use Rattle.names_in_order.specs.InOrder.{AreInOrder, AreLive, names_numbered, same_id};
 ghost use Rattle.names_in_order.specs.Marked.{numbers_in, without_first};
-ghost use Rattle.names_in_order.specs.Places.{near_count};
+ghost use Rattle.names_in_order.specs.Places.{looked_count, near_count};
 
 use crate::added::add_number;
 use crate::marked::MarkedNumbers;
@@ -91,6 +91,7 @@ fn find_covered<L: Ledger>(
     requires lower { IsLower name.now }
     ensures covered { IfOk result (λ v. v.items ≡ filter (is_covered table.now name.now) numbers.now) }
     ensures steps { StepsWithin steps.old steps.new (near_count name.now (names_numbered table.now numbers.now)) }
+    ensures looked { OnOk result (steps.new ≡ steps.old + looked_count name.now (names_numbered table.now numbers.now)) }
 {
     let found = index.covered_by(alloc, table, name, steps)?;
     numbers.in_order(alloc, &found)
@@ -167,8 +168,8 @@ impl ChangingNames {
         remove_number(table, &mut self.index, &mut self.numbers, id);
     }
 
-    /// Those whose names a name in lower case covers, in their order. A step is a look at a name: it looks at most once at each to
-    /// whose product that of the name is near, and at no other.
+    /// Those whose names a name in lower case covers, in their order. A step is a look at a name: it looks once at each whose
+    /// product that of the name covers, and at no other: all these are names to whose product that of the name is near.
     ///
     /// # Errors
     /// Only that memory ran out. The bound on steps holds then, too.
@@ -184,6 +185,7 @@ impl ChangingNames {
         ensures live { IfOk result (λ v. AreLive table.now v.items) }
         ensures covered { IfOk result (λ v. names_numbered table.now v.items ≡ filter (covers name.now) (names_numbered table.now self.now.numbers)) }
         ensures steps { StepsWithin steps.old steps.new (near_count name.now (names_numbered table.now self.now.numbers)) }
+        ensures looked { OnOk result (steps.new ≡ steps.old + looked_count name.now (names_numbered table.now self.now.numbers)) }
     {
         find_covered(alloc, table, &self.index, &self.numbers, name, steps)
     }

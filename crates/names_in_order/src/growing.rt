@@ -11,7 +11,7 @@ ghost use Rattle.name_index.specs.Table.{IsLive, kept_at};
 ghost use Rattle.product_orders.specs.Elements.{SameElements};
 ghost use Rattle.names_in_order.specs.Held.{placed};
 ghost use Rattle.names_in_order.specs.InOrder.{AreInOrder, AreLive, names_numbered, same_id};
-ghost use Rattle.names_in_order.specs.Places.{near_count, places_covered};
+ghost use Rattle.names_in_order.specs.Places.{looked_count, near_count, places_covered};
 
 use crate::added::add_number;
 use crate::numbers::NumbersInOrder;
@@ -19,7 +19,7 @@ use cpe_name::{Attribute, Wfn};
 use cpe_relation::{covers_in_order, deciding_order};
 use cpe_steps::Steps;
 use cpe_values::Memory;
-use name_index::{NameId, NameIndex, NameTable, Side};
+use name_index::{NameId, NameIndex, NameTable};
 use std::alloc::Global;
 use std::marker::Model;
 use std::sync::ledger::Ledger;
@@ -137,13 +137,13 @@ fn find_places<L: Ledger>(
     requires lower { IsLower name.now }
     ensures covered { IfOk result (λ places. SameElements (places_covered name.now (names_numbered table.now numbers.now)) places.items) }
     ensures steps { StepsWithin steps.old steps.new (near_count name.now (names_numbered table.now numbers.now)) }
+    ensures looked { OnOk result (steps.new ≡ steps.old + looked_count name.now (names_numbered table.now numbers.now)) }
 {
-    cpe_relation::law::cover_laws();
     table.lawful();
     numbers.lawful();
     let order = deciding_order(alloc, name)?;
     let mut places = Vec::new(alloc);
-    for id in index.near(table, name, Side::Source) {
+    for id in index.with_covered_product(table, name) {
         push_covered(&order, table, numbers, id, name, &mut places, steps)?;
     }
     Ok(places)
@@ -237,8 +237,8 @@ impl NamesInOrder<'_> {
         }
     }
 
-    /// The places of those that a name in lower case covers, rising. A step is a look at a name: it looks at most once at each to
-    /// whose product that of the name is near, and at no other.
+    /// The places of those that a name in lower case covers, rising. A step is a look at a name: it looks once at each whose
+    /// product that of the name covers, and at no other: all these are names to whose product that of the name is near.
     ///
     /// # Errors
     /// Only that memory ran out. The bound on steps holds then, too.
@@ -251,6 +251,7 @@ impl NamesInOrder<'_> {
         requires { IsLower name.now }
         ensures covered { IfOk result (λ places. places.items ≡ places_covered name.now self.now) }
         ensures steps { StepsWithin steps.old steps.new (near_count name.now self.now) }
+        ensures looked { OnOk result (steps.new ≡ steps.old + looked_count name.now self.now) }
     {
         let mut places = find_places(alloc, self.table, self.index, self.numbers, name, steps)?;
         places.sort_unstable();

@@ -8,3 +8,4 @@ pub mod Lower
 pub mod Sums
 pub mod NearRuns
 pub mod Rearranged
+pub mod Passing

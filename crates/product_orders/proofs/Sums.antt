@@ -50,3 +50,14 @@ module _ {X : Type 0} where
   pub filter_all : (q : X → Bool) → ((x : X) → q x ≡ true) → (xs : List X) → filter q xs ≡ xs
   filter_all q h [] = refl
   filter_all q h (x ∷ xs) = ap (λ (b : Bool). cond b (x ∷ filter q xs) (filter q xs)) (h x) ∙ ap (λ (u : List X). x ∷ u) (filter_all q h xs)
+
+  -- what passes the stronger test among those that pass the weaker one
+  pub filter_stronger : (p q : X → Bool) → ((x : X) → p x ≡ true → q x ≡ true) → (xs ys : List X) → SameElements (filter q xs) ys → SameElements (filter p xs) (filter p ys)
+  filter_stronger p q h xs ys same f =
+      sum_filter f p xs ∙ sum_agree (if_passes p f) (if_passes q (if_passes p f)) (λ x. by (p x) (q x) (f x) (h x)) xs ∙ sym (sum_filter (if_passes p f) q xs) ∙ same (if_passes p f) ∙ sym (sum_filter f p ys)
+    where
+      by : (a b : Bool) (n : ℕ) → (a ≡ true → b ≡ true) → cond a n 0 ≡ cond b (cond a n 0) 0
+      by true true n g = refl
+      by true false n g = absurd (true≢false (sym (g refl)))
+      by false true n g = refl
+      by false false n g = refl

@@ -11,6 +11,7 @@
 //! the other in another order.
 #![tactic(auto)]
 
+mod covered;
 mod keys;
 pub mod law;
 mod numbered;
@@ -18,5 +19,5 @@ mod order;
 mod products;
 mod walk;
 
+pub use covered::NearProducts;
 pub use products::{Products, Side};
-pub use walk::NearProducts;

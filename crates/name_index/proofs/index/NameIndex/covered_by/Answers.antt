@@ -4,17 +4,16 @@ use Rattle.std.specs.List.Sorted.{IsPermutation}
 use Rattle.std.proofs.lemmas.List.{append-nil}
 use Rattle.std.proofs.lemmas.List.Sorted.{IsNonDecreasingBy-from_sort_by_key}
 use Rattle.cpe_relation.specs.NameRelation.{covers}
-use Rattle.product_orders.specs.declared.products.Side.TheVariants as side
 use Rattle.product_orders.specs.Elements.{SameElements}
 use Rattle.name_index.specs.declared.table.NameId.{NameId}
 use Rattle.name_index.specs.Table.{kept_at}
-use Rattle.name_index.specs.Index.{ids, is_near, is_covered}
-use Rattle.name_index.proofs.Covered.{walk_live, tail_live, found_more, walk_length, covered_same, rises, once_filtered}
+use Rattle.name_index.specs.Index.{ids, is_product_covered, is_covered}
+use Rattle.name_index.proofs.Covered.{walk_live, tail_live, found_more, walk_length, covered_same, product_covered, fewer_covered, rises, once_filtered}
 use Rattle.name_index.proofs.index.NameIndex.covered_by.Goals as goal
 
 pub loop-id-init : goal.loop-id-init
 loop-id-init g c = record {
-  live = walk_live c.args.table.now c.args.self.now.held (is_near c.args.table.now side.Source c.args.name.now.product) c.into_iter-id-iterator.result c.requires.fits (subst (SameElements (filter (is_near c.args.table.now side.Source c.args.name.now.product) (ids c.args.self.now.held))) (sym c.into_iter-id-iterator.ensures.into_iter_gives) c.near-id-items.ensures);
+  live = walk_live c.args.table.now c.args.self.now.held (is_product_covered c.args.table.now c.args.name.now.product) c.into_iter-id-iterator.result c.requires.fits (subst (SameElements (filter (is_product_covered c.args.table.now c.args.name.now.product) (ids c.args.self.now.held))) (sym c.into_iter-id-iterator.ensures.into_iter_gives) c.with_covered_product-id-items.ensures);
   later = omega arith;
   looked = refl;
   found = ap (λ (xs : List NameId). xs ++ filter (is_covered c.args.table.now c.args.name.now) c.into_iter-id-iterator.result) c.new-found.ensures.items;
@@ -34,10 +33,10 @@ loop-id-preserved g c = record {
 pub returns-clause-covered : goal.returns-clause-covered
 returns-clause-covered g c =
     let q = is_covered c.args.table.now c.args.name.now in
-    let p = is_near c.args.table.now side.Source c.args.name.now.product in
+    let p = is_product_covered c.args.table.now c.args.name.now.product in
     let ends : c.loop-id.id-iterator ≡ [] = c.in-None.ensures.steps.0 in
     let all : c.loop-id.found.items ≡ filter q c.into_iter-id-iterator.result = sym (append-nil c.loop-id.found.items) ∙ ap (λ (xs : List NameId). c.loop-id.found.items ++ filter q xs) (sym ends) ∙ c.loop-id.invariant.found in
-    covered_same p q (ids c.args.self.now.held) c.into_iter-id-iterator.result c.sort_by_key.new.self.items (λ id h. c.cover_laws.ensures.near c.args.name.now (kept_at c.args.table.now id.0).name h) (subst (SameElements (filter (is_near c.args.table.now side.Source c.args.name.now.product) (ids c.args.self.now.held))) (sym c.into_iter-id-iterator.ensures.into_iter_gives) c.near-id-items.ensures)
+    covered_same p q (ids c.args.self.now.held) c.into_iter-id-iterator.result c.sort_by_key.new.self.items (λ id h. product_covered c.args.name.now (kept_at c.args.table.now id.0).name h) (subst (SameElements (filter (is_product_covered c.args.table.now c.args.name.now.product) (ids c.args.self.now.held))) (sym c.into_iter-id-iterator.ensures.into_iter_gives) c.with_covered_product-id-items.ensures)
     (subst (λ (xs : List NameId). IsPermutation xs c.sort_by_key.new.self.items) all c.in_ok-sort_by_key.ensures.permutation)
 
 pub returns-clause-rising : goal.returns-clause-rising
@@ -50,17 +49,21 @@ returns-clause-rising g c =
 pub returns-in_err-push-clause-steps : goal.returns-in_err-push-clause-steps
 returns-in_err-push-clause-steps g c = (
   omega (arith, c.loop-id.invariant.later, c.look-other.ensures.step),
-  omega (arith, c.loop-id.invariant.looked, c.look-other.ensures.step, ap length c.in-Some.ensures.steps, walk_length (is_near c.args.table.now side.Source c.args.name.now.product) (ids c.args.self.now.held) c.into_iter-id-iterator.result (subst (SameElements (filter (is_near c.args.table.now side.Source c.args.name.now.product) (ids c.args.self.now.held))) (sym c.into_iter-id-iterator.ensures.into_iter_gives) c.near-id-items.ensures)),
+  omega (arith, c.loop-id.invariant.looked, c.look-other.ensures.step, ap length c.in-Some.ensures.steps, walk_length (is_product_covered c.args.table.now c.args.name.now.product) (ids c.args.self.now.held) c.into_iter-id-iterator.result (subst (SameElements (filter (is_product_covered c.args.table.now c.args.name.now.product) (ids c.args.self.now.held))) (sym c.into_iter-id-iterator.ensures.into_iter_gives) c.with_covered_product-id-items.ensures), fewer_covered c.args.table.now c.args.name.now.product (ids c.args.self.now.held)),
 )
 
 pub returns-in_err-sort_by_key-clause-steps : goal.returns-in_err-sort_by_key-clause-steps
 returns-in_err-sort_by_key-clause-steps g c = (
   c.loop-id.invariant.later,
-  omega (arith, c.loop-id.invariant.looked, walk_length (is_near c.args.table.now side.Source c.args.name.now.product) (ids c.args.self.now.held) c.into_iter-id-iterator.result (subst (SameElements (filter (is_near c.args.table.now side.Source c.args.name.now.product) (ids c.args.self.now.held))) (sym c.into_iter-id-iterator.ensures.into_iter_gives) c.near-id-items.ensures)),
+  omega (arith, c.loop-id.invariant.looked, walk_length (is_product_covered c.args.table.now c.args.name.now.product) (ids c.args.self.now.held) c.into_iter-id-iterator.result (subst (SameElements (filter (is_product_covered c.args.table.now c.args.name.now.product) (ids c.args.self.now.held))) (sym c.into_iter-id-iterator.ensures.into_iter_gives) c.with_covered_product-id-items.ensures), fewer_covered c.args.table.now c.args.name.now.product (ids c.args.self.now.held)),
 )
 
 pub returns-clause-steps : goal.returns-clause-steps
 returns-clause-steps g c = (
   c.loop-id.invariant.later,
-  omega (arith, c.loop-id.invariant.looked, walk_length (is_near c.args.table.now side.Source c.args.name.now.product) (ids c.args.self.now.held) c.into_iter-id-iterator.result (subst (SameElements (filter (is_near c.args.table.now side.Source c.args.name.now.product) (ids c.args.self.now.held))) (sym c.into_iter-id-iterator.ensures.into_iter_gives) c.near-id-items.ensures)),
+  omega (arith, c.loop-id.invariant.looked, walk_length (is_product_covered c.args.table.now c.args.name.now.product) (ids c.args.self.now.held) c.into_iter-id-iterator.result (subst (SameElements (filter (is_product_covered c.args.table.now c.args.name.now.product) (ids c.args.self.now.held))) (sym c.into_iter-id-iterator.ensures.into_iter_gives) c.with_covered_product-id-items.ensures), fewer_covered c.args.table.now c.args.name.now.product (ids c.args.self.now.held)),
 )
+
+pub returns-clause-looked : goal.returns-clause-looked
+returns-clause-looked g c =
+    omega (arith, c.loop-id.invariant.looked, ap length c.in-None.ensures.steps.0, walk_length (is_product_covered c.args.table.now c.args.name.now.product) (ids c.args.self.now.held) c.into_iter-id-iterator.result (subst (SameElements (filter (is_product_covered c.args.table.now c.args.name.now.product) (ids c.args.self.now.held))) (sym c.into_iter-id-iterator.ensures.into_iter_gives) c.with_covered_product-id-items.ensures))
