@@ -9,11 +9,12 @@ ghost use Rattle.std.specs.List.Sorted.{IsStrictlyIncreasing};
 ghost use Rattle.cpe_name.specs.Lower.{IsLower};
 ghost use Rattle.cpe_steps.specs.Within.{StepsWithin};
 ghost use Rattle.product_orders.specs.Elements.{SameElements};
-ghost use Rattle.std.specs.Prelude.{IfOk, filter, map, ◌≡◌, ℕ, ◌+◌, ◌-◌, ◌<◌, ◌≤◌, ◌||◌, ◌↔◌, length, nat_lt, IsTrue, OnOk, count_by, Some, false};
+ghost use Rattle.std.specs.Prelude.{IfOk, filter, map, ◌≡◌, ◌+◌, ◌-◌, ◌<◌, ◌≤◌, ◌||◌, ◌↔◌, length, nat_lt, IsTrue, count_by, false};
 ghost use Rattle.product_orders.specs.declared.products.Side.TheVariants as side;
-ghost use Rattle.name_index.specs.Table.{Names, Kept, find_kept, IsLive, kept_at};
+ghost use Rattle.name_index.specs.Table.{Names, IsLive, kept_at};
 ghost use Rattle.name_index.specs.Index.{ids, is_covered, is_near};
-ghost use Rattle.pair_board.specs.Board.{target_times, probe_times, FitsBoard, Holds, TargetsTo, ProbesTo, IsEmptyBoard, IsOn, SameBoard, AreAnswers, AreFlips, Clears};
+ghost use Rattle.pair_board.specs.Board.{target_times, probe_times, FitsBoard, Holds, ProbesTo, IsEmptyBoard, IsOn, AreAnswers, AreFlips, Clears};
+ghost use Rattle.pair_board.specs.Moved.{MakesRoom, ProbeAdded, TargetAdded, TargetDropped};
 
 mod counting;
 mod parts;
@@ -62,11 +63,7 @@ impl PairBoard {
     pub fn reserve(&mut self, table: &NameTable, probes: u32, targets: u32) -> Result<(), Memory>
         requires probes { length self.old.probe_ids + probes ≤ 536870912 }
         requires targets { length self.old.target_ids + targets ≤ 536870912 }
-        ensures same { SameBoard self.old self.new }
-        ensures fits { (names : Names) → FitsBoard self.old names → FitsBoard self.new names }
-        ensures probe_room { OnOk result (probes ≤ self.new.probe_room) }
-        ensures target_room { OnOk result (targets ≤ self.new.target_room) }
-        ensures wide { OnOk result ((id : ℕ) (k : Kept) → find_kept table.now id ≡ Some k → k.product < self.new.wide) }
+        ensures { MakesRoom self.old self.new table.now probes targets result }
     {
         self.parts.reserve(table, probes, targets)
     }
@@ -140,10 +137,7 @@ impl PairBoard {
         requires room { 1 ≤ self.old.target_room }
         requires product { (kept_at table.now id.0).product < self.old.wide }
         requires few { target_times self.old id.0 < 4294967295 }
-        ensures changes { TargetsTo self.old self.new table.now id.0 (target_times self.old id.0 + 1) }
-        ensures room { self.old.target_room ≤ self.new.target_room + 1 }
-        ensures steps { steps.new ≤ steps.old + 1 + count_by (is_near table.now side.Target (kept_at table.now id.0).name.product) (ids self.old.probe_ids) }
-        ensures rise { steps.old ≤ steps.new }
+        ensures { TargetAdded self.old self.new table.now id.0 steps.old steps.new }
     {
         self.parts.add_target(table, id, steps);
     }
@@ -153,10 +147,7 @@ impl PairBoard {
         requires live { IsLive table.now id.0 }
         requires fits { FitsBoard self.old table.now }
         requires some { 1 ≤ target_times self.old id.0 }
-        ensures changes { TargetsTo self.old self.new table.now id.0 (target_times self.old id.0 - 1) }
-        ensures room { self.old.target_room ≤ self.new.target_room }
-        ensures steps { steps.new ≤ steps.old + 1 + count_by (is_near table.now side.Target (kept_at table.now id.0).name.product) (ids self.old.probe_ids) }
-        ensures rise { steps.old ≤ steps.new }
+        ensures { TargetDropped self.old self.new table.now id.0 steps.old steps.new }
     {
         self.parts.drop_target(table, id, steps);
     }
@@ -168,10 +159,7 @@ impl PairBoard {
         requires room { 1 ≤ self.old.probe_room }
         requires product { (kept_at table.now id.0).product < self.old.wide }
         requires few { probe_times self.old id.0 < 4294967295 }
-        ensures changes { ProbesTo self.old self.new table.now id.0 (probe_times self.old id.0 + 1) }
-        ensures room { self.old.probe_room ≤ self.new.probe_room + 1 }
-        ensures steps { steps.new ≤ steps.old + 1 + count_by (is_near table.now side.Source (kept_at table.now id.0).name.product) (ids self.old.target_ids) }
-        ensures rise { steps.old ≤ steps.new }
+        ensures { ProbeAdded self.old self.new table.now id.0 steps.old steps.new }
     {
         self.parts.add_probe(table, id, steps);
     }
