@@ -6,3 +6,4 @@ pub mod Written
 pub mod Said
 pub mod Lent
 pub mod Bounds
+pub mod Components
