@@ -7,3 +7,4 @@ pub mod Said
 pub mod Lent
 pub mod Bounds
 pub mod AnyTail
+pub mod Components

@@ -6,3 +6,4 @@ pub mod SpanValues
 pub mod Rewriting
 pub mod Bound
 pub mod Unquoting
+pub mod Component

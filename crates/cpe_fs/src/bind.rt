@@ -10,7 +10,7 @@ use cpe_name::{ATTRIBUTES, Attribute, Wfn};
 use cpe_values::{Edge, Memory, Style, Value, is_bare_byte, push_spelling};
 use std::alloc::Global;
 
-fn push_component(out: &mut Vec<u8>, value: &Value) -> Result<(), Memory>
+pub(crate) fn push_component(out: &mut Vec<u8>, value: &Value) -> Result<(), Memory>
     ensures { OnOk result (out.new.items ≡ out.old.items ++ component value.now) }
 {
     match value {

@@ -17,6 +17,7 @@ ghost use Rattle.cpe_fs.specs.Unbound.{read_fs, unbound, Says, Writes};
 
 mod bind;
 mod bound;
+mod component;
 mod lend;
 mod scan;
 mod values;
@@ -27,6 +28,7 @@ use crate::scan::scan_fs;
 use crate::values::Components;
 use crate::write::FromComponents;
 pub use bind::{append_fs, bind_fs, fs_len};
+pub use component::{ComponentFault, bind_component, read_component_is, unbind_component};
 use cpe_name::{Wfn, put_output, read_values, scan_wfn};
 use cpe_values::Memory;
 pub use lend::lend_fs;

@@ -26,7 +26,7 @@ fn scan_led(bytes: &[u8]) -> Result<&[u8], usize>
 }
 
 #[tactic(auto, unfolding(crate::specs::Scanning::text_end))]
-fn scan_text(bytes: &[u8]) -> Result<&[u8], usize>
+pub(crate) fn scan_text(bytes: &[u8]) -> Result<&[u8], usize>
     ensures { Tells (λ rest. rest.now) result (text_end bytes.now) }
 {
     match bytes {

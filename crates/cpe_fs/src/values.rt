@@ -15,7 +15,7 @@ pub(crate) fn is_only(span: &[u8], byte: u8) -> bool
 }
 
 // The value that has this text.
-fn value_of(alloc: Global, span: &[u8]) -> Result<Value, Memory>
+pub(crate) fn value_of(alloc: Global, span: &[u8]) -> Result<Value, Memory>
     requires { IsSpan span.now }
     ensures { IfOk result (λ value. value ≡ value_at span.now) }
 {

@@ -11,6 +11,8 @@ mod bytes;
 #[cfg(test)]
 mod calls;
 #[cfg(test)]
+mod components;
+#[cfg(test)]
 mod names;
 #[cfg(test)]
 mod readme;
