@@ -1,6 +1,6 @@
 -- A verdict in mode plain, in all rows that say the same of facts and checks.
 use Rattle.std.proofs.Common.{◌≡◌, List, ap, sym, ◌∙◌}
-use Rattle.cpe_name.specs.declared.name.Values.{Values}
+use Rattle.cpe_name.specs.Eleven.{Values}
 use Rattle.cpe_rows.specs.Evaluation.{test_truth}
 use Rattle.cpe_rows.specs.Verdict.{fact_truth, check_truth}
 use Rattle.cpe_rows.specs.declared.statement.Mode.{Mode}
