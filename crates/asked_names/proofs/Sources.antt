@@ -4,7 +4,7 @@ use Rattle.std.specs.Prelude.{filter, replicate}
 use Rattle.std.specs.List.{sum_by, list_any, flat_map}
 use Rattle.std.proofs.lemmas.Bool.{and_parts, not-true, cases_Bool, both_ways, or_cases, or_left, or_right}
 use Rattle.std.proofs.lemmas.List.Sums.{sum_by-cons}
-use Rattle.cpe_name.specs.declared.name.Values.{Values}
+use Rattle.cpe_name.specs.Eleven.{Values}
 use Rattle.product_orders.specs.Elements.{SameElements}
 use Rattle.product_orders.proofs.Sums.{sum_agree, sum_both, sum_none}
 use Rattle.cpe_rows.specs.Chains.{chain, ends, is_active, leads_to}

@@ -1,7 +1,7 @@
 // What is asked and what is there, and what edits make of both. The functions do nothing: their clauses are the laws.
 ghost use Rattle.std.specs.Prelude.{◌≡◌, ◌⊎◌, ◌≤◌, ◌∷◌, ◌++◌, length, Bool, List, ℕ, Some, true, cond, filter, find, replicate};
 ghost use Rattle.std.specs.List.{flat_map, list_any, sum_by};
-ghost use Rattle.cpe_name.specs.declared.name.Values.{Values};
+ghost use Rattle.cpe_name.specs.Eleven.{Values};
 ghost use Rattle.cpe_rows.specs.Prelude.{after, ends, fact_names, has_id, IsAccepted, leads_to, Rows};
 ghost use Rattle.cpe_rows.specs.Lawful.{are_different, IsLawful};
 ghost use Rattle.cpe_rows.specs.Names.{is_same};

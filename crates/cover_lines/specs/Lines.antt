@@ -5,7 +5,7 @@ use Rattle.std.specs.declared.option.Option.TheVariants.{Some, None}
 use Rattle.std.specs.declared.result.Result.{Result}
 use Rattle.std.specs.List.{flat_map}
 use Rattle.cpe_io.specs.Lines.{lines}
-use Rattle.cpe_name.specs.declared.name.Values.{Values}
+use Rattle.cpe_name.specs.Eleven.{Values}
 use Rattle.cpe_name.specs.Lower.{lower_name}
 use Rattle.cpe_fs.specs.Grammar.{fs_text}
 use Rattle.cpe_uri.specs.EitherBinding.{read_any}

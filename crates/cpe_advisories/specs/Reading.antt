@@ -4,7 +4,7 @@ use Rattle.std.specs.Str.{is_utf8}
 use Rattle.serde_json.specs.Data.{Data}
 use Rattle.serde_json.specs.Find.{as_str, as_bool, get}
 use Rattle.serde_json.specs.Read.{read}
-use Rattle.cpe_name.specs.declared.name.Values.{Values}
+use Rattle.cpe_name.specs.Eleven.{Values}
 use Rattle.cpe_uri.specs.EitherBinding.{read_any}
 use Rattle.cpe_rows.specs.Valid.{is_id}
 use Rattle.cpe_members.specs.Forms.{or_default, tested}

@@ -1,7 +1,7 @@
 -- The relations that were found of two texts.
 use Rattle.std.specs.Prelude.{◌≡◌, ℕ, Ok, Err}
 use Rattle.std.specs.declared.result.Result.{Result}
-use Rattle.cpe_name.specs.declared.name.Values.{Values}
+use Rattle.cpe_name.specs.Eleven.{Values}
 use Rattle.cpe_name.specs.declared.attribute.Attribute.{Attribute}
 use Rattle.cpe_name.specs.Names.{value_of}
 use Rattle.cpe_relation.specs.Table.{relation}

@@ -6,7 +6,7 @@ use Rattle.std.specs.Bool.{one_answer}
 use Rattle.std.specs.Str.{bytes_eq}
 use Rattle.std.proofs.lemmas.Bool.{and_parts}
 use Rattle.std.proofs.lemmas.Slice.Eq.{bytes_eq-Decides}
-use Rattle.cpe_name.specs.declared.name.Values.{Values}
+use Rattle.cpe_name.specs.Eleven.{Values}
 use Rattle.cpe_rows.specs.Rows.{Rows, same_key, has_key}
 use Rattle.cpe_rows.specs.After.{after, without_first, with_check}
 use Rattle.cpe_rows.specs.Verdict.{fact_truth}

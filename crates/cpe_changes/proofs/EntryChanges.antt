@@ -1,7 +1,7 @@
 -- An entry that is added changes no verdict.
 use Rattle.std.proofs.Common.{◌≡◌, [], map, ap, ◌∙◌, refl, subst}
 use Rattle.std.specs.List.{list_any}
-use Rattle.cpe_name.specs.declared.name.Values.{Values}
+use Rattle.cpe_name.specs.Eleven.{Values}
 use Rattle.cpe_relation.specs.NameRelation.{covers}
 use Rattle.cpe_rows.specs.Rows.{Rows}
 use Rattle.cpe_rows.specs.Chains.{ends}

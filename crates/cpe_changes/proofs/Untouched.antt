@@ -1,6 +1,6 @@
 -- What an accepted edit doesn't touch stays.
 use Rattle.std.proofs.Common.{◌≡◌, false, refl, subst}
-use Rattle.cpe_name.specs.declared.name.Values.{Values}
+use Rattle.cpe_name.specs.Eleven.{Values}
 use Rattle.cpe_rows.specs.Rows.{Rows}
 use Rattle.cpe_rows.specs.After.{after}
 use Rattle.cpe_rows.specs.Verdict.{fact_truth, check_truth, verdict}

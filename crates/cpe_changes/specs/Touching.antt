@@ -1,7 +1,7 @@
 -- What an edit touches: the facts and checks whose truth it may change. The laws say that all else stays.
 use Rattle.std.specs.Prelude.{List, Bool, false, ◌||◌, ◌++◌, filter, Option, Some, None}
 use Rattle.std.specs.List.{list_any, flat_map}
-use Rattle.cpe_name.specs.declared.name.Values.{Values}
+use Rattle.cpe_name.specs.Eleven.{Values}
 use Rattle.cpe_relation.specs.NameRelation.{covers}
 use Rattle.cpe_rows.specs.Rows.{Rows, same_key}
 use Rattle.cpe_rows.specs.After.{after}

@@ -1,7 +1,7 @@
 // Laws of what edits touch. These functions do nothing: their clauses are the laws.
 ghost use Rattle.std.specs.Prelude.{◌≡◌, [], List, Bool, Some, false};
 ghost use Rattle.std.specs.List.{list_any};
-ghost use Rattle.cpe_name.specs.declared.name.Values.{Values};
+ghost use Rattle.cpe_name.specs.Eleven.{Values};
 ghost use Rattle.cpe_rows.specs.Rows.{Rows, same_key};
 ghost use Rattle.cpe_rows.specs.Chains.{leads_to, ends};
 ghost use Rattle.cpe_rows.specs.After.{after};

@@ -2,13 +2,12 @@
 use Rattle.std.proofs.Common.{◌≡◌, ℕ, List, [], ◌∷◌, ◌++◌, refl, ap, ◌∙◌, map}
 use Rattle.std.specs.List.{flat_map}
 use Rattle.std.specs.Prelude.{codes}
-use Rattle.cpe_name.specs.declared.name.Values.{Values}
+use Rattle.cpe_name.specs.Eleven.{Values}
 use Rattle.cpe_name.specs.declared.attribute.Attribute.{Attribute}
 use Rattle.cpe_name.specs.Names.{attributes, value_of}
 use Rattle.cpe_relation.specs.declared.relation.Relation.{Relation}
-use Rattle.cpe_relation.specs.declared.relation.Relations.{Relations}
 use Rattle.cpe_relation.specs.Table.{relation}
-use Rattle.cpe_relation.specs.NameRelation.{relation_of, name_relation}
+use Rattle.cpe_relation.specs.NameRelation.{Relations, relation_of, name_relation}
 use Rattle.cpe_command.specs.Pairs.{relation_text, later_texts, relation_line}
 
 -- the relations of the attributes, each told by its attribute

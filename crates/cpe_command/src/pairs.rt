@@ -166,7 +166,7 @@ fn put_each(room: &mut [u8], at: usize, relations: &Relations, which: &[Attribut
 {
     let mut end = at;
     for attribute in which {
-        end = put(room, end, word_behind_space(relations.get(*attribute)));
+        end = put(room, end, word_behind_space(*relations.get(*attribute)));
     }
     end
 }

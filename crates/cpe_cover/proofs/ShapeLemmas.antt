@@ -7,13 +7,12 @@ use Rattle.cpe_values.specs.declared.value.Value.{Value}
 use Rattle.cpe_values.specs.declared.value.Value.TheVariants as value
 use Rattle.cpe_values.specs.Parts.{has_special}
 use Rattle.cpe_values.specs.Lower.{has_specials, lower_value}
-use Rattle.cpe_name.specs.declared.name.Values.{Values}
+use Rattle.cpe_name.specs.Eleven.{Values, put}
 use Rattle.cpe_name.specs.declared.attribute.Attribute.{Attribute}
 use Rattle.cpe_name.specs.declared.attribute.Attribute.TheVariants.{Part, Vendor, Product, Version, Update, Edition, Language, SwEdition, TargetSw, TargetHw, Other}
 use Rattle.cpe_name.specs.Equal.{same_name, same_name-Decides}
 use Rattle.cpe_name.specs.Lower.{lower_name}
-use Rattle.cpe_name.specs.Names.{attributes, named, value_of}
-use Rattle.cpe_name.specs.Put.{any_values, put}
+use Rattle.cpe_name.specs.Names.{attributes, named, value_of, any_values}
 use Rattle.cpe_name.specs.WfnText.{same_attribute, is_listed}
 use Rattle.cpe_name.proofs.Lists.{all_listed, same_is as same_attribute_is}
 use Rattle.cpe_name.proofs.LowerNames.{lower_at}

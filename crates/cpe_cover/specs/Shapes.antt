@@ -3,10 +3,9 @@ use Rattle.std.specs.Prelude.{◌≡◌, Bool, true, false, ◌&&◌, ◌||◌, 
 use Rattle.std.specs.List.{list_all, list_any}
 use Rattle.cpe_values.specs.declared.value.Value.{Value}
 use Rattle.cpe_values.specs.declared.value.Value.TheVariants as value
-use Rattle.cpe_name.specs.declared.name.Values.{Values}
+use Rattle.cpe_name.specs.Eleven.{Values, put}
 use Rattle.cpe_name.specs.declared.attribute.Attribute.{Attribute}
 use Rattle.cpe_name.specs.Names.{attributes, value_of}
-use Rattle.cpe_name.specs.Put.{put}
 use Rattle.cpe_rows.specs.Names.{has_wildcards}
 use Rattle.cpe_cover.specs.Cover.{covers_other}
 use Rattle.cpe_cover.specs.Laws.{is_among}

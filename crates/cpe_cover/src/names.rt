@@ -36,7 +36,7 @@ pub struct Names {
 
 impl Model for Names {
     ghost use Rattle.std.specs.Prelude.{List};
-    ghost use Rattle.cpe_name.specs.declared.name.Values.{Values};
+    ghost use Rattle.cpe_name.specs.Eleven.{Values};
     ghost use Rattle.cpe_cover.specs.Names.{AreGathered};
 
     ghost Value = { List Values };

@@ -23,7 +23,7 @@ pub(crate) struct OwnNames {
 
 impl Model for OwnNames {
     ghost use Rattle.std.specs.Prelude.{List};
-    ghost use Rattle.cpe_name.specs.declared.name.Values.{Values};
+    ghost use Rattle.cpe_name.specs.Eleven.{Values};
     ghost use Rattle.names_in_order.specs.InOrder.{names_numbered};
     ghost use Rattle.owned_names.specs.Owned.{AreOwn};
 

@@ -28,7 +28,7 @@ pub(crate) struct Spelled {
 
 impl Model for Spelled {
     ghost use Rattle.std.specs.Prelude.{◌≡◌};
-    ghost use Rattle.cpe_name.specs.declared.name.Values.{Values};
+    ghost use Rattle.cpe_name.specs.Eleven.{Values};
     ghost use Rattle.cpe_fs.specs.Grammar.{fs_text};
 
     ghost Value = { Values };

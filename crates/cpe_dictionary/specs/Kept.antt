@@ -2,7 +2,7 @@
 use Rattle.std.specs.Prelude.{◌≡◌, ◌≤◌, ◌++◌, ◌∷◌, ◌||◌, not, Bool, ℕ, List, [], length, map, None, Option, slice_get, slice_set}
 use Rattle.std.specs.List.{cons_option}
 use Rattle.std.specs.Option.{option_map_or}
-use Rattle.cpe_name.specs.declared.name.Values.{Values}
+use Rattle.cpe_name.specs.Eleven.{Values}
 use Rattle.cpe_rows.specs.Rows.{Rows, no_rows}
 use Rattle.cpe_rows.specs.Chains.{is_active}
 use Rattle.cpe_rows.specs.Lawful.{IsDictionary}

@@ -23,7 +23,7 @@ pub struct Sources<'d> {
 
 impl<'d> Model for Sources<'d> {
     ghost use Rattle.std.specs.Prelude.{List};
-    ghost use Rattle.cpe_name.specs.declared.name.Values.{Values};
+    ghost use Rattle.cpe_name.specs.Eleven.{Values};
     ghost use Rattle.cpe_rows.specs.declared.entry.Entry.{Entry};
     ghost use Rattle.cpe_dictionary.specs.Sources.{AreSourcesOf};
 

@@ -9,7 +9,7 @@ ghost use Rattle.cpe_rows.specs.declared.fault.EditFault.TheVariants as fault;
 ghost use Rattle.cpe_dictionary.specs.Numbers.{numbers_of};
 ghost use Rattle.cpe_dictionary.specs.Causes.{deprecation_causes};
 ghost use Rattle.cpe_dictionary.specs.Plans.{AreAsked, IsAllowed};
-ghost use Rattle.cpe_name.specs.declared.name.Values.{Values};
+ghost use Rattle.cpe_name.specs.Eleven.{Values};
 
 use crate::by_number::{edits_are_changes, edits_by_number, faults_by_number};
 use crate::dictionary::Dictionary;

@@ -17,7 +17,7 @@ use Rattle.cpe_rows.specs.declared.fault.EditFault.TheVariants as fault
 use Rattle.cpe_rows.specs.declared.fault.Which.TheVariants as limit
 use Rattle.cpe_rows.specs.declared.statement.Statement.{Statement}
 use Rattle.cpe_rows.specs.declared.truth.Truth.{Truth}
-use Rattle.cpe_name.specs.declared.name.Values.{Values}
+use Rattle.cpe_name.specs.Eleven.{Values}
 use Rattle.cpe_engine.specs.Told.{dropped_by, put_by}
 use Rattle.cpe_engine.proofs.PartsLemmas.{none_behind, none_here}
 

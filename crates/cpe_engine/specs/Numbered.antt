@@ -1,6 +1,6 @@
 -- Edits whose names are numbers of the engine's table.
 use Rattle.std.specs.Prelude.{◌≡◌, ◌∷◌, ⊤, Bool, true, false, List, [], ℕ, Option, Some, None}
-use Rattle.cpe_name.specs.declared.name.Values.{Values}
+use Rattle.cpe_name.specs.Eleven.{Values}
 use Rattle.name_index.specs.declared.table.NameId.{NameId}
 use Rattle.name_index.specs.Table.{Names, IsLive}
 use Rattle.cpe_rows.specs.FactNames.{fact_names}

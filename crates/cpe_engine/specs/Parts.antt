@@ -1,6 +1,6 @@
 -- The rows of an engine's parts, between edits and while an edit is on its way.
 use Rattle.std.specs.Prelude.{◌≡◌, ◌++◌, List, [], true}
-use Rattle.cpe_name.specs.declared.name.Values.{Values}
+use Rattle.cpe_name.specs.Eleven.{Values}
 use Rattle.cpe_rows.specs.Formed.{IsFormed}
 use Rattle.cpe_rows.specs.Lawful.{IsLawful}
 use Rattle.cpe_rows.specs.Rows.{Rows}

@@ -3,9 +3,7 @@ use Rattle.std.proofs.Common.{◌≡◌, ℕ, List, map, Option, Some, None, Ok,
 use Rattle.cpe_name.specs.Borrowed.{name_lent}
 use Rattle.cpe_name.specs.Names.{named}
 use Rattle.cpe_name.specs.Spans.{texts}
-use Rattle.cpe_name.specs.declared.borrowed.NameRef.{NameRef}
-use Rattle.cpe_name.specs.declared.name.Values.{Values}
-use Rattle.cpe_name.specs.declared.written.Written.{Written}
+use Rattle.cpe_name.specs.Eleven.{NameRef, Values, Written}
 use Rattle.cpe_fs.specs.Grammar.{Fs}
 use Rattle.cpe_fs.specs.Spans.{AreComponents}
 use Rattle.cpe_fs.specs.SpanValues.{value_at}

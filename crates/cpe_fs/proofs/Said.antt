@@ -1,7 +1,7 @@
 -- What a formatted string says.
 use Rattle.std.proofs.Common.{◌≡◌, ℕ, ◌-◌, List, [], ◌++◌, length, map, Ok, Err, ap, ◌∙◌}
 use Rattle.cpe_grammar.proofs.Results.{left_over, stopped}
-use Rattle.cpe_name.specs.declared.name.Values.{Values}
+use Rattle.cpe_name.specs.Eleven.{Values}
 use Rattle.cpe_name.specs.Names.{named}
 use Rattle.cpe_name.specs.Text.{output_text}
 pub use Rattle.cpe_name.proofs.Unbinding.{named_by, no_name, one_read, one_left, text_of}

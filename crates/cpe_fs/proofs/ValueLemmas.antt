@@ -9,7 +9,7 @@ use Rattle.cpe_values.specs.declared.spelling.Style.TheVariants as style
 use Rattle.cpe_values.specs.Parts.{Parts, parts, IsText}
 use Rattle.cpe_values.specs.Spelling.{spelling}
 use Rattle.cpe_values.specs.Values.{IsValue}
-use Rattle.cpe_name.specs.declared.name.Values.{Values}
+use Rattle.cpe_name.specs.Eleven.{Values, Written}
 use Rattle.cpe_name.specs.declared.attribute.Attribute.{Attribute}
 use Rattle.cpe_name.specs.Names.{attributes, value_of, IsName, named}
 use Rattle.cpe_fs.specs.Grammar.{component, Fs}
@@ -20,7 +20,6 @@ use Rattle.cpe_values.specs.Spelled.{IsSpelling}
 use Rattle.cpe_values.specs.Unspelling.{body_at, behind_body, parts_at}
 use Rattle.cpe_values.proofs.Unspelled.{parts_back, parts_are}
 use Rattle.cpe_fs.specs.SpanValues.{value_at}
-use Rattle.cpe_name.specs.declared.written.Written.{Written}
 use Rattle.cpe_name.proofs.Items.{good_of}
 use Rattle.cpe_fs.proofs.Whole.{AllSuit, values_of, named_values, suit_values, components_of}
 

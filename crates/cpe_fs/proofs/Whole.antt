@@ -6,7 +6,7 @@ use Rattle.std.proofs.lemmas.List.{append-nil, nil_from_length}
 use Rattle.std.proofs.lemmas.Bool.{eqb-true}
 use Rattle.cpe_values.specs.declared.value.Value.{Value}
 use Rattle.cpe_values.specs.declared.value.Value.TheVariants as value
-use Rattle.cpe_name.specs.declared.name.Values.{Values}
+use Rattle.cpe_name.specs.Eleven.{Values, Written}
 use Rattle.cpe_name.specs.declared.attribute.Attribute.{Attribute}
 use Rattle.cpe_name.specs.declared.attribute.Attribute.TheVariants.{Part, Vendor, Product, Version, Update, Edition, Language, SwEdition, TargetSw, TargetHw, Other}
 use Rattle.cpe_name.specs.Names.{attributes, value_of, Suits, IsName, named}
@@ -20,7 +20,6 @@ use Rattle.cpe_fs.specs.Spans.{IsSpan, AreComponents, Leaves, behind_field, betw
 use Rattle.cpe_name.proofs.Items.{between_is}
 use Rattle.cpe_name.proofs.WholeTexts.{any_suits}
 use Rattle.cpe_name.specs.Spans.{texts, total_length}
-use Rattle.cpe_name.specs.declared.written.Written.{Written}
 use Rattle.cpe_fs.proofs.Texts.{Ends, text_scans, text_taken}
 use Rattle.cpe_fs.proofs.Languages.{IsPart, part_scans, part_taken, IsLanguage, language_scans, language_taken}
 

@@ -25,7 +25,7 @@ use Rattle.cpe_fs.specs.Spans.{is_only, AreComponents}
 use Rattle.cpe_name.specs.Spans.{texts}
 use Rattle.cpe_fs.specs.SpanValues.{value_at}
 use Rattle.cpe_fs.specs.Rewriting.{requoted, span_text}
-use Rattle.cpe_name.specs.declared.written.Written.{Written}
+use Rattle.cpe_name.specs.Eleven.{Written}
 use Rattle.cpe_fs.proofs.ValueLemmas.{value_back, only_is}
 
 word_is_kept : (c : ℕ) → is_word c ≡ true → (eqb c 46 || eqb c 45) ≡ false

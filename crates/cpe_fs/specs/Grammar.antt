@@ -6,7 +6,7 @@ use Rattle.cpe_values.specs.declared.value.Value.{Value}
 use Rattle.cpe_values.specs.declared.value.Value.TheVariants as value
 use Rattle.cpe_values.specs.declared.spelling.Style.TheVariants as style
 use Rattle.cpe_values.specs.Spelling.{spelling}
-use Rattle.cpe_name.specs.declared.name.Values.{Values}
+use Rattle.cpe_name.specs.Eleven.{Values}
 use Rattle.cpe_name.specs.Names.{attributes, value_of, IsName}
 use Rattle.cpe_fs.specs.declared.FsFault.{FsFault}
 use Rattle.cpe_fs.specs.declared.FsFault.TheVariants as fault

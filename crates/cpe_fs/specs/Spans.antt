@@ -4,11 +4,10 @@ use Rattle.cpe_grammar.specs.Scanners.{Scanner}
 use Rattle.cpe_values.specs.declared.value.Value.{Value}
 use Rattle.cpe_values.specs.Values.{IsValue}
 use Rattle.cpe_name.specs.declared.attribute.Attribute.{Attribute}
-use Rattle.cpe_name.specs.declared.name.Values.{Values}
+use Rattle.cpe_name.specs.Eleven.{Values, Written}
 use Rattle.cpe_name.specs.Names.{attributes, value_of}
 use Rattle.cpe_fs.specs.Grammar.{component, Fs, LeavesAt}
 use Rattle.cpe_fs.specs.Scanning.{component_end, field_end}
-use Rattle.cpe_name.specs.declared.written.Written.{Written}
 use Rattle.cpe_name.specs.Spans.{texts, total_length}
 
 -- this byte alone

@@ -1,7 +1,7 @@
 -- What a text says as a formatted string: the name that has it and the output text of that name, or its place where no name has it.
 use Rattle.std.specs.Prelude.{ℕ, List, drop, map, Result}
 use Rattle.std.specs.Result.{result_map_both}
-use Rattle.cpe_name.specs.declared.name.Values.{Values}
+use Rattle.cpe_name.specs.Eleven.{Values}
 use Rattle.cpe_name.specs.Names.{named, attributes}
 use Rattle.cpe_name.specs.Text.{output_text}
 use Rattle.cpe_name.specs.Binding.{SaysBy, PutsBy, read_by}

@@ -1,7 +1,7 @@
 -- The formatted string of a name, made from the texts of its values byte by byte: the backslash before `.` and `-` is
 -- dropped, and all else stands. No public clause speaks of it.
 use Rattle.std.specs.Prelude.{ℕ, ◌-◌, Bool, false, List, [], ◌∷◌, ◌++◌, length, take, codes, ◌||◌, ◌&&◌, ◌==◌, if◌then◌else◌}
-use Rattle.cpe_name.specs.declared.written.Written.{Written}
+use Rattle.cpe_name.specs.Eleven.{Written}
 
 -- it begins with a `.` or a `-`
 abbrev pub begins_bare : List ℕ → Bool

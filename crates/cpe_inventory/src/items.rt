@@ -29,7 +29,7 @@ pub struct Items<'t> {
 
 impl<'t> Model for Items<'t> {
     ghost use Rattle.std.specs.Prelude.{List};
-    ghost use Rattle.cpe_name.specs.declared.name.Values.{Values};
+    ghost use Rattle.cpe_name.specs.Eleven.{Values};
     ghost use Rattle.names_in_order.specs.InOrder.{AreInOrder, names_numbered};
 
     ghost Value = { List Values };

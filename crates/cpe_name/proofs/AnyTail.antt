@@ -1,7 +1,7 @@
 -- The text of a name, cut after the version, and what follows there where each value is ANY.
 use Rattle.std.proofs.Common.{◌≡◌, ℕ, List, ◌++◌, refl, ap, ◌∙◌, append_assoc}
 use Rattle.std.specs.Prelude.{codes}
-use Rattle.cpe_name.specs.declared.written.Written.{Written}
+use Rattle.cpe_name.specs.Eleven.{Written}
 use Rattle.cpe_name.specs.OutputFrom.{keyed, output_from, start_from, tail_from, any_tail}
 
 pub any_tail_is : (text : List ℕ → List ℕ) (w : Written)

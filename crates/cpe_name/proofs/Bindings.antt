@@ -1,8 +1,7 @@
 -- What the text of a name says under a binding is the text of the one name that has it.
 use Rattle.std.proofs.Common.{◌≡◌, ℕ, List, ◌++◌, map, Option, Some, None, refl, sym, ap, ◌∙◌}
 use Rattle.std.specs.Option.{option_map}
-use Rattle.cpe_name.specs.declared.name.Values.{Values}
-use Rattle.cpe_name.specs.declared.written.Written.{Written}
+use Rattle.cpe_name.specs.Eleven.{Values, Written}
 use Rattle.cpe_name.specs.Names.{named}
 use Rattle.cpe_name.specs.WfnText.{WfnText, IsWfnText}
 use Rattle.cpe_name.specs.Scanning.{all_at}

@@ -8,6 +8,7 @@ pub mod WholeTexts
 pub mod OutputTexts
 pub mod LowerNames
 pub mod Bindings
+pub mod Slots
 pub mod PutLemmas
 pub mod ReadValues
 pub mod Unbinding

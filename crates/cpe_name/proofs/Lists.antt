@@ -7,7 +7,7 @@ use Rattle.std.proofs.lemmas.Map.Made.{length-le_from_is_member}
 use Rattle.std.proofs.lemmas.Bool.{cases_Bool, eqb-true, eq-eqb, or_parts, or_from, both_ways}
 use Rattle.cpe_values.specs.declared.value.Value.{Value}
 use Rattle.cpe_values.specs.declared.value.Value.TheVariants as value
-use Rattle.cpe_name.specs.declared.name.Values.{Values}
+use Rattle.cpe_name.specs.Eleven.{Values}
 use Rattle.cpe_name.specs.declared.attribute.Attribute.{Attribute}
 use Rattle.cpe_name.specs.declared.attribute.Attribute.TheVariants.{Part, Vendor, Product, Version, Update, Edition, Language, SwEdition, TargetSw, TargetHw, Other}
 use Rattle.cpe_name.specs.Names.{attributes, value_of, Suits, IsName}

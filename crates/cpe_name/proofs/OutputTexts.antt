@@ -1,10 +1,9 @@
 -- The text of a name, key by key.
 use Rattle.std.proofs.Common.{◌≡◌, ℕ, List, ◌∷◌, ◌++◌, sym, refl, ap, ◌∙◌, append_assoc}
 use Rattle.std.specs.Prelude.{codes}
-use Rattle.cpe_name.specs.declared.name.Values.{Values}
+use Rattle.cpe_name.specs.Eleven.{Values, Written}
 use Rattle.cpe_name.specs.declared.attribute.Attribute.TheVariants.{Part, Vendor, Product, Version, Update, Edition, Language, SwEdition, TargetSw, TargetHw, Other}
 use Rattle.cpe_name.specs.declared.attribute.Attribute.{Attribute}
-use Rattle.cpe_name.specs.declared.written.Written.{Written}
 use Rattle.cpe_name.specs.Names.{value_of}
 use Rattle.cpe_name.specs.OutputFrom.{keyed, output_from}
 use Rattle.cpe_name.specs.Scanning.{slot}

@@ -2,11 +2,10 @@
 use Rattle.std.proofs.Common.{◌≢◌, refl}
 use Rattle.cpe_values.specs.declared.value.Value.{Value}
 use Rattle.cpe_values.specs.Values.{IsValue}
-use Rattle.cpe_name.specs.declared.name.Values.{Values}
+use Rattle.cpe_name.specs.Eleven.{Values, put}
 use Rattle.cpe_name.specs.declared.attribute.Attribute.{Attribute}
 use Rattle.cpe_name.specs.declared.attribute.Attribute.TheVariants.{Part, Vendor, Product, Version, Update, Edition, Language, SwEdition, TargetSw, TargetHw, Other}
 use Rattle.cpe_name.specs.Names.{Suits, IsName}
-use Rattle.cpe_name.specs.Put.{put}
 
 -- any value suits an attribute that has no shape of its own
 pub suits_other : (a : Attribute) (x : Value) → a ≢ Part → a ≢ Language → IsValue x → Suits a x

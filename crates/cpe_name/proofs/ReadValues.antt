@@ -3,11 +3,9 @@ use Rattle.std.proofs.Common.{◌≡◌, ℕ, ◌+◌, ◌<◌, ◌≤◌, List,
 use Rattle.std.specs.Prelude.{get_or}
 use Rattle.std.proofs.lemmas.List.{at_drop_more}
 use Rattle.cpe_values.specs.declared.value.Value.{Value}
-use Rattle.cpe_name.specs.declared.name.Values.{Values}
+use Rattle.cpe_name.specs.Eleven.{Values, put, Written}
 use Rattle.cpe_name.specs.declared.attribute.Attribute.{Attribute}
-use Rattle.cpe_name.specs.declared.written.Written.{Written}
-use Rattle.cpe_name.specs.Names.{named, attributes}
-use Rattle.cpe_name.specs.Put.{any_values, put}
+use Rattle.cpe_name.specs.Names.{named, attributes, any_values}
 use Rattle.cpe_name.specs.Scanning.{slot}
 use Rattle.cpe_name.specs.Spans.{texts}
 

@@ -5,7 +5,7 @@ use Rattle.cpe_grammar.specs.Place.{Leaves}
 use Rattle.cpe_grammar.specs.Scanners.{Scanner}
 use Rattle.cpe_grammar.proofs.Places.{one_place}
 use Rattle.cpe_grammar.proofs.Results.{left_over, stopped, ok_is, err_is, ok≢err}
-use Rattle.cpe_name.specs.declared.name.Values.{Values}
+use Rattle.cpe_name.specs.Eleven.{Values}
 use Rattle.cpe_name.specs.Text.{output_text}
 use Rattle.cpe_name.specs.Binding.{SaysBy, IsHad, read_by}
 

@@ -12,12 +12,11 @@ use Rattle.cpe_values.specs.Spelling.{spelling}
 use Rattle.cpe_values.specs.Unspelling.{parts_at}
 use Rattle.cpe_values.proofs.Unspelled.{parts_are}
 use Rattle.cpe_grammar.specs.Scanners.{literal}
-use Rattle.cpe_name.specs.declared.name.Values.{Values}
+use Rattle.cpe_name.specs.Eleven.{Values, Written}
 use Rattle.cpe_name.specs.declared.name.NameFault.{NameFault}
 use Rattle.cpe_name.specs.declared.name.NameFault.TheVariants.{BadPart, BadLanguage}
 use Rattle.cpe_name.specs.declared.attribute.Attribute.{Attribute}
 use Rattle.cpe_name.specs.declared.attribute.Attribute.TheVariants.{Part, Vendor, Product, Version, Update, Edition, Language, SwEdition, TargetSw, TargetHw, Other}
-use Rattle.cpe_name.specs.declared.written.Written.{Written}
 use Rattle.cpe_name.specs.Names.{named, attributes, value_of, Suits, IsName, IsFault}
 use Rattle.cpe_name.specs.Text.{attribute_name, value_text, output_text}
 use Rattle.cpe_name.specs.WfnText.{same_attribute, is_listed, names, later_text, list_text, WfnText, IsWfnText}

@@ -3,7 +3,7 @@
 use Rattle.std.specs.Prelude.{◌≡◌, ℕ, ◌-◌, List, ◌++◌, length, map, Option, Result, Ok, Err}
 use Rattle.std.specs.Option.{option_map}
 use Rattle.cpe_grammar.specs.Scanners.{Scanner}
-use Rattle.cpe_name.specs.declared.name.Values.{Values}
+use Rattle.cpe_name.specs.Eleven.{Values}
 use Rattle.cpe_name.specs.Names.{named}
 use Rattle.cpe_name.specs.Unwriting.{value_from}
 use Rattle.cpe_name.specs.WfnText.{WfnText}

@@ -1,10 +1,10 @@
+pub mod Eleven
 pub mod Shapes
 pub mod Names
 pub mod Text
 pub mod Wildcards
 pub mod Equal
 pub mod Lower
-pub mod Put
 pub mod WfnText
 pub mod Tags
 pub mod Scanning

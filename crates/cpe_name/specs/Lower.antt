@@ -1,7 +1,7 @@
 -- Names in lower case (NIST IR 7695, 5.3).
 use Rattle.std.specs.Prelude.{◌≡◌, map}
 use Rattle.cpe_values.specs.Lower.{lower_value}
-use Rattle.cpe_name.specs.declared.name.Values.{Values}
+use Rattle.cpe_name.specs.Eleven.{Values}
 use Rattle.cpe_name.specs.Names.{attributes, value_of, named}
 
 -- each value with all its letters in lower case

@@ -4,7 +4,7 @@ use Rattle.std.specs.List.{AllByRecursion}
 use Rattle.cpe_values.specs.declared.value.Value.{Value}
 use Rattle.cpe_values.specs.declared.value.Value.TheVariants as value
 use Rattle.cpe_values.specs.Values.{IsValue}
-use Rattle.cpe_name.specs.declared.name.Values.{Values}
+use Rattle.cpe_name.specs.Eleven.{Values, at, each}
 use Rattle.cpe_name.specs.declared.attribute.Attribute.{Attribute}
 use Rattle.cpe_name.specs.declared.attribute.Attribute.TheVariants.{Part, Vendor, Product, Version, Update, Edition, Language, SwEdition, TargetSw, TargetHw, Other}
 use Rattle.cpe_name.specs.declared.name.NameFault.{NameFault}
@@ -17,17 +17,11 @@ attributes = Part ∷ Vendor ∷ Product ∷ Version ∷ Update ∷ Edition ∷ 
 
 -- the value of an attribute
 abbrev pub value_of : Values → Attribute → Value
-value_of v Part = v.part
-value_of v Vendor = v.vendor
-value_of v Product = v.product
-value_of v Version = v.version
-value_of v Update = v.update
-value_of v Edition = v.edition
-value_of v Language = v.language
-value_of v SwEdition = v.sw_edition
-value_of v TargetSw = v.target_sw
-value_of v TargetHw = v.target_hw
-value_of v Other = v.other
+value_of v a = at v a
+
+-- ANY for each attribute
+abbrev pub any_values : Values
+any_values = each (λ _. value.Any)
 
 -- these values, in the order of the attributes
 abbrev pub named : List Value → Values

@@ -1,6 +1,6 @@
 -- The output text of a name, made from what stands for its values in another text.
 use Rattle.std.specs.Prelude.{ℕ, List, ◌++◌, codes}
-use Rattle.cpe_name.specs.declared.written.Written.{Written}
+use Rattle.cpe_name.specs.Eleven.{Written}
 
 -- a key, and the text of a value
 unfoldable pub keyed : (List ℕ → List ℕ) → List ℕ → List ℕ → List ℕ

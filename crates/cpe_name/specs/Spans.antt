@@ -1,7 +1,6 @@
 -- The values of a name as they stand in one of its texts.
 use Rattle.std.specs.Prelude.{◌≡◌, ℕ, ◌+◌, ◌≤◌, List, [], ◌∷◌, length, map, codes}
-use Rattle.cpe_name.specs.declared.name.Values.{Values}
-use Rattle.cpe_name.specs.declared.written.Written.{Written}
+use Rattle.cpe_name.specs.Eleven.{Values, Written}
 use Rattle.cpe_name.specs.Names.{attributes, value_of}
 use Rattle.cpe_name.specs.Text.{value_text}
 use Rattle.cpe_name.specs.WfnText.{WfnText}

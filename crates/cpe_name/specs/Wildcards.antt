@@ -2,7 +2,7 @@
 use Rattle.std.specs.Prelude.{Bool}
 use Rattle.std.specs.List.{list_any}
 use Rattle.cpe_values.specs.Lower.{has_specials}
-use Rattle.cpe_name.specs.declared.name.Values.{Values}
+use Rattle.cpe_name.specs.Eleven.{Values}
 use Rattle.cpe_name.specs.Names.{attributes, value_of}
 
 abbrev pub name_has_specials : Values → Bool

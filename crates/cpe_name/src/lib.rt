@@ -5,6 +5,7 @@
 mod attribute;
 mod borrowed;
 mod copy;
+mod eleven;
 mod equal;
 mod lower;
 mod name;
@@ -19,6 +20,7 @@ mod written;
 
 pub use attribute::{ATTRIBUTES, Attribute};
 pub use borrowed::NameRef;
+pub use eleven::Eleven;
 pub use name::{NameFault, Values, Wfn};
 pub use put::{PutValue, put_output};
 pub use read::{WfnFault, read_wfn, wfn_texts};

@@ -1,31 +1,17 @@
 // Well-formed names.
 ghost use Rattle.std.specs.Prelude.{◌≡◌, IfOk, IsOk, OnOk, OnErr, IfErr, IsTrue};
-ghost use Rattle.cpe_name.specs.declared.name.Values.{Values};
-ghost use Rattle.cpe_name.specs.Names.{value_of, Suits, IsName, IsFault};
+ghost use Rattle.cpe_name.specs.Eleven.{Values, put};
+ghost use Rattle.cpe_name.specs.Names.{value_of, Suits, IsName, IsFault, any_values};
 ghost use Rattle.cpe_name.specs.Shapes.{is_part};
-ghost use Rattle.cpe_name.specs.Put.{any_values, put};
 
-use crate::Attribute;
+use crate::{Attribute, Eleven};
 use crate::shape::{is_lawful_language, is_lawful_part};
 use cpe_values::Value;
 use std::marker::Model;
 use thiserror::Error;
 
 /// Eleven values, each for the [`Attribute`] of its name, whatever they are: [`Wfn::new`] tells whether they are a name.
-#[derive(Debug, Drop)]
-pub struct Values {
-    pub part: Value,
-    pub vendor: Value,
-    pub product: Value,
-    pub version: Value,
-    pub update: Value,
-    pub edition: Value,
-    pub language: Value,
-    pub sw_edition: Value,
-    pub target_sw: Value,
-    pub target_hw: Value,
-    pub other: Value,
-}
+pub type Values = Eleven<Value>;
 
 /// A well-formed name (NIST IR 7695, 5): eleven values of which the part and the language have their shapes.
 ///
@@ -39,7 +25,7 @@ pub struct Wfn {
 const _: () = prove!(size_of::<Wfn>() == 264);
 
 impl Model for Wfn {
-    ghost use Rattle.cpe_name.specs.declared.name.Values.{Values};
+    ghost use Rattle.cpe_name.specs.Eleven.{Values};
     ghost use Rattle.cpe_name.specs.Names.{IsName};
 
     ghost Value = { Values };
@@ -102,19 +88,7 @@ impl Wfn {
     pub fn get(&self, which: Attribute) -> &Value
         ensures { result.now ≡ value_of self.now which }
     {
-        match which {
-            Attribute::Part => &self.values.part,
-            Attribute::Vendor => &self.values.vendor,
-            Attribute::Product => &self.values.product,
-            Attribute::Version => &self.values.version,
-            Attribute::Update => &self.values.update,
-            Attribute::Edition => &self.values.edition,
-            Attribute::Language => &self.values.language,
-            Attribute::SwEdition => &self.values.sw_edition,
-            Attribute::TargetSw => &self.values.target_sw,
-            Attribute::TargetHw => &self.values.target_hw,
-            Attribute::Other => &self.values.other,
-        }
+        self.values.get(which)
     }
 }
 
@@ -159,7 +133,7 @@ impl Wfn {
     {
         self.lawful();
         test_value(which, &value)?;
-        put_value(&mut self.values, which, value);
+        self.values.set(which, value);
         Ok(())
     }
 }
@@ -185,23 +159,5 @@ fn test_value(which: Attribute, value: &Value) -> Result<(), NameFault>
             return Ok(());
         }
         _ => return Ok(()),
-    }
-}
-
-pub(crate) fn put_value(values: &mut Values, which: Attribute, value: Value)
-    ensures { values.new ≡ put values.old which value }
-{
-    match which {
-        Attribute::Part => values.part = value,
-        Attribute::Vendor => values.vendor = value,
-        Attribute::Product => values.product = value,
-        Attribute::Version => values.version = value,
-        Attribute::Update => values.update = value,
-        Attribute::Edition => values.edition = value,
-        Attribute::Language => values.language = value,
-        Attribute::SwEdition => values.sw_edition = value,
-        Attribute::TargetSw => values.target_sw = value,
-        Attribute::TargetHw => values.target_hw = value,
-        Attribute::Other => values.other = value,
     }
 }

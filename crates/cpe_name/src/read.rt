@@ -2,7 +2,7 @@
 ghost use Rattle.std.specs.Prelude.{◌≡◌, ◌≤◌, ◌-◌, ◌∷◌, List, ℕ, length, take, drop, map, IfOk, IfErr, MatchResult};
 ghost use Rattle.cpe_values.specs.Spelled.{IsSpelling};
 ghost use Rattle.cpe_values.specs.Unspelling.{parts_at};
-ghost use Rattle.cpe_name.specs.declared.name.Values.{Values};
+ghost use Rattle.cpe_name.specs.Eleven.{Values};
 ghost use Rattle.cpe_name.specs.Names.{named, IsName};
 ghost use Rattle.cpe_name.specs.Text.{output_text};
 ghost use Rattle.cpe_name.specs.WfnText.{WfnText, Refuses};

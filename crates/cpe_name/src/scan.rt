@@ -7,6 +7,7 @@ ghost use Rattle.cpe_name.specs.Scanning.{Finds, left_behind, value_end, value_a
 ghost use Rattle.cpe_name.specs.Spans.{texts, AreWritten};
 
 use crate::quoted::scan_value;
+use crate::written::{no_texts, put_text, text_at};
 use crate::{ATTRIBUTES, Attribute, Written};
 use cpe_grammar::{front_of, scan_literal};
 use cpe_values::{is_digit_byte, is_letter_byte};
@@ -256,11 +257,11 @@ fn scan_step<'a>(
     ensures { Finds (λ x. (texts written.new, option_map (λ r. r.now) x.1)) result (step_at (texts written.old) bytes.now) }
 {
     let (which, text, rest) = scan_item(likely, bytes)?;
-    if is_some_text(written.get(which)) {
+    if is_some_text(text_at(written, which)) {
         return None;
     }
     let next = scan_next(rest)?;
-    written.set(which, text);
+    put_text(written, which, text);
     Some((which, next))
 }
 
@@ -270,7 +271,7 @@ fn scan_step<'a>(
 fn scan_list(bytes: &[u8]) -> Option<Written>
     ensures { Finds texts result (list_at 11 none_given bytes.now) }
 {
-    let mut written = Written::none();
+    let mut written = no_texts();
     let mut likely = Attribute::Part;
     let mut rest = bytes;
     for _ in 0..11u8 {
@@ -296,7 +297,7 @@ fn scan_list_or_end(bytes: &[u8]) -> Option<Written>
     ensures { Finds texts result (list_or_end bytes.now) }
 {
     if is_end(bytes) {
-        return Some(Written::none());
+        return Some(no_texts());
     }
     scan_list(bytes)
 }

@@ -7,80 +7,46 @@ ghost use Rattle.cpe_name.specs.Scanning.{slot, put_text, none_given};
 ghost use Rattle.cpe_name.specs.Spans.{texts};
 
 use crate::name::any_of_each;
-use crate::{Attribute, Values};
+use crate::{Attribute, Eleven, Values};
 use cpe_values::{Memory, Value};
 
 /// The eleven values of a name as they stand in a text, spelled as that text's binding spells them: in the text of a well-formed name
 /// `ANY`, `NA`, a text between double quotes, or nothing where no value is given.
-#[derive(Clone, Copy, Debug)]
-pub struct Written<'a> {
-    pub part: &'a [u8],
-    pub vendor: &'a [u8],
-    pub product: &'a [u8],
-    pub version: &'a [u8],
-    pub update: &'a [u8],
-    pub edition: &'a [u8],
-    pub language: &'a [u8],
-    pub sw_edition: &'a [u8],
-    pub target_sw: &'a [u8],
-    pub target_hw: &'a [u8],
-    pub other: &'a [u8],
+pub type Written<'a> = Eleven<&'a [u8]>;
+
+// No text for any attribute.
+pub(crate) fn no_texts<'a>() -> Written<'a>
+    ensures { texts result ≡ none_given }
+{
+    Written {
+        part: b"",
+        vendor: b"",
+        product: b"",
+        version: b"",
+        update: b"",
+        edition: b"",
+        language: b"",
+        sw_edition: b"",
+        target_sw: b"",
+        target_hw: b"",
+        other: b"",
+    }
 }
 
-impl<'a> Written<'a> {
-    pub(crate) fn none() -> Written<'a>
-        ensures { texts result ≡ none_given }
-    {
-        Written {
-            part: b"",
-            vendor: b"",
-            product: b"",
-            version: b"",
-            update: b"",
-            edition: b"",
-            language: b"",
-            sw_edition: b"",
-            target_sw: b"",
-            target_hw: b"",
-            other: b"",
-        }
-    }
+// The text of an attribute.
+#[tactic(auto, using(crate::proofs::Slots::slot_is))]
+pub(crate) fn text_at<'a>(written: &Written<'a>, which: Attribute) -> &'a [u8]
+    ensures { result.now ≡ slot (texts written.now) which }
+{
+    *written.get(which)
+}
 
-    pub(crate) fn get(&self, which: Attribute) -> &'a [u8]
-        ensures { result.now ≡ slot (texts self.now) which }
-    {
-        match which {
-            Attribute::Part => self.part,
-            Attribute::Vendor => self.vendor,
-            Attribute::Product => self.product,
-            Attribute::Version => self.version,
-            Attribute::Update => self.update,
-            Attribute::Edition => self.edition,
-            Attribute::Language => self.language,
-            Attribute::SwEdition => self.sw_edition,
-            Attribute::TargetSw => self.target_sw,
-            Attribute::TargetHw => self.target_hw,
-            Attribute::Other => self.other,
-        }
-    }
-
-    pub(crate) fn set(&mut self, which: Attribute, text: &'a [u8])
-        ensures { texts self.new ≡ put_text (texts self.old) which text.now }
-    {
-        match which {
-            Attribute::Part => self.part = text,
-            Attribute::Vendor => self.vendor = text,
-            Attribute::Product => self.product = text,
-            Attribute::Version => self.version = text,
-            Attribute::Update => self.update = text,
-            Attribute::Edition => self.edition = text,
-            Attribute::Language => self.language = text,
-            Attribute::SwEdition => self.sw_edition = text,
-            Attribute::TargetSw => self.target_sw = text,
-            Attribute::TargetHw => self.target_hw = text,
-            Attribute::Other => self.other = text,
-        }
-    }
+// Gives an attribute another text.
+#[tactic(auto, using(crate::proofs::Slots::put_is))]
+pub(crate) fn put_text<'a>(written: &mut Written<'a>, which: Attribute, text: &'a [u8])
+    ensures { texts written.new ≡ put_text (texts written.old) which text.now }
+{
+    written.set(which, text)
 }
 
 /// How a value is made from what stands for it in a text.

@@ -13,7 +13,7 @@ use Rattle.cpe_values.specs.Equal.{same_value-Decides}
 use Rattle.cpe_values.specs.Lower.{lower_value}
 use Rattle.cpe_values.specs.Parts.{Parts, parts, has_special, is_nothing}
 use Rattle.cpe_values.specs.Same.{same_value}
-use Rattle.cpe_name.specs.declared.name.Values.{Values}
+use Rattle.cpe_name.specs.Eleven.{Values}
 use Rattle.cpe_name.specs.Lower.{IsLower}
 use Rattle.cpe_relation.specs.Matching.{lower}
 use Rattle.cpe_relation.specs.MatchTests.{begins_with, same_lower}

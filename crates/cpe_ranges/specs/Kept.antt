@@ -1,7 +1,7 @@
 -- Advisories as they are kept: what they have beside their ids, by their ids.
 use Rattle.std.specs.Prelude.{◌≡◌, ◌≤◌, ℕ, List, map}
 use Rattle.std.specs.List.{AllByRecursion}
-use Rattle.cpe_name.specs.declared.name.Values.{Values}
+use Rattle.cpe_name.specs.Eleven.{Values}
 use Rattle.cpe_name.specs.Lower.{IsLower}
 use Rattle.cpe_ranges.specs.Rows.{AdviceRows}
 use Rattle.cpe_ranges.specs.Weight.{weight}

@@ -12,7 +12,7 @@ use Rattle.cpe_rows.specs.declared.edit.Edit.TheVariants as edit
 use Rattle.cpe_rows.specs.declared.edit.Query.{Query}
 use Rattle.cpe_rows.specs.declared.entry.Deprecation.{Deprecation}
 use Rattle.cpe_rows.specs.declared.entry.Entry.{Entry}
-use Rattle.cpe_name.specs.declared.name.Values.{Values}
+use Rattle.cpe_name.specs.Eleven.{Values}
 use Rattle.cpe_members.specs.Yields.{Yields}
 use Rattle.cpe_members.proofs.YieldLemmas.{then_yields, behind}
 use Rattle.cpe_members.proofs.LowerNames.{name_lower, successors_lower}

@@ -1,7 +1,7 @@
 -- A registry: one table of names, of which entries (NIST IR 7697) and items (NIST IR 7698) keep numbers.
 use Rattle.std.specs.Prelude.{◌++◌, List}
 use Rattle.std.specs.List.{AllByRecursion}
-use Rattle.cpe_name.specs.declared.name.Values.{Values}
+use Rattle.cpe_name.specs.Eleven.{Values}
 use Rattle.cpe_rows.specs.declared.entry.Entry.{Entry}
 use Rattle.name_index.specs.declared.table.NameId.{NameId}
 use Rattle.name_index.specs.Table.{IsLive, Names, kept_at}

@@ -8,8 +8,8 @@
 //! `sp12`. Every such split is found: `*ab` matches `abab`.
 //!
 //! [`compare_borrowed`] does the same for values whose text lies elsewhere, as in a line, and [`compare_lent`] for names of
-//! such values; relations that were found one by one are put into [`Relations`], whose
-//! [`of_names`](Relations::of_names) is the relation of the names.
+//! such values; relations that were found one by one are put into [`Relations`], of
+//! which [`relation_of_names`] makes the relation of the names.
 //!
 //! A name that is asked of many targets is compared by [`covers_in_order`]: [`deciding_order`] finds once which of its
 //! attributes soonest decide, and most targets are then told by one of them.
@@ -38,5 +38,5 @@ mod table;
 pub use names::{compare_lent, compare_names, covers};
 pub use nearness::near;
 pub use order::{covers_in_order, deciding_order};
-pub use relation::{Relation, Relations};
+pub use relation::{Relation, Relations, relation_of_names};
 pub use table::{compare_borrowed, compare_values};

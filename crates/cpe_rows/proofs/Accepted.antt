@@ -5,7 +5,7 @@ use Rattle.std.specs.Option.{option_map_or}
 use Rattle.std.specs.List.{list_any, list_all}
 use Rattle.std.proofs.lemmas.Bool.{or_left, and_from, and_parts, not-false, not_from_false}
 use Rattle.std.proofs.lemmas.List.Folds.{list_any-append}
-use Rattle.cpe_name.specs.declared.name.Values.{Values}
+use Rattle.cpe_name.specs.Eleven.{Values}
 use Rattle.cpe_rows.specs.Names.{is_same, is_lower, is_identifier, has_wildcards}
 use Rattle.cpe_rows.specs.Rows.{Rows, no_rows, is_named}
 use Rattle.cpe_rows.specs.Chains.{successors_of, is_active, chain, ends, leads_to}

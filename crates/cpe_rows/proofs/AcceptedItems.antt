@@ -2,7 +2,7 @@
 use Rattle.std.proofs.Common.{◌≡◌, List, [], ◌∷◌, Bool, true, false, not, cond, refl, ◌∙◌, subst}
 use Rattle.std.specs.List.{list_any, list_all}
 use Rattle.std.proofs.lemmas.Bool.{or_from, or_parts, and_from, and_parts, not_from_false, not-true}
-use Rattle.cpe_name.specs.declared.name.Values.{Values}
+use Rattle.cpe_name.specs.Eleven.{Values}
 use Rattle.cpe_rows.specs.Names.{is_same, is_lower, has_wildcards}
 use Rattle.cpe_rows.specs.Rows.{Rows, is_item}
 use Rattle.cpe_rows.specs.Limits.{limited, exceeds}

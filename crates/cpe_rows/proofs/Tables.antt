@@ -5,7 +5,7 @@ use Rattle.std.specs.Cmp.{decided}
 use Rattle.std.specs.List.{list_any, All, Contains, AllByRecursion}
 use Rattle.std.proofs.lemmas.List.Elements.{All-from_recursion, recursion_from_All}
 use Rattle.std.proofs.lemmas.Map.Views.{list_any-from_Contains, Contains-from_any}
-use Rattle.cpe_name.specs.declared.name.Values.{Values}
+use Rattle.cpe_name.specs.Eleven.{Values}
 use Rattle.cpe_rows.specs.Truth.{same_truth, first_of, not_of}
 use Rattle.cpe_rows.specs.Evaluation.{joined, negated, test_truth, test_truth_step}
 use Rattle.cpe_rows.specs.Negation.{negation_of}

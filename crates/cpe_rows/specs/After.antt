@@ -1,6 +1,6 @@
 -- The rows that each edit leaves, where it is accepted.
 use Rattle.std.specs.Prelude.{ℕ, List, [], ◌∷◌, ◌++◌, Bool, if◌then◌else◌, Option, Some, None}
-use Rattle.cpe_name.specs.declared.name.Values.{Values}
+use Rattle.cpe_name.specs.Eleven.{Values}
 use Rattle.cpe_rows.specs.Names.{is_same}
 use Rattle.cpe_rows.specs.Rows.{Rows, is_named, has_id, has_key}
 use Rattle.cpe_rows.specs.declared.truth.Truth.{Truth}

@@ -1,7 +1,7 @@
 -- What each query answers. An absent name or id has an answer too.
 use Rattle.std.specs.Prelude.{List, Bool, ◌&&◌, ◌||◌, map, filter, find, not, option_map}
 use Rattle.std.specs.Option.{option_map_or}
-use Rattle.cpe_name.specs.declared.name.Values.{Values}
+use Rattle.cpe_name.specs.Eleven.{Values}
 use Rattle.cpe_relation.specs.NameRelation.{covers}
 use Rattle.cpe_rows.specs.Rows.{Rows, entry_of, has_id}
 use Rattle.cpe_rows.specs.Chains.{is_active, chain, ends}

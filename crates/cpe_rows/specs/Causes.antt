@@ -2,7 +2,7 @@
 -- rows that it would leave. Those of an edit of one list are told of that list alone.
 use Rattle.std.specs.Prelude.{◌≡◌, ◌+◌, ◌++◌, List, [], ◌∷◌, ⊤, length, nat_lt, not, Option, Some}
 use Rattle.std.specs.List.{list_any}
-use Rattle.cpe_name.specs.declared.name.Values.{Values}
+use Rattle.cpe_name.specs.Eleven.{Values}
 use Rattle.cpe_rows.specs.Names.{is_same, is_identifier, has_wildcards}
 use Rattle.cpe_rows.specs.Rows.{Rows, is_named, has_id, is_entry, is_item, is_statement, is_checked}
 use Rattle.cpe_rows.specs.FactNames.{number_of_facts}

@@ -1,6 +1,6 @@
 -- The truth of a test (NIST IR 7698), from the truths of its fact references and check references.
 use Rattle.std.specs.Prelude.{List, Bool, true, false}
-use Rattle.cpe_name.specs.declared.name.Values.{Values}
+use Rattle.cpe_name.specs.Eleven.{Values}
 use Rattle.cpe_rows.specs.Truth.{and_all, or_all, not_of}
 use Rattle.cpe_rows.specs.declared.truth.Truth.{Truth}
 use Rattle.cpe_rows.specs.declared.test.CheckKey.{CheckKey}

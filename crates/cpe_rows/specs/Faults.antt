@@ -2,7 +2,7 @@
 use Rattle.std.specs.Prelude.{ℕ, ◌+◌, ◌&&◌, List, [], ◌∷◌, ◌++◌, length, find, Bool, false, not, nat_le, if◌then◌else◌, Option, Some, None, option_map, position}
 use Rattle.std.specs.Option.{option_map_or}
 use Rattle.std.specs.List.{list_any}
-use Rattle.cpe_name.specs.declared.name.Values.{Values}
+use Rattle.cpe_name.specs.Eleven.{Values}
 use Rattle.cpe_rows.specs.Names.{is_same, is_identifier, has_wildcards}
 use Rattle.cpe_rows.specs.Rows.{Rows, entry_of, is_entry, is_item, is_statement, is_checked}
 use Rattle.cpe_rows.specs.Chains.{is_active, leads_to}

@@ -2,7 +2,7 @@
 use Rattle.std.specs.Prelude.{◌≡◌, ◌&&◌, List, [], ◌∷◌, length, Bool, true, false, not}
 use Rattle.std.specs.List.{list_any, list_all}
 use Rattle.std.specs.Option.{option_map_or}
-use Rattle.cpe_name.specs.declared.name.Values.{Values}
+use Rattle.cpe_name.specs.Eleven.{Values}
 use Rattle.cpe_rows.specs.Names.{is_same, is_lower, is_identifier, has_wildcards}
 use Rattle.cpe_rows.specs.Rows.{Rows, is_named, has_id, has_key}
 use Rattle.cpe_rows.specs.Chains.{successors_of, leads_to}

@@ -1,6 +1,6 @@
 -- Tests that negate others, and tests that say the same.
 use Rattle.std.specs.Prelude.{◌≡◌, [], ◌∷◌, true}
-use Rattle.cpe_name.specs.declared.name.Values.{Values}
+use Rattle.cpe_name.specs.Eleven.{Values}
 use Rattle.cpe_rows.specs.Truth.{not_of}
 use Rattle.cpe_rows.specs.Evaluation.{test_truth}
 use Rattle.cpe_rows.specs.declared.truth.Truth.{Truth}

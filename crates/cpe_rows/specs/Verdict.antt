@@ -2,7 +2,7 @@
 use Rattle.std.specs.Prelude.{List, Bool, if◌then◌else◌, find}
 use Rattle.std.specs.Option.{option_map_or}
 use Rattle.std.specs.List.{list_any}
-use Rattle.cpe_name.specs.declared.name.Values.{Values}
+use Rattle.cpe_name.specs.Eleven.{Values}
 use Rattle.cpe_relation.specs.NameRelation.{covers}
 use Rattle.cpe_rows.specs.Rows.{Rows, has_key}
 use Rattle.cpe_rows.specs.Chains.{ends}

@@ -2,7 +2,7 @@
 -- one for each byte of its texts. A name counts by its formatted string.
 use Rattle.std.specs.Prelude.{ℕ, ◌+◌, List, [], ◌∷◌, length, map}
 use Rattle.std.specs.Option.{option_map_or}
-use Rattle.cpe_name.specs.declared.name.Values.{Values}
+use Rattle.cpe_name.specs.Eleven.{Values}
 use Rattle.cpe_fs.specs.Grammar.{fs_text}
 use Rattle.cpe_rows.specs.Rows.{Rows}
 use Rattle.cpe_rows.specs.declared.truth.Truth.{Truth}

@@ -15,7 +15,7 @@ pub struct BoxedName {
 }
 
 impl Model for BoxedName {
-    ghost use Rattle.cpe_name.specs.declared.name.Values.{Values};
+    ghost use Rattle.cpe_name.specs.Eleven.{Values};
 
     ghost Value = { Values };
 

@@ -1,7 +1,7 @@
 // Laws of the definitions. These functions do nothing: their clauses are the laws.
 ghost use Rattle.std.specs.Prelude.{◌≡◌, ◌↔◌, ◌∷◌, ◌++◌, [], ℕ, List, IsTrue, false, true, Contains, All, map, length, Ok, Some, None, Option, position, find, if◌then◌else◌};
 ghost use Rattle.std.specs.List.{list_any};
-ghost use Rattle.cpe_name.specs.declared.name.Values.{Values};
+ghost use Rattle.cpe_name.specs.Eleven.{Values};
 ghost use Rattle.cpe_name.specs.Lower.{IsLower, lower_name};
 ghost use Rattle.cpe_rows.specs.Names.{is_same, is_lower};
 ghost use Rattle.cpe_rows.specs.Truth.{and_all, or_all, and_of, or_of, not_of};

@@ -16,7 +16,7 @@ use Rattle.cpe_values.specs.Parts.{Parts, parts, is_character, IsText}
 use Rattle.cpe_values.specs.Spelling.{is_bare}
 use Rattle.cpe_values.specs.Lower.{lower_parts, lower_value}
 use Rattle.cpe_values.specs.Values.{IsValue}
-use Rattle.cpe_name.specs.declared.name.Values.{Values}
+use Rattle.cpe_name.specs.Eleven.{Values}
 use Rattle.cpe_name.specs.declared.attribute.Attribute.{Attribute}
 use Rattle.cpe_name.specs.declared.attribute.Attribute.TheVariants.{Part, Vendor, Product, Version, Update, Edition, Language}
 use Rattle.cpe_name.specs.Names.{named, attributes, value_of, IsName}

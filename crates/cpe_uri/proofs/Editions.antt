@@ -11,12 +11,11 @@ use Rattle.cpe_values.specs.declared.value.Value.{Value}
 use Rattle.cpe_values.specs.declared.value.Value.TheVariants as value
 use Rattle.cpe_values.specs.Lower.{lower_value}
 use Rattle.cpe_values.specs.Values.{IsValue}
-use Rattle.cpe_name.specs.declared.name.Values.{Values}
+use Rattle.cpe_name.specs.Eleven.{Values}
 use Rattle.cpe_name.specs.declared.attribute.Attribute.{Attribute}
 use Rattle.cpe_name.specs.declared.attribute.Attribute.TheVariants.{Edition}
-use Rattle.cpe_name.specs.Names.{value_of, IsName}
+use Rattle.cpe_name.specs.Names.{value_of, IsName, any_values}
 use Rattle.cpe_name.specs.Lower.{IsLower}
-use Rattle.cpe_name.specs.Put.{any_values}
 use Rattle.cpe_uri.specs.Spelling.{Stands}
 use Rattle.cpe_uri.specs.Canon.{extended}
 use Rattle.cpe_uri.specs.Grammar.{is_tilde, begins_with_tilde, Fields, EditionStands}

@@ -7,9 +7,7 @@ use Rattle.std.proofs.lemmas.Bool.Decides.{nat_tests}
 use Rattle.cpe_values.specs.declared.value.Edge.TheVariants as edge
 use Rattle.cpe_values.specs.declared.value.Value.TheVariants as value
 use Rattle.cpe_values.specs.Parts.{Parts, parts, is_character, IsText}
-use Rattle.cpe_name.specs.declared.borrowed.NameRef.{NameRef}
-use Rattle.cpe_name.specs.declared.name.Values.{Values}
-use Rattle.cpe_name.specs.declared.written.Written.{Written}
+use Rattle.cpe_name.specs.Eleven.{NameRef, Values, Written}
 use Rattle.cpe_name.specs.Borrowed.{name_lent}
 use Rattle.cpe_name.specs.Names.{named}
 use Rattle.cpe_name.specs.Spans.{texts}

@@ -16,10 +16,9 @@ use Rattle.cpe_values.specs.Spelling.{edge_text, is_word, spelling}
 use Rattle.cpe_values.specs.Spelling as wfn
 use Rattle.cpe_values.specs.Skipping.{skip_while}
 use Rattle.cpe_values.proofs.SkippingLemmas.{skipped_copied}
-use Rattle.cpe_name.specs.declared.name.Values.{Values}
+use Rattle.cpe_name.specs.Eleven.{Values, Written}
 use Rattle.cpe_name.specs.declared.attribute.Attribute.{Attribute}
 use Rattle.cpe_name.specs.declared.attribute.Attribute.TheVariants.{Part, Vendor, Product, Version, Update, Edition, Language, SwEdition, TargetSw, TargetHw, Other}
-use Rattle.cpe_name.specs.declared.written.Written.{Written}
 use Rattle.cpe_name.specs.Names.{value_of}
 use Rattle.cpe_name.specs.Text.{value_text}
 use Rattle.cpe_name.specs.Scanning.{slot}

@@ -1,7 +1,7 @@
 -- What a URI says.
 use Rattle.std.proofs.Common.{◌≡◌, ℕ, ◌-◌, List, [], ◌++◌, length, Ok, Err}
 use Rattle.cpe_grammar.proofs.Results.{left_over, stopped}
-use Rattle.cpe_name.specs.declared.name.Values.{Values}
+use Rattle.cpe_name.specs.Eleven.{Values}
 use Rattle.cpe_name.specs.Text.{output_text}
 use Rattle.cpe_name.proofs.Unbinding as unbinding
 use Rattle.cpe_name.proofs.Unbinding.{behind}

@@ -3,7 +3,7 @@ use Rattle.std.proofs.Common.{◌≡◌, ℕ, ◌≤◌, false, eqb, List, [], �
 use Rattle.std.specs.Prelude.{codes}
 use Rattle.cpe_grammar.specs.Scanners.{ending}
 use Rattle.cpe_grammar.proofs.Results.{left_over}
-use Rattle.cpe_name.specs.declared.written.Written.{Written}
+use Rattle.cpe_name.specs.Eleven.{Written}
 use Rattle.cpe_name.specs.Names.{attributes}
 use Rattle.cpe_name.specs.Spans.{texts, total_length}
 use Rattle.cpe_uri.specs.Spans.{AreComponents, LeavesWith}

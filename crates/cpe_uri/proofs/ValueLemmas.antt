@@ -12,10 +12,9 @@ use Rattle.cpe_values.specs.Spelled.{IsSpelling}
 use Rattle.cpe_values.specs.Values.{IsValue}
 use Rattle.cpe_values.specs.Unspelling.{body_at, behind_body, parts_at}
 use Rattle.cpe_values.proofs.Unspelled.{parts_are}
-use Rattle.cpe_name.specs.declared.name.Values.{Values}
+use Rattle.cpe_name.specs.Eleven.{Values, Written}
 use Rattle.cpe_name.specs.declared.attribute.Attribute.{Attribute}
 use Rattle.cpe_name.specs.declared.attribute.Attribute.TheVariants.{Part, Vendor, Product, Version, Update, Edition, Language, SwEdition, TargetSw, TargetHw, Other}
-use Rattle.cpe_name.specs.declared.written.Written.{Written}
 use Rattle.cpe_name.specs.Names.{attributes, value_of, Suits, IsName, named}
 use Rattle.cpe_name.specs.Scanning.{slot}
 use Rattle.cpe_name.specs.Spans.{texts}

@@ -11,7 +11,7 @@ use Rattle.cpe_grammar.proofs.Results.{went_on, ok_is, ok≢err}
 use Rattle.cpe_grammar.proofs.Scans.{Scans, wider, renamed, Empty, nothing_scans, ending_scans, OneOf, one_scans, Joined, both_scans, Either, choose_scans}
 use Rattle.cpe_values.specs.declared.value.Value.{Value}
 use Rattle.cpe_values.specs.declared.value.Value.TheVariants as value
-use Rattle.cpe_name.specs.declared.name.Values.{Values}
+use Rattle.cpe_name.specs.Eleven.{Values}
 use Rattle.cpe_name.specs.declared.attribute.Attribute.{Attribute}
 use Rattle.cpe_name.specs.declared.attribute.Attribute.TheVariants.{Part, Vendor, Product, Version, Update, Edition, Language, SwEdition, TargetSw, TargetHw, Other}
 use Rattle.cpe_name.specs.Names.{IsName}

@@ -3,7 +3,7 @@ use Rattle.std.specs.Prelude.{◌≡◌, ℕ, Bool, if◌then◌else◌, List, t
 use Rattle.std.specs.Bool.{MatchBool}
 use Rattle.std.specs.Result.{result_map_both}
 use Rattle.std.specs.Str.{str_eq_ignore_ascii_case}
-use Rattle.cpe_name.specs.declared.name.Values.{Values}
+use Rattle.cpe_name.specs.Eleven.{Values}
 use Rattle.cpe_name.specs.Text.{output_text}
 use Rattle.cpe_name.specs.Binding.{SaysBy, PutsBy}
 use Rattle.cpe_fs.specs.Grammar.{Fs, LeavesAt}

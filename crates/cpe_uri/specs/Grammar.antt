@@ -4,7 +4,7 @@ use Rattle.std.specs.List.{join_with_byte, list_all, AllByRecursion}
 use Rattle.std.specs.Str.{str_to_ascii_lowercase}
 use Rattle.cpe_grammar.specs.Place.{Leaves}
 use Rattle.cpe_values.specs.declared.value.Value.TheVariants as value
-use Rattle.cpe_name.specs.declared.name.Values.{Values}
+use Rattle.cpe_name.specs.Eleven.{Values}
 use Rattle.cpe_name.specs.declared.attribute.Attribute.{Attribute}
 use Rattle.cpe_name.specs.declared.attribute.Attribute.TheVariants.{Edition}
 use Rattle.cpe_name.specs.Names.{value_of, IsName}

@@ -4,9 +4,8 @@ use Rattle.std.specs.List.{AllByRecursion, list_all}
 use Rattle.cpe_values.specs.declared.value.Value.{Value}
 use Rattle.cpe_values.specs.Lower.{lower_value}
 use Rattle.cpe_values.specs.Values.{IsValue}
-use Rattle.cpe_name.specs.declared.name.Values.{Values}
+use Rattle.cpe_name.specs.Eleven.{Values, Written}
 use Rattle.cpe_name.specs.declared.attribute.Attribute.{Attribute}
-use Rattle.cpe_name.specs.declared.written.Written.{Written}
 use Rattle.cpe_name.specs.Lower.{IsLower}
 use Rattle.cpe_name.specs.Names.{attributes, value_of, Suits, IsName}
 use Rattle.cpe_name.specs.Spans.{texts, total_length}

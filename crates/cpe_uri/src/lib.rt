@@ -28,7 +28,7 @@
 
 ghost use Rattle.std.specs.Prelude.{◌≡◌, ℕ, List, ◌+◌, ◌*◌, ◌++◌, ◌≤◌, length, take, Ok, Some, None, IfSome, MatchOption};
 ghost use Rattle.std.specs.Option.{option_map};
-ghost use Rattle.cpe_name.specs.declared.name.Values.{Values};
+ghost use Rattle.cpe_name.specs.Eleven.{Values};
 ghost use Rattle.cpe_name.specs.WfnText.{WfnText, IsWfnText};
 ghost use Rattle.cpe_uri.specs.Canon.{canon};
 ghost use Rattle.cpe_name.specs.Lower.{lower_name};

@@ -1,7 +1,7 @@
 // From URIs, and from texts in either binding, to names and to their texts (NIST IR 7695, 6.1.3 and 6.2.3).
 ghost use Rattle.std.specs.Prelude.{◌≡◌, ℕ, List, ◌+◌, ◌*◌, ◌++◌, ◌≤◌, length, take, Ok, Err, IfOk, IfErr, OnErr, MatchResult};
 ghost use Rattle.std.specs.Result.{result_map_both};
-ghost use Rattle.cpe_name.specs.declared.name.Values.{Values};
+ghost use Rattle.cpe_name.specs.Eleven.{Values};
 ghost use Rattle.cpe_name.specs.Text.{output_text};
 ghost use Rattle.cpe_uri.specs.Grammar.{Uri, LeavesUri, RefusesUri};
 ghost use Rattle.cpe_uri.specs.Unbound.{read_uri, unbound_uri, SaysUri, WritesUnbound};

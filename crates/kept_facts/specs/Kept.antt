@@ -1,7 +1,7 @@
 -- Two boards that show what the rows ask and what is there, one for each mode.
 use Rattle.std.specs.Prelude.{◌≡◌, ℕ, ◌+◌, ◌<◌, ◌≤◌, List, [], length, filter, Some}
 use Rattle.std.specs.List.{AllByRecursion, flat_map, sum_by}
-use Rattle.cpe_name.specs.declared.name.Values.{Values}
+use Rattle.cpe_name.specs.Eleven.{Values}
 use Rattle.product_orders.specs.declared.products.Side.{Side}
 use Rattle.name_index.specs.declared.table.NameId.{NameId}
 use Rattle.name_index.specs.Table.{Names, IsLive}

@@ -1,7 +1,7 @@
 // The boards of both modes, and what edits of the rows make of them.
 ghost use Rattle.std.specs.Prelude.{◌≡◌, ◌≢◌, ◌∷◌, ◌+◌, ◌≤◌, ◌||◌, ℕ, [], List, OnOk, Some, find, length, nat_lt, true};
 ghost use Rattle.std.specs.List.{AllByRecursion, flat_map, list_any};
-ghost use Rattle.cpe_name.specs.declared.name.Values.{Values};
+ghost use Rattle.cpe_name.specs.Eleven.{Values};
 ghost use Rattle.product_orders.specs.Elements.{SameElements};
 ghost use Rattle.product_orders.specs.declared.products.Side.TheVariants as side;
 ghost use Rattle.name_index.specs.declared.table.NameId.{NameId};

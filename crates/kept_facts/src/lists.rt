@@ -1,7 +1,7 @@
 // What the numbers of a list do to a board, one after the other: they come and go, and are asked or no longer asked.
 ghost use Rattle.std.specs.Prelude.{◌≡◌, ◌+◌, ◌≤◌, ◌<◌, ℕ, List, length};
 ghost use Rattle.std.specs.List.{AllByRecursion, list_any};
-ghost use Rattle.cpe_name.specs.declared.name.Values.{Values};
+ghost use Rattle.cpe_name.specs.Eleven.{Values};
 ghost use Rattle.cpe_relation.specs.NameRelation.{covers};
 ghost use Rattle.product_orders.specs.declared.products.Side.TheVariants as side;
 ghost use Rattle.name_index.specs.declared.table.NameId.{NameId};

@@ -4,7 +4,7 @@ use Rattle.std.specs.Prelude.{find, IsSome, option_map}
 use Rattle.std.specs.List.{AllByRecursion, flat_map, list_any, sum_by}
 use Rattle.std.proofs.lemmas.Bool.{cases_Bool, or_cases, or_left, or_right, true≢false}
 use Rattle.std.proofs.lemmas.Option.{none-some, same_Some}
-use Rattle.cpe_name.specs.declared.name.Values.{Values}
+use Rattle.cpe_name.specs.Eleven.{Values}
 use Rattle.product_orders.specs.Elements.{SameElements}
 use Rattle.name_index.specs.declared.table.NameId.{NameId}
 use Rattle.name_index.specs.Table.{Names, kept_at}

@@ -4,7 +4,7 @@ use Rattle.std.specs.Prelude.{find, is_none, nat_lt, option_and_then, position, 
 use Rattle.std.specs.List.{AllByRecursion, flat_map, list_any}
 use Rattle.std.proofs.lemmas.Bool.{and_parts, lt-ltb, not-true, or_cases, or_left, or_right, true≢false}
 use Rattle.std.proofs.lemmas.Option.{none-some}
-use Rattle.cpe_name.specs.declared.name.Values.{Values}
+use Rattle.cpe_name.specs.Eleven.{Values}
 use Rattle.name_index.specs.Table.{IsLive, Names, kept_at}
 use Rattle.pair_board.specs.Board.{probe_times, target_times}
 use Rattle.cpe_rows.specs.Chains.{chain, ends, is_active, leads_to}

@@ -1,7 +1,7 @@
 -- Statements with kept verdicts, and the boards by which the truths of their facts are kept.
 use Rattle.std.specs.Prelude.{◌≡◌, ◌≤◌, ℕ, List, map, length, nat_eq, IsSome, Some, true}
 use Rattle.std.specs.List.{AllByRecursion, list_any}
-use Rattle.cpe_name.specs.declared.name.Values.{Values}
+use Rattle.cpe_name.specs.Eleven.{Values}
 use Rattle.product_orders.specs.Elements.{SameElements}
 use Rattle.name_index.specs.declared.table.NameId.{NameId}
 use Rattle.name_index.specs.Table.{Names, IsLive, kept_at}

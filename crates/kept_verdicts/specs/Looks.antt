@@ -2,7 +2,7 @@
 -- each, the different names on the other side whose product is near.
 use Rattle.std.specs.Prelude.{ℕ, ◌+◌, ◌∷◌, []}
 use Rattle.std.specs.List.{flat_map}
-use Rattle.cpe_name.specs.declared.name.Values.{Values}
+use Rattle.cpe_name.specs.Eleven.{Values}
 use Rattle.product_orders.specs.declared.products.Side.TheVariants as side
 use Rattle.cpe_rows.specs.Chains.{ends}
 use Rattle.cpe_rows.specs.Rows.{Rows}

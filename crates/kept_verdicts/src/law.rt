@@ -1,6 +1,6 @@
 // What leaves verdicts as they are. The functions do nothing: their clauses are the laws.
 ghost use Rattle.std.specs.Prelude.{ℕ};
-ghost use Rattle.cpe_name.specs.declared.name.Values.{Values};
+ghost use Rattle.cpe_name.specs.Eleven.{Values};
 ghost use Rattle.cpe_rows.specs.Prelude.{IsAccepted, Rows};
 ghost use Rattle.cpe_rows.specs.declared.edit.Edit.TheVariants as edit;
 ghost use Rattle.cpe_rows.specs.declared.entry.Entry.{Entry};

@@ -5,7 +5,7 @@ use Rattle.std.proofs.lemmas.Bool.{cases_Bool, cases_eq, cases_lt, both_ways, lt
 use Rattle.std.proofs.lemmas.List.{get_or-set_same, get_or-set_other, get_or_past, get_or_push, get_or_append_left, length_push}
 use Rattle.std.proofs.lemmas.List.Sums.{sum_by-cons, sum_by-append, sum_by-set, get_or-le-sum_by, count_by-le-length}
 use Rattle.cpe_values.specs.declared.value.Value.{Value}
-use Rattle.cpe_name.specs.declared.name.Values.{Values}
+use Rattle.cpe_name.specs.Eleven.{Values}
 use Rattle.product_orders.specs.Listed.{Listed, product_at, Removes}
 use Rattle.name_index.specs.declared.table.Row.{Row}
 use Rattle.name_index.specs.Rows.{row_with, row_at, number_at, name_at, AreRows, Grows, freed_rows, names_with, count_at, AreCounted, IsGiven}

@@ -8,7 +8,7 @@ use Rattle.std.proofs.lemmas.List.Sums.{sum_by-cons, sum_by-le-sum_by, length-fi
 use Rattle.std.proofs.lemmas.List.Sorted.{sum_by-IsPermutation}
 use Rattle.std.proofs.lemmas.List.Elements.{recursion_from_All, All-weaker}
 use Rattle.cpe_values.specs.declared.value.Value.{Value}
-use Rattle.cpe_name.specs.declared.name.Values.{Values}
+use Rattle.cpe_name.specs.Eleven.{Values}
 use Rattle.cpe_name.specs.declared.attribute.Attribute.{Attribute}
 use Rattle.cpe_name.specs.declared.attribute.Attribute.TheVariants.{Vendor, Product, Version, Update, Edition, Language, SwEdition, TargetSw, TargetHw, Other}
 use Rattle.cpe_name.specs.Names.{value_of}

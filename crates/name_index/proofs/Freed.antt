@@ -7,10 +7,10 @@ use Rattle.std.proofs.lemmas.Bool.{ltb-true, lt-ltb, cases_Bool}
 use Rattle.std.proofs.lemmas.List.{get_or-set_same, get_or-set_other, get_or-take, length-take-le, get_or_default}
 use Rattle.std.proofs.lemmas.List.Elements.{All-from_get_or, All-get_or}
 use Rattle.cpe_values.specs.declared.value.Value.{Value}
-use Rattle.cpe_name.specs.declared.name.Values.{Values}
+use Rattle.cpe_name.specs.Eleven.{Values}
 use Rattle.cpe_name.specs.Equal.{same_name}
 use Rattle.cpe_name.specs.Lower.{IsLower}
-use Rattle.cpe_name.specs.Put.{any_values}
+use Rattle.cpe_name.specs.Names.{any_values}
 use Rattle.product_orders.specs.Listed.{Listed, product_at}
 use Rattle.name_index.specs.declared.table.Row.{Row}
 use Rattle.name_index.specs.Table.{Kept, kept, find_kept, IsLive, released, Releases, AreNames}

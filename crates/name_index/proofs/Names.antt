@@ -5,9 +5,9 @@ use Rattle.std.proofs.lemmas.Bool.{ltb-true, lt-ltb, both_ways, or_cases, or_lef
 use Rattle.std.proofs.lemmas.Option.{cond_some, none-some}
 use Rattle.std.proofs.lemmas.List.{get_or-map, get_or_past, length-map}
 use Rattle.std.proofs.lemmas.List.Quantifiers.{position-Some}
-use Rattle.cpe_name.specs.declared.name.Values.{Values}
+use Rattle.cpe_name.specs.Eleven.{Values}
 use Rattle.cpe_name.specs.Equal.{same_name, same_name-Decides}
-use Rattle.cpe_name.specs.Put.{any_values}
+use Rattle.cpe_name.specs.Names.{any_values}
 use Rattle.product_orders.specs.Listed.{Listed}
 use Rattle.name_index.specs.declared.table.Row.{Row}
 use Rattle.name_index.specs.Table.{Kept, kept, find_kept, HasName}

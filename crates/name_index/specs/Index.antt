@@ -2,7 +2,7 @@
 use Rattle.std.specs.Prelude.{◌≡◌, ℕ, ◌-◌, ◌<◌, ◌≤◌, Bool, nat_eq, List, [], length, ◌++◌, map, filter, Option, Some, None, count_by, slice_get, drop}
 use Rattle.std.specs.List.{All, flat_map}
 use Rattle.cpe_values.specs.declared.value.Value.{Value}
-use Rattle.cpe_name.specs.declared.name.Values.{Values}
+use Rattle.cpe_name.specs.Eleven.{Values}
 use Rattle.cpe_relation.specs.NameRelation.{covers}
 use Rattle.list_pool.specs.Pool.{Row as CellRow, list_at, IsLive, cell_at}
 use Rattle.list_pool.specs.declared.ListName.{ListName}

@@ -3,10 +3,10 @@ use Rattle.std.specs.Prelude.{◌≡◌, ◌≢◌, ℕ, ◌<◌, ◌≤◌, nat
 use Rattle.std.specs.List.{All, IsDistinct}
 use Rattle.product_orders.specs.Listed.{Listed, product_at}
 use Rattle.cpe_values.specs.declared.value.Value.{Value}
-use Rattle.cpe_name.specs.declared.name.Values.{Values}
+use Rattle.cpe_name.specs.Eleven.{Values}
 use Rattle.cpe_name.specs.Equal.{same_name}
 use Rattle.cpe_name.specs.Lower.{IsLower}
-use Rattle.cpe_name.specs.Put.{any_values}
+use Rattle.cpe_name.specs.Names.{any_values}
 use Rattle.name_index.specs.declared.table.Row.{Row}
 use Rattle.name_index.specs.Table.{Kept, kept, Names}
 

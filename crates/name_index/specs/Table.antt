@@ -1,9 +1,9 @@
 -- A table of names as contracts see it: what is kept of each number.
 use Rattle.std.specs.Prelude.{◌≡◌, ◌≢◌, ℕ, ◌+◌, ◌-◌, ◌<◌, nat_lt, cond, List, Option, Some, None, IsSome}
 use Rattle.std.specs.List.{slice_index_or}
-use Rattle.cpe_name.specs.declared.name.Values.{Values}
+use Rattle.cpe_name.specs.Eleven.{Values}
 use Rattle.cpe_name.specs.Lower.{IsLower}
-use Rattle.cpe_name.specs.Put.{any_values}
+use Rattle.cpe_name.specs.Names.{any_values}
 
 -- a name, how often it is held, and the number of its product
 pub record Kept : Type 0 where

@@ -1,6 +1,6 @@
 // Laws of held numbers and the table that they belong to. The function does nothing: its clauses are the laws.
 ghost use Rattle.std.specs.Prelude.{◌≡◌, ℕ, ◌∷◌, List, None, Contains};
-ghost use Rattle.cpe_name.specs.declared.name.Values.{Values};
+ghost use Rattle.cpe_name.specs.Eleven.{Values};
 ghost use Rattle.product_orders.specs.Elements.{SameElements};
 ghost use Rattle.name_index.specs.Table.{Names, find_kept, kept_at, IsLive, HasName, Holds, Releases};
 ghost use Rattle.name_index.specs.Index.{Fits, times_held};

@@ -1,8 +1,8 @@
 -- Where names stand in a list, how many of them are near a name, and how many a search for it looks at.
 use Rattle.std.specs.Prelude.{ℕ, List, [], ◌∷◌, length, get_or, filter, count_by, slice_get}
 use Rattle.std.specs.List.{cons_option, range_with_len}
-use Rattle.cpe_name.specs.declared.name.Values.{Values}
-use Rattle.cpe_name.specs.Put.{any_values}
+use Rattle.cpe_name.specs.Eleven.{Values}
+use Rattle.cpe_name.specs.Names.{any_values}
 use Rattle.cpe_relation.specs.NameRelation.{covers}
 use Rattle.cpe_relation.specs.Near.{near}
 use Rattle.product_orders.specs.Near.{covers_product}

@@ -1,7 +1,7 @@
 // Laws of numbers in an order and the table of their names. The function does nothing: its clauses are the laws.
 ghost use Rattle.std.specs.Prelude.{◌≡◌, ◌≢◌, ◌∷◌, ◌++◌, [], ℕ, List, Some, slice_get, true};
 ghost use Rattle.std.specs.List.{IsDistinct, list_any};
-ghost use Rattle.cpe_name.specs.declared.name.Values.{Values};
+ghost use Rattle.cpe_name.specs.Eleven.{Values};
 ghost use Rattle.name_index.specs.declared.table.NameId.{NameId};
 ghost use Rattle.cpe_name.specs.Equal.{same_name};
 ghost use Rattle.name_index.specs.Table.{AreNames, Names, kept_at, Holds, Releases};

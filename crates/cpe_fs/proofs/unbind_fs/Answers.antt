@@ -1,5 +1,5 @@
 use Rattle.std.proofs.Common.{sym, subst, ◌∙◌}
-use Rattle.cpe_name.specs.declared.name.Values.{Values}
+use Rattle.cpe_name.specs.Eleven.{Values}
 use Rattle.cpe_name.specs.Names.{IsFault}
 use Rattle.cpe_fs.specs.Grammar.{Fs}
 use Rattle.cpe_name.proofs.WholeTexts.{no_fault}

@@ -1,6 +1,6 @@
 use Rattle.std.proofs.Common.{List, sym, ap}
 use Rattle.std.specs.List.{flat_map, sum_by}
-use Rattle.cpe_name.specs.declared.name.Values.{Values}
+use Rattle.cpe_name.specs.Eleven.{Values}
 use Rattle.asked_names.specs.Asked.{leads}
 use Rattle.board_tests.proofs.facts.ask_nothing_more.Goals as goal
 

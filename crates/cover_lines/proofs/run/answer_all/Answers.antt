@@ -1,5 +1,5 @@
 use Rattle.std.proofs.Common.{List, subst}
-use Rattle.cpe_name.specs.declared.name.Values.{Values}
+use Rattle.cpe_name.specs.Eleven.{Values}
 use Rattle.cpe_session.specs.Ran.{Ran, Reached}
 use Rattle.cpe_session.specs.Task.{task}
 use Rattle.cpe_session.proofs.Runs.{Ran-besides}

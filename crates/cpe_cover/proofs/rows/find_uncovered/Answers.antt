@@ -1,5 +1,5 @@
 use Rattle.std.proofs.Common.{not, ◌<◌, length, arith}
-use Rattle.cpe_name.specs.declared.name.Values.{Values}
+use Rattle.cpe_name.specs.Eleven.{Values}
 use Rattle.cpe_name.specs.Lower.{IsLower}
 use Rattle.cpe_cover.specs.Cover.{is_covered}
 use Rattle.cpe_cover.specs.Marks.{stays}

@@ -1,5 +1,5 @@
 use Rattle.std.proofs.Common.{◌++◌, List, drop}
-use Rattle.cpe_name.specs.declared.name.Values.{Values}
+use Rattle.cpe_name.specs.Eleven.{Values}
 use Rattle.cpe_rows.specs.Rows.{Rows}
 use Rattle.numbered_names.specs.Shown.{names_at}
 use Rattle.cpe_registry.specs.Registered.{AreLive}

@@ -1,5 +1,5 @@
 use Rattle.std.proofs.Common.{sym, subst, ◌∙◌}
-use Rattle.cpe_name.specs.declared.name.Values.{Values}
+use Rattle.cpe_name.specs.Eleven.{Values}
 use Rattle.cpe_name.specs.Names.{IsFault}
 use Rattle.cpe_name.specs.WfnText.{WfnText}
 use Rattle.cpe_name.proofs.WholeTexts.{texts_are, values_are, no_fault, one_name}

@@ -1,7 +1,6 @@
 use Rattle.std.proofs.Common.{ap, ◌∙◌}
 use Rattle.cpe_name.specs.Borrowed.{name_lent}
-use Rattle.cpe_relation.specs.declared.relation.Relations.{Relations}
-use Rattle.cpe_relation.specs.NameRelation.{relation_of}
+use Rattle.cpe_relation.specs.NameRelation.{Relations, relation_of}
 use Rattle.cpe_relation.proofs.NameLaws.{each_is}
 use Rattle.cpe_relation.proofs.names.compare_lent.Goals as goal
 

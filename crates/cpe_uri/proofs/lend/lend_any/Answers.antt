@@ -1,5 +1,5 @@
 use Rattle.std.proofs.Common.{◌≡◌, ℕ, Ok, Err, IfSome, MatchResult, Result, sym, subst, ◌∙◌}
-use Rattle.cpe_name.specs.declared.name.Values.{Values}
+use Rattle.cpe_name.specs.Eleven.{Values}
 use Rattle.cpe_name.specs.Borrowed.{name_lent}
 use Rattle.cpe_uri.proofs.EitherBinding.{any_uri, any_fs}
 use Rattle.cpe_uri.proofs.lend.lend_any.Goals as goal

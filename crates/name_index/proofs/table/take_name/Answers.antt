@@ -1,8 +1,8 @@
 use Rattle.std.proofs.Common.{◌≡◌, Some, ◌∙◌}
 use Rattle.std.specs.List.{swap_remove}
 use Rattle.std.proofs.lemmas.Option.{slice_get-get_or, MatchOption-at_some}
-use Rattle.cpe_name.specs.declared.name.Values.{Values}
-use Rattle.cpe_name.specs.Put.{any_values}
+use Rattle.cpe_name.specs.Eleven.{Values}
+use Rattle.cpe_name.specs.Names.{any_values}
 use Rattle.name_index.specs.Rows.{name_at}
 use Rattle.name_index.proofs.table.take_name.Goals as goal
 

@@ -1,5 +1,5 @@
 use Rattle.std.proofs.Common.{◌≡◌, List, IfOk, sym, ap, subst, ◌∙◌}
-use Rattle.cpe_name.specs.declared.name.Values.{Values}
+use Rattle.cpe_name.specs.Eleven.{Values}
 use Rattle.cpe_steps.specs.Within.{StepsWithin}
 use Rattle.names_in_order.specs.Places.{near_count, places_covered}
 use Rattle.cpe_dictionary.specs.Kept.{names_of}

@@ -1,5 +1,5 @@
 use Rattle.std.proofs.Common.{◌∷◌, ◌++◌, List, [], Some, None, length, refl, sym, subst, ◌∙◌}
-use Rattle.cpe_name.specs.declared.name.Values.{Values}
+use Rattle.cpe_name.specs.Eleven.{Values}
 use Rattle.cpe_rows.specs.After.{after}
 use Rattle.cpe_rows.specs.Changes.{change}
 use Rattle.cpe_rows.specs.declared.edit.Edit.TheVariants as edit

@@ -1,5 +1,5 @@
 use Rattle.std.proofs.Common.{◌≡◌, ◌++◌, List, [], refl, sym, subst}
-use Rattle.cpe_name.specs.declared.name.Values.{Values}
+use Rattle.cpe_name.specs.Eleven.{Values}
 use Rattle.cpe_rows.specs.After.{after}
 use Rattle.cpe_rows.specs.FactNames.{fact_names}
 use Rattle.cpe_rows.specs.Rows.{has_id}

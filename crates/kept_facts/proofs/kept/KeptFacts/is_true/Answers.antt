@@ -1,6 +1,6 @@
 use Rattle.std.proofs.Common.{◌≡◌, ◌≤◌, Bool, List, sym, ap, ◌∙◌, subst}
 use Rattle.std.specs.List.{AllByRecursion}
-use Rattle.cpe_name.specs.declared.name.Values.{Values}
+use Rattle.cpe_name.specs.Eleven.{Values}
 use Rattle.name_index.specs.Table.{Names}
 use Rattle.name_index.specs.declared.table.NameId.{NameId}
 use Rattle.pair_board.specs.Board.{Board, FitsBoard, probe_times, target_times}

@@ -1,6 +1,6 @@
 use Rattle.std.proofs.Common.{◌≡◌, Bool, List, [], length, refl, sym, ap, subst, ◌∙◌, arith}
 use Rattle.std.specs.List.{AllByRecursion, flat_map, sum_by}
-use Rattle.cpe_name.specs.declared.name.Values.{Values}
+use Rattle.cpe_name.specs.Eleven.{Values}
 use Rattle.product_orders.specs.Elements.{SameElements}
 use Rattle.name_index.specs.Table.{kept_at}
 use Rattle.cpe_rows.specs.Chains.{ends}

@@ -1,7 +1,7 @@
 use Rattle.std.proofs.Common.{◌≡◌, ◌+◌, ◌<◌, ◌≤◌, set, ◌-◌, List, length, sym, ap, subst, ◌∙◌, arith}
 use Rattle.std.specs.List.{swap_remove}
 use Rattle.std.proofs.lemmas.Bool.{lt-ltb}
-use Rattle.cpe_name.specs.declared.name.Values.{Values}
+use Rattle.cpe_name.specs.Eleven.{Values}
 use Rattle.name_index.specs.declared.table.Row.{Row}
 use Rattle.name_index.specs.Table.{Names, IsLive, Releases}
 use Rattle.name_index.specs.Rows.{row_with, row_at, name_at, names_of, AreRows, AreCounted, count_at}
