@@ -4,8 +4,8 @@ ghost use Rattle.cpe_name.specs.Eleven.{Values, put};
 ghost use Rattle.cpe_name.specs.Names.{value_of, Suits, IsName, IsFault, any_values};
 ghost use Rattle.cpe_name.specs.Shapes.{is_part};
 
-use crate::{Attribute, Eleven};
 use crate::shape::{is_lawful_language, is_lawful_part};
+use crate::{Attribute, Eleven};
 use cpe_values::Value;
 use std::marker::Model;
 use thiserror::Error;
