@@ -31,7 +31,7 @@ impl<T: Copy> Copy for Eleven<T> {}
 
 impl<T> Eleven<T> {
     /// What stands for an attribute.
-    #[inline]
+    #[inline(always)]
     pub fn get(&self, which: Attribute) -> &T
         ensures { result.now ≡ at self.now which }
     {
@@ -53,7 +53,7 @@ impl<T> Eleven<T> {
 
 impl<T: Drop> Eleven<T> {
     /// Lets another stand for an attribute.
-    #[inline]
+    #[inline(always)]
     pub fn set(&mut self, which: Attribute, new: T)
         ensures { self.new ≡ put self.old which new }
     {
