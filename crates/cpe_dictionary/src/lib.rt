@@ -7,7 +7,7 @@
 //! is planned first, which tells its fault or that it is allowed, and leaves all as it is; which names lead to its entry may be
 //! asked, and the ends of names as the planned change would leave them; then it is made, and nothing but want of memory can refuse
 //! it. A plan costs the entries that lead to the one that it is of and those to which it leads, and a chain what it has. A search
-//! looks at the entries to whose product that of the asked name is near, and at no other: it counts a step for each look.
+//! looks at the entries whose product that of the asked name covers, and at no other: it counts a step for each look.
 //!
 //! Deprecations are kept a second time by numbers: node k of a graph is entry k. The laws of [`chains_by_number`] and those beside it say
 //! that both have one notion of a path, what a change of one is to the other, and when the graph may be asked for it.
