@@ -6,8 +6,8 @@
 //! product that is new. A change of a deprecation is planned first: that tells its fault or that it is allowed, and leaves all as it is.
 //! Of a plan it may be asked which names lead to its entry, and which ends names would have once it is made. Then it is made, and is
 //! refused only where memory runs out. A plan costs as much as the entries that lead to the changed one and those to which that leads,
-//! and a chain as much as it has entries. A search looks at the entries to whose product that of the asked name is near, and at no
-//! other: it counts a step for each look.
+//! and a chain as much as it has entries. A search looks at the entries whose product that of the asked name covers, and at no other: it
+//! counts a step for each look.
 //!
 //! Deprecations are kept a second time by numbers: node k of a graph is entry k. The laws of [`chains_by_number`] and those beside it say
 //! that both have one notion of a path, what a change of one is to the other, and when the graph may be asked for it.
