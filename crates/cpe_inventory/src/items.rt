@@ -1,12 +1,12 @@
 // The items of an inventory.
-ghost use Rattle.std.specs.Prelude.{◌≡◌, IfOk, filter, length};
+ghost use Rattle.std.specs.Prelude.{◌≡◌, ◌+◌, IfOk, OnOk, filter, length};
 ghost use Rattle.std.specs.List.{list_any};
 ghost use Rattle.cpe_name.specs.Lower.{IsLower};
 ghost use Rattle.cpe_relation.specs.NameRelation.{covers};
 ghost use Rattle.cpe_rows.specs.Names.{is_same};
 ghost use Rattle.cpe_steps.specs.Within.{StepsWithin};
 ghost use Rattle.names_in_order.specs.InOrder.{AreInOrder, names_numbered};
-ghost use Rattle.names_in_order.specs.Places.{near_count};
+ghost use Rattle.names_in_order.specs.Places.{looked_count, near_count};
 ghost use Rattle.cpe_inventory.specs.Slots.{names_kept};
 
 use cpe_name::Wfn;
@@ -76,8 +76,8 @@ impl<'t> Items<'t> {
         self.names.find(self.table, name).is_some()
     }
 
-    /// The items that a name in lower case covers (NIST IR 7696), in their order. A step is a look at an item: it looks at most once
-    /// at each to whose product that of the name is near, and at no other.
+    /// The items that a name in lower case covers (NIST IR 7696), in their order. A step is a look at an item: it looks once at each
+    /// whose product that of the name covers, and at no other: all these are items to whose product that of the name is near.
     ///
     /// # Errors
     /// Only that memory ran out. The bound on steps holds then, too.
@@ -90,6 +90,7 @@ impl<'t> Items<'t> {
         requires { IsLower name.now }
         ensures found { IfOk result (λ found. found ≡ filter (covers name.now) self.now) }
         ensures steps { StepsWithin steps.old steps.new (near_count name.now self.now) }
+        ensures looked { OnOk result (steps.new ≡ steps.old + looked_count name.now self.now) }
     {
         let ids = self.names.covered(alloc, self.table, name, steps)?;
         names_of(alloc, self.table, &ids)
