@@ -439,7 +439,7 @@ dictionary() {
 #   6 is corrected to the 6 of the family before, but in each fiftieth family
 #   7 gives the 8s of the sixteen families before, and 8 stays active
 #   9 is removed, that is amended, it is restored, and deprecated again, by 8
-#   10 gives, in each sixteenth family, four 7s, and so 64 ends
+#   10 gives, in each sixteenth family, sixteen 7s, and so 256 ends
 deprecations() {
     awk -v answers="$([ "$1" = answers ] && echo 1)" -v count="$2" '
         function fs(f, k) { return "cpe:2.3:a:family:f" f ":" k ":*:*:*:*:*:*:*" }
@@ -487,13 +487,13 @@ deprecations() {
             for (g = f - 16; g < f; g++) end(g, 8)
         }
         function widest(f,   g) {
-            chain(f, 10, 69, 64)
-            for (g = f - 64; g <= f; g++) {
-                if (g > f - 64 && g % 16 == f % 16) step(g, 7, "ADDITIONAL_INFORMATION")
+            chain(f, 10, 273, 256)
+            for (g = f - 256; g <= f; g++) {
+                if (g > f - 256 && g % 16 == f % 16) step(g, 7, "ADDITIONAL_INFORMATION")
                 if (g < f) step(g, 8, "active")
             }
             step(f, 10, "ADDITIONAL_INFORMATION")
-            for (g = f - 64; g < f; g++) end(g, 8)
+            for (g = f - 256; g < f; g++) end(g, 8)
         }
         function note(date, kind) { return "{\"comment\":\"\",\"date\":\"" date "\",\"kind\":\"" kind "\"}" }
         function notes(f) {
@@ -537,10 +537,14 @@ deprecations() {
             edit("amend", f, 9, "ADDITIONAL_INFORMATION", by(f, 8) "," by(f, 4), "2024-02-02")
             edit("restore", f, 9, "", "", "2024-03-03")
             correct(f, 9, by(f, 8))
-            if (f >= 80 && f % 16 == 0) {
-                all = by(f, 7) "," by(f - 16, 7) "," by(f - 32, 7) "," by(f - 48, 7)
-                inform(f, 10, all "," by(f, 6) "," by(f - 64, 7))
-                refused("too-wide " fs(f, 10))
+            if (f >= 256 && f % 16 == 0) {
+                if (f > 256) {
+                    # (what the 10 before gives, and one more)
+                    inform(f, 10, by(f - 16, 10) "," by(f - 1, 8))
+                    refused("too-wide " fs(f, 10))
+                }
+                all = by(f, 7)
+                for (g = f - 16; g > f - 256; g -= 16) all = all "," by(g, 7)
                 inform(f, 10, all)
             }
         }
@@ -548,7 +552,7 @@ deprecations() {
             diamond(f)
             correction(f)
             if (f >= 16) sixteen(f)
-            if (f >= 80 && f % 16 == 0) widest(f)
+            if (f >= 256 && f % 16 == 0) widest(f)
             notes(f)
         }
         # where the first of fifty is removed, nothing is left for the others
@@ -574,7 +578,7 @@ deprecations() {
             answer("entry " fs(33, 3) " active")
             answer("entry " fs(33, 8) " active")
             answer("entry " fs(33, 10) " active")
-            for (f = 150; f + 50 <= count; f += 50) removed(f)
+            for (f = 250; f + 50 <= count; f += 50) removed(f)
             for (f = count - 1; f >= 0; f -= 11) question(f)
         }' < /dev/null
 }

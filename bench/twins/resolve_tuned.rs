@@ -21,7 +21,7 @@ const DEEPEST: usize = 127;
 /// The most entries, successors of an entry, and ends of one.
 const MOST: usize = 2_000_000;
 const MOST_SUCCESSORS: usize = 16;
-const MOST_ENDS: usize = 64;
+const MOST_ENDS: usize = 256;
 
 // ---- JSON
 
