@@ -152,7 +152,7 @@ fn put_line(room: &mut [u8], at: usize, whole: Relation, each: &Relations) -> us
     ensures length { length room.new ≡ length room.old }
     ensures line { take result room.new ≡ take at room.old ++ (relation_text whole ++ flat_map (λ w. 32 ∷ relation_text (relation_of each.now w)) attributes ++ codes "\n") }
 {
-    let behind_whole = put(room, at, &word_behind_space(whole)[1..]);
+    let behind_whole = put(room, at, relation_word(whole));
     let behind_each = put_each(room, behind_whole, each, &ATTRIBUTES);
     put_byte(room, behind_each, b'\n')
 }
@@ -166,20 +166,38 @@ fn put_each(room: &mut [u8], at: usize, relations: &Relations, which: &[Attribut
 {
     let mut end = at;
     for attribute in which {
-        end = put(room, end, word_behind_space(*relations.get(*attribute)));
+        end = put_word(room, end, *relations.get(*attribute));
     }
     end
 }
 
-fn word_behind_space(relation: Relation) -> &'static [u8]
-    ensures word { result.now ≡ 32 ∷ relation_text relation }
+// After a space. Each word is put by its own length, which is known before.
+#[inline(always)]
+fn put_word(room: &mut [u8], at: usize, relation: Relation) -> usize
+    requires { at + WORD ≤ length room.old }
+    ensures within { result ≤ at + WORD }
+    ensures length { length room.new ≡ length room.old }
+    ensures word { take result room.new ≡ take at room.old ++ 32 ∷ relation_text relation }
+{
+    match relation {
+        Relation::Disjoint => put(room, at, b" DISJOINT"),
+        Relation::Equal => put(room, at, b" EQUAL"),
+        Relation::Subset => put(room, at, b" SUBSET"),
+        Relation::Superset => put(room, at, b" SUPERSET"),
+        Relation::Undefined => put(room, at, b" UNDEFINED"),
+    }
+}
+
+// The word of a relation.
+fn relation_word(relation: Relation) -> &'static [u8]
+    ensures word { result.now ≡ relation_text relation }
     ensures within { length result.now ≤ WORD }
 {
     match relation {
-        Relation::Disjoint => b" DISJOINT",
-        Relation::Equal => b" EQUAL",
-        Relation::Subset => b" SUBSET",
-        Relation::Superset => b" SUPERSET",
-        Relation::Undefined => b" UNDEFINED",
+        Relation::Disjoint => b"DISJOINT",
+        Relation::Equal => b"EQUAL",
+        Relation::Subset => b"SUBSET",
+        Relation::Superset => b"SUPERSET",
+        Relation::Undefined => b"UNDEFINED",
     }
 }
