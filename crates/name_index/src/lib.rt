@@ -16,6 +16,7 @@ mod index;
 mod laws;
 mod near;
 mod table;
+mod wanted;
 
 pub use index::NameIndex;
 pub use laws::fitting_laws;
