@@ -8,3 +8,4 @@ pub mod WalkSteps
 pub mod NearSums
 pub mod Covered
 pub mod Fitting
+pub mod WantedLemmas

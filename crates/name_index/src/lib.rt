@@ -16,6 +16,7 @@ mod index;
 pub mod law;
 mod near;
 mod table;
+mod wanted;
 
 pub use index::NameIndex;
 pub use near::Near;

@@ -1,5 +1,7 @@
 // A walk over the held names whose products are near a product, or are covered by it.
-ghost use Rattle.std.specs.Prelude.{◌≡◌, ◌+◌, Bool, map, filter, slice_get, count_by, IfOk, OnOk};
+ghost use Rattle.std.specs.Prelude.{◌≡◌, ◌+◌, ℕ, Bool, true, [], Some, map, filter, slice_get, count_by, IfOk, IfSome, IsNone, OnOk};
+ghost use Rattle.list_pool.specs.Pool.{IsLive};
+ghost use Rattle.list_pool.specs.declared.ListName.{ListName};
 ghost use Rattle.std.specs.List.Sorted.{IsStrictlyIncreasing};
 ghost use Rattle.std.specs.Iterator.{YieldsFirst, item_count};
 ghost use Rattle.cpe_name.specs.Lower.{IsLower};
@@ -10,9 +12,11 @@ ghost use Rattle.cpe_relation.specs.Order.{IsOrder};
 ghost use Rattle.cpe_values.specs.declared.value.Value.{Value};
 ghost use Rattle.product_orders.specs.declared.products.Side.TheVariants as side;
 ghost use Rattle.name_index.specs.Table.{Names, kept_at};
-ghost use Rattle.name_index.specs.Index.{ids, Fits, WalksProducts, is_near, is_product_covered, is_covered};
+ghost use Rattle.name_index.specs.Index.{ids, Fits, WalksProducts, is_near, is_product_covered, is_covered, posting};
+ghost use Rattle.name_index.specs.Wanted.{is_wanted, walked};
 
 use crate::index::NameIndex;
+use crate::wanted::{ProductWalk, Wanted};
 use crate::{NameId, NameTable};
 use cpe_name::{Attribute, Wfn};
 use cpe_relation::{covers_in_order, deciding_order};
@@ -29,8 +33,10 @@ use std::sync::ledger::Ledger;
 pub struct Near<'a> {
     pool: &'a Pool,
     heads: &'a [ListName],
-    // The products to come; the list that is gone over, how many of its values are left, and the cell of the first of these.
+    // The products to come, and which of them are wanted; the list that is gone over, how many of its values are left, and the cell of
+    // the first of these.
     products: NearProducts<'a>,
+    wanted: Wanted<'a>,
     list: ListName,
     left: usize,
     cell: CellName,
@@ -40,10 +46,11 @@ impl<'a> Model for Near<'a> {
     ghost use Rattle.std.specs.Prelude.{List};
     ghost use Rattle.name_index.specs.declared.table.NameId.{NameId};
     ghost use Rattle.name_index.specs.Index.{walk_left, StandsAt};
+    ghost use Rattle.name_index.specs.Wanted.{wanted_of};
 
     ghost Value = { List NameId };
 
-    ghost view = { λ a. walk_left a.pool.now.lists a.heads.now a.list.0 a.left a.products };
+    ghost view = { λ a. walk_left a.pool.now.lists a.heads.now a.list.0 a.left (wanted_of a.wanted a.products) };
 
     ghost invariant = { λ a. StandsAt a.pool.now.lists a.heads.now a.list.0 a.left a.cell.0 };
 }
@@ -71,6 +78,19 @@ fn head_of(heads: &[ListName], product: u32) -> Option<ListName>
     }
 }
 
+// The list of a product whose names are wanted, where it has some. Where it has none, no products are compared.
+fn list_of(pool: &Pool, heads: &[ListName], wanted: &Wanted, product: u32) -> Option<ListName>
+    requires { (p : ℕ) (h : ListName) → slice_get heads.now p ≡ Some h → IsLive pool.now.lists h.0 }
+    ensures some { IfSome result (λ h. (slice_get heads.now product ≡ Some h) × (is_wanted wanted.now product ≡ true)) }
+    ensures none { IsNone result → is_wanted wanted.now product ≡ true → posting pool.now.lists heads.now product ≡ [] }
+{
+    let head = head_of(heads, product)?;
+    if pool.len(head) == 0 || !wanted.wants(product) {
+        return None;
+    }
+    Some(head)
+}
+
 impl<'a> Iterator for Near<'a> {
     type Item = NameId;
 
@@ -83,7 +103,7 @@ impl<'a> Iterator for Near<'a> {
             let Some(product) = self.products.next() else {
                 return None;
             };
-            if let Some(head) = head_of(self.heads, product) {
+            if let Some(head) = list_of(self.pool, self.heads, &self.wanted, product) {
                 self.list = head;
                 self.left = self.pool.len(head);
                 if let Some(cell) = self.pool.first(head) {
@@ -102,13 +122,14 @@ impl<'a> Iterator for Near<'a> {
 
 impl NameIndex {
     // A walk over the held names by the products that pass a test.
-    fn walk<'a>(&'a self, products: NearProducts<'a>) -> Near<'a>
-        ensures { (names : Names) (test : Value → Bool) → Fits self.now.held names → WalksProducts names test products.entry → SameElements (filter (λ id. test (kept_at names id.0).name.product) (ids self.now.held)) result }
+    fn walk<'a>(&'a self, products: ProductWalk<'a>) -> Near<'a>
+        ensures { (names : Names) (test : Value → Bool) → Fits self.now.held names → WalksProducts names test (walked products.entry) → SameElements (filter (λ id. test (kept_at names id.0).name.product) (ids self.now.held)) result }
     {
         Near {
             pool: &self.pool,
             heads: &self.heads,
-            products,
+            products: products.near,
+            wanted: products.wanted,
             list: ListName(0),
             left: 0,
             cell: CellName(0),
@@ -125,8 +146,8 @@ impl NameIndex {
         self.walk(table.near_products(product_of(name), side))
     }
 
-    /// A walk over the held names whose products the name's covers. It compares the name's product with each product of the table to
-    /// which it is near, and passes over all names of a product that isn't covered. It takes no memory and no step.
+    /// A walk over the held names whose products the name's covers. It compares the name's product with each near one
+    /// that has held names, and passes over all names of a product that isn't covered. It takes no memory and no step.
     pub fn with_covered_product<'a>(&'a self, table: &'a NameTable, name: &'a Wfn) -> Near<'a>
         requires fits { Fits self.now.held table.now }
         requires lower { IsLower name.now }

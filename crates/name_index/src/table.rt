@@ -10,15 +10,17 @@ ghost use Rattle.cpe_values.specs.Lower.{lower_value};
 ghost use Rattle.cpe_name.specs.Lower.{IsLower};
 ghost use Rattle.name_index.specs.Table.{Kept, find_kept, IsLive, kept_at, HasName, Holds, Releases, AreNames};
 ghost use Rattle.name_index.specs.Index.{WalksProducts};
+ghost use Rattle.name_index.specs.Wanted.{walked};
 ghost use Rattle.name_index.specs.Rows.{row_with, row_at, number_at, name_at, Grows, freed_rows, freed_numbers, count_at, IsGiven};
 ghost use Rattle.product_orders.specs.Listed.{product_at, Removes};
 ghost use Rattle.product_orders.specs.Near.{near_on, covers_product};
 
+use crate::wanted::{ProductWalk, Wanted};
 use cpe_name::{Attribute, Wfn};
 use cpe_steps::Steps;
 use cpe_values::{Memory, Value};
 use indexmap::IndexSet;
-use product_orders::{NearProducts, Products, Side};
+use product_orders::{Products, Side};
 use std::alloc::Global;
 use std::marker::Model;
 use std::sync::ledger::Ledger;
@@ -516,19 +518,33 @@ impl NameTable {
         self.products.len()
     }
 
-    // The numbers of the products near a product on a side.
-    pub(crate) fn near_products<'a>(&'a self, asked: &'a Value, side: Side) -> NearProducts<'a>
+    // The products near a product on a side.
+    pub(crate) fn near_products<'a>(&'a self, asked: &'a Value, side: Side) -> ProductWalk<'a>
         requires { lower_value asked.now ≡ asked.now }
-        ensures { WalksProducts self.now (near_on side asked.now) result }
+        ensures { WalksProducts self.now (near_on side asked.now) (walked result) }
     {
-        self.products.near(asked, side)
+        ProductWalk {
+            near: self.products.near(asked, side),
+            wanted: Wanted {
+                all: &self.products,
+                asked,
+                covered: false,
+            },
+        }
     }
 
-    // The numbers of the products that a product covers.
-    pub(crate) fn covered_products<'a>(&'a self, asked: &'a Value) -> NearProducts<'a>
+    // The products that a product covers.
+    pub(crate) fn covered_products<'a>(&'a self, asked: &'a Value) -> ProductWalk<'a>
         requires { lower_value asked.now ≡ asked.now }
-        ensures { WalksProducts self.now (covers_product asked.now) result }
+        ensures { WalksProducts self.now (covers_product asked.now) (walked result) }
     {
-        self.products.covered(asked)
+        ProductWalk {
+            near: self.products.near(asked, Side::Source),
+            wanted: Wanted {
+                all: &self.products,
+                asked,
+                covered: true,
+            },
+        }
     }
 }

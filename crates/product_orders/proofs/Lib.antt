@@ -8,4 +8,3 @@ pub mod Lower
 pub mod Sums
 pub mod NearRuns
 pub mod Rearranged
-pub mod Passing

@@ -1,13 +1,11 @@
 -- What a walk over products still has to come to: the products whose bodies are prefixes and ends of a text.
-use Rattle.std.specs.Prelude.{ℕ, zero, suc, ◌+◌, ◌-◌, ◌≤◌, Bool, true, false, List, [], ◌++◌, length, take, drop}
+use Rattle.std.specs.Prelude.{ℕ, zero, suc, ◌+◌, ◌-◌, ◌≤◌, true, List, [], ◌++◌, length, take, drop}
 use Rattle.std.specs.List.{filter}
-use Rattle.cpe_values.specs.declared.value.Value.{Value}
 use Rattle.product_orders.specs.declared.keys.End.TheVariants as end
 use Rattle.product_orders.specs.declared.keys.Shape.{Shape}
 use Rattle.product_orders.specs.declared.keys.Shape.TheVariants as shape
 use Rattle.product_orders.specs.Keys.{in_run, Rises}
 use Rattle.product_orders.specs.Listed.{Listed, value_at}
-use Rattle.product_orders.specs.Near.{covers_product}
 
 -- the numbers of the products of a shape whose body is one of the first so many pieces, from the last piece on
 abbrev pub runs : Listed → List ℕ → Shape → (ℕ → List ℕ) → ℕ → List ℕ
@@ -22,12 +20,3 @@ pub record StandsIn (values : Listed) (order : List ℕ) (text : List ℕ) (fron
   pub rises : Rises end.Front values order
   pub few_fronts : fronts ≤ length text + 1
   pub few_ends : ends ≤ length text + 1
-
--- any product passes, or only one that the asked one covers
-abbrev pub passes : Bool → Value → Value → Bool
-passes false asked other = true
-passes true asked other = covers_product asked other
-
--- the numbers whose products pass
-abbrev pub passing : Bool → Value → Listed → List ℕ → List ℕ
-passing covered asked values numbers = filter (λ n. passes covered asked (value_at values n)) numbers

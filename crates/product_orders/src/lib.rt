@@ -8,7 +8,7 @@
 //!
 //! [`Products::near`] gives each near product once, in no order that is promised: its contract says that the answer and the
 //! filter of all products have the same elements. [`same_elements_rearrange`] is the law that this is so exactly where one is
-//! the other in another order. [`Products::covered`] gives those alone that a product covers: it compares it with the near ones.
+//! the other in another order. [`Products::is_covered`] tells of each whether a product covers it.
 #![tactic(auto)]
 
 mod covered;
@@ -19,5 +19,5 @@ mod order;
 mod products;
 mod walk;
 
-pub use covered::NearProducts;
 pub use products::{Products, Side};
+pub use walk::NearProducts;

@@ -1,4 +1,4 @@
-// A walk over the products that are near a product, run by run.
+// A walk over the products that are near a product.
 ghost use Rattle.std.specs.Bool.{OnTrue, OnFalse};
 ghost use Rattle.std.specs.Prelude.{◌≡◌, ◌≤◌, ◌<◌, ◌+◌, ◌-◌, ℕ, true, false, drop, List, ◌++◌, [], length, filter};
 ghost use Rattle.std.specs.Iterator.{YieldsFirst, item_count};
@@ -21,9 +21,9 @@ use cpe_values::{Pattern, Value};
 use number_blocks::{Blocks, Piece};
 use std::marker::Model;
 
-// The numbers of products near a product on a side, each once. Contracts see those that are left. A step takes no memory.
+/// The numbers of products near a product on a side, each once. Contracts see those that are left. A step takes no memory.
 #[derive(Drop)]
-pub(crate) struct NearRuns<'a> {
+pub struct NearProducts<'a> {
     values: &'a Numbered,
     order: &'a Blocks,
     // What is left of three runs, one after another.
@@ -37,7 +37,7 @@ pub(crate) struct NearRuns<'a> {
     ends: usize,
 }
 
-impl<'a> Model for NearRuns<'a> {
+impl<'a> Model for NearProducts<'a> {
     ghost use Rattle.std.specs.Prelude.{ℕ, List, ◌++◌};
     ghost use Rattle.product_orders.specs.Walk.{all_runs, StandsIn};
 
@@ -63,7 +63,7 @@ fn are_empty(run: &Piece<'_>, other: &Piece<'_>) -> bool
     run.is_empty() && other.is_empty()
 }
 
-impl<'a> Iterator for NearRuns<'a> {
+impl<'a> Iterator for NearProducts<'a> {
     type Item = u32;
 
     ghost next_gives = { YieldsFirst (λ rest. rest) };
@@ -192,12 +192,12 @@ impl Products {
         text: &'a [u8],
         fronts: usize,
         ends: usize,
-    ) -> NearRuns<'a>
+    ) -> NearProducts<'a>
         requires fronts { fronts ≤ length text.now + 1 }
         requires ends { ends ≤ length text.now + 1 }
         ensures { SameElements (first.entry ++ second.entry ++ third.entry ++ all_runs self.now (live self.now) text.now fronts ends) result }
     {
-        NearRuns {
+        NearProducts {
             values: &self.values,
             order: &self.fronts,
             first,
@@ -210,7 +210,12 @@ impl Products {
     }
 
     // The products that are near a plain text.
-    fn near_plain<'a>(&'a self, any: Piece<'a>, asked: &Value, text: &'a Pattern) -> NearRuns<'a>
+    fn near_plain<'a>(
+        &'a self,
+        any: Piece<'a>,
+        asked: &Value,
+        text: &'a Pattern,
+    ) -> NearProducts<'a>
         requires is { asked.now ≡ Text text.now }
         requires lower { lower_value (Text text.now) ≡ Text text.now }
         requires plain { shape_of (Text text.now) ≡ shapes.Plain }
@@ -227,7 +232,7 @@ impl Products {
     }
 
     // The products that are near a product.
-    fn near_sources<'a>(&'a self, asked: &'a Value) -> NearRuns<'a>
+    fn near_sources<'a>(&'a self, asked: &'a Value) -> NearProducts<'a>
         requires { lower_value asked.now ≡ asked.now }
         ensures { SameElements (filter (λ n. near (value_at self.now n) asked.now) (live self.now)) result }
     {
@@ -249,8 +254,11 @@ impl Products {
         }
     }
 
-    // The products that are near a product which is the source, or the target.
-    pub(crate) fn near_runs<'a>(&'a self, asked: &'a Value, side: Side) -> NearRuns<'a>
+    /// A walk over the numbers of the products that are near this one, which is the source or the target. It takes no memory. A
+    /// plain text is found by its hash. Any other source looks up one run of one of the orders. A target looks up, where ANY is
+    /// a product or one has a special, those of each such shape; where products with a trail alone are there, one run more for
+    /// each of its prefixes; and where products with a lead alone are there, one for each of its ends.
+    pub fn near<'a>(&'a self, asked: &'a Value, side: Side) -> NearProducts<'a>
         requires { lower_value asked.now ≡ asked.now }
         ensures { SameElements (filter (λ n. near_on side asked.now (value_at self.now n)) (live self.now)) result }
     {
