@@ -1,5 +1,5 @@
 -- What boards show after an edit.
-use Rattle.std.proofs.Common.{◌≡◌, ℕ, ◌<◌, length, true, cond, List, [], ◌++◌, refl, sym, ap, subst, ◌∙◌, arith, Some}
+use Rattle.std.proofs.Common.{◌≡◌, ◌≢◌, ℕ, ◌<◌, length, true, cond, List, [], ◌++◌, refl, sym, ap, subst, ◌∙◌, arith, Some}
 use Rattle.std.specs.Prelude.{filter, find, nat_lt, not}
 use Rattle.std.proofs.lemmas.Option.{same_Some}
 use Rattle.std.specs.List.{flat_map, list_any, sum_by}
@@ -270,3 +270,12 @@ cleared_room old new c = record { probe_room = omega (arith, c.probe_room); targ
 pub each_mode : (P : Board → Type 0) (b : Boards) → P b.plain → P b.follow → (mode : Mode) → P (board_of b mode)
 each_mode P b p f Plain = p
 each_mode P b p f Follow = f
+
+-- where one mode's board changes, the other stays
+pub other_follow : (old new : Boards) (mode : Mode) → mode ≡ Plain → new.follow ≡ old.follow → (m : Mode) → m ≢ mode → board_of new m ≡ board_of old m
+other_follow old new mode is same Plain ne = absurd (ne (sym is))
+other_follow old new mode is same Follow ne = same
+
+pub other_plain : (old new : Boards) (mode : Mode) → mode ≡ Follow → new.plain ≡ old.plain → (m : Mode) → m ≢ mode → board_of new m ≡ board_of old m
+other_plain old new mode is same Plain ne = same
+other_plain old new mode is same Follow ne = absurd (ne (sym is))

@@ -1,25 +1,19 @@
 // The boards of both modes, and what edits of the rows make of them.
-ghost use Rattle.std.specs.Prelude.{◌≡◌, ◌≢◌, ◌∷◌, ◌+◌, ◌≤◌, ◌||◌, ℕ, [], List, OnOk, Some, find, length, nat_lt, true};
-ghost use Rattle.std.specs.List.{AllByRecursion, flat_map, list_any};
+ghost use Rattle.std.specs.Prelude.{◌≡◌, ◌+◌, ◌≤◌, ◌||◌, ℕ, length, nat_lt};
+ghost use Rattle.std.specs.List.{AllByRecursion};
 ghost use Rattle.cpe_name.specs.Eleven.{Values};
-ghost use Rattle.product_orders.specs.Elements.{SameElements};
-ghost use Rattle.product_orders.specs.declared.products.Side.TheVariants as side;
 ghost use Rattle.name_index.specs.declared.table.NameId.{NameId};
 ghost use Rattle.name_index.specs.Table.{Names, IsLive};
 ghost use Rattle.pair_board.specs.Board.{AreFlips, probe_times, target_times};
-ghost use Rattle.cpe_rows.specs.Prelude.{after, ends as ends_in, has_id, no_rows, Rows};
-ghost use Rattle.cpe_rows.specs.Names.{is_same};
+ghost use Rattle.cpe_rows.specs.Prelude.{no_rows, Rows};
 ghost use Rattle.cpe_rows.specs.Verdict.{fact_truth, truth};
-ghost use Rattle.cpe_rows.specs.declared.edit.Edit.{Edit};
-ghost use Rattle.cpe_rows.specs.declared.edit.Edit.TheVariants as edit;
 ghost use Rattle.cpe_rows.specs.declared.statement.Mode.{Mode};
 ghost use Rattle.cpe_rows.specs.declared.statement.Mode.TheVariants.{Plain, Follow};
-ghost use Rattle.cpe_rows.specs.declared.statement.Statement.{Statement};
-ghost use Rattle.cpe_changes.specs.Touching.{deprecation_changed};
-ghost use Rattle.numbered_names.specs.Shown.{name_at, names_at, times_in};
-ghost use Rattle.asked_names.specs.Asked.{facts_in, fresh_facts, leads};
-ghost use Rattle.kept_facts.specs.Lists.{IsWide, looks};
-ghost use Rattle.kept_facts.specs.Kept.{AreLive, AreSettled, AreSound, board_of, ends_of_led, FitBoards, KeepKnown, KeepsRoom, SameBoards, ShowRows};
+ghost use Rattle.numbered_names.specs.Shown.{names_at, times_in};
+ghost use Rattle.asked_names.specs.Asked.{leads};
+ghost use Rattle.kept_facts.specs.Lists.{IsWide};
+ghost use Rattle.kept_facts.specs.Kept.{AreLive, AreSettled, AreSound, board_of, FitBoards, KeepsRoom, ShowRows};
+ghost use Rattle.kept_facts.specs.Moved.{EndsLed, FactsAsked, FactsUnasked, ItemComes, ItemGoes, MakesRoom, MayCome, MayLead};
 
 use crate::lists::{arrive, ask, holds_one, leave, unask};
 use cpe_rows::Mode;
@@ -89,14 +83,7 @@ impl KeptFacts {
         requires plain_there { length self.old.plain.target_ids + plain.there ≤ 536870912 }
         requires follow { length self.old.follow.probe_ids + follow.asked ≤ 536870912 }
         requires follow_there { length self.old.follow.target_ids + follow.there ≤ 536870912 }
-        ensures same { SameBoards self.old self.new }
-        ensures fits { (names : Names) → FitBoards self.old names → FitBoards self.new names }
-        ensures plain { OnOk result (plain.asked ≤ self.new.plain.probe_room) }
-        ensures plain_there { OnOk result (plain.there ≤ self.new.plain.target_room) }
-        ensures plain_wide { OnOk result (IsWide self.new.plain table.now) }
-        ensures follow { OnOk result (follow.asked ≤ self.new.follow.probe_room) }
-        ensures follow_there { OnOk result (follow.there ≤ self.new.follow.target_room) }
-        ensures follow_wide { OnOk result (IsWide self.new.follow table.now) }
+        ensures { MakesRoom self.old self.new table.now plain follow result }
     {
         self.plain.reserve(table, plain.asked, plain.there)?;
         self.follow.reserve(table, follow.asked, follow.there)
@@ -110,23 +97,8 @@ impl KeptFacts {
         ends: &[NameId],
         steps: &mut Steps<L>,
     )
-        requires fits { FitBoards self.old table.now }
-        requires item { IsLive table.now item.0 }
-        requires ends { AreLive table.now ends.now }
-        requires wide { IsWide self.old.plain table.now }
-        requires wide_follow { IsWide self.old.follow table.now }
-        requires room { 1 ≤ self.old.plain.target_room }
-        requires room_follow { length ends.now ≤ self.old.follow.target_room }
-        requires few { (t : ℕ) → target_times self.old.plain t + 1 ≤ 4294967295 }
-        requires few_follow { (t : ℕ) → target_times self.old.follow t + length ends.now ≤ 4294967295 }
-        ensures fits { FitBoards self.new table.now }
-        ensures shows { (rows : Rows) → ShowRows table.now self.old rows → names_at table.now ends.now ≡ ends_in rows.entries (name_at table.now item)
-            → ShowRows table.now self.new (after rows (edit.Item (name_at table.now item))) }
-        ensures known { KeepKnown self.old self.new }
-        ensures room { KeepsRoom self.old.plain self.new.plain 0 1 }
-        ensures room_follow { KeepsRoom self.old.follow self.new.follow 0 (length ends.now) }
-        ensures steps { steps.new ≤ steps.old + looks table.now side.Target self.old.plain.probe_ids (item ∷ []) + looks table.now side.Target self.old.follow.probe_ids ends.now }
-        ensures rise { steps.old ≤ steps.new }
+        requires { MayCome self.old table.now item ends.now }
+        ensures { ItemComes self.old self.new table.now item ends.now steps.old steps.new }
     {
         table.lawful();
         arrive(&mut self.plain, table, from_ref(&item), steps);
@@ -146,14 +118,7 @@ impl KeptFacts {
         requires ends { AreLive table.now ends.now }
         requires there { 1 ≤ target_times self.old.plain item.0 }
         requires there_follow { (t : ℕ) → times_in t ends.now ≤ target_times self.old.follow t }
-        ensures fits { FitBoards self.new table.now }
-        ensures shows { (rows : Rows) → ShowRows table.now self.old rows → list_any (is_same (name_at table.now item)) rows.items ≡ true
-            → names_at table.now ends.now ≡ ends_in rows.entries (name_at table.now item) → ShowRows table.now self.new (after rows (edit.DropItem (name_at table.now item))) }
-        ensures known { KeepKnown self.old self.new }
-        ensures room { KeepsRoom self.old.plain self.new.plain 0 0 }
-        ensures room_follow { KeepsRoom self.old.follow self.new.follow 0 0 }
-        ensures steps { steps.new ≤ steps.old + looks table.now side.Target self.old.plain.probe_ids (item ∷ []) + looks table.now side.Target self.old.follow.probe_ids ends.now }
-        ensures rise { steps.old ≤ steps.new }
+        ensures { ItemGoes self.old self.new table.now item ends.now steps.old steps.new }
     {
         table.lawful();
         leave(&mut self.plain, table, from_ref(&item), steps);
@@ -175,14 +140,7 @@ impl KeptFacts {
         requires wide { IsWide (board_of self.old mode) table.now }
         requires room { length numbers.now ≤ (board_of self.old mode).probe_room }
         requires few { (p : ℕ) → probe_times (board_of self.old mode) p + length numbers.now ≤ 4294967295 }
-        ensures fits { FitBoards self.new table.now }
-        ensures shows { (rows : Rows) (s : Statement) → s.mode ≡ mode → ShowRows table.now self.old rows
-            → SameElements (names_at table.now numbers.now) (flat_map (leads rows.entries mode) (fresh_facts mode rows.statements s)) → ShowRows table.now self.new (after rows (edit.PutStatement s)) }
-        ensures known { KeepKnown self.old self.new }
-        ensures room { KeepsRoom (board_of self.old mode) (board_of self.new mode) (length numbers.now) 0 }
-        ensures other { (m : Mode) → m ≢ mode → board_of self.new m ≡ board_of self.old m }
-        ensures steps { steps.new ≤ steps.old + looks table.now side.Source (board_of self.old mode).target_ids numbers.now }
-        ensures rise { steps.old ≤ steps.new }
+        ensures { FactsAsked self.old self.new table.now mode numbers.now steps.old steps.new }
     {
         table.lawful();
         match mode {
@@ -203,15 +161,7 @@ impl KeptFacts {
         requires fits { FitBoards self.old table.now }
         requires live { AreLive table.now numbers.now }
         requires asked { (p : ℕ) → times_in p numbers.now ≤ probe_times (board_of self.old mode) p }
-        ensures fits { FitBoards self.new table.now }
-        ensures shows { (rows : Rows) (id : List ℕ) (s : Statement) → s.mode ≡ mode → find (has_id id) rows.statements ≡ Some s → ShowRows table.now self.old rows
-            → SameElements (names_at table.now numbers.now) (flat_map (leads rows.entries mode) (fresh_facts mode (after rows (edit.DropStatement id)).statements s)) → ShowRows table.now self.new (after rows (edit.DropStatement id)) }
-        ensures back { (rows : Rows) (s : Statement) → s.mode ≡ mode → SameElements (names_at table.now numbers.now) (flat_map (leads rows.entries mode) (fresh_facts mode rows.statements s))
-            → ShowRows table.now self.old (after rows (edit.PutStatement s)) → ShowRows table.now self.new rows }
-        ensures known { KeepKnown self.old self.new }
-        ensures room { KeepsRoom (board_of self.old mode) (board_of self.new mode) 0 0 }
-        ensures other { (m : Mode) → m ≢ mode → board_of self.new m ≡ board_of self.old m }
-        ensures steps { steps.new ≡ steps.old }
+        ensures { FactsUnasked self.old self.new table.now mode numbers.now steps.old steps.new }
     {
         table.lawful();
         match mode {
@@ -231,31 +181,8 @@ impl KeptFacts {
         facts_to: &[NameId],
         steps: &mut Steps<L>,
     )
-        requires fits { FitBoards self.old table.now }
-        requires live_from { AreLive table.now items_from.now }
-        requires live_to { AreLive table.now items_to.now }
-        requires live_facts_from { AreLive table.now facts_from.now }
-        requires live_facts_to { AreLive table.now facts_to.now }
-        requires wide { IsWide self.old.follow table.now }
-        requires room { length items_to.now ≤ self.old.follow.target_room }
-        requires room_facts { length facts_to.now ≤ self.old.follow.probe_room }
-        requires few { (t : ℕ) → target_times self.old.follow t + length items_to.now ≤ 4294967295 }
-        requires few_facts { (p : ℕ) → probe_times self.old.follow p + length facts_to.now ≤ 4294967295 }
-        requires there { (t : ℕ) → times_in t items_from.now ≤ target_times self.old.follow t }
-        requires asked { (p : ℕ) → times_in p facts_from.now ≤ probe_times self.old.follow p }
-        ensures fits { FitBoards self.new table.now }
-        ensures shows { (rows : Rows) (e : Edit) (n : Values) → deprecation_changed e ≡ Some n → ShowRows table.now self.old rows
-            → SameElements (names_at table.now items_from.now) (ends_of_led rows.entries rows.entries n rows.items)
-            → SameElements (names_at table.now items_to.now) (ends_of_led rows.entries (after rows e).entries n rows.items)
-            → SameElements (names_at table.now facts_from.now) (ends_of_led rows.entries rows.entries n (facts_in Follow rows.statements))
-            → SameElements (names_at table.now facts_to.now) (ends_of_led rows.entries (after rows e).entries n (facts_in Follow rows.statements))
-            → ShowRows table.now self.new (after rows e) }
-        ensures known { KeepKnown self.old self.new }
-        ensures room { KeepsRoom self.old.follow self.new.follow (length facts_to.now) (length items_to.now) }
-        ensures plain { self.new.plain ≡ self.old.plain }
-        ensures steps { steps.new ≤ steps.old + looks table.now side.Target self.old.follow.probe_ids items_to.now + looks table.now side.Target self.old.follow.probe_ids items_from.now
-            + looks table.now side.Source self.new.follow.target_ids facts_to.now }
-        ensures rise { steps.old ≤ steps.new }
+        requires { MayLead self.old table.now items_from.now items_to.now facts_from.now facts_to.now }
+        ensures { EndsLed self.old self.new table.now items_from.now items_to.now facts_from.now facts_to.now steps.old steps.new }
     {
         table.lawful();
         arrive(&mut self.follow, table, items_to, steps);

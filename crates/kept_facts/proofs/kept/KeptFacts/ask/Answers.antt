@@ -1,4 +1,4 @@
-use Rattle.std.proofs.Common.{◌≡◌, ◌≢◌, length, refl, sym, ap, subst, ◌∙◌}
+use Rattle.std.proofs.Common.{length, arith, refl, sym, ap, subst, ◌∙◌}
 use Rattle.std.specs.List.{flat_map}
 use Rattle.product_orders.specs.Elements.{SameElements}
 use Rattle.cpe_rows.specs.After.{after}
@@ -8,67 +8,46 @@ use Rattle.cpe_rows.specs.declared.statement.Mode.TheVariants.{Plain, Follow}
 use Rattle.numbered_names.specs.Shown.{names_at}
 use Rattle.asked_names.specs.Asked.{fresh_facts, leads}
 use Rattle.kept_facts.specs.Kept.{board_of, Boards, KeepKnown, KeepsRoom, ShowRows}
-use Rattle.kept_facts.proofs.Boards.{asked_room, asks, asks_known, other_put, reordered, same_known, statement_more}
+use Rattle.kept_facts.proofs.Boards.{asked_room, asks, asks_known, other_follow, other_plain, other_put, reordered, same_known, statement_more}
+use Rattle.std.proofs.lemmas.Grind.{common_steps}
 use Rattle.kept_facts.proofs.kept.KeptFacts.ask.Goals as goal
 
-pub returns-in-Plain-clause-shows : goal.returns-in-Plain-clause-shows
-returns-in-Plain-clause-shows g c rows s own asked_before led =
-    let names = c.args.table.now in
-    let before = subst (λ (b : Boards). ShowRows names b rows) (sym c.self.view_is) asked_before in
-    record {
-      plain = asks names c.lawful.ensures c.self.inside.plain c.ask.new.board Plain c.args.numbers.now c.requires.live rows (after rows (edit.PutStatement s)) c.ask.ensures.asks (statement_more rows Plain s (names_at names c.args.numbers.now) (subst (λ (m : Mode). SameElements (names_at names c.args.numbers.now) (flat_map (leads rows.entries m) (fresh_facts m rows.statements s))) c.in-Plain.is led)) refl before.plain;
-      follow = reordered names c.self.inside.follow Follow rows (after rows (edit.PutStatement s)) (other_put rows Plain s (own ∙ c.in-Plain.is)) refl before.follow;
-    }
+pub returns-in-Plain : goal.returns-in-Plain
+returns-in-Plain g c = record {
+  fits = grind (arith, common_steps);
+  shows = λ rows s own asked_before led. let names = c.args.table.now in
+      let before = subst (λ (b : Boards). ShowRows names b rows) (sym c.self.view_is) asked_before in
+      record {
+        plain = asks names c.lawful.ensures c.self.inside.plain c.ask.new.board Plain c.args.numbers.now c.requires.live rows (after rows (edit.PutStatement s)) c.ask.ensures.asks (statement_more rows Plain s (names_at names c.args.numbers.now) (subst (λ (m : Mode). SameElements (names_at names c.args.numbers.now) (flat_map (leads rows.entries m) (fresh_facts m rows.statements s))) c.in-Plain.is led)) refl before.plain;
+        follow = reordered names c.self.inside.follow Follow rows (after rows (edit.PutStatement s)) (other_put rows Plain s (own ∙ c.in-Plain.is)) refl before.follow;
+      };
+  known = let next : Boards = record { plain = c.ask.new.board; follow = c.self.inside.follow } in
+      subst (λ (b : Boards). KeepKnown b next) c.self.view_is
+      (record { plain = asks_known c.self.inside.plain c.ask.new.board c.args.table.now c.args.numbers.now c.ask.ensures.asks; follow = same_known c.self.inside.follow });
+  room = let next : Boards = record { plain = c.ask.new.board; follow = c.self.inside.follow } in
+      subst (λ (m : Mode). KeepsRoom (board_of c.args.self.now m) (board_of next m) (length c.args.numbers.now) 0) (sym c.in-Plain.is)
+      (subst (λ (b : Boards). KeepsRoom b.plain c.ask.new.board (length c.args.numbers.now) 0) c.self.view_is (asked_room c.self.inside.plain c.ask.new.board c.args.table.now c.args.numbers.now c.ask.ensures.asks));
+  other = other_follow c.args.self.now _ c.args.mode c.in-Plain.is (ap (λ (b : Boards). b.follow) c.self.view_is);
+  steps = grind (arith, common_steps);
+  rise = grind (arith, common_steps);
+}
 
-pub returns-in-Plain-clause-known : goal.returns-in-Plain-clause-known
-returns-in-Plain-clause-known g c =
-    let next : Boards = record { plain = c.ask.new.board; follow = c.self.inside.follow } in
-    subst (λ (b : Boards). KeepKnown b next) c.self.view_is
-    (record { plain = asks_known c.self.inside.plain c.ask.new.board c.args.table.now c.args.numbers.now c.ask.ensures.asks; follow = same_known c.self.inside.follow })
-
-pub returns-in-Plain-clause-room : goal.returns-in-Plain-clause-room
-returns-in-Plain-clause-room g c =
-    let next : Boards = record { plain = c.ask.new.board; follow = c.self.inside.follow } in
-    subst (λ (m : Mode). KeepsRoom (board_of c.args.self.now m) (board_of next m) (length c.args.numbers.now) 0) (sym c.in-Plain.is)
-    (subst (λ (b : Boards). KeepsRoom b.plain c.ask.new.board (length c.args.numbers.now) 0) c.self.view_is (asked_room c.self.inside.plain c.ask.new.board c.args.table.now c.args.numbers.now c.ask.ensures.asks))
-
-pub returns-in-Plain-clause-other : goal.returns-in-Plain-clause-other
-returns-in-Plain-clause-other g c m apart = by m (λ is. apart (is ∙ sym c.in-Plain.is))
-  where
-    next : Boards
-    next = record { plain = c.ask.new.board; follow = c.self.inside.follow }
-
-    by : (m : Mode) → m ≢ Plain → board_of next m ≡ board_of c.args.self.now m
-    by Plain ne = absurd (ne refl)
-    by Follow ne = ap (λ (b : Boards). b.follow) c.self.view_is
-
-pub returns-in-Follow-clause-shows : goal.returns-in-Follow-clause-shows
-returns-in-Follow-clause-shows g c rows s own asked_before led =
-    let names = c.args.table.now in
-    let before = subst (λ (b : Boards). ShowRows names b rows) (sym c.self.view_is) asked_before in
-    record {
-      follow = asks names c.lawful.ensures c.self.inside.follow c.ask-in-Follow.new.board Follow c.args.numbers.now c.requires.live rows (after rows (edit.PutStatement s)) c.ask-in-Follow.ensures.asks (statement_more rows Follow s (names_at names c.args.numbers.now) (subst (λ (m : Mode). SameElements (names_at names c.args.numbers.now) (flat_map (leads rows.entries m) (fresh_facts m rows.statements s))) c.in-Follow.is led)) refl before.follow;
-      plain = reordered names c.self.inside.plain Plain rows (after rows (edit.PutStatement s)) (other_put rows Follow s (own ∙ c.in-Follow.is)) refl before.plain;
-    }
-
-pub returns-in-Follow-clause-known : goal.returns-in-Follow-clause-known
-returns-in-Follow-clause-known g c =
-    let next : Boards = record { plain = c.self.inside.plain; follow = c.ask-in-Follow.new.board } in
-    subst (λ (b : Boards). KeepKnown b next) c.self.view_is
-    (record { follow = asks_known c.self.inside.follow c.ask-in-Follow.new.board c.args.table.now c.args.numbers.now c.ask-in-Follow.ensures.asks; plain = same_known c.self.inside.plain })
-
-pub returns-in-Follow-clause-room : goal.returns-in-Follow-clause-room
-returns-in-Follow-clause-room g c =
-    let next : Boards = record { plain = c.self.inside.plain; follow = c.ask-in-Follow.new.board } in
-    subst (λ (m : Mode). KeepsRoom (board_of c.args.self.now m) (board_of next m) (length c.args.numbers.now) 0) (sym c.in-Follow.is)
-    (subst (λ (b : Boards). KeepsRoom b.follow c.ask-in-Follow.new.board (length c.args.numbers.now) 0) c.self.view_is (asked_room c.self.inside.follow c.ask-in-Follow.new.board c.args.table.now c.args.numbers.now c.ask-in-Follow.ensures.asks))
-
-pub returns-in-Follow-clause-other : goal.returns-in-Follow-clause-other
-returns-in-Follow-clause-other g c m apart = by m (λ is. apart (is ∙ sym c.in-Follow.is))
-  where
-    next : Boards
-    next = record { plain = c.self.inside.plain; follow = c.ask-in-Follow.new.board }
-
-    by : (m : Mode) → m ≢ Follow → board_of next m ≡ board_of c.args.self.now m
-    by Follow ne = absurd (ne refl)
-    by Plain ne = ap (λ (b : Boards). b.plain) c.self.view_is
+pub returns-in-Follow : goal.returns-in-Follow
+returns-in-Follow g c = record {
+  fits = grind (arith, common_steps);
+  shows = λ rows s own asked_before led. let names = c.args.table.now in
+      let before = subst (λ (b : Boards). ShowRows names b rows) (sym c.self.view_is) asked_before in
+      record {
+        follow = asks names c.lawful.ensures c.self.inside.follow c.ask-in-Follow.new.board Follow c.args.numbers.now c.requires.live rows (after rows (edit.PutStatement s)) c.ask-in-Follow.ensures.asks (statement_more rows Follow s (names_at names c.args.numbers.now) (subst (λ (m : Mode). SameElements (names_at names c.args.numbers.now) (flat_map (leads rows.entries m) (fresh_facts m rows.statements s))) c.in-Follow.is led)) refl before.follow;
+        plain = reordered names c.self.inside.plain Plain rows (after rows (edit.PutStatement s)) (other_put rows Follow s (own ∙ c.in-Follow.is)) refl before.plain;
+      };
+  known = let next : Boards = record { plain = c.self.inside.plain; follow = c.ask-in-Follow.new.board } in
+      subst (λ (b : Boards). KeepKnown b next) c.self.view_is
+      (record { follow = asks_known c.self.inside.follow c.ask-in-Follow.new.board c.args.table.now c.args.numbers.now c.ask-in-Follow.ensures.asks; plain = same_known c.self.inside.plain });
+  room = let next : Boards = record { plain = c.self.inside.plain; follow = c.ask-in-Follow.new.board } in
+      subst (λ (m : Mode). KeepsRoom (board_of c.args.self.now m) (board_of next m) (length c.args.numbers.now) 0) (sym c.in-Follow.is)
+      (subst (λ (b : Boards). KeepsRoom b.follow c.ask-in-Follow.new.board (length c.args.numbers.now) 0) c.self.view_is (asked_room c.self.inside.follow c.ask-in-Follow.new.board c.args.table.now c.args.numbers.now c.ask-in-Follow.ensures.asks));
+  other = other_plain c.args.self.now _ c.args.mode c.in-Follow.is (ap (λ (b : Boards). b.plain) c.self.view_is);
+  steps = grind (arith, common_steps);
+  rise = grind (arith, common_steps);
+}

@@ -1,4 +1,4 @@
-use Rattle.std.proofs.Common.{List, length, [], ◌∷◌, refl, sym, subst}
+use Rattle.std.proofs.Common.{List, length, [], ◌∷◌, arith, refl, sym, subst}
 use Rattle.cpe_rows.specs.After.{after}
 use Rattle.cpe_rows.specs.declared.edit.Edit.TheVariants as edit
 use Rattle.cpe_rows.specs.declared.statement.Mode.TheVariants.{Plain, Follow}
@@ -7,32 +7,28 @@ use Rattle.numbered_names.specs.Shown.{name_at, names_at}
 use Rattle.kept_facts.specs.Lists.{Arrives}
 use Rattle.kept_facts.specs.Kept.{Boards, KeepKnown, KeepsRoom, ShowRows}
 use Rattle.kept_facts.proofs.Boards.{arrived_room, comes, item_more, probes_known}
+use Rattle.std.proofs.lemmas.Grind.{common_steps}
 use Rattle.kept_facts.proofs.kept.KeptFacts.item_comes.Goals as goal
 
-pub returns-clause-shows : goal.returns-clause-shows
-returns-clause-shows g c rows asked led =
-    let names = c.args.table.now in
-    let before = subst (λ (b : Boards). ShowRows names b rows) (sym c.self.view_is) asked in
-    let one = subst (λ (ns : List NameId). Arrives c.self.inside.plain c.arrive.new.board names ns) c.from_ref.ensures.value c.arrive.ensures.arrives in
-    record {
-      plain = comes names c.lawful.ensures c.self.inside.plain c.arrive.new.board Plain (c.args.item ∷ []) (c.requires.item, tt) rows (after rows (edit.Item (name_at names c.args.item))) one (item_more rows Plain (name_at names c.args.item) (names_at names (c.args.item ∷ [])) refl) refl before.plain;
-      follow = comes names c.lawful.ensures c.self.inside.follow c.arrive-2.new.board Follow c.args.ends.now c.requires.ends rows (after rows (edit.Item (name_at names c.args.item))) c.arrive-2.ensures.arrives (item_more rows Follow (name_at names c.args.item) (names_at names c.args.ends.now) led) refl before.follow;
-    }
-
-pub returns-clause-known : goal.returns-clause-known
-returns-clause-known g c =
-    let after_both : Boards = record { plain = c.arrive.new.board; follow = c.arrive-2.new.board } in
-    subst (λ (b : Boards). KeepKnown b after_both) c.self.view_is
-    (record {
-      plain = probes_known c.self.inside.plain c.arrive.new.board c.arrive.ensures.arrives.stay;
-      follow = probes_known c.self.inside.follow c.arrive-2.new.board c.arrive-2.ensures.arrives.stay;
-    })
-
-pub returns-clause-room : goal.returns-clause-room
-returns-clause-room g c =
-    let one = subst (λ (ns : List NameId). Arrives c.self.inside.plain c.arrive.new.board c.args.table.now ns) c.from_ref.ensures.value c.arrive.ensures.arrives in
-    subst (λ (b : Boards). KeepsRoom b.plain c.arrive.new.board 0 1) c.self.view_is (arrived_room c.self.inside.plain c.arrive.new.board c.args.table.now (c.args.item ∷ []) one)
-
-pub returns-clause-room_follow : goal.returns-clause-room_follow
-returns-clause-room_follow g c =
-    subst (λ (b : Boards). KeepsRoom b.follow c.arrive-2.new.board 0 (length c.args.ends.now)) c.self.view_is (arrived_room c.self.inside.follow c.arrive-2.new.board c.args.table.now c.args.ends.now c.arrive-2.ensures.arrives)
+pub returns : goal.returns
+returns g c = record {
+  fits = grind (arith, common_steps);
+  shows = λ rows asked led. let names = c.args.table.now in
+      let before = subst (λ (b : Boards). ShowRows names b rows) (sym c.self.view_is) asked in
+      let one = subst (λ (ns : List NameId). Arrives c.self.inside.plain c.arrive.new.board names ns) c.from_ref.ensures.value c.arrive.ensures.arrives in
+      record {
+        plain = comes names c.lawful.ensures c.self.inside.plain c.arrive.new.board Plain (c.args.item ∷ []) (c.requires.item, tt) rows (after rows (edit.Item (name_at names c.args.item))) one (item_more rows Plain (name_at names c.args.item) (names_at names (c.args.item ∷ [])) refl) refl before.plain;
+        follow = comes names c.lawful.ensures c.self.inside.follow c.arrive-2.new.board Follow c.args.ends.now c.requires.ends rows (after rows (edit.Item (name_at names c.args.item))) c.arrive-2.ensures.arrives (item_more rows Follow (name_at names c.args.item) (names_at names c.args.ends.now) led) refl before.follow;
+      };
+  known = let after_both : Boards = record { plain = c.arrive.new.board; follow = c.arrive-2.new.board } in
+      subst (λ (b : Boards). KeepKnown b after_both) c.self.view_is
+      (record {
+        plain = probes_known c.self.inside.plain c.arrive.new.board c.arrive.ensures.arrives.stay;
+        follow = probes_known c.self.inside.follow c.arrive-2.new.board c.arrive-2.ensures.arrives.stay;
+      });
+  room = let one = subst (λ (ns : List NameId). Arrives c.self.inside.plain c.arrive.new.board c.args.table.now ns) c.from_ref.ensures.value c.arrive.ensures.arrives in
+      subst (λ (b : Boards). KeepsRoom b.plain c.arrive.new.board 0 1) c.self.view_is (arrived_room c.self.inside.plain c.arrive.new.board c.args.table.now (c.args.item ∷ []) one);
+  room_follow = subst (λ (b : Boards). KeepsRoom b.follow c.arrive-2.new.board 0 (length c.args.ends.now)) c.self.view_is (arrived_room c.self.inside.follow c.arrive-2.new.board c.args.table.now c.args.ends.now c.arrive-2.ensures.arrives);
+  steps = grind (arith, common_steps);
+  rise = grind (arith, common_steps);
+}

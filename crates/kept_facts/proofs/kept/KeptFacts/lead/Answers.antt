@@ -1,38 +1,38 @@
-use Rattle.std.proofs.Common.{length, sym, subst}
+use Rattle.std.proofs.Common.{length, arith, sym, subst}
 use Rattle.cpe_rows.specs.After.{after}
 use Rattle.numbered_names.specs.Shown.{names_at}
 use Rattle.kept_facts.specs.Kept.{Boards, KeepKnown, KeepsRoom, ShowRows}
 use Rattle.kept_facts.proofs.Boards.{arrived_room, asked_room, facts_lead, items_lead, led, led_known, led_room, left_room, plain_stays, same_known, unasked_room}
+use Rattle.std.proofs.lemmas.Grind.{common_steps}
 use Rattle.kept_facts.proofs.kept.KeptFacts.lead.Goals as goal
 
-pub returns-clause-shows : goal.returns-clause-shows
-returns-clause-shows g c rows e n h shown from to facts_from facts_to =
-    let names = c.args.table.now in
-    let before = subst (λ (b : Boards). ShowRows names b rows) (sym c.self.view_is) shown in
-    record {
-      plain = plain_stays names c.self.inside.plain rows e n h before.plain;
-      follow = led names c.lawful.ensures c.self.inside.follow c.arrive.new.board c.leave.new.board c.ask.new.board c.unask.new.board c.args.items_from.now c.args.items_to.now c.args.facts_from.now c.args.facts_to.now rows (after rows e)
-          c.requires.live_from c.requires.live_to c.requires.live_facts_from c.requires.live_facts_to c.arrive.ensures.arrives c.leave.ensures.leaves c.ask.ensures.asks c.unask.ensures.unasks
-          (items_lead rows e n h (names_at names c.args.items_from.now) (names_at names c.args.items_to.now) from to) (facts_lead rows e n h (names_at names c.args.facts_from.now) (names_at names c.args.facts_to.now) facts_from facts_to) before.follow;
-    }
-
-pub returns-clause-known : goal.returns-clause-known
-returns-clause-known g c =
-    let next : Boards = record { plain = c.self.inside.plain; follow = c.unask.new.board } in
-    subst (λ (b : Boards). KeepKnown b next) c.self.view_is
-    (record {
-      plain = same_known c.self.inside.plain;
-      follow = led_known c.self.inside.follow c.arrive.new.board c.leave.new.board c.ask.new.board c.unask.new.board c.args.table.now c.args.facts_from.now c.args.facts_to.now c.arrive.ensures.arrives.stay c.leave.ensures.leaves.stay c.ask.ensures.asks c.unask.ensures.unasks;
-    })
-
-pub returns-clause-room : goal.returns-clause-room
-returns-clause-room g c =
-    let names = c.args.table.now in
-    let come = c.arrive.new.board in
-    let gone = c.leave.new.board in
-    let asks = c.ask.new.board in
-    let new = c.unask.new.board in
-    subst (λ (b : Boards). KeepsRoom b.follow new (length c.args.facts_to.now) (length c.args.items_to.now)) c.self.view_is
-    (led_room c.self.inside.follow come gone asks new (length c.args.facts_to.now) (length c.args.items_to.now)
-    (arrived_room c.self.inside.follow come names c.args.items_to.now c.arrive.ensures.arrives) (left_room come gone names c.args.items_from.now c.leave.ensures.leaves)
-    (asked_room gone asks names c.args.facts_to.now c.ask.ensures.asks) (unasked_room asks new names c.args.facts_from.now c.unask.ensures.unasks))
+pub returns : goal.returns
+returns g c = record {
+  fits = grind (arith, common_steps);
+  shows = λ rows e n h shown from to facts_from facts_to. let names = c.args.table.now in
+      let before = subst (λ (b : Boards). ShowRows names b rows) (sym c.self.view_is) shown in
+      record {
+        plain = plain_stays names c.self.inside.plain rows e n h before.plain;
+        follow = led names c.lawful.ensures c.self.inside.follow c.arrive.new.board c.leave.new.board c.ask.new.board c.unask.new.board c.args.items_from.now c.args.items_to.now c.args.facts_from.now c.args.facts_to.now rows (after rows e)
+            c.requires.live_from c.requires.live_to c.requires.live_facts_from c.requires.live_facts_to c.arrive.ensures.arrives c.leave.ensures.leaves c.ask.ensures.asks c.unask.ensures.unasks
+            (items_lead rows e n h (names_at names c.args.items_from.now) (names_at names c.args.items_to.now) from to) (facts_lead rows e n h (names_at names c.args.facts_from.now) (names_at names c.args.facts_to.now) facts_from facts_to) before.follow;
+      };
+  known = let next : Boards = record { plain = c.self.inside.plain; follow = c.unask.new.board } in
+      subst (λ (b : Boards). KeepKnown b next) c.self.view_is
+      (record {
+        plain = same_known c.self.inside.plain;
+        follow = led_known c.self.inside.follow c.arrive.new.board c.leave.new.board c.ask.new.board c.unask.new.board c.args.table.now c.args.facts_from.now c.args.facts_to.now c.arrive.ensures.arrives.stay c.leave.ensures.leaves.stay c.ask.ensures.asks c.unask.ensures.unasks;
+      });
+  room = let names = c.args.table.now in
+      let come = c.arrive.new.board in
+      let gone = c.leave.new.board in
+      let asks = c.ask.new.board in
+      let new = c.unask.new.board in
+      subst (λ (b : Boards). KeepsRoom b.follow new (length c.args.facts_to.now) (length c.args.items_to.now)) c.self.view_is
+      (led_room c.self.inside.follow come gone asks new (length c.args.facts_to.now) (length c.args.items_to.now)
+      (arrived_room c.self.inside.follow come names c.args.items_to.now c.arrive.ensures.arrives) (left_room come gone names c.args.items_from.now c.leave.ensures.leaves)
+      (asked_room gone asks names c.args.facts_to.now c.ask.ensures.asks) (unasked_room asks new names c.args.facts_from.now c.unask.ensures.unasks));
+  plain = grind (arith, common_steps);
+  steps = grind (arith, common_steps);
+  rise = grind (arith, common_steps);
+}

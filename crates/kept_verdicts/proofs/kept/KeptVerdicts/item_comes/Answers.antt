@@ -8,7 +8,7 @@ use Rattle.cpe_rows.specs.declared.statement.Mode.TheVariants.{Plain, Follow}
 use Rattle.numbered_names.specs.Shown.{name_at}
 use Rattle.asked_names.specs.Asked.{asked}
 use Rattle.kept_facts.specs.Kept.{looks_by}
-use Rattle.kept_verdicts.specs.Kept.{Stands, Verdicts}
+use Rattle.kept_verdicts.specs.Kept.{HasRoom, Stands, Verdicts}
 use Rattle.kept_verdicts.proofs.StandLemmas.{moved_by}
 use Rattle.kept_verdicts.proofs.kept.KeptVerdicts.item_comes.Goals as goal
 
@@ -35,21 +35,26 @@ returns-clause-steps g c rows stands ends =
       ),
     )
 
-pub item_comes-requires-clause-few : goal.item_comes-requires-clause-few
-item_comes-requires-clause-few g c t =
-    let stood = c.requires.stood in
-    let s = subst (λ (v : Verdicts). Stands c.args.table.now v stood.0) (sym c.self.view_is) stood.2 in
-    omega (arith, c.few_stand.ensures.targets c.args.table.now c.self.inside.facts.plain stood.0 Plain t s.shows.plain stood.1)
-
-pub item_comes-requires-clause-few_follow : goal.item_comes-requires-clause-few_follow
-item_comes-requires-clause-few_follow g c t =
+pub item_comes-requires : goal.item_comes-requires
+item_comes-requires g c =
     let stood = c.requires.stood in
     let table = c.args.table.now in
     let s = subst (λ (v : Verdicts). Stands table v stood.0) (sym c.self.view_is) stood.2 in
-    omega (
-      arith,
-      c.few_stand.ensures.targets table c.self.inside.facts.follow stood.0 Follow t s.shows.follow stood.1,
-      c.lawful_rows_ask_few.ensures.leads stood.0 Follow (name_at table c.args.item) stood.1,
-      ap length stood.3.names,
-      length-map c.args.ends.now (name_at table),
-    )
+    let room = subst (λ (v : Verdicts). HasRoom table v 0 1 (length c.args.ends.now)) (sym c.self.view_is) c.requires.room in
+    record {
+      fits = s.fits;
+      item = c.requires.live;
+      ends = stood.3.live;
+      wide = room.wide_plain;
+      wide_follow = room.wide;
+      room = room.there_plain;
+      room_follow = room.there;
+      few = λ t. omega (arith, c.few_stand.ensures.targets table c.self.inside.facts.plain stood.0 Plain t s.shows.plain stood.1);
+      few_follow = λ t. omega (
+        arith,
+        c.few_stand.ensures.targets table c.self.inside.facts.follow stood.0 Follow t s.shows.follow stood.1,
+        c.lawful_rows_ask_few.ensures.leads stood.0 Follow (name_at table c.args.item) stood.1,
+        ap length stood.3.names,
+        length-map c.args.ends.now (name_at table),
+      );
+    }

@@ -11,7 +11,7 @@ use Rattle.cpe_rows.specs.declared.statement.Mode.TheVariants.{Follow}
 use Rattle.pair_board.specs.Board.{probe_times, target_times}
 use Rattle.numbered_names.specs.Shown.{different, names_at, near_names, times_in}
 use Rattle.asked_names.specs.Asked.{asked, facts_in, there}
-use Rattle.kept_facts.specs.Kept.{ends_of_led, looks_by}
+use Rattle.kept_facts.specs.Kept.{AreLive, ends_of_led, looks_by}
 use Rattle.kept_verdicts.specs.Kept.{IsLead, Stands, Verdicts}
 use Rattle.kept_verdicts.proofs.LedMoved.{led_moved, led_there}
 use Rattle.kept_verdicts.proofs.kept.KeptVerdicts.lead.Goals as goal
@@ -64,37 +64,26 @@ returns-clause-steps g c rows e n h stood led =
       ),
     )
 
-pub lead-requires-clause-wide : goal.lead-requires-clause-wide
-lead-requires-clause-wide g c =
-    let stood = c.requires.stood in
-    (subst (λ (w : Verdicts). IsLead c.args.table.now w stood.0 (after stood.0 stood.1).entries stood.2 c.args.lead) (sym c.self.view_is) stood.6).room.wide
-
-pub lead-requires-clause-few : goal.lead-requires-clause-few
-lead-requires-clause-few g c t =
-    let stood = c.requires.stood in
-    let s = subst (λ (w : Verdicts). Stands c.args.table.now w stood.0) (sym c.self.view_is) stood.5 in
-    omega (arith, stood.6.few_items, ap length c.deref-2.ensures.value, c.few_stand.ensures.targets c.args.table.now c.self.inside.facts.follow stood.0 Follow t s.shows.follow stood.4)
-
-pub lead-requires-clause-few_facts : goal.lead-requires-clause-few_facts
-lead-requires-clause-few_facts g c p =
-    let stood = c.requires.stood in
-    let s = subst (λ (w : Verdicts). Stands c.args.table.now w stood.0) (sym c.self.view_is) stood.5 in
-    omega (arith, stood.6.few_facts, ap length c.deref-4.ensures.value, c.few_stand.ensures.probes c.args.table.now c.self.inside.facts.follow stood.0 Follow p s.shows.follow stood.4)
-
-pub lead-requires-clause-there : goal.lead-requires-clause-there
-lead-requires-clause-there g c t =
+pub lead-requires : goal.lead-requires
+lead-requires g c =
     let stood = c.requires.stood in
     let table = c.args.table.now in
     let rows = stood.0 in
     let s = subst (λ (w : Verdicts). Stands table w rows) (sym c.self.view_is) stood.5 in
-    subst (λ (ns : List NameId). times_in t ns ≤ target_times c.self.inside.facts.follow t) (sym c.deref.ensures.value)
-    (led_there table c.lawful.ensures (target_times c.self.inside.facts.follow) (ends rows.entries) (λ x. leads_to rows.entries x stood.2) rows.items c.args.lead.items_from.items stood.6.live_items_from s.shows.follow.there stood.6.items_from t)
-
-pub lead-requires-clause-asked : goal.lead-requires-clause-asked
-lead-requires-clause-asked g c p =
-    let stood = c.requires.stood in
-    let table = c.args.table.now in
-    let rows = stood.0 in
-    let s = subst (λ (w : Verdicts). Stands table w rows) (sym c.self.view_is) stood.5 in
-    subst (λ (ns : List NameId). times_in p ns ≤ probe_times c.self.inside.facts.follow p) (sym c.deref-3.ensures.value)
-    (led_there table c.lawful.ensures (probe_times c.self.inside.facts.follow) (ends rows.entries) (λ x. leads_to rows.entries x stood.2) (facts_in Follow rows.statements) c.args.lead.facts_from.items stood.6.live_facts_from s.shows.follow.asked stood.6.facts_from p)
+    let l = subst (λ (w : Verdicts). IsLead table w rows (after rows stood.1).entries stood.2 c.args.lead) (sym c.self.view_is) stood.6 in
+    record {
+      fits = s.fits;
+      live_from = subst (AreLive table) (sym c.deref.ensures.value) l.live_items_from;
+      live_to = subst (AreLive table) (sym c.deref-2.ensures.value) l.live_items_to;
+      live_facts_from = subst (AreLive table) (sym c.deref-3.ensures.value) l.live_facts_from;
+      live_facts_to = subst (AreLive table) (sym c.deref-4.ensures.value) l.live_facts_to;
+      wide = l.room.wide;
+      room = omega (arith, l.room.there, ap length c.deref-2.ensures.value);
+      room_facts = omega (arith, l.room.asked, ap length c.deref-4.ensures.value);
+      few = λ t. omega (arith, stood.6.few_items, ap length c.deref-2.ensures.value, c.few_stand.ensures.targets table c.self.inside.facts.follow rows Follow t s.shows.follow stood.4);
+      few_facts = λ p. omega (arith, stood.6.few_facts, ap length c.deref-4.ensures.value, c.few_stand.ensures.probes table c.self.inside.facts.follow rows Follow p s.shows.follow stood.4);
+      there = λ t. subst (λ (ns : List NameId). times_in t ns ≤ target_times c.self.inside.facts.follow t) (sym c.deref.ensures.value)
+          (led_there table c.lawful.ensures (target_times c.self.inside.facts.follow) (ends rows.entries) (λ x. leads_to rows.entries x stood.2) rows.items c.args.lead.items_from.items stood.6.live_items_from s.shows.follow.there stood.6.items_from t);
+      asked = λ p. subst (λ (ns : List NameId). times_in p ns ≤ probe_times c.self.inside.facts.follow p) (sym c.deref-3.ensures.value)
+          (led_there table c.lawful.ensures (probe_times c.self.inside.facts.follow) (ends rows.entries) (λ x. leads_to rows.entries x stood.2) (facts_in Follow rows.statements) c.args.lead.facts_from.items stood.6.live_facts_from s.shows.follow.asked stood.6.facts_from p);
+    }
