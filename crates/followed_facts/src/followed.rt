@@ -1,8 +1,9 @@
 // Facts with their ends, and ends with their facts.
-ghost use Rattle.std.specs.Prelude.{◌≡◌, ◌≢◌, ℕ, List, [], true, false, None, Some, IsSome, OnOk, OnErr};
+ghost use Rattle.std.specs.Prelude.{◌≡◌, ℕ, List, [], true, false, None, Some, IsSome, OnOk};
 ghost use Rattle.std.specs.Option.{option_map};
 ghost use Rattle.name_index.specs.declared.table.NameId.{NameId};
 ghost use Rattle.followed_facts.specs.Followed.{AreLinked, ends_at, facts_at, has_end, IsUnder, KeepsLinks, OthersStay, SameOthers};
+ghost use Rattle.followed_facts.specs.Moved.{FactPut};
 
 use crate::ends::{ends_of, ends_or_none, keep, remove, replace};
 use crate::links::{facts_of, link, unlink, unlink_old};
@@ -76,13 +77,7 @@ impl FollowedFacts {
     /// # Errors
     /// That memory ran out. The ends of all facts are then as they were; the fact may be under some of these.
     pub fn put(&mut self, alloc: Global, fact: NameId, ends: Vec<NameId>) -> Result<(), Memory>
-        ensures ends { OnOk result (ends_at self.new fact.0 ≡ Some ends.items) }
-        ensures under { OnOk result (IsUnder (facts_at self.new) fact.0 ends.items) }
-        ensures links { KeepsLinks (facts_at self.old) (facts_at self.new) }
-        ensures others { SameOthers fact.0 (facts_at self.old) (facts_at self.new) }
-        ensures stay { OthersStay fact.0 self.old self.new }
-        ensures err { OnErr result ((q : ℕ) → ends_at self.new q ≡ ends_at self.old q) }
-        ensures linked { AreLinked self.old → AreLinked self.new }
+        ensures { FactPut self.old self.new fact.0 ends.items result }
     {
         match link(&mut self.facts, alloc, fact.0, &ends) {
             Ok(()) => keep(&mut self.ends, fact.0, ends),
