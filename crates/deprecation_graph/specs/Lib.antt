@@ -9,3 +9,4 @@ pub mod Heads
 pub mod Mirror
 pub mod Groups
 pub mod Kept
+pub mod Room

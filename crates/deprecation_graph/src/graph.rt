@@ -36,6 +36,7 @@ impl DeprecationGraph {
     ghost use Rattle.deprecation_graph.specs.Paths.{Leads};
     ghost use Rattle.deprecation_graph.specs.Graph.{next_in, chain_in, ends_in, sources_in, edge_count, successors as successors_of, changed as changed_nodes, node_of, NamesNodes, IsChange, IsLawful};
     ghost use Rattle.deprecation_graph.specs.Faults.{change_fault, IsVerdict};
+    ghost use Rattle.deprecation_graph.specs.Room.{MakesRoom};
 
     /// A graph without nodes and without room. It takes no memory.
     pub fn new(alloc: Global) -> DeprecationGraph
@@ -63,12 +64,7 @@ impl DeprecationGraph {
     pub fn reserve(&mut self, nodes: u32, edges: u32) -> Result<(), Memory>
         requires nodes { length self.old.nodes + nodes ≤ MOST_NODES }
         requires edges { edge_count self.old.nodes + edges ≤ MOST_EDGES }
-        ensures nodes { self.new.nodes ≡ self.old.nodes }
-        ensures room_nodes { OnOk result (nodes ≤ self.new.room_nodes) }
-        ensures room_edges { OnOk result (edges ≤ self.new.room_edges) }
-        ensures nodes_kept { self.old.room_nodes ≤ self.new.room_nodes }
-        ensures edges_kept { self.old.room_edges ≤ self.new.room_edges }
-        ensures err { OnErr result (self.new ≡ self.old) }
+        ensures { MakesRoom self.old self.new nodes edges result }
     {
         let room_nodes = self.room_nodes.max(nodes);
         let room_edges = self.room_edges.max(edges);
