@@ -12,9 +12,9 @@ pub fn chains_by_number()
     ensures widths { WidthsByNumber }
     ensures paths { PathsByNumber }
 {
-    cpe_rows::chains_are_paths();
-    cpe_rows::names_are_equal();
-    deprecation_graph::chains_are_paths();
+    cpe_rows::law::chains_are_paths();
+    cpe_rows::law::names_are_equal();
+    deprecation_graph::law::chains_are_paths();
 }
 
 /// Entries with different names are numbered by the nodes that are made of them: each is active where its entry is, and has the
@@ -23,7 +23,7 @@ pub fn entries_are_numbered()
     ensures numbered { NodesAreNumbered }
     ensures marked { NodesAreMarked }
 {
-    cpe_rows::names_are_equal();
+    cpe_rows::law::names_are_equal();
 }
 
 /// An entry that is written in the place of one of its name changes its own node alone, and an active entry that comes last is a
@@ -60,7 +60,7 @@ pub fn faults_by_number()
     ensures cycles { CyclesByNumber }
     ensures width { WidthByNumber }
 {
-    cpe_rows::names_are_equal();
+    cpe_rows::law::names_are_equal();
     chains_by_number();
     entries_are_numbered();
 }

@@ -10,13 +10,11 @@ ghost use Rattle.name_index.specs.declared.table.NameId.{NameId};
 ghost use Rattle.names_in_order.specs.InOrder.{AreLive, names_numbered, same_id};
 ghost use Rattle.names_in_order.specs.Marked.{without_first as without_number};
 
-use names_in_order::orders_without;
-
 /// Names are the same to rows exactly where they are to the table, and what a list is without a number of an item is to rows the list
 /// without its name.
 pub fn item_laws()
     ensures same { (name : Values) (names : List Values) → list_any (is_same name) names ≡ list_any (same_name name) names }
     ensures dropped { (table : Names) (numbers : List NameId) (id : NameId) → AreNames table → AreLive table numbers → list_any (same_id id) numbers ≡ true → names_numbered table (without_number (same_id id) numbers) ≡ without_first (is_same (kept_at table id.0).name) (names_numbered table numbers) }
 {
-    orders_without();
+    names_in_order::law::orders_without();
 }

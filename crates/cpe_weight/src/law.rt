@@ -9,7 +9,7 @@ ghost use Rattle.cpe_rows.specs.Weight.{weight, name_weight, key_weight};
 ghost use Rattle.cpe_rows.specs.declared.test.CheckKey.{CheckKey};
 ghost use Rattle.cpe_weight.specs.Gain.{gain, loss};
 
-use cpe_rows::{Edit, names_are_equal};
+use cpe_rows::Edit;
 
 /// The weight after an edit is that before it, with what the edit adds and without what it takes away; and what it takes away
 /// is no more than there was.
@@ -26,5 +26,5 @@ pub fn losses_are_known()
     ensures dropped_statements { (rows : Rows) (id : List ℕ) → weight (after rows (Edit.DropStatement id)) ≤ weight rows }
     ensures dropped_checks { (rows : Rows) (k : CheckKey) → weight (after rows (Edit.DropCheck k)) ≤ weight rows }
 {
-    names_are_equal();
+    cpe_rows::law::names_are_equal();
 }

@@ -8,19 +8,15 @@ ghost use Rattle.name_index.specs.Table.{AreNames, Holds, Names, Releases};
 ghost use Rattle.kept_facts.specs.Kept.{AreKnown};
 ghost use Rattle.kept_verdicts.specs.Kept.{Stands, Verdicts};
 
-use cpe_changes::untouched_verdicts_stay;
-use cpe_rows::entries_stand_alone;
-use kept_facts::{boards_stay, releases_are_safe, tables_change};
-
 /// Verdicts stand where a name is held, where one is released of which the rows have no more need, and where an entry comes.
 pub fn verdicts_stand()
     ensures held { (old new : Names) (id : ℕ) (name : Values) (v : Verdicts) (rows : Rows) → Holds old new id name → Stands old v rows → Stands new v rows }
     ensures released { (old new : Names) (id : ℕ) (v : Verdicts) (rows : Rows) → AreNames old → Releases old new id → AreKnown new rows → Stands old v rows → Stands new v rows }
     ensures entries { (names : Names) (v : Verdicts) (rows next : Rows) (e : Entry) → IsAccepted rows (edit.Entry e) next → Stands names v rows → Stands names v next }
 {
-    boards_stay();
-    entries_stand_alone();
-    releases_are_safe();
-    tables_change();
-    untouched_verdicts_stay();
+    kept_facts::law::boards_stay();
+    cpe_rows::law::entries_stand_alone();
+    kept_facts::law::releases_are_safe();
+    kept_facts::law::tables_change();
+    cpe_changes::law::untouched_verdicts_stay();
 }

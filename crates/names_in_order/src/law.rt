@@ -8,8 +8,6 @@ ghost use Rattle.name_index.specs.Table.{AreNames, Names, kept_at, Holds, Releas
 ghost use Rattle.names_in_order.specs.InOrder.{AreInOrder, AreLive, IsSafe, KeepsAll, names_numbered, same_id};
 ghost use Rattle.names_in_order.specs.Marked.{without_first};
 
-use name_index::fitting_laws;
-
 /// Numbers in an order stay so, and keep their names, where a name is held, where one is released that is none of theirs or is live
 /// still, and where each number of the table keeps what it has, as where a hold is released again. A number that is put last has its name last.
 pub fn orders_stay()
@@ -23,7 +21,7 @@ pub fn orders_stay()
     ensures undone { (old mid new : Names) (id : ℕ) (name : Values) → AreNames old → Holds old mid id name → Releases mid new id → KeepsAll old new }
     ensures more { (table : Names) (numbers : List NameId) (id : NameId) → names_numbered table (numbers ++ id ∷ []) ≡ names_numbered table numbers ++ (kept_at table id.0).name ∷ [] }
 {
-    fitting_laws();
+    name_index::law::fitting_laws();
 }
 
 /// What a list is without a number that has gone: its names are those of the list without the name of the number, and none of the
