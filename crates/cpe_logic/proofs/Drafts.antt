@@ -8,54 +8,55 @@ use Rattle.serde_json.specs.Find.{get, get_member, as_array}
 use Rattle.cpe_members.specs.declared.member.RecordFault.{RecordFault}
 use Rattle.cpe_members.specs.declared.member.RecordFault.TheVariants as fault
 use Rattle.cpe_members.specs.declared.member.Member.TheVariants as part
+use Rattle.cpe_members.specs.declared.format.Format.{Format}
 use Rattle.cpe_logic.specs.declared.draft.Draft.{Draft}
 use Rattle.cpe_members.specs.Gives.{◌>>=◌, all_from, Fails}
 use Rattle.cpe_members.specs.Forms.{list_of}
 use Rattle.cpe_logic.specs.Tests.{draft_of, drafts_of, drafts_in, children_in, draft_by, logic_in, leaf_in}
 
 -- the children that are looked up
-abbrev pub children_by : Option (List Data) → Result (List Draft) RecordFault
-children_by None = Err (fault.Member part.Test)
-children_by (Some ds) = all_from (λ k. draft_of) 1 ds
+abbrev pub children_by : Format → Option (List Data) → Result (List Draft) RecordFault
+children_by f None = Err (fault.Member part.Test)
+children_by f (Some ds) = all_from (λ k. draft_of f) 1 ds
 
-abbrev pub looked_up : Option Data → Result (List Draft) RecordFault
-looked_up o = children_by (option_map list_of (option_and_then as_array o))
+abbrev pub looked_up : Format → Option Data → Result (List Draft) RecordFault
+looked_up f o = children_by f (option_map list_of (option_and_then as_array o))
 
-drafts_of-all_from : (ds : Items) (n : ℕ) → drafts_of ds ≡ all_from (λ k. draft_of) n (list_of ds)
-drafts_of-all_from no_items n = refl
-drafts_of-all_from (item d ds) n = ap (λ r. draft_of d >>= λ t. r >>= λ ts. Ok (t ∷ ts)) (drafts_of-all_from ds (n + 1))
+drafts_of-all_from : (f : Format) (ds : Items) (n : ℕ) → drafts_of f ds ≡ all_from (λ k. draft_of f) n (list_of ds)
+drafts_of-all_from f no_items n = refl
+drafts_of-all_from f (item d ds) n = ap (λ r. draft_of f d >>= λ t. r >>= λ ts. Ok (t ∷ ts)) (drafts_of-all_from f ds (n + 1))
 
-drafts_in-looked_up : (d : Data) → drafts_in d ≡ looked_up (Some d)
-drafts_in-looked_up null = refl
-drafts_in-looked_up (boolean b) = refl
-drafts_in-looked_up (number n) = refl
-drafts_in-looked_up (string s) = refl
-drafts_in-looked_up (array ds) = drafts_of-all_from ds 1
-drafts_in-looked_up (object ms) = refl
+drafts_in-looked_up : (f : Format) (d : Data) → drafts_in f d ≡ looked_up f (Some d)
+drafts_in-looked_up f null = refl
+drafts_in-looked_up f (boolean b) = refl
+drafts_in-looked_up f (number n) = refl
+drafts_in-looked_up f (string s) = refl
+drafts_in-looked_up f (array ds) = drafts_of-all_from f ds 1
+drafts_in-looked_up f (object ms) = refl
 
-chosen : (o : Ordering) (d : Data) (r : Result (List Draft) RecordFault) (e : Option Data) → r ≡ looked_up e → match_ordering o r (drafts_in d) r ≡ looked_up (match_ordering o e (Some d) e)
-chosen Less d r e h = h
-chosen Equal d r e h = drafts_in-looked_up d
-chosen Greater d r e h = h
+chosen : (f : Format) (o : Ordering) (d : Data) (r : Result (List Draft) RecordFault) (e : Option Data) → r ≡ looked_up f e → match_ordering o r (drafts_in f d) r ≡ looked_up f (match_ordering o e (Some d) e)
+chosen f Less d r e h = h
+chosen f Equal d r e h = drafts_in-looked_up f d
+chosen f Greater d r e h = h
 
-children_in-looked_up : (ms : Members) → children_in ms ≡ looked_up (get_member (codes "of") ms)
-children_in-looked_up no_members = refl
-children_in-looked_up (member k d ms) = chosen (slice_cmp nat_cmp (codes "of") k) d (children_in ms) (get_member (codes "of") ms) (children_in-looked_up ms)
+children_in-looked_up : (f : Format) (ms : Members) → children_in f ms ≡ looked_up f (get_member (codes "of") ms)
+children_in-looked_up f no_members = refl
+children_in-looked_up f (member k d ms) = chosen f (slice_cmp nat_cmp (codes "of") k) d (children_in f ms) (get_member (codes "of") ms) (children_in-looked_up f ms)
 
-pub draft_of-looked_up : (d : Data) → draft_of d ≡ draft_by d (looked_up (get (codes "of") d))
-draft_of-looked_up null = refl
-draft_of-looked_up (boolean b) = refl
-draft_of-looked_up (number n) = refl
-draft_of-looked_up (string s) = refl
-draft_of-looked_up (array ds) = refl
-draft_of-looked_up (object ms) = ap (draft_by (object ms)) (children_in-looked_up ms)
+pub draft_of-looked_up : (f : Format) (d : Data) → draft_of f d ≡ draft_by f d (looked_up f (get (codes "of") d))
+draft_of-looked_up f null = refl
+draft_of-looked_up f (boolean b) = refl
+draft_of-looked_up f (number n) = refl
+draft_of-looked_up f (string s) = refl
+draft_of-looked_up f (array ds) = refl
+draft_of-looked_up f (object ms) = ap (draft_by f (object ms)) (children_in-looked_up f ms)
 
-abbrev branch : Data → Option Data → Result Draft RecordFault
-branch d op = if is_some op then logic_in d (looked_up (get (codes "of") d)) else leaf_in d
+abbrev branch : Format → Data → Option Data → Result Draft RecordFault
+branch f d op = if is_some op then logic_in d (looked_up f (get (codes "of") d)) else leaf_in f d
 
-pub draft_of-logic : {V : Type 0} (f : V → Data) (d : Data) (op : Option V) → option_map f op ≡ get (codes "op") d → is_some op ≡ true → draft_of d ≡ logic_in d (looked_up (get (codes "of") d))
-draft_of-logic f d None e there = let wrong : ⊥ = cc in absurd wrong
-draft_of-logic f d (Some v) e there = draft_of-looked_up d ∙ ap (branch d) (sym e)
+pub draft_of-logic : {V : Type 0} (view : V → Data) (f : Format) (d : Data) (op : Option V) → option_map view op ≡ get (codes "op") d → is_some op ≡ true → draft_of f d ≡ logic_in d (looked_up f (get (codes "of") d))
+draft_of-logic view f d None e there = let wrong : ⊥ = cc in absurd wrong
+draft_of-logic view f d (Some v) e there = draft_of-looked_up f d ∙ ap (branch f d) (sym e)
 
 -- what the children's fault makes of a logical test
 pub logic_fails : (d : Data) (e : RecordFault) (r : Result (List Draft) RecordFault) → Fails e r → Fails e (logic_in d r)
@@ -63,11 +64,12 @@ unfolding logic_in
 logic_fails d fault.Json r h = ap (logic_in d) h
 logic_fails d (fault.Member m) r h = ap (logic_in d) h
 logic_fails d (fault.Name s k) r h = ap (logic_in d) h
+logic_fails d (fault.Attribute s a) r h = ap (logic_in d) h
 logic_fails d fault.TooDeep r h = ap (logic_in d) h
 logic_fails d fault.Memory r h = tt
 
-pub looked_up-items : (o : Option Data) (ds : List Data) → Some ds ≡ option_map list_of (option_and_then as_array o) → looked_up o ≡ all_from (λ k. draft_of) 1 ds
-looked_up-items o ds h = ap children_by (sym h)
+pub looked_up-items : (f : Format) (o : Option Data) (ds : List Data) → Some ds ≡ option_map list_of (option_and_then as_array o) → looked_up f o ≡ all_from (λ k. draft_of f) 1 ds
+looked_up-items f o ds h = ap (children_by f) (sym h)
 
-pub looked_up-none : (o : Option Data) → None ≡ option_map list_of (option_and_then as_array o) → looked_up o ≡ Err (fault.Member part.Test)
-looked_up-none o h = ap children_by (sym h)
+pub looked_up-none : (f : Format) (o : Option Data) → None ≡ option_map list_of (option_and_then as_array o) → looked_up f o ≡ Err (fault.Member part.Test)
+looked_up-none f o h = ap (children_by f) (sym h)

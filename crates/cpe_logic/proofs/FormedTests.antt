@@ -1,4 +1,4 @@
--- What is read as a draft is formed: each logical test has a child.
+-- What is read as a draft is formed: each logical test has a child, and names are in lower case.
 use Rattle.std.proofs.Common.{◌≡◌, ℕ, suc, List, [], ◌∷◌, Bool, true, false, ◌&&◌, map, length, nat_lt, if◌then◌else◌, codes, Ordering, Less, Equal, Greater, is_some, refl, ap, sym, ◌∙◌, arith}
 use Rattle.std.specs.Prelude.{Option, Some, None, Result, Ok, Err}
 use Rattle.std.specs.List.{list_all}
@@ -7,19 +7,22 @@ use Rattle.std.specs.Cmp.Lexicographic.{slice_cmp}
 use Rattle.std.proofs.lemmas.Bool.{and_from}
 use Rattle.std.proofs.lemmas.Bool.Decides.{nat_tests}
 use Rattle.serde_json.specs.Data.{Data, null, boolean, number, string, array, object, Items, no_items, item, Members, no_members, member}
-use Rattle.serde_json.specs.Find.{get, as_str}
+use Rattle.serde_json.specs.Find.{get}
 use Rattle.cpe_rows.specs.declared.test.CheckKey.{CheckKey}
 use Rattle.cpe_members.specs.Forms.{required, flag_or_false}
+use Rattle.cpe_members.specs.Names.{name_in}
+use Rattle.cpe_members.specs.declared.format.Format.{Format}
 use Rattle.cpe_logic.specs.Tests.{operator_in, key_in, logic_in, leaf_by, leaf_in, draft_of, children_in, drafts_in, drafts_of}
 use Rattle.cpe_members.specs.declared.member.Member.TheVariants as part
 use Rattle.cpe_members.specs.declared.member.RecordFault.{RecordFault}
-use Rattle.cpe_logic.specs.declared.draft.Draft.{Draft, Fact, Check}
+use Rattle.cpe_logic.specs.declared.draft.Draft.{Draft, Check}
 use Rattle.cpe_logic.specs.declared.draft.Draft.TheOpen.{Draft-F}
-use Rattle.cpe_logic.specs.declared.draft.Draft.TheVariants.{rolls-Fact, rolls-Check}
+use Rattle.cpe_logic.specs.declared.draft.Draft.TheVariants.{rolls-Check}
 use Rattle.cpe_logic.specs.declared.draft.Draft.TheFolds.{fold-roll-Draft}
 use Rattle.cpe_members.specs.Yields.{Yields}
 use Rattle.cpe_members.proofs.YieldLemmas.{then_yields, behind}
-use Rattle.cpe_logic.proofs.SoundTests.{formed, formed_step, formed-logic}
+use Rattle.cpe_members.proofs.LowerNames.{is_lowered, name_in_lower}
+use Rattle.cpe_logic.proofs.SoundTests.{formed, formed_step, formed-logic, formed-fact}
 
 all_mapped : (ds : List Draft) → list_all (λ b. b) (map formed ds) ≡ list_all formed ds
 all_mapped [] = refl
@@ -37,20 +40,17 @@ logic_formed d (Ok (x ∷ xs)) h =
     (λ o. behind formed (flag_or_false part.Test (codes "negate") d) _
     (λ b. formed-logic o b (x ∷ xs) ∙ and_from _ _ (some_there (length (map formed xs))) (all_mapped (x ∷ xs) ∙ h)))
 
-fact_formed : (text : List ℕ) → formed (Fact text) ≡ true
-fact_formed text = ap formed (sym (rolls-Fact text)) ∙ fold-roll-Draft Bool formed_step (Draft-F.Fact text)
-
 check_formed : (key : CheckKey) → formed (Check key) ≡ true
 check_formed key = ap formed (sym (rolls-Check key)) ∙ fold-roll-Draft Bool formed_step (Draft-F.Check key)
 
-leaf_formed : (f c : Option Data) → Yields formed (leaf_by f c)
-leaf_formed (Some fact) c = behind formed (required part.Test (as_str fact)) _ (λ text. fact_formed text)
-leaf_formed None (Some check) = behind formed (key_in check) _ (λ key. check_formed key)
-leaf_formed None None = tt
+leaf_formed : (f : Format) (fact check : Option Data) → Yields formed (leaf_by f fact check)
+leaf_formed f (Some fact) check = then_yields is_lowered formed (required part.Test (name_in f fact)) _ (name_in_lower f part.Test fact) (λ name h. formed-fact name ∙ h)
+leaf_formed f None (Some check) = behind formed (key_in check) _ (λ key. check_formed key)
+leaf_formed f None None = tt
 
-by_formed : (d : Data) (op : Bool) (r : Result (List Draft) RecordFault) → Yields (list_all formed) r → Yields formed (if op then logic_in d r else leaf_in d)
-by_formed d true r h = logic_formed d r h
-by_formed d false r h = leaf_formed (get (codes "fact") d) (get (codes "check") d)
+by_formed : (f : Format) (d : Data) (op : Bool) (r : Result (List Draft) RecordFault) → Yields (list_all formed) r → Yields formed (if op then logic_in d r else leaf_in f d)
+by_formed f d true r h = logic_formed d r h
+by_formed f d false r h = leaf_formed f (get (codes "fact") d) (get (codes "check") d)
 
 chosen : (o : Ordering) (r s : Result (List Draft) RecordFault) → Yields (list_all formed) r → Yields (list_all formed) s → Yields (list_all formed) (match_ordering o r s r)
 chosen Less r s h k = h
@@ -58,28 +58,28 @@ chosen Equal r s h k = k
 chosen Greater r s h k = h
 
 mutual
-  pub data_formed : (d : Data) → Yields formed (draft_of d)
-  data_formed null = tt
-  data_formed (boolean b) = tt
-  data_formed (number n) = tt
-  data_formed (string s) = tt
-  data_formed (array ds) = tt
-  data_formed (object ms) = by_formed (object ms) (is_some (get (codes "op") (object ms))) (children_in ms) (children_formed ms)
+  pub data_formed : (f : Format) (d : Data) → Yields formed (draft_of f d)
+  data_formed f null = tt
+  data_formed f (boolean b) = tt
+  data_formed f (number n) = tt
+  data_formed f (string s) = tt
+  data_formed f (array ds) = tt
+  data_formed f (object ms) = by_formed f (object ms) (is_some (get (codes "op") (object ms))) (children_in f ms) (children_formed f ms)
 
-  children_formed : (ms : Members) → Yields (list_all formed) (children_in ms)
-  children_formed no_members = tt
-  children_formed (member k d ms) = chosen (slice_cmp nat_cmp (codes "of") k) (children_in ms) (drafts_in d) (children_formed ms) (in_formed d)
+  children_formed : (f : Format) (ms : Members) → Yields (list_all formed) (children_in f ms)
+  children_formed f no_members = tt
+  children_formed f (member k d ms) = chosen (slice_cmp nat_cmp (codes "of") k) (children_in f ms) (drafts_in f d) (children_formed f ms) (in_formed f d)
 
-  in_formed : (d : Data) → Yields (list_all formed) (drafts_in d)
-  in_formed null = tt
-  in_formed (boolean b) = tt
-  in_formed (number n) = tt
-  in_formed (string s) = tt
-  in_formed (array ds) = items_formed ds
-  in_formed (object ms) = tt
+  in_formed : (f : Format) (d : Data) → Yields (list_all formed) (drafts_in f d)
+  in_formed f null = tt
+  in_formed f (boolean b) = tt
+  in_formed f (number n) = tt
+  in_formed f (string s) = tt
+  in_formed f (array ds) = items_formed f ds
+  in_formed f (object ms) = tt
 
-  items_formed : (ds : Items) → Yields (list_all formed) (drafts_of ds)
-  items_formed no_items = refl
-  items_formed (item d ds) =
-      then_yields formed (list_all formed) (draft_of d) _ (data_formed d)
-      (λ t h. then_yields (list_all formed) (list_all formed) (drafts_of ds) _ (items_formed ds) (λ ts k. and_from _ _ h k))
+  items_formed : (f : Format) (ds : Items) → Yields (list_all formed) (drafts_of f ds)
+  items_formed f no_items = refl
+  items_formed f (item d ds) =
+      then_yields formed (list_all formed) (draft_of f d) _ (data_formed f d)
+      (λ t h. then_yields (list_all formed) (list_all formed) (drafts_of f ds) _ (items_formed f ds) (λ ts k. and_from _ _ h k))

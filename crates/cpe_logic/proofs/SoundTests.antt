@@ -15,7 +15,8 @@ use Rattle.cpe_rows.specs.declared.test.Test.TheVariants as test_rolls
 use Rattle.cpe_rows.proofs.Within.{depth-logic}
 use Rattle.cpe_logic.proofs.DraftDepth.{draft_depth-logic}
 use Rattle.cpe_members.specs.Gives.{◌>>=◌}
-use Rattle.cpe_members.specs.Names.{read_name}
+use Rattle.cpe_members.specs.Names.{at_spot}
+use Rattle.cpe_members.specs.declared.member.NotName.{NotName}
 use Rattle.cpe_logic.specs.Tests.{draft_depth, depth_step, in_turn, name_step, names_from}
 use Rattle.cpe_members.specs.declared.member.NameSpot.TheVariants as spot
 use Rattle.cpe_members.specs.declared.member.RecordFault.{RecordFault}
@@ -26,7 +27,7 @@ use Rattle.cpe_logic.specs.declared.draft.Draft.TheVariants.{rolls-Logic, rolls-
 use Rattle.cpe_logic.specs.declared.draft.Draft.TheFolds.{fold-Draft, fold-roll-Draft, ind-Draft, map-Draft}
 use Rattle.cpe_logic.proofs.InTurn.{names_from-logic}
 use Rattle.cpe_members.specs.Yields.{Yields}
-use Rattle.cpe_members.proofs.LowerNames.{read_lower}
+use Rattle.cpe_members.proofs.LowerNames.{is_lowered, at_spot_lower}
 
 abbrev pub Each : {A : Type 0} → (A → Type 0) → Result A RecordFault → Type 0
 Each P (Ok x) = P x
@@ -34,10 +35,10 @@ Each P (Err e) = Unit {0}
 
 abbrev pub formed_step : Draft-F Bool → Bool
 formed_step (Draft-F.Logic operator negate of) = nat_lt 0 (length of) && list_all (λ b. b) of
-formed_step (Draft-F.Fact text) = true
+formed_step (Draft-F.Fact name) = is_lowered name
 formed_step (Draft-F.Check key) = true
 
--- each logical test has a child
+-- each logical test has a child, and names are in lower case
 abbrev pub formed : Draft → Bool
 formed = fold-Draft Bool formed_step
 
@@ -92,22 +93,25 @@ logic_read o b es n =
 abbrev Namer : Type 0
 Namer = ℕ → Result (test.Test × ℕ) RecordFault
 
-names_from-fact : (text : List ℕ) (n : ℕ) → names_from (Fact text) n ≡ (read_name (spot.Fact n) text >>= λ w. Ok (test.Fact w, n + 1))
-names_from-fact text n = ap (λ d. names_from d n) (sym (rolls-Fact text)) ∙ ap (λ (f : Namer). f n) (fold-roll-Draft Namer name_step (Draft-F.Fact text))
+names_from-fact : (name : Result Values NotName) (n : ℕ) → names_from (Fact name) n ≡ (at_spot (spot.Fact n) name >>= λ w. Ok (test.Fact w, n + 1))
+names_from-fact name n = ap (λ d. names_from d n) (sym (rolls-Fact name)) ∙ ap (λ (f : Namer). f n) (fold-roll-Draft Namer name_step (Draft-F.Fact name))
 
 names_from-check : (key : CheckKey) (n : ℕ) → names_from (Check key) n ≡ Ok (test.Check key, n)
 names_from-check key n = ap (λ d. names_from d n) (sym (rolls-Check key)) ∙ ap (λ (f : Namer). f n) (fold-roll-Draft Namer name_step (Draft-F.Check key))
 
-fact_agrees : (text : List ℕ) (n : ℕ) (r : Result Values RecordFault) → Yields is_lower r → Each (Agrees (Fact text)) (r >>= λ w. Ok (test.Fact w, n + 1))
-fact_agrees text n (Err e) h = tt
-fact_agrees text n (Ok w) h = (
-  λ f. ap is_sound (sym (test_rolls.rolls-Fact w)) ∙ (fold-roll-Test Bool sound_step (Test-F.Fact w) ∙ h),
+pub formed-fact : (name : Result Values NotName) → formed (Fact name) ≡ is_lowered name
+formed-fact name = ap formed (sym (rolls-Fact name)) ∙ fold-roll-Draft Bool formed_step (Draft-F.Fact name)
+
+fact_agrees : (name : Result Values NotName) (n : ℕ) (r : Result Values RecordFault) → (is_lowered name ≡ true → Yields is_lower r) → Each (Agrees (Fact name)) (r >>= λ w. Ok (test.Fact w, n + 1))
+fact_agrees name n (Err e) h = tt
+fact_agrees name n (Ok w) h = (
+  λ f. ap is_sound (sym (test_rolls.rolls-Fact w)) ∙ (fold-roll-Test Bool sound_step (Test-F.Fact w) ∙ h (sym (formed-fact name) ∙ f)),
   (ap depth_of (sym (test_rolls.rolls-Fact w)) ∙ fold-roll-Test ℕ test_depth_step (Test-F.Fact w))
-      ∙ sym (ap draft_depth (sym (rolls-Fact text)) ∙ fold-roll-Draft ℕ depth_step (Draft-F.Fact text)),
+      ∙ sym (ap draft_depth (sym (rolls-Fact name)) ∙ fold-roll-Draft ℕ depth_step (Draft-F.Fact name)),
 )
 
-fact_read : (text : List ℕ) → ReadAs (Fact text)
-fact_read text n = subst (Each (Agrees (Fact text))) (sym (names_from-fact text n)) (fact_agrees text n (read_name (spot.Fact n) text) (read_lower (spot.Fact n) text))
+fact_read : (name : Result Values NotName) → ReadAs (Fact name)
+fact_read name n = subst (Each (Agrees (Fact name))) (sym (names_from-fact name n)) (fact_agrees name n (at_spot (spot.Fact n) name) (at_spot_lower (spot.Fact n) name))
 
 check_read : (key : CheckKey) → ReadAs (Check key)
 check_read key n =
@@ -119,7 +123,7 @@ check_read key n =
 
 rolled : (y : Draft-F Shown) → ReadAs (roll-Draft (map-Draft Shown Draft (λ e. e.0) y))
 rolled (Draft-F.Logic o b es) = subst ReadAs (sym (rolls-Logic o b (map (λ e. e.0) es))) (logic_read o b es)
-rolled (Draft-F.Fact text) = subst ReadAs (sym (rolls-Fact text)) (fact_read text)
+rolled (Draft-F.Fact name) = subst ReadAs (sym (rolls-Fact name)) (fact_read name)
 rolled (Draft-F.Check key) = subst ReadAs (sym (rolls-Check key)) (check_read key)
 
 pub reads_as : (d : Draft) → ReadAs d

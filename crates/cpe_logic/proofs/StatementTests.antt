@@ -14,6 +14,7 @@ use Rattle.cpe_rows.specs.declared.test.Test.TheVariants as test_rolls
 use Rattle.cpe_members.specs.Gives.{◌>>=◌}
 use Rattle.cpe_members.specs.Forms.{required, member_at, flag_or_false}
 use Rattle.cpe_logic.specs.Tests.{operator_in, logic_in, leaf_in, draft_of, draft_depth, within_limit, in_turn, names_from, test_in, test_at}
+use Rattle.cpe_members.specs.declared.format.Format.{Format}
 use Rattle.cpe_members.specs.declared.member.Member.TheVariants as part
 use Rattle.cpe_members.specs.declared.member.RecordFault.{RecordFault}
 use Rattle.cpe_members.specs.declared.member.RecordFault.TheVariants as fault
@@ -31,7 +32,7 @@ use Rattle.cpe_logic.proofs.FormedTests.{data_formed}
 
 abbrev logic_step : Draft-F Bool → Bool
 logic_step (Draft-F.Logic operator negate of) = true
-logic_step (Draft-F.Fact text) = false
+logic_step (Draft-F.Fact name) = false
 logic_step (Draft-F.Check key) = false
 
 abbrev logic : Draft → Bool
@@ -60,7 +61,7 @@ rolled : (y : Draft-F Shown) → StaysLogic (roll-Draft (map-Draft Shown Draft (
 rolled (Draft-F.Logic o b es) =
     let ds : List Draft = map (λ e. e.0) es in
     subst StaysLogic (sym (rolls-Logic o b ds)) (λ n h. subst (Each IsLogic) (sym (names_from-logic o b ds n)) (made_logic o b (in_turn (map names_from ds) n)))
-rolled (Draft-F.Fact text) = λ n h. let no_way : false ≡ true = sym (fold-roll-Draft Bool logic_step (Draft-F.Fact text)) ∙ h in absurd (let wrong : ⊥ = cc in wrong)
+rolled (Draft-F.Fact name) = λ n h. let no_way : false ≡ true = sym (fold-roll-Draft Bool logic_step (Draft-F.Fact name)) ∙ h in absurd (let wrong : ⊥ = cc in wrong)
 rolled (Draft-F.Check key) = λ n h. let no_way : false ≡ true = sym (fold-roll-Draft Bool logic_step (Draft-F.Check key)) ∙ h in absurd (let wrong : ⊥ = cc in wrong)
 
 stays_logic : (d : Draft) → StaysLogic d
@@ -72,10 +73,10 @@ logic_in_logic d (Err e) = tt
 logic_in_logic d (Ok []) = tt
 logic_in_logic d (Ok (x ∷ xs)) = behind logic (operator_in d) _ (λ o. behind logic (flag_or_false part.Test (codes "negate") d) _ (λ b. logic_there o b (x ∷ xs)))
 
-draft_logic : (d : Data) → is_some (get (codes "op") d) ≡ true → Yields logic (draft_of d)
-draft_logic d h =
-    let r = looked_up (get (codes "of") d) in
-    subst (Yields logic) (sym (draft_of-looked_up d ∙ ap (λ b. if b then logic_in d r else leaf_in d) h)) (logic_in_logic d r)
+draft_logic : (f : Format) (d : Data) → is_some (get (codes "op") d) ≡ true → Yields logic (draft_of f d)
+draft_logic f d h =
+    let r = looked_up f (get (codes "of") d) in
+    subst (Yields logic) (sym (draft_of-looked_up f d ∙ ap (λ b. if b then logic_in d r else leaf_in f d) h)) (logic_in_logic d r)
 
 -- all that is known of a draft
 abbrev Good : Draft → Type 0
@@ -97,14 +98,14 @@ draft_good : (r : Result Draft RecordFault) → Each Good r → Yields is_statem
 draft_good (Err e) g = tt
 draft_good (Ok d) g = shallow_good d g (nat_le (draft_depth d) MOST_LEVELS) refl
 
-op_there : (d : Data) (b : Bool) → is_some (get (codes "op") d) ≡ b
-    → Yields is_statement_test ((if b then Ok d else Err (fault.Member part.Test)) >>= λ l. draft_of l >>= λ t. within_limit t >>= λ s. names_from s 1 >>= λ x. Ok x.0)
-op_there d true h = draft_good (draft_of d) (both (draft_of d) (data_formed d) (draft_logic d h))
-op_there d false h = tt
+op_there : (f : Format) (d : Data) (b : Bool) → is_some (get (codes "op") d) ≡ b
+    → Yields is_statement_test ((if b then Ok d else Err (fault.Member part.Test)) >>= λ l. draft_of f l >>= λ t. within_limit t >>= λ s. names_from s 1 >>= λ x. Ok x.0)
+op_there f d true h = draft_good (draft_of f d) (both (draft_of f d) (data_formed f d) (draft_logic f d h))
+op_there f d false h = tt
 
-test_valid : (d : Data) → Yields is_statement_test (test_in d)
+test_valid : (f : Format) (d : Data) → Yields is_statement_test (test_in f d)
 unfolding test_in
-test_valid d = op_there d (is_some (get (codes "op") d)) refl
+test_valid f d = op_there f d (is_some (get (codes "op") d)) refl
 
-pub test_at_valid : (d : Data) → Yields is_statement_test (test_at d)
-test_at_valid d = behind is_statement_test (required part.Test (member_at part.Test d)) test_in test_valid
+pub test_at_valid : (f : Format) (d : Data) → Yields is_statement_test (test_at f d)
+test_at_valid f d = behind is_statement_test (required part.Test (member_at part.Test d)) (test_in f) (test_valid f)

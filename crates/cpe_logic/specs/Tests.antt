@@ -12,7 +12,8 @@ use Rattle.cpe_rows.specs.declared.test.Test as test
 use Rattle.cpe_members.specs.Gives.{◌>>=◌}
 use Rattle.cpe_members.specs.Words.{operator_of}
 use Rattle.cpe_members.specs.Forms.{required, member_at, flag_or_false}
-use Rattle.cpe_members.specs.Names.{read_name}
+use Rattle.cpe_members.specs.Names.{name_in, at_spot}
+use Rattle.cpe_members.specs.declared.format.Format.{Format}
 use Rattle.cpe_members.specs.declared.member.RecordFault.{RecordFault}
 use Rattle.cpe_members.specs.declared.member.RecordFault.TheVariants as fault
 use Rattle.cpe_members.specs.declared.member.Member.TheVariants as part
@@ -53,45 +54,49 @@ logic_in d children = do
   negate ← flag_or_false part.Test (codes "negate") d
   Ok (Logic operator negate of)
 
--- a fact reference, or else a check reference
-abbrev pub leaf_by : Option Data → Option Data → Result Draft RecordFault
-leaf_by (Some fact) check = required part.Test (as_str fact) >>= λ text. Ok (Fact text)
-leaf_by None (Some check) = key_in check >>= λ key. Ok (Check key)
-leaf_by None None = Err (fault.Member part.Test)
+-- what has the form of a name
+abbrev pub fact_in : Format → Data → Result Draft RecordFault
+fact_in f d = required part.Test (name_in f d) >>= λ name. Ok (Fact name)
 
-abbrev pub leaf_in : Data → Result Draft RecordFault
-leaf_in d = leaf_by (get (codes "fact") d) (get (codes "check") d)
+-- a fact reference, or else a check reference
+abbrev pub leaf_by : Format → Option Data → Option Data → Result Draft RecordFault
+leaf_by f (Some fact) check = fact_in f fact
+leaf_by f None (Some check) = key_in check >>= λ key. Ok (Check key)
+leaf_by f None None = Err (fault.Member part.Test)
+
+abbrev pub leaf_in : Format → Data → Result Draft RecordFault
+leaf_in f d = leaf_by f (get (codes "fact") d) (get (codes "check") d)
 
 -- where the member `op` is there, a logical test
-abbrev pub draft_by : Data → Result (List Draft) RecordFault → Result Draft RecordFault
-draft_by d children = if is_some (get (codes "op") d) then logic_in d children else leaf_in d
+abbrev pub draft_by : Format → Data → Result (List Draft) RecordFault → Result Draft RecordFault
+draft_by f d children = if is_some (get (codes "op") d) then logic_in d children else leaf_in f d
 
 abbrev mutual
   -- the test that a value is, of this form at any depth
-  pub draft_of : Data → Result Draft RecordFault
-  draft_of null = Err (fault.Member part.Test)
-  draft_of (boolean b) = Err (fault.Member part.Test)
-  draft_of (number n) = Err (fault.Member part.Test)
-  draft_of (string s) = Err (fault.Member part.Test)
-  draft_of (array ds) = Err (fault.Member part.Test)
-  draft_of (object ms) = draft_by (object ms) (children_in ms)
+  pub draft_of : Format → Data → Result Draft RecordFault
+  draft_of f null = Err (fault.Member part.Test)
+  draft_of f (boolean b) = Err (fault.Member part.Test)
+  draft_of f (number n) = Err (fault.Member part.Test)
+  draft_of f (string s) = Err (fault.Member part.Test)
+  draft_of f (array ds) = Err (fault.Member part.Test)
+  draft_of f (object ms) = draft_by f (object ms) (children_in f ms)
 
   -- the children: of the array that is looked up at the key `of`
-  pub children_in : Members → Result (List Draft) RecordFault
-  children_in no_members = Err (fault.Member part.Test)
-  children_in (member k d ms) = match_ordering (slice_cmp nat_cmp (codes "of") k) (children_in ms) (drafts_in d) (children_in ms)
+  pub children_in : Format → Members → Result (List Draft) RecordFault
+  children_in f no_members = Err (fault.Member part.Test)
+  children_in f (member k d ms) = match_ordering (slice_cmp nat_cmp (codes "of") k) (children_in f ms) (drafts_in f d) (children_in f ms)
 
-  pub drafts_in : Data → Result (List Draft) RecordFault
-  drafts_in null = Err (fault.Member part.Test)
-  drafts_in (boolean b) = Err (fault.Member part.Test)
-  drafts_in (number n) = Err (fault.Member part.Test)
-  drafts_in (string s) = Err (fault.Member part.Test)
-  drafts_in (array ds) = drafts_of ds
-  drafts_in (object ms) = Err (fault.Member part.Test)
+  pub drafts_in : Format → Data → Result (List Draft) RecordFault
+  drafts_in f null = Err (fault.Member part.Test)
+  drafts_in f (boolean b) = Err (fault.Member part.Test)
+  drafts_in f (number n) = Err (fault.Member part.Test)
+  drafts_in f (string s) = Err (fault.Member part.Test)
+  drafts_in f (array ds) = drafts_of f ds
+  drafts_in f (object ms) = Err (fault.Member part.Test)
 
-  pub drafts_of : Items → Result (List Draft) RecordFault
-  drafts_of no_items = Ok []
-  drafts_of (item d ds) = draft_of d >>= λ t. drafts_of ds >>= λ ts. Ok (t ∷ ts)
+  pub drafts_of : Format → Items → Result (List Draft) RecordFault
+  drafts_of f no_items = Ok []
+  drafts_of f (item d ds) = draft_of f d >>= λ t. drafts_of f ds >>= λ ts. Ok (t ∷ ts)
 
 -- the value itself, where it is a logical test
 abbrev pub is_logic : Data → Result Data RecordFault
@@ -101,7 +106,7 @@ is_logic d = if is_some (get (codes "op") d) then Ok d else Err (fault.Member pa
 
 abbrev pub depth_step : Draft-F ℕ → ℕ
 depth_step (Draft-F.Logic operator negate of) = suc (largest of)
-depth_step (Draft-F.Fact text) = 0
+depth_step (Draft-F.Fact name) = 0
 depth_step (Draft-F.Check key) = 0
 
 -- as deep as the test that it becomes: without logical tests among its children 1
@@ -121,22 +126,22 @@ in_turn (r ∷ rs) n = r n >>= λ x. in_turn rs x.1 >>= λ xs. Ok (x.0 ∷ xs.0,
 
 abbrev pub name_step : Draft-F (ℕ → Result (test.Test × ℕ) RecordFault) → ℕ → Result (test.Test × ℕ) RecordFault
 name_step (Draft-F.Logic operator negate of) n = in_turn of n >>= λ r. Ok (test.Logic operator negate r.0, r.1)
-name_step (Draft-F.Fact text) n = read_name (spot.Fact n) text >>= λ w. Ok (test.Fact w, n + 1)
+name_step (Draft-F.Fact name) n = at_spot (spot.Fact n) name >>= λ w. Ok (test.Fact w, n + 1)
 name_step (Draft-F.Check key) n = Ok (test.Check key, n)
 
--- the test with its names read, and the number of the next fact reference
+-- the test with its names, and the number of the next fact reference
 abbrev pub names_from : Draft → ℕ → Result (test.Test × ℕ) RecordFault
 names_from = fold-Draft (ℕ → Result (test.Test × ℕ) RecordFault) name_step
 
 -- ---- all three
 
-unfoldable pub test_in : Data → Result test.Test RecordFault
-test_in d = do
+unfoldable pub test_in : Format → Data → Result test.Test RecordFault
+test_in f d = do
   logic ← is_logic d
-  draft ← draft_of logic
+  draft ← draft_of f logic
   shallow ← within_limit draft
   read ← names_from shallow 1
   Ok read.0
 
-abbrev pub test_at : Data → Result test.Test RecordFault
-test_at d = required part.Test (member_at part.Test d) >>= test_in
+abbrev pub test_at : Format → Data → Result test.Test RecordFault
+test_at f d = required part.Test (member_at part.Test d) >>= test_in f

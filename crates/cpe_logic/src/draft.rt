@@ -1,19 +1,19 @@
 // The test of a statement, in three passes: its form at any depth, its depth, and its names in their order.
-ghost use Rattle.std.specs.Prelude.{◌≡◌, nat_le};
+ghost use Rattle.std.specs.Prelude.{◌≡◌, nat_le, Ok};
 ghost use Rattle.serde_json.specs.View.{view};
 ghost use Rattle.cpe_members.specs.Gives.{Gives};
-ghost use Rattle.cpe_members.specs.Names.{read_name};
-ghost use Rattle.cpe_logic.specs.Tests.{operator_in, part_in, key_in, leaf_in, logic_in, draft_of, names_from, within_limit, test_in, test_at};
+ghost use Rattle.cpe_members.specs.Names.{at_spot};
+ghost use Rattle.cpe_logic.specs.Tests.{operator_in, part_in, key_in, fact_in, leaf_in, logic_in, draft_of, names_from, within_limit, test_in, test_at};
 
 use cpe_members::{
-    Member, NameSpot, RecordFault, array_in, count_on, flag_or_false, operator_of, read_name,
-    text_in,
+    Format, Member, NameSpot, NotName, RecordFault, array_in, count_on, flag_or_false, name_in,
+    operator_of, text_in,
 };
 use cpe_rows::{BoxedName, CheckKey, List, MOST_LEVELS, Operator, Test, Text};
 use serde_json::Value;
 use std::alloc::Global;
 
-/// A test as it is written, before its names are read.
+/// A test as it is written, before it is known that each of its facts is a name.
 #[derive(Debug, Drop)]
 pub(crate) enum Draft {
     Logic {
@@ -21,7 +21,7 @@ pub(crate) enum Draft {
         negate: bool,
         of: List<Draft>,
     },
-    Fact(Text),
+    Fact(Result<BoxedName, NotName>),
     Check(CheckKey),
 }
 
@@ -53,14 +53,22 @@ fn key_in(alloc: Global, source: &Value) -> Result<CheckKey, RecordFault>
     Ok(CheckKey { system, href, id })
 }
 
-fn leaf_in(alloc: Global, source: &Value) -> Result<Draft, RecordFault>
-    ensures { Gives result (leaf_in (view source.now)) }
+// What a fact reference names, in memory of its own.
+fn fact_in(alloc: Global, format: Format, source: &Value) -> Result<Draft, RecordFault>
+    ensures { Gives result (fact_in format (view source.now)) }
+{
+    match name_in(alloc, format, Member::Test, source) {
+        Ok(Ok(name)) => Ok(Draft::Fact(Ok(BoxedName::new(alloc, name)?))),
+        Ok(Err(wrong)) => Ok(Draft::Fact(Err(wrong))),
+        Err(fault) => Err(fault),
+    }
+}
+
+fn leaf_in(alloc: Global, format: Format, source: &Value) -> Result<Draft, RecordFault>
+    ensures { Gives result (leaf_in format (view source.now)) }
 {
     match source.get("fact") {
-        Some(fact) => match fact.as_str() {
-            Some(text) => Ok(Draft::Fact(Text::new(alloc, text)?)),
-            None => Err(RecordFault::Member(Member::Test)),
-        },
+        Some(fact) => fact_in(alloc, format, fact),
         None => match source.get("check") {
             Some(check) => Ok(Draft::Check(key_in(alloc, check)?)),
             None => Err(RecordFault::Member(Member::Test)),
@@ -85,18 +93,18 @@ fn logic_of(source: &Value, of: List<Draft>) -> Result<Draft, RecordFault>
 }
 
 /// The test that a value is, of the form of a test at any depth.
-fn draft_of(alloc: Global, source: &Value) -> Result<Draft, RecordFault>
-    ensures { Gives result (draft_of (view source.now)) }
+fn draft_of(alloc: Global, format: Format, source: &Value) -> Result<Draft, RecordFault>
+    ensures { Gives result (draft_of format (view source.now)) }
 {
     if source.get("op").is_none() {
-        return leaf_in(alloc, source);
+        return leaf_in(alloc, format, source);
     }
     let Some(items) = array_in(source, "of") else {
         return Err(RecordFault::Member(Member::Test));
     };
     let mut of = List::with_room(alloc, items.len())?;
     for item in items {
-        match draft_of(alloc, item) {
+        match draft_of(alloc, format, item) {
             Ok(draft) => of.push(draft)?,
             Err(fault) => return Err(fault),
         }
@@ -104,19 +112,20 @@ fn draft_of(alloc: Global, source: &Value) -> Result<Draft, RecordFault>
     logic_of(source, of)
 }
 
-// The name of a fact, in memory of its own.
-fn fact_of(alloc: Global, fact: u32, text: &str) -> Result<BoxedName, RecordFault>
-    ensures { Gives result (read_name (NameSpot.Fact fact) text.now) }
+// The name of a fact, by its number.
+fn fact_of(fact: u32, found: Result<BoxedName, NotName>) -> Result<BoxedName, RecordFault>
+    ensures { result ≡ at_spot (NameSpot.Fact fact) found }
 {
-    match read_name(alloc, NameSpot::Fact(fact), text) {
-        Ok(name) => Ok(BoxedName::new(alloc, name)?),
-        Err(fault) => Err(fault),
+    match found {
+        Ok(name) => Ok(name),
+        Err(NotName::At(place)) => Err(RecordFault::Name(NameSpot::Fact(fact), place)),
+        Err(NotName::Attribute(which)) => Err(RecordFault::Attribute(NameSpot::Fact(fact), which)),
     }
 }
 
-/// The test of a draft with its names read, and the number of the next fact.
-fn names_from(alloc: Global, draft: &Draft, fact: u32) -> Result<(Test, u32), RecordFault>
-    ensures { Gives result (names_from draft.now fact) }
+/// The test of a draft, each of its facts a name, and the number of the next fact.
+fn names_from(alloc: Global, draft: Draft, fact: u32) -> Result<(Test, u32), RecordFault>
+    ensures { Gives result (names_from draft fact) }
 {
     match draft {
         Draft::Logic {
@@ -126,7 +135,7 @@ fn names_from(alloc: Global, draft: &Draft, fact: u32) -> Result<(Test, u32), Re
         } => {
             let mut tests = List::with_room(alloc, of.len())?;
             let mut count = fact;
-            for child in of.as_slice() {
+            for child in of.into_vec() {
                 match names_from(alloc, child, count) {
                     Ok((test, after)) => {
                         tests.push(test)?;
@@ -137,18 +146,18 @@ fn names_from(alloc: Global, draft: &Draft, fact: u32) -> Result<(Test, u32), Re
             }
             Ok((
                 Test::Logic {
-                    operator: *operator,
-                    negate: *negate,
+                    operator,
+                    negate,
                     of: tests,
                 },
                 count,
             ))
         }
-        Draft::Fact(text) => {
-            let name = fact_of(alloc, fact, text.as_str())?;
+        Draft::Fact(found) => {
+            let name = fact_of(fact, found)?;
             Ok((Test::Fact(name), count_on(fact)?))
         }
-        Draft::Check(key) => Ok((Test::Check(key.copy(alloc)?), fact)),
+        Draft::Check(key) => Ok((Test::Check(key), fact)),
     }
 }
 
@@ -191,15 +200,15 @@ fn within_limit(draft: Draft) -> Result<Draft, RecordFault>
 
 // The test that a value is: its form, then its depth, then its names.
 #[tactic(auto, unfolding(crate::specs::Tests::test_in))]
-fn test_in(alloc: Global, source: &Value) -> Result<Test, RecordFault>
-    ensures { Gives result (test_in (view source.now)) }
+fn test_in(alloc: Global, format: Format, source: &Value) -> Result<Test, RecordFault>
+    ensures { Gives result (test_in format (view source.now)) }
 {
     if source.get("op").is_none() {
         return Err(RecordFault::Member(Member::Test));
     }
-    let draft = draft_of(alloc, source)?;
+    let draft = draft_of(alloc, format, source)?;
     let shallow = within_limit(draft)?;
-    let (test, _count) = names_from(alloc, &shallow, 1)?;
+    let (test, _count) = names_from(alloc, shallow, 1)?;
     Ok(test)
 }
 
@@ -207,13 +216,13 @@ fn test_in(alloc: Global, source: &Value) -> Result<Test, RecordFault>
 /// of its fact references in the order of the arrays, counted from 1. The names are in lower case.
 ///
 /// # Errors
-/// The first of these three that fails: the fault of the member `test`; `TooDeep`; the number of the fact reference whose text no
-/// name has, and its place. Else that memory ran out.
-pub fn test_at(alloc: Global, source: &Value) -> Result<Test, RecordFault>
-    ensures { Gives result (test_at (view source.now)) }
+/// The first of these three that fails: the fault of the member `test`; `TooDeep`; the number of the first fact reference that is no
+/// name, and its place or attribute. Else that memory ran out.
+pub fn test_at(alloc: Global, format: Format, source: &Value) -> Result<Test, RecordFault>
+    ensures { Gives result (test_at format (view source.now)) }
 {
     match source.get(Member::Test.key()) {
-        Some(value) => test_in(alloc, value),
+        Some(value) => test_in(alloc, format, value),
         None => Err(RecordFault::Member(Member::Test)),
     }
 }

@@ -47,6 +47,7 @@ pub carried : {A B : Type 0} (e : RecordFault) (r : Result A RecordFault) (s : R
 carried fault.Json r s f h = f _ h
 carried (fault.Member m) r s f h = f _ h
 carried (fault.Name p k) r s f h = f _ h
+carried (fault.Attribute p a) r s f h = f _ h
 carried fault.TooDeep r s f h = f _ h
 carried fault.Memory r s f h = tt
 

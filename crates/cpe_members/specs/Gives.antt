@@ -14,6 +14,7 @@ abbrev pub Fails : {A : Type 0} → RecordFault → Result A RecordFault → Typ
 Fails fault.Json read = read ≡ Err fault.Json
 Fails (fault.Member m) read = read ≡ Err (fault.Member m)
 Fails (fault.Name s k) read = read ≡ Err (fault.Name s k)
+Fails (fault.Attribute s a) read = read ≡ Err (fault.Attribute s a)
 Fails fault.TooDeep read = read ≡ Err fault.TooDeep
 Fails fault.Memory read = Unit {0}
 

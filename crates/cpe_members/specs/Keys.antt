@@ -5,6 +5,7 @@ use Rattle.cpe_members.specs.declared.member.Member.TheVariants as member
 
 abbrev pub key_of : Member → List ℕ
 key_of member.Do = codes "do"
+key_of member.V = codes "v"
 key_of member.Name = codes "name"
 key_of member.Title = codes "title"
 key_of member.Provenance = codes "provenance"

@@ -3,5 +3,7 @@ pub mod Words
 pub mod Gives
 pub mod Yields
 pub mod Forms
+pub mod Formats
+pub mod NameObjects
 pub mod Names
 pub mod Provenance

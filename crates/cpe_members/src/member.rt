@@ -2,6 +2,7 @@
 ghost use Rattle.std.specs.Prelude.{◌≡◌};
 ghost use Rattle.cpe_members.specs.Keys.{key_of};
 
+use cpe_name::Attribute;
 use cpe_values::Memory;
 
 /// A member of a record.
@@ -9,6 +10,8 @@ use cpe_values::Memory;
 pub enum Member {
     /// What the record does or asks for.
     Do,
+    /// The format in which the record is written.
+    V,
     /// A name.
     Name,
     /// What a reader calls an entry or a statement.
@@ -50,6 +53,15 @@ pub enum NameSpot {
     Fact(u32),
 }
 
+/// Why what stands for a name is none.
+#[derive(Debug, Clone, Copy, PartialEq, Eq)]
+pub enum NotName {
+    /// No name has this text, and this is the place at which it goes wrong, as in [`UriFault::At`](cpe_uri::UriFault::At).
+    At(usize),
+    /// Of an object this is the first attribute, in their order, at which no component of a value stands that it may have.
+    Attribute(Attribute),
+}
+
 /// Why a line is no record: the first cause.
 #[derive(Debug, Clone, Copy, PartialEq, Eq)]
 pub enum RecordFault {
@@ -59,6 +71,8 @@ pub enum RecordFault {
     Member(Member),
     /// No name has this text, and this is the place at which it goes wrong, as in [`UriFault::At`](cpe_uri::UriFault::At).
     Name(NameSpot, usize),
+    /// An object is no name, and this is its first attribute, in their order, that stands for no value which the attribute may have.
+    Attribute(NameSpot, Attribute),
     /// A test has more than 32 levels.
     TooDeep,
     /// Memory ran out.
@@ -72,6 +86,7 @@ impl Member {
     {
         match self {
             Member::Do => "do",
+            Member::V => "v",
             Member::Name => "name",
             Member::Title => "title",
             Member::Provenance => "provenance",

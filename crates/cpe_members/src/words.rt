@@ -1,8 +1,29 @@
 // The words of members.
 ghost use Rattle.std.specs.Prelude.{◌≡◌};
+ghost use Rattle.cpe_name.specs.Text.{attribute_name};
 ghost use Rattle.cpe_members.specs.Words.{kind_word, kind_of, note_kind_word, note_kind_of, mode_word, mode_of, operator_word, operator_of, truth_word, truth_of};
 
+use cpe_name::Attribute;
 use cpe_rows::{Kind, Mode, NoteKind, Operator, Truth};
+
+/// How an attribute is written (NIST IR 7695, 5).
+pub fn attribute_word(which: Attribute) -> &'static str
+    ensures { result.now ≡ attribute_name which }
+{
+    match which {
+        Attribute::Part => "part",
+        Attribute::Vendor => "vendor",
+        Attribute::Product => "product",
+        Attribute::Version => "version",
+        Attribute::Update => "update",
+        Attribute::Edition => "edition",
+        Attribute::Language => "language",
+        Attribute::SwEdition => "sw_edition",
+        Attribute::TargetSw => "target_sw",
+        Attribute::TargetHw => "target_hw",
+        Attribute::Other => "other",
+    }
+}
 
 /// How the kind of a deprecation is written.
 pub fn kind_word(kind: Kind) -> &'static str

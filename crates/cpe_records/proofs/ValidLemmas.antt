@@ -19,6 +19,7 @@ use Rattle.cpe_members.proofs.LowerNames.{name_lower, successors_lower}
 use Rattle.cpe_members.specs.Words.{kind_of, truth_of}
 use Rattle.cpe_members.specs.Forms.{required, member_at, word_at, flag_or_false, tested}
 use Rattle.cpe_members.specs.Names.{name_at, successors_at}
+use Rattle.cpe_members.specs.declared.format.Format.{Format}
 use Rattle.cpe_records.specs.Kinds.{id_at, description_in, entry_in, remark_in, change_in, deprecation_in, restore_in, key_at, check_in, search_in}
 use Rattle.cpe_records.specs.Taken.{is_valid_record}
 use Rattle.cpe_records.specs.declared.read.Record.TheVariants as TheRecord
@@ -35,44 +36,44 @@ as_query q = is_valid_record (TheRecord.Query q)
 abbrev pub is_new : Entry → Bool
 is_new e = is_lower e.name && is_none e.deprecation
 
-pub entry_valid : (d : Data) → Yields is_new (entry_in d)
+pub entry_valid : (f : Format) (d : Data) → Yields is_new (entry_in f d)
 unfolding entry_in
-entry_valid d = then_yields is_lower is_new (name_at d) _ (name_lower d) (λ n h. behind is_new (description_in d) _ (λ rest. and_from _ _ h refl))
+entry_valid f d = then_yields is_lower is_new (name_at f d) _ (name_lower f d) (λ n h. behind is_new (description_in d) _ (λ rest. and_from _ _ h refl))
 
 -- a change whose successors are in lower case
 abbrev are_lower : Change → Bool
 are_lower c = list_all is_lower c.deprecation.successors
 
-change_lower : (d : Data) → Yields are_lower (change_in d)
+change_lower : (f : Format) (d : Data) → Yields are_lower (change_in f d)
 unfolding change_in
-change_lower d =
+change_lower f d =
     behind are_lower (word_at kind_of member.Kind d) _
-    (λ kind. then_yields (list_all is_lower) are_lower (successors_at d) _ (successors_lower d) (λ ns k. behind are_lower (remark_in d) _ (λ remark. k)))
+    (λ kind. then_yields (list_all is_lower) are_lower (successors_at f d) _ (successors_lower f d) (λ ns k. behind are_lower (remark_in d) _ (λ remark. k)))
 
 -- of either kind
-deprecation_valid : (kind : Values → Deprecation → List ℕ → List ℕ → Edit) → ((n : Values) (c : Change) → is_lower n ≡ true → are_lower c ≡ true → as_edit (kind n c.deprecation c.remark.date c.remark.comment) ≡ true) → (d : Data) → Yields as_edit (deprecation_in kind d)
+deprecation_valid : (kind : Values → Deprecation → List ℕ → List ℕ → Edit) → ((n : Values) (c : Change) → is_lower n ≡ true → are_lower c ≡ true → as_edit (kind n c.deprecation c.remark.date c.remark.comment) ≡ true) → (f : Format) (d : Data) → Yields as_edit (deprecation_in kind f d)
 unfolding deprecation_in
-deprecation_valid kind valid d =
-    then_yields is_lower as_edit (name_at d) _ (name_lower d) (λ n h. then_yields are_lower as_edit (change_in d) _ (change_lower d) (λ c k. valid n c h k))
+deprecation_valid kind valid f d =
+    then_yields is_lower as_edit (name_at f d) _ (name_lower f d) (λ n h. then_yields are_lower as_edit (change_in f d) _ (change_lower f d) (λ c k. valid n c h k))
 
-pub deprecate_valid : (d : Data) → Yields as_edit (deprecation_in edit.Deprecate d)
-deprecate_valid d = deprecation_valid edit.Deprecate (λ n c h k. and_from _ _ h k) d
+pub deprecate_valid : (f : Format) (d : Data) → Yields as_edit (deprecation_in edit.Deprecate f d)
+deprecate_valid = deprecation_valid edit.Deprecate (λ n c h k. and_from _ _ h k)
 
-pub amend_valid : (d : Data) → Yields as_edit (deprecation_in edit.Amend d)
-amend_valid d = deprecation_valid edit.Amend (λ n c h k. and_from _ _ h k) d
+pub amend_valid : (f : Format) (d : Data) → Yields as_edit (deprecation_in edit.Amend f d)
+amend_valid = deprecation_valid edit.Amend (λ n c h k. and_from _ _ h k)
 
-pub restore_valid : (d : Data) → Yields as_edit (restore_in d)
+pub restore_valid : (f : Format) (d : Data) → Yields as_edit (restore_in f d)
 unfolding restore_in
-restore_valid d = then_yields is_lower as_edit (name_at d) _ (name_lower d) (λ n h. behind as_edit (remark_in d) _ (λ rest. h))
+restore_valid f d = then_yields is_lower as_edit (name_at f d) _ (name_lower f d) (λ n h. behind as_edit (remark_in d) _ (λ rest. h))
 
 pub check_valid : (d : Data) → Yields as_edit (check_in d)
 unfolding check_in
 check_valid d = behind as_edit (key_at d) _ (λ key. behind as_edit (word_at truth_of member.Result d) _ (λ t. refl))
 
-pub search_valid : (d : Data) → Yields as_query (search_in d)
+pub search_valid : (f : Format) (d : Data) → Yields as_query (search_in f d)
 unfolding search_in
-search_valid d =
-    then_yields is_lower as_query (name_at d) _ (name_lower d) (λ n h. behind as_query (flag_or_false member.Active (codes "active") d) _ (λ a. h))
+search_valid f d =
+    then_yields is_lower as_query (name_at f d) _ (name_lower f d) (λ n h. behind as_query (flag_or_false member.Active (codes "active") d) _ (λ a. h))
 
 tested_id : (s : List ℕ) (b : Bool) → is_id s ≡ b → Yields is_id (required member.Id (if b then Some s else None))
 tested_id s true e = e

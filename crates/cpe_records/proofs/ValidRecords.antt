@@ -10,6 +10,8 @@ use Rattle.cpe_members.specs.Gives.{◌>>=◌, Gives}
 use Rattle.cpe_records.specs.Verbs.{verb_of}
 use Rattle.cpe_members.specs.Forms.{word_at, text_or_empty}
 use Rattle.cpe_members.specs.Names.{name_at}
+use Rattle.cpe_members.specs.Formats.{format_at}
+use Rattle.cpe_members.specs.declared.format.Format.{Format}
 use Rattle.cpe_logic.specs.Tests.{test_at}
 use Rattle.cpe_records.specs.Kinds.{id_at, entry_in, deprecation_in, restore_in, key_at, check_in, search_in, statement_in, mode_at}
 use Rattle.cpe_rows.specs.declared.edit.Edit.{Edit}
@@ -33,43 +35,43 @@ use Rattle.cpe_logic.proofs.StatementTests.{test_at_valid}
 abbrev is_whole : Statement → Bool
 is_whole s = is_id s.id && is_statement_test s.test
 
-statement_valid : (d : Data) → Yields is_whole (statement_in d)
+statement_valid : (f : Format) (d : Data) → Yields is_whole (statement_in f d)
 unfolding statement_in
-statement_valid d =
+statement_valid f d =
     then_yields is_id is_whole (id_at d) _ (id_valid d)
     (λ i h. behind is_whole (text_or_empty member.Title (codes "title") d) _
-    (λ title. behind is_whole (mode_at d) _ (λ mode. then_yields is_statement_test is_whole (test_at d) _ (test_at_valid d) (λ t k. and_from _ _ h k))))
+    (λ title. behind is_whole (mode_at d) _ (λ mode. then_yields is_statement_test is_whole (test_at f d) _ (test_at_valid f d) (λ t k. and_from _ _ h k))))
 
 -- a record of a name alone, and what a reader of edits gives as a record
-name_valid : (d : Data) (as_record : Values → Record) → ((n : Values) → is_lower n ≡ true → is_valid_record (as_record n) ≡ true) → Yields is_valid_record (name_at d >>= λ n. Ok (as_record n))
-name_valid d as_record h = then_yields is_lower is_valid_record (name_at d) _ (name_lower d) h
+name_valid : (f : Format) (d : Data) (as_record : Values → Record) → ((n : Values) → is_lower n ≡ true → is_valid_record (as_record n) ≡ true) → Yields is_valid_record (name_at f d >>= λ n. Ok (as_record n))
+name_valid f d as_record h = then_yields is_lower is_valid_record (name_at f d) _ (name_lower f d) h
 
 edit_valid : (r : Result Edit RecordFault) → Yields as_edit r → Yields is_valid_record (r >>= λ e. Ok (TheRecord.Edit e))
 edit_valid r h = then_yields as_edit is_valid_record r _ h (λ e k. k)
 
-pub record_valid : (v : Verb) (d : Data) → Yields is_valid_record (record_by v d)
-record_valid verb.Entry d = then_yields is_new is_valid_record (entry_in d) _ (entry_valid d) (λ e h. h)
-record_valid verb.Deprecate d = edit_valid (deprecation_in edit.Deprecate d) (deprecate_valid d)
-record_valid verb.Amend d = edit_valid (deprecation_in edit.Amend d) (amend_valid d)
-record_valid verb.Restore d = edit_valid (restore_in d) (restore_valid d)
-record_valid verb.Item d = name_valid d _ (λ n h. h)
-record_valid verb.DropItem d = name_valid d _ (λ n h. h)
-record_valid verb.Statement d = then_yields is_whole is_valid_record (statement_in d) _ (statement_valid d) (λ s h. h)
-record_valid verb.DropStatement d = then_yields is_id is_valid_record (id_at d) _ (id_valid d) (λ i h. h)
-record_valid verb.Check d = edit_valid (check_in d) (check_valid d)
-record_valid verb.DropCheck d = behind is_valid_record (key_at d) _ (λ k. refl)
-record_valid verb.Lookup d = name_valid d _ (λ n h. h)
-record_valid verb.Search d = then_yields as_query is_valid_record (search_in d) _ (search_valid d) (λ q h. h)
-record_valid verb.Items d = name_valid d _ (λ n h. h)
-record_valid verb.Chain d = name_valid d _ (λ n h. h)
-record_valid verb.Show d = name_valid d _ (λ n h. h)
-record_valid verb.Verdict d = then_yields is_id is_valid_record (id_at d) _ (id_valid d) (λ i h. h)
+pub record_valid : (v : Verb) (f : Format) (d : Data) → Yields is_valid_record (record_by v f d)
+record_valid verb.Entry f d = then_yields is_new is_valid_record (entry_in f d) _ (entry_valid f d) (λ e h. h)
+record_valid verb.Deprecate f d = edit_valid (deprecation_in edit.Deprecate f d) (deprecate_valid f d)
+record_valid verb.Amend f d = edit_valid (deprecation_in edit.Amend f d) (amend_valid f d)
+record_valid verb.Restore f d = edit_valid (restore_in f d) (restore_valid f d)
+record_valid verb.Item f d = name_valid f d _ (λ n h. h)
+record_valid verb.DropItem f d = name_valid f d _ (λ n h. h)
+record_valid verb.Statement f d = then_yields is_whole is_valid_record (statement_in f d) _ (statement_valid f d) (λ s h. h)
+record_valid verb.DropStatement f d = then_yields is_id is_valid_record (id_at d) _ (id_valid d) (λ i h. h)
+record_valid verb.Check f d = edit_valid (check_in d) (check_valid d)
+record_valid verb.DropCheck f d = behind is_valid_record (key_at d) _ (λ k. refl)
+record_valid verb.Lookup f d = name_valid f d _ (λ n h. h)
+record_valid verb.Search f d = then_yields as_query is_valid_record (search_in f d) _ (search_valid f d) (λ q h. h)
+record_valid verb.Items f d = name_valid f d _ (λ n h. h)
+record_valid verb.Chain f d = name_valid f d _ (λ n h. h)
+record_valid verb.Show f d = name_valid f d _ (λ n h. h)
+record_valid verb.Verdict f d = then_yields is_id is_valid_record (id_at d) _ (id_valid d) (λ i h. h)
 
 -- what a line gives, if anything, is valid
 pub line_valid : (line : List ℕ) → Yields is_valid_record (record_of line)
 unfolding record_of
 line_valid line =
-    behind is_valid_record (json_of (value_of line)) _ (λ d. behind is_valid_record (word_at verb_of member.Do d) _ (λ v. record_valid v d))
+    behind is_valid_record (json_of (value_of line)) _ (λ d. behind is_valid_record (word_at verb_of member.Do d) _ (λ v. behind is_valid_record (format_at d) _ (λ f. record_valid v f d)))
 
 -- so what was read is valid
 pub read_valid : (line : List ℕ) (r : Record) → record_of line ≡ Ok r → is_valid_record r ≡ true

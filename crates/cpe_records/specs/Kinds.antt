@@ -1,4 +1,4 @@
--- The members of each kind of record, in the order in which they are tested.
+-- The members of each kind of record, in the order in which they are tested, in the format of the record.
 use Rattle.std.specs.Prelude.{ℕ, List, codes, None, Result, Ok, option_and_then}
 use Rattle.serde_json.specs.Data.{Data}
 use Rattle.serde_json.specs.Find.{as_str}
@@ -18,6 +18,7 @@ use Rattle.cpe_members.specs.Gives.{◌>>=◌}
 use Rattle.cpe_members.specs.Words.{kind_of, mode_of, truth_of}
 use Rattle.cpe_members.specs.Forms.{required, or_default, tested, member_at, text_at, word_at, text_or_empty, flag_or_false, date_at}
 use Rattle.cpe_members.specs.Names.{name_at, successors_at}
+use Rattle.cpe_members.specs.declared.format.Format.{Format}
 use Rattle.cpe_members.specs.Provenance.{provenance_or_empty}
 use Rattle.cpe_logic.specs.Tests.{test_at}
 use Rattle.cpe_records.specs.declared.kinds.Description.{Description}
@@ -47,9 +48,9 @@ description_in d = do
   provenance ← provenance_or_empty (member_at member.Provenance d)
   Ok (record { title = title; provenance = provenance })
 
-unfoldable pub entry_in : Data → Result Entry RecordFault
-entry_in d = do
-  name ← name_at d
+unfoldable pub entry_in : Format → Data → Result Entry RecordFault
+entry_in f d = do
+  name ← name_at f d
   rest ← description_in d
   Ok (record { name = name; title = rest.title; provenance = rest.provenance; deprecation = None })
 
@@ -59,33 +60,33 @@ remark_in d = do
   comment ← comment_at d
   Ok (record { date = date; comment = comment })
 
--- a deprecation, after its name
-unfoldable pub change_in : Data → Result Change RecordFault
-change_in d = do
+-- a deprecation, behind its name
+unfoldable pub change_in : Format → Data → Result Change RecordFault
+change_in f d = do
   kind ← word_at kind_of member.Kind d
-  successors ← successors_at d
+  successors ← successors_at f d
   remark ← remark_in d
   Ok (record { deprecation = record { kind = kind; successors = successors }; remark = remark })
 
 -- a deprecation, as an edit of this kind
-unfoldable pub deprecation_in : (Values → Deprecation → List ℕ → List ℕ → Edit) → Data → Result Edit RecordFault
-deprecation_in kind d = do
-  name ← name_at d
-  rest ← change_in d
+unfoldable pub deprecation_in : (Values → Deprecation → List ℕ → List ℕ → Edit) → Format → Data → Result Edit RecordFault
+deprecation_in kind f d = do
+  name ← name_at f d
+  rest ← change_in f d
   Ok (kind name rest.deprecation rest.remark.date rest.remark.comment)
 
-unfoldable pub restore_in : Data → Result Edit RecordFault
-restore_in d = do
-  name ← name_at d
+unfoldable pub restore_in : Format → Data → Result Edit RecordFault
+restore_in f d = do
+  name ← name_at f d
   rest ← remark_in d
   Ok (edit.Restore name rest.date rest.comment)
 
-unfoldable pub statement_in : Data → Result Statement RecordFault
-statement_in d = do
+unfoldable pub statement_in : Format → Data → Result Statement RecordFault
+statement_in f d = do
   id ← id_at d
   title ← text_or_empty member.Title (codes "title") d
   mode ← mode_at d
-  test ← test_at d
+  test ← test_at f d
   Ok (record { id = id; title = title; mode = mode; test = test })
 
 unfoldable pub key_at : Data → Result CheckKey RecordFault
@@ -101,8 +102,8 @@ check_in d = do
   result ← word_at truth_of member.Result d
   Ok (edit.SetCheck key result)
 
-unfoldable pub search_in : Data → Result Query RecordFault
-search_in d = do
-  name ← name_at d
+unfoldable pub search_in : Format → Data → Result Query RecordFault
+search_in f d = do
+  name ← name_at f d
   active ← flag_or_false member.Active (codes "active") d
   Ok (query.Search name active)

@@ -8,6 +8,8 @@ use Rattle.cpe_rows.specs.declared.edit.Query.TheVariants as query
 use Rattle.cpe_members.specs.Gives.{◌>>=◌}
 use Rattle.cpe_records.specs.Verbs.{verb_of}
 use Rattle.cpe_members.specs.Forms.{word_at}
+use Rattle.cpe_members.specs.Formats.{format_at}
+use Rattle.cpe_members.specs.declared.format.Format.{Format}
 use Rattle.cpe_members.specs.Names.{name_at}
 use Rattle.cpe_records.specs.Kinds.{id_at, entry_in, deprecation_in, restore_in, statement_in, key_at, check_in, search_in}
 use Rattle.cpe_records.specs.declared.read.Record.{Record}
@@ -18,24 +20,24 @@ use Rattle.cpe_members.specs.declared.member.Member.TheVariants as member
 use Rattle.cpe_members.specs.declared.member.RecordFault.{RecordFault}
 use Rattle.cpe_members.specs.declared.member.RecordFault.TheVariants as fault
 
--- the record of this kind, by its members
-abbrev pub record_by : Verb → Data → Result Record RecordFault
-record_by verb.Entry d = entry_in d >>= λ e. Ok (Edit (edit.Entry e))
-record_by verb.Deprecate d = deprecation_in edit.Deprecate d >>= λ e. Ok (Edit e)
-record_by verb.Amend d = deprecation_in edit.Amend d >>= λ e. Ok (Edit e)
-record_by verb.Restore d = restore_in d >>= λ e. Ok (Edit e)
-record_by verb.Item d = name_at d >>= λ n. Ok (Edit (edit.Item n))
-record_by verb.DropItem d = name_at d >>= λ n. Ok (Edit (edit.DropItem n))
-record_by verb.Statement d = statement_in d >>= λ s. Ok (Edit (edit.PutStatement s))
-record_by verb.DropStatement d = id_at d >>= λ id. Ok (Edit (edit.DropStatement id))
-record_by verb.Check d = check_in d >>= λ e. Ok (Edit e)
-record_by verb.DropCheck d = key_at d >>= λ k. Ok (Edit (edit.DropCheck k))
-record_by verb.Lookup d = name_at d >>= λ n. Ok (Query (query.Lookup n))
-record_by verb.Search d = search_in d >>= λ q. Ok (Query q)
-record_by verb.Items d = name_at d >>= λ n. Ok (Query (query.Items n))
-record_by verb.Chain d = name_at d >>= λ n. Ok (Query (query.Chain n))
-record_by verb.Show d = name_at d >>= λ n. Ok (Query (query.Show n))
-record_by verb.Verdict d = id_at d >>= λ id. Ok (Query (query.Verdict id))
+-- the record of this kind, by its members in this format
+abbrev pub record_by : Verb → Format → Data → Result Record RecordFault
+record_by verb.Entry f d = entry_in f d >>= λ e. Ok (Edit (edit.Entry e))
+record_by verb.Deprecate f d = deprecation_in edit.Deprecate f d >>= λ e. Ok (Edit e)
+record_by verb.Amend f d = deprecation_in edit.Amend f d >>= λ e. Ok (Edit e)
+record_by verb.Restore f d = restore_in f d >>= λ e. Ok (Edit e)
+record_by verb.Item f d = name_at f d >>= λ n. Ok (Edit (edit.Item n))
+record_by verb.DropItem f d = name_at f d >>= λ n. Ok (Edit (edit.DropItem n))
+record_by verb.Statement f d = statement_in f d >>= λ s. Ok (Edit (edit.PutStatement s))
+record_by verb.DropStatement f d = id_at d >>= λ id. Ok (Edit (edit.DropStatement id))
+record_by verb.Check f d = check_in d >>= λ e. Ok (Edit e)
+record_by verb.DropCheck f d = key_at d >>= λ k. Ok (Edit (edit.DropCheck k))
+record_by verb.Lookup f d = name_at f d >>= λ n. Ok (Query (query.Lookup n))
+record_by verb.Search f d = search_in f d >>= λ q. Ok (Query q)
+record_by verb.Items f d = name_at f d >>= λ n. Ok (Query (query.Items n))
+record_by verb.Chain f d = name_at f d >>= λ n. Ok (Query (query.Chain n))
+record_by verb.Show f d = name_at f d >>= λ n. Ok (Query (query.Show n))
+record_by verb.Verdict f d = id_at d >>= λ id. Ok (Query (query.Verdict id))
 
 -- what the line is as JSON (RFC 8259), if it is a value
 abbrev pub value_of : List ℕ → Option Data
@@ -45,9 +47,10 @@ abbrev pub json_of : Option Data → Result Data RecordFault
 json_of None = Err fault.Json
 json_of (Some d) = Ok d
 
--- a value, its kind, and then the members of that kind
+-- a value, its kind, its format, and then the members of that kind
 unfoldable pub record_of : List ℕ → Result Record RecordFault
 record_of line = do
   d ← json_of (value_of line)
   v ← word_at verb_of member.Do d
-  record_by v d
+  f ← format_at d
+  record_by v f d

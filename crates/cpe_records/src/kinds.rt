@@ -12,8 +12,8 @@ ghost use Rattle.cpe_records.specs.Kinds.{comment_at, id_at, mode_at, descriptio
 
 use cpe_logic::test_at;
 use cpe_members::{
-    Member, RecordFault, date_at, flag_or_false, kind_of, mode_of, name_at, provenance_or_empty,
-    successors_at, text_at, text_of, text_or_empty, truth_of,
+    Format, Member, RecordFault, date_at, flag_or_false, kind_of, mode_of, name_at,
+    provenance_or_empty, successors_at, text_at, text_of, text_or_empty, truth_of,
 };
 use cpe_name::Wfn;
 use cpe_rows::{
@@ -120,10 +120,10 @@ fn description_in(alloc: Global, source: &Value) -> Result<Description, RecordFa
 /// An entry.
 #[tactic(auto, unfolding(crate::specs::Kinds::entry_in))]
 #[inline(never)]
-pub(crate) fn entry_in(alloc: Global, source: &Value) -> Result<Entry, RecordFault>
-    ensures { Gives result (entry_in (view source.now)) }
+pub(crate) fn entry_in(alloc: Global, format: Format, source: &Value) -> Result<Entry, RecordFault>
+    ensures { Gives result (entry_in format (view source.now)) }
 {
-    let name = name_at(alloc, source)?;
+    let name = name_at(alloc, format, source)?;
     match description_in(alloc, source) {
         Ok(Description { title, provenance }) => Ok(Entry {
             name,
@@ -145,11 +145,11 @@ fn remark_in(alloc: Global, source: &Value) -> Result<Remark, RecordFault>
 }
 
 #[tactic(auto, unfolding(crate::specs::Kinds::change_in))]
-fn change_in(alloc: Global, source: &Value) -> Result<Change, RecordFault>
-    ensures { Gives result (change_in (view source.now)) }
+fn change_in(alloc: Global, format: Format, source: &Value) -> Result<Change, RecordFault>
+    ensures { Gives result (change_in format (view source.now)) }
 {
     let kind = kind_at(source)?;
-    let successors = successors_at(alloc, source)?;
+    let successors = successors_at(alloc, format, source)?;
     let remark = remark_in(alloc, source)?;
     Ok(Change {
         deprecation: Deprecation { kind, successors },
@@ -187,13 +187,14 @@ fn edit_of(name: Wfn, change: Change, replaces: bool) -> Edit
 #[inline(never)]
 pub(crate) fn deprecation_in(
     alloc: Global,
+    format: Format,
     source: &Value,
     replaces: bool,
 ) -> Result<Edit, RecordFault>
-    ensures { Gives result (deprecation_in (if replaces then edit.Amend else edit.Deprecate) (view source.now)) }
+    ensures { Gives result (deprecation_in (if replaces then edit.Amend else edit.Deprecate) format (view source.now)) }
 {
-    let name = name_at(alloc, source)?;
-    match change_in(alloc, source) {
+    let name = name_at(alloc, format, source)?;
+    match change_in(alloc, format, source) {
         Ok(change) => Ok(edit_of(name, change, replaces)),
         Err(fault) => refused(name, fault),
     }
@@ -202,10 +203,10 @@ pub(crate) fn deprecation_in(
 /// That an entry is active again.
 #[tactic(auto, unfolding(crate::specs::Kinds::restore_in))]
 #[inline(never)]
-pub(crate) fn restore_in(alloc: Global, source: &Value) -> Result<Edit, RecordFault>
-    ensures { Gives result (restore_in (view source.now)) }
+pub(crate) fn restore_in(alloc: Global, format: Format, source: &Value) -> Result<Edit, RecordFault>
+    ensures { Gives result (restore_in format (view source.now)) }
 {
-    let name = name_at(alloc, source)?;
+    let name = name_at(alloc, format, source)?;
     match remark_in(alloc, source) {
         Ok(Remark { date, comment }) => Ok(Edit::Restore {
             name,
@@ -219,13 +220,17 @@ pub(crate) fn restore_in(alloc: Global, source: &Value) -> Result<Edit, RecordFa
 /// A statement.
 #[tactic(auto, unfolding(crate::specs::Kinds::statement_in))]
 #[inline(never)]
-pub(crate) fn statement_in(alloc: Global, source: &Value) -> Result<Statement, RecordFault>
-    ensures { Gives result (statement_in (view source.now)) }
+pub(crate) fn statement_in(
+    alloc: Global,
+    format: Format,
+    source: &Value,
+) -> Result<Statement, RecordFault>
+    ensures { Gives result (statement_in format (view source.now)) }
 {
     let id = id_at(alloc, source)?;
     let title = text_or_empty(alloc, source, Member::Title, "title")?;
     let mode = mode_at(source)?;
-    let test = test_at(alloc, source)?;
+    let test = test_at(alloc, format, source)?;
     Ok(Statement {
         id,
         title,
@@ -260,10 +265,10 @@ pub(crate) fn check_in(alloc: Global, source: &Value) -> Result<Edit, RecordFaul
 /// A search for entries.
 #[tactic(auto, unfolding(crate::specs::Kinds::search_in))]
 #[inline(never)]
-pub(crate) fn search_in(alloc: Global, source: &Value) -> Result<Query, RecordFault>
-    ensures { Gives result (search_in (view source.now)) }
+pub(crate) fn search_in(alloc: Global, format: Format, source: &Value) -> Result<Query, RecordFault>
+    ensures { Gives result (search_in format (view source.now)) }
 {
-    let name = name_at(alloc, source)?;
+    let name = name_at(alloc, format, source)?;
     match flag_or_false(source, Member::Active, "active") {
         Ok(active_only) => Ok(Query::Search { name, active_only }),
         Err(fault) => refused(name, fault),

@@ -5,6 +5,10 @@
 //! the last counts. A member that may be absent has a default; where it is there, it has its form or is refused, `null` too. Names
 //! are URIs or formatted strings, and are put in lower case.
 //!
+//! A record whose member `v` is the text `2` is of the second format, and one without `v` of the first. In the second a name may be an
+//! object too: its members are attributes, each with the component that its value has in a formatted string, and an absent one is
+//! ANY. `v` is tested right after `do`.
+//!
 //! | `do` | Members in order |
 //! |---|---|
 //! | `entry` | `name`; `title`, else empty; `provenance`, else empty |
@@ -27,5 +31,5 @@ mod kinds;
 mod read;
 mod verb;
 
-pub use cpe_members::{Member, NameSpot, RecordFault};
+pub use cpe_members::{Format, Member, NameSpot, RecordFault};
 pub use read::{Record, read_record};

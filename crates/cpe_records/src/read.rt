@@ -1,6 +1,7 @@
 // The record of a line.
 ghost use Rattle.std.specs.Prelude.{◌≡◌, true, IfOk};
 ghost use Rattle.serde_json.specs.View.{view};
+ghost use Rattle.cpe_members.specs.declared.format.Format.{Format};
 ghost use Rattle.cpe_records.specs.Verbs.{verb_of};
 ghost use Rattle.cpe_records.specs.declared.verb.Verb.TheVariants as verb;
 ghost use Rattle.cpe_members.specs.Gives.{Gives, GivesBy};
@@ -12,7 +13,7 @@ use crate::kinds::{
     check_in, deprecation_in, entry_in, id_at, key_at, restore_in, search_in, statement_in,
 };
 use crate::verb::{Verb, verb_of};
-use cpe_members::{Member, RecordFault, name_at, text_of};
+use cpe_members::{Format, Member, RecordFault, format_at, name_at, text_of};
 use cpe_rows::{Edit, Query};
 use serde_json::Value;
 use std::alloc::Global;
@@ -38,136 +39,141 @@ fn verb_at(source: &Value) -> Result<Verb, RecordFault>
 // The record of each kind is made in a frame of its own, as its members are: one frame for all would be cleared for each record.
 
 #[inline(never)]
-fn entry_record(alloc: Global, source: &Value) -> Result<Record, RecordFault>
-    ensures { Gives result (record_by verb.Entry (view source.now)) }
+fn entry_record(alloc: Global, format: Format, source: &Value) -> Result<Record, RecordFault>
+    ensures { Gives result (record_by verb.Entry format (view source.now)) }
 {
-    Ok(Record::Edit(Edit::Entry(entry_in(alloc, source)?)))
+    Ok(Record::Edit(Edit::Entry(entry_in(alloc, format, source)?)))
 }
 
 #[inline(never)]
-fn deprecate_record(alloc: Global, source: &Value) -> Result<Record, RecordFault>
-    ensures { Gives result (record_by verb.Deprecate (view source.now)) }
+fn deprecate_record(alloc: Global, format: Format, source: &Value) -> Result<Record, RecordFault>
+    ensures { Gives result (record_by verb.Deprecate format (view source.now)) }
 {
-    Ok(Record::Edit(deprecation_in(alloc, source, false)?))
+    Ok(Record::Edit(deprecation_in(alloc, format, source, false)?))
 }
 
 #[inline(never)]
-fn amend_record(alloc: Global, source: &Value) -> Result<Record, RecordFault>
-    ensures { Gives result (record_by verb.Amend (view source.now)) }
+fn amend_record(alloc: Global, format: Format, source: &Value) -> Result<Record, RecordFault>
+    ensures { Gives result (record_by verb.Amend format (view source.now)) }
 {
-    Ok(Record::Edit(deprecation_in(alloc, source, true)?))
+    Ok(Record::Edit(deprecation_in(alloc, format, source, true)?))
 }
 
 #[inline(never)]
-fn restore_record(alloc: Global, source: &Value) -> Result<Record, RecordFault>
-    ensures { Gives result (record_by verb.Restore (view source.now)) }
+fn restore_record(alloc: Global, format: Format, source: &Value) -> Result<Record, RecordFault>
+    ensures { Gives result (record_by verb.Restore format (view source.now)) }
 {
-    Ok(Record::Edit(restore_in(alloc, source)?))
+    Ok(Record::Edit(restore_in(alloc, format, source)?))
 }
 
 #[inline(never)]
-fn item_record(alloc: Global, source: &Value) -> Result<Record, RecordFault>
-    ensures { Gives result (record_by verb.Item (view source.now)) }
+fn item_record(alloc: Global, format: Format, source: &Value) -> Result<Record, RecordFault>
+    ensures { Gives result (record_by verb.Item format (view source.now)) }
 {
-    Ok(Record::Edit(Edit::Item(name_at(alloc, source)?)))
+    Ok(Record::Edit(Edit::Item(name_at(alloc, format, source)?)))
 }
 
 #[inline(never)]
-fn drop_item_record(alloc: Global, source: &Value) -> Result<Record, RecordFault>
-    ensures { Gives result (record_by verb.DropItem (view source.now)) }
+fn drop_item_record(alloc: Global, format: Format, source: &Value) -> Result<Record, RecordFault>
+    ensures { Gives result (record_by verb.DropItem format (view source.now)) }
 {
-    Ok(Record::Edit(Edit::DropItem(name_at(alloc, source)?)))
+    Ok(Record::Edit(Edit::DropItem(name_at(alloc, format, source)?)))
 }
 
 #[inline(never)]
-fn statement_record(alloc: Global, source: &Value) -> Result<Record, RecordFault>
-    ensures { Gives result (record_by verb.Statement (view source.now)) }
+fn statement_record(alloc: Global, format: Format, source: &Value) -> Result<Record, RecordFault>
+    ensures { Gives result (record_by verb.Statement format (view source.now)) }
 {
-    Ok(Record::Edit(Edit::PutStatement(statement_in(alloc, source)?)))
+    Ok(Record::Edit(Edit::PutStatement(statement_in(alloc, format, source)?)))
 }
 
 #[inline(never)]
 fn drop_statement_record(alloc: Global, source: &Value) -> Result<Record, RecordFault>
-    ensures { Gives result (record_by verb.DropStatement (view source.now)) }
+    ensures { (f : Format) → Gives result (record_by verb.DropStatement f (view source.now)) }
 {
     Ok(Record::Edit(Edit::DropStatement(id_at(alloc, source)?)))
 }
 
 #[inline(never)]
 fn check_record(alloc: Global, source: &Value) -> Result<Record, RecordFault>
-    ensures { Gives result (record_by verb.Check (view source.now)) }
+    ensures { (f : Format) → Gives result (record_by verb.Check f (view source.now)) }
 {
     Ok(Record::Edit(check_in(alloc, source)?))
 }
 
 #[inline(never)]
 fn drop_check_record(alloc: Global, source: &Value) -> Result<Record, RecordFault>
-    ensures { Gives result (record_by verb.DropCheck (view source.now)) }
+    ensures { (f : Format) → Gives result (record_by verb.DropCheck f (view source.now)) }
 {
     Ok(Record::Edit(Edit::DropCheck(key_at(alloc, source)?)))
 }
 
 #[inline(never)]
-fn lookup_record(alloc: Global, source: &Value) -> Result<Record, RecordFault>
-    ensures { Gives result (record_by verb.Lookup (view source.now)) }
+fn lookup_record(alloc: Global, format: Format, source: &Value) -> Result<Record, RecordFault>
+    ensures { Gives result (record_by verb.Lookup format (view source.now)) }
 {
-    Ok(Record::Query(Query::Lookup(name_at(alloc, source)?)))
+    Ok(Record::Query(Query::Lookup(name_at(alloc, format, source)?)))
 }
 
 #[inline(never)]
-fn search_record(alloc: Global, source: &Value) -> Result<Record, RecordFault>
-    ensures { Gives result (record_by verb.Search (view source.now)) }
+fn search_record(alloc: Global, format: Format, source: &Value) -> Result<Record, RecordFault>
+    ensures { Gives result (record_by verb.Search format (view source.now)) }
 {
-    Ok(Record::Query(search_in(alloc, source)?))
+    Ok(Record::Query(search_in(alloc, format, source)?))
 }
 
 #[inline(never)]
-fn items_record(alloc: Global, source: &Value) -> Result<Record, RecordFault>
-    ensures { Gives result (record_by verb.Items (view source.now)) }
+fn items_record(alloc: Global, format: Format, source: &Value) -> Result<Record, RecordFault>
+    ensures { Gives result (record_by verb.Items format (view source.now)) }
 {
-    Ok(Record::Query(Query::Items(name_at(alloc, source)?)))
+    Ok(Record::Query(Query::Items(name_at(alloc, format, source)?)))
 }
 
 #[inline(never)]
-fn chain_record(alloc: Global, source: &Value) -> Result<Record, RecordFault>
-    ensures { Gives result (record_by verb.Chain (view source.now)) }
+fn chain_record(alloc: Global, format: Format, source: &Value) -> Result<Record, RecordFault>
+    ensures { Gives result (record_by verb.Chain format (view source.now)) }
 {
-    Ok(Record::Query(Query::Chain(name_at(alloc, source)?)))
+    Ok(Record::Query(Query::Chain(name_at(alloc, format, source)?)))
 }
 
 #[inline(never)]
-fn show_record(alloc: Global, source: &Value) -> Result<Record, RecordFault>
-    ensures { Gives result (record_by verb.Show (view source.now)) }
+fn show_record(alloc: Global, format: Format, source: &Value) -> Result<Record, RecordFault>
+    ensures { Gives result (record_by verb.Show format (view source.now)) }
 {
-    Ok(Record::Query(Query::Show(name_at(alloc, source)?)))
+    Ok(Record::Query(Query::Show(name_at(alloc, format, source)?)))
 }
 
 #[inline(never)]
 fn verdict_record(alloc: Global, source: &Value) -> Result<Record, RecordFault>
-    ensures { Gives result (record_by verb.Verdict (view source.now)) }
+    ensures { (f : Format) → Gives result (record_by verb.Verdict f (view source.now)) }
 {
     Ok(Record::Query(Query::Verdict(id_at(alloc, source)?)))
 }
 
-fn record_by(alloc: Global, verb: Verb, source: &Value) -> Result<Record, RecordFault>
-    ensures { Gives result (record_by verb (view source.now)) }
+fn record_by(
+    alloc: Global,
+    verb: Verb,
+    format: Format,
+    source: &Value,
+) -> Result<Record, RecordFault>
+    ensures { Gives result (record_by verb format (view source.now)) }
 {
     match verb {
-        Verb::Entry => entry_record(alloc, source),
-        Verb::Deprecate => deprecate_record(alloc, source),
-        Verb::Amend => amend_record(alloc, source),
-        Verb::Restore => restore_record(alloc, source),
-        Verb::Item => item_record(alloc, source),
-        Verb::DropItem => drop_item_record(alloc, source),
-        Verb::Statement => statement_record(alloc, source),
+        Verb::Entry => entry_record(alloc, format, source),
+        Verb::Deprecate => deprecate_record(alloc, format, source),
+        Verb::Amend => amend_record(alloc, format, source),
+        Verb::Restore => restore_record(alloc, format, source),
+        Verb::Item => item_record(alloc, format, source),
+        Verb::DropItem => drop_item_record(alloc, format, source),
+        Verb::Statement => statement_record(alloc, format, source),
         Verb::DropStatement => drop_statement_record(alloc, source),
         Verb::Check => check_record(alloc, source),
         Verb::DropCheck => drop_check_record(alloc, source),
-        Verb::Lookup => lookup_record(alloc, source),
-        Verb::Search => search_record(alloc, source),
-        Verb::Items => items_record(alloc, source),
-        Verb::Chain => chain_record(alloc, source),
-        Verb::Show => show_record(alloc, source),
+        Verb::Lookup => lookup_record(alloc, format, source),
+        Verb::Search => search_record(alloc, format, source),
+        Verb::Items => items_record(alloc, format, source),
+        Verb::Chain => chain_record(alloc, format, source),
+        Verb::Show => show_record(alloc, format, source),
         Verb::Verdict => verdict_record(alloc, source),
     }
 }
@@ -194,7 +200,8 @@ fn record_in(alloc: Global, line: &[u8]) -> Result<Record, RecordFault>
 {
     let value = value_of(alloc, line)?;
     let verb = verb_at(&value)?;
-    record_by(alloc, verb, &value)
+    let format = format_at(&value)?;
+    record_by(alloc, verb, format, &value)
 }
 
 /// The record of a line: a JSON value, of a kind that its member `do` says, whose members have their forms. Its names are in lower case.
@@ -202,8 +209,9 @@ fn record_in(alloc: Global, line: &[u8]) -> Result<Record, RecordFault>
 /// # Errors
 ///
 /// The first cause why the line is no record, exactly where it is none: `Json` where it is no JSON value, or nests deeper than 127
-/// arrays and objects, or has a number out of range; `Member` of `do` where this is none of the kinds' words; and then
-/// the fault of the first member of its kind that fails. Else `Memory`, where memory runs out.
+/// arrays and objects, or has a number out of range; `Member` of `do` where this is none of the kinds' words, else `Member` of `v` where
+/// this is there and is not the text `2`; and then the fault of the first member of its kind that fails. Else `Memory`, where memory
+/// runs out.
 pub fn read_record(alloc: Global, line: &[u8]) -> Result<Record, RecordFault>
     ensures read { Gives result (record_of line.now) }
     // An engine takes it.

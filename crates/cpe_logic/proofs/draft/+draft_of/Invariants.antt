@@ -10,4 +10,4 @@ abbrev pub decreases-draft_of : goal.decreases-draft_of
 decreases-draft_of l = depth (view l.source.now)
 
 abbrev pub invariant-loop-item : goal.invariant-loop-item
-invariant-loop-item l = all_from (λ k. draft_of) 1 (map view (take l.item-index l.items)) ≡ Ok l.of
+invariant-loop-item l = all_from (λ k. draft_of l.format) 1 (map view (take l.item-index l.items)) ≡ Ok l.of
