@@ -1,3 +1,5 @@
 pub mod Line
 pub mod ValidLemmas
 pub mod ValidRecords
+pub mod Pieces
+pub mod Printed

@@ -27,9 +27,12 @@
 //! of `test`, the test of a statement, stands at `cpe_logic`.
 #![tactic(auto)]
 
+mod ascii;
 mod kinds;
 mod read;
 mod verb;
+mod write;
 
 pub use cpe_members::{Format, Member, NameSpot, RecordFault};
 pub use read::{Record, read_record};
+pub use write::{append_entry, write_entry};

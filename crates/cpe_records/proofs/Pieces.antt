@@ -5,7 +5,7 @@ use Rattle.std.proofs.lemmas.List.{append_assoc}
 use Rattle.json.specs.Token.{Token, end_array}
 use Rattle.json.specs.Json.{Json}
 use Rattle.json.specs.Tree.{json_tokens, items_tokens}
-use Rattle.cpe_entry_text.specs.Written.{items_by}
+use Rattle.cpe_records.specs.Written.{items_by}
 
 -- a piece, and what was put behind it
 pub two : {A : Type 0} (o a b t u : List A) → t ≡ o ++ a → u ≡ t ++ b → u ≡ o ++ (a ++ b)

@@ -4,8 +4,8 @@ ghost use Rattle.std.specs.List.{AllByRecursion};
 ghost use Rattle.json.specs.Print.{IsPrintable};
 ghost use Rattle.json.specs.Reads.{token_of};
 ghost use Rattle.json.specs.Tree.{json_tokens};
-ghost use Rattle.cpe_entry_text.specs.Puts.{Puts};
-ghost use Rattle.cpe_entry_text.specs.Written.{name_json, note_json, deprecation_json, provenance_json, entry_json, entry_text};
+ghost use Rattle.cpe_records.specs.Puts.{Puts};
+ghost use Rattle.cpe_records.specs.Written.{name_json, note_json, deprecation_json, provenance_json, entry_json, entry_text};
 
 use crate::ascii::{ascii_str, date_str};
 use cpe_fs::bind_fs;

@@ -3,9 +3,9 @@ use Rattle.std.specs.List.{flat_map}
 use Rattle.json.specs.Token.{Token, string, key, begin_object, end_object, begin_array, end_array}
 use Rattle.json.specs.Tree.{json_tokens}
 use Rattle.cpe_members.specs.Words.{kind_word}
-use Rattle.cpe_entry_text.specs.Written.{name_json, deprecation_json}
-use Rattle.cpe_entry_text.proofs.Pieces.{two, closed}
-use Rattle.cpe_entry_text.proofs.write.put_deprecation.Goals as goal
+use Rattle.cpe_records.specs.Written.{name_json, deprecation_json}
+use Rattle.cpe_records.proofs.Pieces.{two, closed}
+use Rattle.cpe_records.proofs.write.put_deprecation.Goals as goal
 
 pub returns-in_ok-put-in-Some-2 : goal.returns-in_ok-put-in-Some-2
 returns-in_ok-put-in-Some-2 c =

@@ -1,7 +1,7 @@
 use Rattle.std.proofs.Common.{subst, sym, ◌∙◌}
 use Rattle.std.specs.Str.{IsAscii}
-use Rattle.cpe_entry_text.proofs.Printed.{IsAscii-fs_text}
-use Rattle.cpe_entry_text.proofs.write.put_name.Goals as goal
+use Rattle.cpe_records.proofs.Printed.{IsAscii-fs_text}
+use Rattle.cpe_records.proofs.write.put_name.Goals as goal
 
 pub ascii_str-requires : goal.ascii_str-requires
 ascii_str-requires c =

@@ -2,9 +2,9 @@ use Rattle.std.proofs.Common.{◌≡◌, List, [], ◌∷◌, ◌++◌, codes, a
 use Rattle.std.specs.List.{flat_map}
 use Rattle.json.specs.Token.{Token, string, key, begin_object, end_object, begin_array, end_array}
 use Rattle.json.specs.Tree.{json_tokens}
-use Rattle.cpe_entry_text.specs.Written.{note_json}
-use Rattle.cpe_entry_text.proofs.Pieces.{two, closed}
-use Rattle.cpe_entry_text.proofs.write.put_provenance.Goals as goal
+use Rattle.cpe_records.specs.Written.{note_json}
+use Rattle.cpe_records.proofs.Pieces.{two, closed}
+use Rattle.cpe_records.proofs.write.put_provenance.Goals as goal
 
 pub returns : goal.returns
 returns c =

@@ -1,9 +1,9 @@
 use Rattle.std.proofs.Common.{◌≡◌, List, [], ◌∷◌, ◌++◌, codes}
 use Rattle.json.specs.Token.{Token, string, key, begin_object, end_object}
 use Rattle.json.specs.Tree.{json_tokens}
-use Rattle.cpe_entry_text.specs.Written.{name_json, deprecation_json, provenance_json}
-use Rattle.cpe_entry_text.proofs.Pieces.{two}
-use Rattle.cpe_entry_text.proofs.write.put_entry.Goals as goal
+use Rattle.cpe_records.specs.Written.{name_json, deprecation_json, provenance_json}
+use Rattle.cpe_records.proofs.Pieces.{two}
+use Rattle.cpe_records.proofs.write.put_entry.Goals as goal
 
 pub returns : goal.returns
 returns c =
