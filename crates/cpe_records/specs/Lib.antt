@@ -5,3 +5,5 @@ pub mod Taken
 pub mod Edited
 pub mod Written
 pub mod Puts
+pub mod NameObject
+pub mod WrittenRecord

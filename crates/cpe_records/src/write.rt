@@ -16,7 +16,8 @@ use cpe_values::Memory;
 use json::{Token, Writer};
 use std::alloc::Global;
 
-fn put(writer: &mut Writer, tokens: &[Token<'_>]) -> Result<(), Memory>
+/// Puts tokens, one after the other.
+pub(crate) fn put(writer: &mut Writer, tokens: &[Token<'_>]) -> Result<(), Memory>
     requires { AllByRecursion (λ t. IsPrintable (token_of t)) tokens.now }
     ensures { Puts result writer.old writer.new (map token_of tokens.now) }
 {
@@ -100,7 +101,8 @@ fn put_deprecation(
     Ok(())
 }
 
-fn put_provenance(writer: &mut Writer, provenance: &Provenance) -> Result<(), Memory>
+/// Puts the provenance of an entry.
+pub(crate) fn put_provenance(writer: &mut Writer, provenance: &Provenance) -> Result<(), Memory>
     ensures { Puts result writer.old writer.new (json_tokens (provenance_json provenance.now)) }
 {
     put(
