@@ -1,19 +1,19 @@
 // Names as objects of their attributes.
-ghost use Rattle.std.specs.Prelude.{◌≡◌, ◌++◌, OnOk, flat_map, map};
+ghost use Rattle.std.specs.Prelude.{◌≡◌, ◌++◌, flat_map, map};
 ghost use Rattle.std.specs.List.{AllByRecursion};
 ghost use Rattle.json.specs.Print.{IsPrintable};
 ghost use Rattle.json.specs.Reads.{token_of};
 ghost use Rattle.json.specs.Tree.{json_tokens};
 ghost use Rattle.cpe_uri.specs.Canon.{is_any};
 ghost use Rattle.cpe_name.specs.Text.{attribute_name};
-ghost use Rattle.cpe_fs.specs.Grammar.{component};
 ghost use Rattle.cpe_records.specs.Puts.{Puts};
 ghost use Rattle.cpe_records.specs.NameObject.{sorted_attributes, value_tokens, name_object};
 
 use crate::ascii::ascii_str;
 use crate::write::put;
+use cpe_fs::bind_component;
 use cpe_name::{Attribute, Wfn};
-use cpe_values::{Memory, Style, Value, push_spelling};
+use cpe_values::{Memory, Value};
 use json::{Token, Writer};
 use std::alloc::Global;
 
@@ -56,17 +56,6 @@ fn is_any_value(value: &Value) -> bool
     matches!(value, Value::Any)
 }
 
-fn push_component(out: &mut Vec<u8>, value: &Value) -> Result<(), Memory>
-    ensures { OnOk result (out.new.items ≡ out.old.items ++ component value.now) }
-{
-    match value {
-        Value::Any => out.push(b'*')?,
-        Value::Na => out.push(b'-')?,
-        Value::Text(text) => push_spelling(out, Style::Formatted, text)?,
-    }
-    Ok(())
-}
-
 fn put_attribute(
     alloc: Global,
     writer: &mut Writer,
@@ -80,8 +69,7 @@ fn put_attribute(
         return Ok(());
     }
     value.lawful();
-    let mut text = Vec::new(alloc);
-    push_component(&mut text, value)?;
+    let text = bind_component(alloc, value)?;
     put(
         writer,
         &[
