@@ -9,3 +9,6 @@ pub mod TestForms
 pub mod RecordForms
 pub mod WordForms
 pub mod ProvenanceForms
+pub mod NamesRead
+pub mod TestsRead
+pub mod RecordsRead

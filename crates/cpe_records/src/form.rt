@@ -1,10 +1,14 @@
 // The written form of records.
-ghost use Rattle.std.specs.Prelude.{◌≡◌, true, ◌++◌, IfOk, if◌then◌else◌};
+ghost use Rattle.std.specs.Prelude.{◌≡◌, true, ◌++◌, IfOk, OnOk, Ok};
+ghost use Rattle.std.specs.Str.{IsUtf8};
 ghost use Rattle.json.specs.Tree.{json_tokens};
 ghost use Rattle.cpe_rows.specs.declared.edit.Edit.TheVariants as edit;
 ghost use Rattle.cpe_rows.specs.declared.edit.Query.TheVariants as query;
 ghost use Rattle.cpe_records.specs.declared.verb.Verb.TheVariants as verb;
 ghost use Rattle.cpe_records.specs.Puts.{Puts};
+ghost use Rattle.cpe_records.specs.Reading.{record_of};
+ghost use Rattle.cpe_records.specs.Taken.{is_valid_record, IsFormedQuery, IsFormedRecord};
+ghost use Rattle.cpe_records.specs.declared.read.Record.{Record};
 ghost use Rattle.cpe_records.specs.WrittenRecord.{about_json, about_id_json, change_head, change_json, edit_json, query_json, record_json, record_text};
 
 use crate::ascii::date_str;
@@ -13,6 +17,7 @@ use crate::read::Record;
 use crate::test::put_test;
 use crate::verb::Verb;
 use crate::write::{put, put_provenance};
+use cpe_fs::read_component_is;
 use cpe_members::{kind_word, mode_word, truth_word};
 use cpe_name::Wfn;
 use cpe_rows::{CheckKey, Date, Deprecation, Edit, Entry, Query, Statement, Text, Truth};
@@ -333,14 +338,49 @@ fn put_record(alloc: Global, writer: &mut Writer, what: &Record) -> Result<(), M
     }
 }
 
+fn formed_query(query: &Query)
+    ensures { IsFormedQuery query.now }
+{
+    match query {
+        Query::Lookup(name)
+        | Query::Search { name, .. }
+        | Query::Items(name)
+        | Query::Chain(name)
+        | Query::Show(name) => name.lawful(),
+        Query::Verdict(_) => {}
+    }
+}
+
+// What is so of every record. It does nothing, and tells a proof so.
+fn formed(what: &Record)
+    ensures { IsFormedRecord what.now }
+{
+    match what {
+        Record::Edit(edit) => edit.formed(),
+        Record::Query(query) => formed_query(query),
+    }
+}
+
+/// The written form of each valid record is read as that record. That its names are well-formed and its dates have the shape of one is
+/// so of every record, and [`write_record`] writes UTF-8.
+pub fn written_is_read()
+    ensures { (r : Record) → IsFormedRecord r → is_valid_record r ≡ true → IsUtf8 (record_text r) → record_of (record_text r) ≡ Ok r }
+{
+    read_component_is();
+}
+
 /// Puts the written form of a record, as [`write_record`] gives it, after what a buffer holds.
 ///
 /// # Errors
 /// Want of memory alone; the buffer is then dropped.
 #[tactic(auto, unfolding(crate::specs::WrittenRecord::record_text))]
 pub fn append_record(alloc: Global, buffer: Vec<u8>, what: &Record) -> Result<Vec<u8>, Memory>
-    ensures { IfOk result (λ v. v.items ≡ buffer.items ++ record_text what.now) }
+    ensures text { IfOk result (λ v. v.items ≡ buffer.items ++ record_text what.now) }
+    // A valid record is read again as it is.
+    ensures read { OnOk result (is_valid_record what.now ≡ true → record_of (record_text what.now) ≡ Ok what.now) }
 {
+    formed(what);
+    written_is_read();
     let mut writer = Writer::new(buffer);
     put_record(alloc, &mut writer, what)?;
     Ok(writer.into_inner())
@@ -352,7 +392,9 @@ pub fn append_record(alloc: Global, buffer: Vec<u8>, what: &Record) -> Result<Ve
 /// # Errors
 /// Want of memory alone.
 pub fn write_record(alloc: Global, what: &Record) -> Result<Vec<u8>, Memory>
-    ensures { IfOk result (λ v. v.items ≡ record_text what.now) }
+    ensures text { IfOk result (λ v. v.items ≡ record_text what.now) }
+    // A valid record is read again as it is.
+    ensures read { is_valid_record what.now ≡ true → IfOk result (λ v. record_of v.items ≡ Ok what.now) }
 {
     append_record(alloc, Vec::with_capacity(alloc, 256)?, what)
 }

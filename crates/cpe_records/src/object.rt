@@ -5,13 +5,13 @@ ghost use Rattle.json.specs.Print.{IsPrintable};
 ghost use Rattle.json.specs.Reads.{token_of};
 ghost use Rattle.json.specs.Tree.{json_tokens};
 ghost use Rattle.cpe_uri.specs.Canon.{is_any};
-ghost use Rattle.cpe_name.specs.Text.{attribute_name};
 ghost use Rattle.cpe_records.specs.Puts.{Puts};
 ghost use Rattle.cpe_records.specs.NameObject.{sorted_attributes, value_tokens, name_object};
 
 use crate::ascii::ascii_str;
 use crate::write::put;
 use cpe_fs::bind_component;
+use cpe_members::attribute_word;
 use cpe_name::{Attribute, Wfn};
 use cpe_values::{Memory, Value};
 use json::{Token, Writer};
@@ -31,24 +31,6 @@ const SORTED: [Attribute; 11] = [
     Attribute::Vendor,
     Attribute::Version,
 ];
-
-fn attribute_key(which: Attribute) -> &'static str
-    ensures { result.now ≡ attribute_name which }
-{
-    match which {
-        Attribute::Part => "part",
-        Attribute::Vendor => "vendor",
-        Attribute::Product => "product",
-        Attribute::Version => "version",
-        Attribute::Update => "update",
-        Attribute::Edition => "edition",
-        Attribute::Language => "language",
-        Attribute::SwEdition => "sw_edition",
-        Attribute::TargetSw => "target_sw",
-        Attribute::TargetHw => "target_hw",
-        Attribute::Other => "other",
-    }
-}
 
 fn is_any_value(value: &Value) -> bool
     ensures { result ≡ is_any value.now }
@@ -73,7 +55,7 @@ fn put_attribute(
     put(
         writer,
         &[
-            Token::Key(attribute_key(which)),
+            Token::Key(attribute_word(which)),
             Token::String(ascii_str(text.as_slice())),
         ],
     )?;
