@@ -45,7 +45,7 @@ fn is_component(text: &[u8]) -> bool
 /// all else spells a text. Letter case is kept. Which attribute may have the value is not asked.
 ///
 /// # Errors
-/// [`NotComponent`](ComponentFault::NotComponent) exactly where no value has it; else that memory ran out.
+/// [`NotComponent`](ComponentFault::NotComponent) exactly where no value has it; else memory ran out.
 pub fn unbind_component(alloc: Global, text: &[u8]) -> Result<Value, ComponentFault>
     // What is answered has this component.
     ensures found { IfOk result (λ value. HasComponent value text.now) }

@@ -25,6 +25,6 @@ pub use member::{Member, NameSpot, NotName, RecordFault};
 pub use name::{at_spot, name_at, name_in, successors_at};
 pub use provenance::provenance_or_empty;
 pub use words::{
-    attribute_word, kind_of, kind_word, mode_of, note_kind_of, note_kind_word, operator_of,
-    truth_of, truth_word,
+    attribute_word, kind_of, kind_word, mode_of, mode_word, note_kind_of, note_kind_word,
+    operator_of, operator_word, truth_of, truth_word,
 };

@@ -76,7 +76,8 @@ pub fn note_kind_of(text: &str) -> Option<NoteKind>
         .find(|kind| note_kind_word(*kind) == text)
 }
 
-fn mode_word(mode: Mode) -> &'static str
+/// How a mode is written.
+pub fn mode_word(mode: Mode) -> &'static str
     ensures { result.now ≡ mode_word mode }
 {
     match mode {
@@ -93,7 +94,8 @@ pub fn mode_of(text: &str) -> Option<Mode>
     modes.iter().copied().find(|mode| mode_word(*mode) == text)
 }
 
-fn operator_word(operator: Operator) -> &'static str
+/// How an operator is written.
+pub fn operator_word(operator: Operator) -> &'static str
     ensures { result.now ≡ operator_word operator }
 {
     match operator {

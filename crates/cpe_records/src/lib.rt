@@ -27,9 +27,16 @@
 //! of `test`, the test of a statement, stands at `cpe_logic`.
 #![tactic(auto)]
 
+mod ascii;
+mod form;
 mod kinds;
+mod object;
 mod read;
+mod test;
 mod verb;
+mod write;
 
 pub use cpe_members::{Format, Member, NameSpot, RecordFault};
+pub use form::{append_record, write_record};
 pub use read::{Record, read_record};
+pub use write::{append_entry, write_entry};

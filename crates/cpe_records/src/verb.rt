@@ -24,7 +24,8 @@ pub(crate) enum Verb {
 }
 
 impl Verb {
-    fn word(self) -> &'static str
+    /// How it is written.
+    pub(crate) fn word(self) -> &'static str
         ensures { result.now ≡ verb_word self }
     {
         match self {

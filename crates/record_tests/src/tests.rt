@@ -1,4 +1,5 @@
 // Tests by what is read from a line, and how a line is read.
 mod entries;
+mod forms;
 mod reading;
 mod statements;

@@ -1,9 +1,8 @@
 // Entries that are read and written again: names in lower case, members in the order of their bytes, escapes where JSON wants them.
 use super::reading::read;
-use cpe_entry_text::{append_entry, write_entry};
 use cpe_members::provenance_or_empty;
 use cpe_name::Wfn;
-use cpe_records::Record;
+use cpe_records::{Record, append_entry, write_entry};
 use cpe_rows::{Deprecation, Edit, Entry, Text};
 use std::alloc::Global;
 
