@@ -9,7 +9,7 @@ use Rattle.json.specs.Tree.{json_tokens, items_tokens, members_tokens}
 use Rattle.cpe_name.specs.Names.{value_of}
 use Rattle.cpe_name.specs.Text.{attribute_name}
 use Rattle.cpe_name.specs.declared.attribute.Attribute.{Attribute}
-use Rattle.cpe_name.specs.declared.name.Values.{Values}
+use Rattle.cpe_name.specs.Eleven.{Values}
 use Rattle.cpe_uri.specs.Canon.{is_any}
 use Rattle.cpe_fs.specs.Grammar.{component}
 use Rattle.cpe_records.specs.Written.{items_by}
