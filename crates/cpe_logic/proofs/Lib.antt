@@ -5,3 +5,4 @@ pub mod FormedTests
 pub mod InTurn
 pub mod SoundTests
 pub mod StatementTests
+pub mod TestsRead

@@ -10,5 +10,5 @@ pub mod RecordForms
 pub mod WordForms
 pub mod ProvenanceForms
 pub mod NamesRead
-pub mod TestsRead
+pub mod FormsRead
 pub mod RecordsRead

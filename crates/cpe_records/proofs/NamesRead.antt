@@ -1,11 +1,10 @@
 -- A name that is written as an object is read as such.
-use Rattle.std.proofs.Common.{◌≡◌, ℕ, ◌+◌, List, [], ◌∷◌, Bool, true, false, ◌&&◌, if◌then◌else◌, Option, Some, None, map, refl, ap, sym, ◌∙◌}
-use Rattle.std.specs.Prelude.{Result, Ok, Err, All, find, is_none, is_some, unwrap_or, option_and_then}
+use Rattle.std.proofs.Common.{◌≡◌, ℕ, List, [], ◌∷◌, true, if◌then◌else◌, Option, Some, None, map, refl, ap, ◌∙◌}
+use Rattle.std.specs.Prelude.{Ok, Err, All, find, is_none, is_some, unwrap_or, option_and_then}
 use Rattle.std.specs.List.{list_all, AllByRecursion}
 use Rattle.std.proofs.lemmas.Bool.{and_parts, and_from}
 use Rattle.std.proofs.lemmas.List.Elements.{All-head, All-tail}
-use Rattle.serde_json.specs.Data.{Data, string}
-use Rattle.serde_json.specs.Find.{get}
+use Rattle.serde_json.specs.Data.{Data}
 use Rattle.cpe_values.specs.declared.value.Value.{Value}
 use Rattle.cpe_values.specs.declared.value.Value.TheVariants as value
 use Rattle.cpe_values.specs.Values.{IsValue}
@@ -13,21 +12,19 @@ use Rattle.cpe_name.specs.Eleven.{Values}
 use Rattle.cpe_name.specs.declared.attribute.Attribute.{Attribute}
 use Rattle.cpe_name.specs.declared.attribute.Attribute.TheVariants.{Part, Vendor, Product, Version, Update, Edition, Language, SwEdition, TargetSw, TargetHw, Other}
 use Rattle.cpe_name.specs.Names.{attributes, value_of, named, IsName}
-use Rattle.cpe_name.specs.Text.{attribute_name}
 use Rattle.cpe_rows.specs.Names.{is_lower}
 use Rattle.cpe_rows.proofs.NameTests.{is_lower_is}
 use Rattle.cpe_fs.specs.Grammar.{component}
 use Rattle.cpe_fs.specs.Component.{HasComponent, read_component}
 use Rattle.cpe_members.specs.Forms.{list_of, or_default, required}
 use Rattle.cpe_members.specs.Gives.{◌>>=◌, all_from}
-use Rattle.cpe_members.specs.NameObjects.{component_in, component_at, has_shape, shaped, value_at, first_without, values_at}
+use Rattle.cpe_members.specs.NameObjects.{component_in, has_shape, shaped, value_at, first_without, values_at}
 use Rattle.cpe_members.specs.Names.{lowered, of_object, object_name, name_in, is_written, at_spot, named_in, all_written}
 use Rattle.cpe_members.specs.declared.format.Format.TheVariants.{Two}
 use Rattle.cpe_members.specs.declared.member.Member.{Member}
 use Rattle.cpe_members.specs.declared.member.Member.TheVariants as member
 use Rattle.cpe_members.specs.declared.member.NameSpot.{NameSpot}
 use Rattle.cpe_members.specs.declared.member.RecordFault.TheVariants as fault
-use Rattle.cpe_members.specs.declared.member.RecordFault.{RecordFault}
 use Rattle.cpe_records.specs.Written.{items_by}
 use Rattle.cpe_records.specs.NameObject.{name_object}
 use Rattle.cpe_records.proofs.ReadBack.{data_of, data_items}

@@ -1,6 +1,6 @@
 -- The written form of a record is read as the record.
-use Rattle.std.proofs.Common.{◌≡◌, ℕ, List, [], Bool, true, false, if◌then◌else◌, IsTrue, Option, Some, None, is_none, option_and_then, codes, refl, ap, sym, ◌∙◌}
-use Rattle.std.specs.Prelude.{Result, Ok, Err, All}
+use Rattle.std.proofs.Common.{◌≡◌, ℕ, List, [], Bool, true, if◌then◌else◌, IsTrue, Option, Some, None, is_none, option_and_then, codes, refl, ap, ◌∙◌}
+use Rattle.std.specs.Prelude.{Result, Ok, All}
 use Rattle.std.specs.Str.{IsUtf8}
 use Rattle.std.specs.List.{list_all}
 use Rattle.std.proofs.lemmas.Bool.{and_parts}
@@ -32,7 +32,7 @@ use Rattle.cpe_members.specs.declared.member.NameSpot.TheVariants as spot
 use Rattle.cpe_members.specs.declared.member.RecordFault.{RecordFault}
 use Rattle.cpe_records.specs.Kinds.{description_in, entry_in, remark_in, change_in, deprecation_in, restore_in, statement_in, key_at, check_in, search_in}
 use Rattle.cpe_records.specs.NameObject.{name_object}
-use Rattle.cpe_records.specs.Reading.{json_of, value_of, record_by, record_of}
+use Rattle.cpe_records.specs.Reading.{record_by, record_of}
 use Rattle.cpe_records.specs.Taken.{is_valid_record, IsFormedQuery, IsFormedRecord}
 use Rattle.cpe_records.specs.Verbs.{verb_of}
 use Rattle.cpe_records.specs.declared.kinds.Description.{Description}
@@ -46,8 +46,8 @@ use Rattle.cpe_records.proofs.ReadBack.{data_of}
 use Rattle.cpe_records.proofs.NamesRead.{ReadsComponents, named_read, names_read}
 use Rattle.cpe_records.proofs.ProvenanceForms.{dated, provenance_read}
 use Rattle.cpe_records.proofs.RecordForms.{form_read}
-use Rattle.cpe_records.proofs.TestsRead.{test_read}
-use Rattle.cpe_records.proofs.WordForms.{kind_read, mode_read, truth_read, verb_read}
+use Rattle.cpe_records.proofs.FormsRead.{test_read}
+use Rattle.cpe_records.proofs.WordForms.{kind_read, mode_read, truth_read}
 
 passed : (p : List ℕ → Bool) (s : List ℕ) → p s ≡ true → tested p s ≡ Some s
 passed p s h = ap (λ b. if b then Some s else None) h

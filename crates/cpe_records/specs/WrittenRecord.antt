@@ -1,5 +1,5 @@
--- A record as JSON, in the second format: without spaces, with the members of each object sorted by their keys, and with what else
--- would be a default.
+-- A record as JSON, in the second format: without spaces, the members of each object sorted by their keys, and each member of its kind,
+-- also where it is what an absent one would be.
 use Rattle.std.specs.Prelude.{ℕ, List, [], ◌∷◌, ◌++◌, codes}
 use Rattle.json.specs.Token.{Token, begin_object, begin_array, key}
 use Rattle.json.specs.Json.{Json, boolean, string, array, object, Items, no_items, item, Members, no_members, member}

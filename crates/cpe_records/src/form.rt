@@ -204,8 +204,8 @@ fn put_statement(alloc: Global, writer: &mut Writer, statement: &Statement) -> R
     Ok(())
 }
 
-fn put_result(writer: &mut Writer, key: &CheckKey, result_: Truth) -> Result<(), Memory>
-    ensures { Puts result writer.old writer.new (json_tokens (edit_json (edit.SetCheck key.now result_))) }
+fn put_result(writer: &mut Writer, key: &CheckKey, truth: Truth) -> Result<(), Memory>
+    ensures { Puts result writer.old writer.new (json_tokens (edit_json (edit.SetCheck key.now truth))) }
 {
     put(
         writer,
@@ -218,7 +218,7 @@ fn put_result(writer: &mut Writer, key: &CheckKey, result_: Truth) -> Result<(),
             Token::Key("id"),
             Token::String(key.id.as_str()),
             Token::Key("result"),
-            Token::String(truth_word(result_)),
+            Token::String(truth_word(truth)),
             Token::Key("system"),
             Token::String(key.system.as_str()),
             Token::Key("v"),

@@ -37,6 +37,6 @@ mod verb;
 mod write;
 
 pub use cpe_members::{Format, Member, NameSpot, RecordFault};
-pub use form::{append_record, write_record};
+pub use form::{append_record, write_record, written_is_read};
 pub use read::{Record, read_record};
 pub use write::{append_entry, write_entry};
