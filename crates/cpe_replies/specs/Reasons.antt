@@ -5,6 +5,7 @@ use Rattle.cpe_rows.specs.declared.fault.EditFault.{EditFault}
 use Rattle.cpe_rows.specs.declared.fault.EditFault.TheVariants as edit
 use Rattle.cpe_rows.specs.declared.fault.Which.{Which}
 use Rattle.cpe_rows.specs.declared.fault.Which.TheVariants.{Entries, Items, Statements, Facts, Checks, Weight}
+use Rattle.cpe_name.specs.Text.{attribute_name}
 use Rattle.cpe_members.specs.Keys.{key_of}
 use Rattle.cpe_members.specs.declared.member.NameSpot.{NameSpot}
 use Rattle.cpe_members.specs.declared.member.NameSpot.TheVariants.{Name, Successor, Fact}
@@ -24,6 +25,7 @@ abbrev pub record_fault_text : RecordFault → List ℕ
 record_fault_text unread.Json = codes "json"
 record_fault_text (unread.Member member) = codes "member " ++ key_of member
 record_fault_text (unread.Name spot place) = codes "name " ++ spot_text spot ++ codes " " ++ decimal place
+record_fault_text (unread.Attribute spot which) = codes "attribute " ++ spot_text spot ++ codes " " ++ attribute_name which
 record_fault_text unread.TooDeep = codes "deep"
 record_fault_text unread.Memory = []
 

@@ -2,11 +2,11 @@
 ghost use Rattle.std.specs.Prelude.{◌≡◌, ◌++◌, OnOk, codes};
 ghost use Rattle.std.specs.Fmt.{decimal};
 ghost use Rattle.cpe_replies.specs.Replies.{name_text};
-ghost use Rattle.cpe_replies.specs.Reasons.{record_fault_text, which_word, edit_fault_text, reason_text};
+ghost use Rattle.cpe_replies.specs.Reasons.{spot_text, record_fault_text, which_word, edit_fault_text, reason_text};
 
 use crate::row::push_name;
-use cpe_members::{Member, NameSpot, RecordFault};
-use cpe_name::Wfn;
+use cpe_members::{Member, NameSpot, RecordFault, attribute_word};
+use cpe_name::{Attribute, Wfn};
 use cpe_rows::{EditFault, Which};
 use cpe_session::{Page, Reason};
 use std::alloc::{AllocError, Global};
@@ -37,7 +37,8 @@ fn push_record_fault(page: &mut Page, fault: &RecordFault) -> Result<(), AllocEr
     match fault {
         RecordFault::Json => page.push(b"json"),
         RecordFault::Member(member) => push_member(page, *member),
-        RecordFault::Name(spot, place) => push_spot(page, *spot, *place),
+        RecordFault::Name(spot, place) => push_wrong_text(page, *spot, *place),
+        RecordFault::Attribute(spot, which) => push_attribute(page, *spot, *which),
         RecordFault::TooDeep => page.push(b"deep"),
         RecordFault::Memory => Ok(()),
     }
@@ -50,16 +51,31 @@ fn push_member(page: &mut Page, member: Member) -> Result<(), AllocError>
     page.push(member.key().as_bytes())
 }
 
-fn push_spot(page: &mut Page, spot: NameSpot, place: usize) -> Result<(), AllocError>
+// A word, and which name of the record.
+fn push_spot(page: &mut Page, word: &[u8], spot: NameSpot) -> Result<(), AllocError>
+    ensures { OnOk result (page.new ≡ page.old ++ (word.now ++ spot_text spot)) }
+{
+    page.push(word)?;
+    match spot {
+        NameSpot::Name => page.push(b"name"),
+        NameSpot::Successor(number) => page.push_numbered(b"successor ", u64::from(number)),
+        NameSpot::Fact(number) => page.push_numbered(b"fact ", u64::from(number)),
+    }
+}
+
+fn push_wrong_text(page: &mut Page, spot: NameSpot, place: usize) -> Result<(), AllocError>
     ensures { OnOk result (page.new ≡ page.old ++ record_fault_text (RecordFault.Name spot place)) }
 {
-    page.push(b"name ")?;
-    match spot {
-        NameSpot::Name => page.push(b"name")?,
-        NameSpot::Successor(number) => page.push_numbered(b"successor ", u64::from(number))?,
-        NameSpot::Fact(number) => page.push_numbered(b"fact ", u64::from(number))?,
-    }
+    push_spot(page, b"name ", spot)?;
     page.push_numbered(b" ", place as u64)
+}
+
+fn push_attribute(page: &mut Page, spot: NameSpot, which: Attribute) -> Result<(), AllocError>
+    ensures { OnOk result (page.new ≡ page.old ++ record_fault_text (RecordFault.Attribute spot which)) }
+{
+    push_spot(page, b"attribute ", spot)?;
+    page.push(b" ")?;
+    page.push(attribute_word(which).as_bytes())
 }
 
 // A word, and the place of a successor.
