@@ -11,9 +11,9 @@ use Rattle.cpe_rows.specs.declared.test.Operator.{Operator}
 use Rattle.cpe_rows.specs.declared.test.CheckKey.{CheckKey}
 use Rattle.cpe_rows.specs.declared.test.Test.{Test, Logic, Fact, Check}
 use Rattle.cpe_members.specs.declared.format.Format.TheVariants.{Two}
-use Rattle.cpe_logic.specs.Tests.{test_in}
-use Rattle.cpe_logic.proofs.TestsRead as tests
-use Rattle.cpe_logic.proofs.TestsRead.{logic_data, fact_data, check_data}
+use Rattle.cpe_members.specs.Tests.{test_in}
+use Rattle.cpe_members.proofs.TestsRead as tests
+use Rattle.cpe_members.proofs.TestsRead.{logic_data, fact_data, check_data}
 use Rattle.cpe_records.specs.NameObject.{name_object}
 use Rattle.cpe_records.specs.WrittenRecord.{items_of, test_json}
 use Rattle.cpe_records.proofs.ReadBack.{data_of, data_items}
