@@ -7,5 +7,5 @@ mod reply;
 mod row;
 
 pub use change::push_change;
-pub use reason::RecordReason;
+pub use reason::{RecordReason, push_record_fault};
 pub use reply::{push_reply, push_verdict};

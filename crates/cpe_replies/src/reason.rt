@@ -31,7 +31,11 @@ impl Reason for RecordReason {
     }
 }
 
-fn push_record_fault(page: &mut Page, fault: &RecordFault) -> Result<(), AllocError>
+/// Puts why a line is no record after what is gathered.
+///
+/// # Errors
+/// Only that memory ran out. A part of the reason may be put then.
+pub fn push_record_fault(page: &mut Page, fault: &RecordFault) -> Result<(), AllocError>
     ensures { OnOk result (page.new ≡ page.old ++ record_fault_text fault.now) }
 {
     match fault {
