@@ -1,0 +1,27 @@
+-- What a line of a record says under `convert`.
+use Rattle.std.specs.Prelude.{ℕ, nat_le, List, ◌++◌, length, Result, Ok, Err, codes, if◌then◌else◌}
+use Rattle.cpe_io.specs.declared.line.TheConstants.{LONGEST}
+use Rattle.cpe_members.specs.declared.member.RecordFault.{RecordFault}
+use Rattle.cpe_records.specs.Reading.{record_of}
+use Rattle.cpe_records.specs.WrittenRecord.{record_text}
+use Rattle.cpe_records.specs.declared.read.Record.{Record}
+use Rattle.cpe_replies.specs.Reasons.{record_fault_text}
+use Rattle.cpe_session.specs.Session.{Session, printed, stateless}
+use Rattle.cpe_convert.specs.declared.reason.ConvertReason.{ConvertReason}
+use Rattle.cpe_convert.specs.declared.reason.ConvertReason.TheVariants.{Unread, Grown}
+
+-- a written form as a line, unless it is longer than a line may be
+abbrev pub as_line : List ℕ → Result (List ℕ) ConvertReason
+as_line form = if nat_le (length form) LONGEST then Ok (form ++ codes "\n") else Err Grown
+
+-- the written form of the record that was read
+abbrev pub converted : Result Record RecordFault → Result (List ℕ) ConvertReason
+converted (Ok r) = as_line (record_text r)
+converted (Err fault) = Err (Unread fault)
+
+abbrev pub reason_text : ConvertReason → List ℕ
+reason_text (Unread fault) = record_fault_text fault
+reason_text Grown = codes "grown"
+
+abbrev pub convert_session : Session (Unit {0})
+convert_session = stateless (λ text. printed reason_text (converted (record_of text)))

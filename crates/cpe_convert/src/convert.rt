@@ -1,0 +1,63 @@
+// What a line of a record says.
+ghost use Rattle.std.specs.Prelude.{◌≡◌, true, IfOk};
+ghost use Rattle.cpe_session.specs.Pages.{Puts};
+ghost use Rattle.cpe_records.specs.Reading.{record_of};
+ghost use Rattle.cpe_records.specs.Taken.{is_valid_record};
+ghost use Rattle.cpe_records.specs.WrittenRecord.{record_text};
+ghost use Rattle.cpe_convert.specs.Convert.{as_line, converted};
+
+use crate::reason::ConvertReason;
+use cpe_io::LONGEST;
+use cpe_members::RecordFault;
+use cpe_records::{Record, read_record, write_record};
+use cpe_session::{Page, Stateless};
+use std::alloc::{AllocError, Global};
+
+/// Each line is a record, which is written in the second format, in the one form that records have there. Nothing is applied.
+#[derive(Clone, Copy, Debug, PartialEq, Eq)]
+pub struct Convert;
+
+impl Stateless for Convert {
+    type Reason = ConvertReason;
+
+    ghost says = { λ _ text. converted (record_of text) };
+
+    fn say(
+        &self,
+        alloc: Global,
+        page: &mut Page,
+        text: &[u8],
+    ) -> Result<Option<ConvertReason>, AllocError> {
+        match read_record(alloc, text) {
+            Ok(record) => say_form(alloc, page, &record),
+            Err(RecordFault::Memory) => Err(AllocError),
+            Err(fault) => Ok(Some(ConvertReason::Unread(fault))),
+        }
+    }
+}
+
+// Puts the written form of a record as a line, or tells that it has grown too long.
+#[inline(never)]
+fn say_form(
+    alloc: Global,
+    page: &mut Page,
+    what: &Record,
+) -> Result<Option<ConvertReason>, AllocError>
+    ensures { IfOk result (Puts (as_line (record_text what.now)) page.old page.new) }
+{
+    match write_record(alloc, what) {
+        Ok(form) => say_line(page, &form),
+        Err(_) => Err(AllocError),
+    }
+}
+
+fn say_line(page: &mut Page, form: &[u8]) -> Result<Option<ConvertReason>, AllocError>
+    ensures { IfOk result (Puts (as_line form.now) page.old page.new) }
+{
+    if form.len() > LONGEST {
+        return Ok(Some(ConvertReason::Grown));
+    }
+    page.push(form)?;
+    page.push(b"\n")?;
+    Ok(None)
+}

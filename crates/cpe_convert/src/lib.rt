@@ -1,0 +1,8 @@
+//! The command that writes records anew, in the second format: one form of each, line by line.
+#![tactic(auto)]
+
+mod convert;
+mod reason;
+
+pub use convert::Convert;
+pub use reason::ConvertReason;
