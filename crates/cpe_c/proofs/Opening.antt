@@ -14,6 +14,7 @@ use Rattle.cpe_command.specs.Meaning.{meaning_of}
 use Rattle.cpe_command.specs.Names.{name_session}
 use Rattle.cpe_command.specs.Pairs.{pair_session}
 use Rattle.cpe_command.specs.Records.{record_session}
+use Rattle.cpe_convert.specs.Convert.{convert_session}
 use Rattle.cpe_advise.specs.Records.{advice_session}
 use Rattle.cover_lines.specs.Lines.{cover_session}
 use Rattle.cpe_rows.specs.Rows.{no_rows}
@@ -48,6 +49,7 @@ module _ (progress : Progress) (number : progress.number ≡ 0) (refused : progr
   begins_says (Some (command.Name name)) who same = is_this who (speaking.Name name) same ∙ from_start (name_session name) tt
   begins_says (Some command.Compare) who same = is_this who speaking.Compare same ∙ from_start pair_session tt
   begins_says (Some (command.Records c)) who same = is_this who (speaking.Records c no_rows) same ∙ from_start (record_session c) no_rows
+  begins_says (Some command.Convert) who same = is_this who speaking.Convert same ∙ from_start convert_session tt
   begins_says (Some command.Advise) who same = is_this who (speaking.Advise no_advice) same ∙ from_start advice_session no_advice
   begins_says (Some command.Cover) who same = is_this who (speaking.Cover []) same ∙ from_start cover_session []
   begins_says (Some (command.Make count)) who same = absurd (true≢false (ap is_some same))
@@ -58,6 +60,7 @@ pub begins_reads : (it : Option Command) (who : Speaking) → Some who ≡ begin
 begins_reads (Some (command.Name name)) who same = refl
 begins_reads (Some command.Compare) who same = refl
 begins_reads (Some (command.Records c)) who same = refl
+begins_reads (Some command.Convert) who same = refl
 begins_reads (Some command.Advise) who same = refl
 begins_reads (Some command.Cover) who same = refl
 begins_reads (Some (command.Make count)) who same = absurd (true≢false (ap is_some same))
@@ -68,6 +71,7 @@ pub begins_none : (it : Option Command) → None ≡ begins it → (meaning_of i
 begins_none (Some (command.Name name)) same = absurd (true≢false (sym (ap is_some same)))
 begins_none (Some command.Compare) same = absurd (true≢false (sym (ap is_some same)))
 begins_none (Some (command.Records c)) same = absurd (true≢false (sym (ap is_some same)))
+begins_none (Some command.Convert) same = absurd (true≢false (sym (ap is_some same)))
 begins_none (Some command.Advise) same = absurd (true≢false (sym (ap is_some same)))
 begins_none (Some command.Cover) same = absurd (true≢false (sym (ap is_some same)))
 begins_none (Some (command.Make count)) same = refl

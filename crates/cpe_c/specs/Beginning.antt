@@ -24,6 +24,7 @@ abbrev pub begins : Option Command → Option Speaking
 begins (Some (command.Name name)) = Some (speaking.Name name)
 begins (Some command.Compare) = Some speaking.Compare
 begins (Some (command.Records record_command)) = Some (speaking.Records record_command no_rows)
+begins (Some command.Convert) = Some speaking.Convert
 begins (Some command.Advise) = Some (speaking.Advise no_advice)
 begins (Some command.Cover) = Some (speaking.Cover [])
 begins (Some (command.Make count)) = None

@@ -6,13 +6,14 @@ use Rattle.cpe_session.specs.Statuses.{status_of}
 use Rattle.cpe_session.specs.Task.{Transcript}
 use Rattle.cpe_session.specs.Pages.{stage_of}
 use Rattle.cpe_session.specs.declared.progress.Progress.{Progress}
+use Rattle.cpe_convert.specs.Convert.{convert_session}
 use Rattle.cpe_advise.specs.Records.{advice_session}
 use Rattle.cover_lines.specs.Lines.{cover_session}
 use Rattle.cpe_command.specs.Names.{name_session}
 use Rattle.cpe_command.specs.Pairs.{pair_session}
 use Rattle.cpe_command.specs.Records.{record_session}
 use Rattle.cpe_c.specs.declared.speaking.Speaking.{Speaking}
-use Rattle.cpe_c.specs.declared.speaking.Speaking.TheVariants.{Name, Compare, Records, Advise, Cover}
+use Rattle.cpe_c.specs.declared.speaking.Speaking.TheVariants.{Name, Compare, Records, Convert, Advise, Cover}
 
 -- what is written for these lines and at their end, from a stage on, and the status
 abbrev pub spoken_from : {State : Type 0} → Session State → Stage State → List (Option (List ℕ)) → Transcript
@@ -26,6 +27,7 @@ abbrev pub goes_on : Speaking → Progress → List (Option (List ℕ)) → Tran
 goes_on (Name command) progress = spoken_from (name_session command) (stage_of progress tt)
 goes_on Compare progress = spoken_from pair_session (stage_of progress tt)
 goes_on (Records command rows) progress = spoken_from (record_session command) (stage_of progress rows)
+goes_on Convert progress = spoken_from convert_session (stage_of progress tt)
 goes_on (Advise rows) progress = spoken_from advice_session (stage_of progress rows)
 goes_on (Cover names) progress = spoken_from cover_session (stage_of progress names)
 

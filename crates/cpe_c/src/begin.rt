@@ -52,6 +52,8 @@ fn of_one_word(alloc: Global, word: &[u8]) -> Option<Speaking>
         Some(Speaking::Records(RecordCommand::Evaluate, Engine::new(alloc)))
     } else if are_equal(word, b"watch") {
         Some(Speaking::Records(RecordCommand::Watch, Engine::new(alloc)))
+    } else if are_equal(word, b"convert") {
+        Some(Speaking::Convert)
     } else if are_equal(word, b"advise") {
         Some(Speaking::Advise(Advisories::new(alloc)))
     } else if are_equal(word, b"cover") {

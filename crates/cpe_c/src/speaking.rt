@@ -7,6 +7,7 @@ ghost use Rattle.cpe_c.specs.Talks.{behind, goes_on};
 use cover_lines::Cover;
 use cpe_advise::Advise;
 use cpe_command::{Compare, NameCommand, RecordCommand};
+use cpe_convert::Convert;
 use cpe_cover::Names;
 use cpe_engine::Engine;
 use cpe_ranges::Advisories;
@@ -24,6 +25,8 @@ pub enum Speaking {
     Compare,
     /// Each line is a record, which edits these rows or asks about them.
     Records(RecordCommand, Engine),
+    /// Each line is a record, which is written in the second format.
+    Convert,
     /// Each line is a record, which edits these items and advisories or asks about them.
     Advise(Advisories),
     /// Each line is a name, and at the end those are written that no other covers.
@@ -59,6 +62,9 @@ pub(crate) fn speak<L: Ledger>(
         Speaking::Records(command, engine) => {
             answer_given(alloc, command, engine, progress, piece, steps)
         }
+        Speaking::Convert => {
+            answer_given(alloc, &Each(Convert), &mut (), progress, piece, steps)
+        }
         Speaking::Advise(advisories) => {
             answer_given(alloc, &Advise, advisories, progress, piece, steps)
         }
@@ -82,6 +88,7 @@ pub(crate) fn fall_silent<L: Ledger>(
         Speaking::Name(command) => end_given(alloc, &Each(*command), &(), progress, steps),
         Speaking::Compare => end_given(alloc, &Each(Compare), &(), progress, steps),
         Speaking::Records(command, engine) => end_given(alloc, command, engine, progress, steps),
+        Speaking::Convert => end_given(alloc, &Each(Convert), &(), progress, steps),
         Speaking::Advise(advisories) => end_given(alloc, &Advise, advisories, progress, steps),
         Speaking::Cover(names) => end_given(alloc, &Cover, names, progress, steps),
     }

@@ -15,10 +15,11 @@ use Rattle.cpe_drill.specs.Looks.{line_looks, record_looks}
 use Rattle.cpe_drill.specs.Outcome.{summed}
 use Rattle.cpe_drill.specs.Drill.{drill_transcript, LeavesRows}
 use Rattle.cpe_ranges.specs.Rows.{no_rows as no_advice}
+use Rattle.cpe_convert.specs.Convert.{convert_session}
 use Rattle.cpe_advise.specs.Records.{advice_session, most_steps}
 use Rattle.cover_lines.specs.Lines.{cover_session, most_steps as most_cover_steps}
 use Rattle.cpe_command.specs.declared.command.Command.{Command}
-use Rattle.cpe_command.specs.declared.command.Command.TheVariants.{Name, Compare, Records, Advise, Cover, Make, Drill}
+use Rattle.cpe_command.specs.declared.command.Command.TheVariants.{Name, Compare, Records, Convert, Advise, Cover, Make, Drill}
 use Rattle.cpe_command.specs.Command.{command_of, usage}
 use Rattle.cpe_command.specs.Names.{name_session}
 use Rattle.cpe_command.specs.Pairs.{pair_session}
@@ -51,6 +52,7 @@ meaning_of (Some (Records command)) = record {
   keeps = IsFolded line_edited no_rows;
   looks = λ taken. summed_by line_edited line_looks no_rows (lines taken);
 }
+meaning_of (Some Convert) = record { reads = true; task = task convert_session tt; keeps = NoRows; looks = λ taken. 0 }
 meaning_of (Some Advise) = record { reads = true; task = task advice_session no_advice; keeps = NoRows; looks = most_steps }
 meaning_of (Some Cover) = record { reads = true; task = task cover_session []; keeps = NoRows; looks = most_cover_steps }
 meaning_of (Some (Make count)) = record {
