@@ -1,0 +1,4 @@
+mod Clean
+mod Printed
+mod Refused
+mod Kept

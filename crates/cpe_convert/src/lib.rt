@@ -2,6 +2,7 @@
 #![tactic(auto)]
 
 mod convert;
+pub mod law;
 mod reason;
 
 pub use convert::Convert;

@@ -1,0 +1,23 @@
+//! A law of what is written: it means what was read. The function does nothing; its clause is the law.
+ghost use Rattle.std.specs.Prelude.{◌≡◌, List, ℕ};
+ghost use Rattle.std.specs.declared.option.Option.{Option};
+ghost use Rattle.std.specs.List.{AllByRecursion};
+ghost use Rattle.cpe_io.specs.Lines.{lines};
+ghost use Rattle.cpe_session.specs.Folding.{folded};
+ghost use Rattle.cpe_session.specs.Task.{speech, spoken};
+ghost use Rattle.cpe_rows.specs.Rows.{Rows};
+ghost use Rattle.cpe_records.specs.Edited.{line_edited};
+ghost use Rattle.cpe_convert.specs.Convert.{convert_session};
+ghost use Rattle.cpe_convert.specs.Growing.{IsGrown, IsWhole};
+
+use cpe_records::written_is_read;
+
+/// Where no line is refused since its form grew too long, the lines that are written leave the rows that the lines themselves do, whatever
+/// rows there were: each record is read from its form again, and a refusal is no record. That records are whole is so of every
+/// record that the program reads.
+pub fn written_rows_stay()
+    ensures { (rows : Rows) (ls : List (Option (List ℕ))) → AllByRecursion (λ line. ¬ IsGrown line) ls → AllByRecursion IsWhole ls
+        → folded line_edited rows (lines (spoken (speech convert_session tt) ls).text) ≡ folded line_edited rows ls }
+{
+    written_is_read();
+}
