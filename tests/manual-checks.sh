@@ -56,8 +56,9 @@ reasons_of_code() {
     sed -n 's/.*= Err (codes "\(.*\)").*/\1/p' crates/cpe_session/specs/Session.antt
     codes name_reason_text crates/cpe_command/specs/Names.antt
     codes pair_reason_text crates/cpe_command/specs/Pairs.antt
-    codes record_fault_text "$reasons" | grep -v '^name'
+    codes record_fault_text "$reasons" | grep -v -e '^name' -e '^attribute'
     codes spot_text "$reasons" | sed 's/^/name /'
+    codes spot_text "$reasons" | sed 's/^/attribute /'
     codes edit_fault_text "$reasons" | grep -v '^full'
     codes which_word "$reasons" | sed 's/^/full /'
     reasons=crates/cpe_advise/specs/Reasons.antt
