@@ -104,6 +104,7 @@ deb: build
 bench: need_python3 build
 	python3 bench/run.py build/cpe
 	python3 bench/index.py build/cpe
+	python3 bench/convert.py build/cpe
 	python3 bench/advise.py build/cpe
 	python3 bench/cover.py build/cpe
 	python3 bench/scan.py build/cpe

@@ -61,6 +61,7 @@ reasons_of_code() {
     codes spot_text "$reasons" | sed 's/^/attribute /'
     codes edit_fault_text "$reasons" | grep -v '^full'
     codes which_word "$reasons" | sed 's/^/full /'
+    codes reason_text crates/cpe_convert/specs/Convert.antt
     reasons=crates/cpe_advise/specs/Reasons.antt
     codes read_fault_text "$reasons"
     codes edit_fault_text "$reasons" | grep -v '^full'

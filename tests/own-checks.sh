@@ -3,7 +3,7 @@
 # The status is 0 where no check failed.
 . "$(dirname "$0")/checks.sh"
 
-usage='usage: cpe bind fs|bind uri|unbind|compare|resolve|evaluate|watch|make N|drill N|advise|cover'
+usage='usage: cpe bind fs|bind uri|unbind|compare|resolve|evaluate|watch|make N|drill N|convert|advise|cover'
 
 # bounds WHAT: whether the address space can be bounded here, as the check of this name needs.
 bounds() {
@@ -1133,6 +1133,35 @@ checks_of_watch() {
     fails_on_closed_streams examples/watch.jsonl watch
 }
 
+# answers_forms_alike WORD FILE..: what a word writes for the forms of records is what it writes for the records themselves, but for the
+# refusals: a line that was no record is refused with another reason.
+answers_forms_alike() {
+    word=$1
+    shift
+    for file; do
+        limited "$program" "$word" < "$file" 2> "$room/error" | { grep -v '^refused ' || :; } > "$room/wanted"
+        limited "$program" convert < "$file" 2>> "$room/error" | limited "$program" "$word" 2>> "$room/error" |
+            { grep -v '^refused ' || :; } > "$room/out"
+        judge "records and their forms: $word, $(basename "$file")" 0 0 "$room/wanted"
+    done
+}
+
+checks_of_convert() {
+    answers 'records in one form' examples/convert.jsonl examples/convert.out 1 convert
+    answers 'an empty input: convert' /dev/null /dev/null 0 convert
+    answers 'a word too many: convert' examples/convert.jsonl "$room/usage.out" 2 convert names
+    answers_in_pieces examples/convert.jsonl examples/convert.out convert
+    answers_vectors convert convert
+    answers_vectors_in_pieces convert convert
+    answers_forms_alike resolve examples/dictionary.jsonl examples/deprecations.jsonl
+    answers_forms_alike evaluate examples/inventory.jsonl tests/vectors/evaluate/*.in
+    answers_at_once tests/vectors/convert/kinds-with-defaults.in tests/vectors/convert/kinds-with-defaults.out 0 convert
+    fails_on_a_full_device examples/convert.jsonl convert
+    answers 'a read that fails ends with status 3: convert' . /dev/null 3 convert
+    fails_where_the_reader_goes examples/convert.jsonl examples/convert.out convert
+    fails_on_closed_streams examples/convert.jsonl convert
+}
+
 checks_of_advise() {
     answers 'advisories over versions' examples/advise.jsonl examples/advise.out 1 advise
     answers 'an empty input: advise' /dev/null /dev/null 0 advise
@@ -1341,6 +1370,7 @@ each() {
     "$1" examples/wfn.txt examples/wfn.out bind fs
     "$1" examples/wfn.txt examples/wfn-uris.out bind uri
     "$1" examples/pairs.txt examples/pairs.out compare
+    "$1" examples/convert.jsonl examples/convert.out convert
     "$1" tests/vectors/resolve/questions.in tests/vectors/resolve/questions.out resolve
     "$1" tests/vectors/watch/nothing-is-left.in tests/vectors/watch/nothing-is-left.out watch
     "$1" tests/vectors/advise/nothing-is-left.in tests/vectors/advise/nothing-is-left.out advise
@@ -1379,6 +1409,7 @@ fails_on_closed_streams examples/names.txt unbind
 checks_of_resolve
 checks_of_evaluate
 checks_of_watch
+checks_of_convert
 checks_of_advise
 checks_of_cover
 checks_of_generated
