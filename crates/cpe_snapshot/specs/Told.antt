@@ -1,0 +1,84 @@
+-- Rows that have a snapshot. Definitions on rows see a name as eleven values, a text and a date as numbers: what is asked here is what a
+-- name, a text and a date are, that no number passes four bytes, and that no test is deeper than one may be.
+use Rattle.std.specs.Prelude.{◌≡◌, ℕ, suc, zero, ◌<◌, ◌^◌, List, length, true, IfSome, Option, Some, None}
+use Rattle.std.specs.Str.{is_utf8}
+use Rattle.std.specs.List.{AllByRecursion}
+use Rattle.cpe_name.specs.declared.name.Values.{Values}
+use Rattle.cpe_name.specs.Names.{IsName}
+use Rattle.cpe_fs.specs.Grammar.{fs_text}
+use Rattle.cpe_rows.specs.Date.{is_date}
+use Rattle.cpe_rows.specs.Names.{is_lower}
+use Rattle.cpe_rows.specs.declared.entry.Note.{Note}
+use Rattle.cpe_rows.specs.declared.statement.Statement.{Statement}
+use Rattle.cpe_rows.specs.declared.test.CheckKey.{CheckKey}
+use Rattle.cpe_rows.specs.declared.test.Test.{Test, out-Test}
+use Rattle.cpe_rows.specs.declared.test.Test.TheOpen.{Test-F}
+use Rattle.cpe_rows.specs.declared.limits.TheConstants.{MOST_LEVELS}
+use Rattle.cpe_snapshot.specs.declared.rows.PlacedDeprecation.{PlacedDeprecation}
+use Rattle.cpe_snapshot.specs.declared.rows.PlacedEntry.{PlacedEntry}
+use Rattle.cpe_snapshot.specs.declared.rows.KeptResult.{KeptResult}
+use Rattle.cpe_snapshot.specs.declared.rows.PlacedRows.{PlacedRows}
+use Rattle.cpe_snapshot.specs.Snapshot.{snapshot_of}
+
+-- it has four bytes
+abbrev pub IsNumber : ℕ → Type 0
+IsNumber n = n < 2 ^ 32
+
+-- UTF-8, and not too long
+abbrev pub IsText : List ℕ → Type 0
+IsText bytes = (is_utf8 bytes ≡ true) × IsNumber (length bytes)
+
+-- a name in lower case (NIST IR 7695, 5), and not too long
+abbrev pub IsSpelled : Values → Type 0
+IsSpelled n = IsName n × (is_lower n ≡ true) × IsNumber (length (fs_text n))
+
+-- each of them, and not too many
+abbrev pub AreCounted : {A : Type 0} → (A → Type 0) → List A → Type 0
+AreCounted Fits xs = IsNumber (length xs) × AllByRecursion Fits xs
+
+abbrev pub IsToldNote : Note → Type 0
+IsToldNote n = (is_date n.date ≡ true) × IsText n.comment
+
+abbrev pub IsToldDeprecation : Option PlacedDeprecation → Type 0
+IsToldDeprecation None = Unit {0}
+IsToldDeprecation (Some d) = AreCounted IsNumber d.successors
+
+pub record IsToldEntry (e : PlacedEntry) : Type 0 where
+  pub name : IsSpelled e.name
+  pub title : IsText e.title
+  pub submitter : IsText e.provenance.submitter
+  pub authority : IsText e.provenance.authority
+  pub notes : AreCounted IsToldNote e.provenance.notes
+  pub deprecation : IsToldDeprecation e.deprecation
+
+abbrev pub IsToldKey : CheckKey → Type 0
+IsToldKey k = IsText k.system × IsText k.href × IsText k.id
+
+-- a test, where this holds of the children of a logical test
+abbrev pub IsToldStep : (List Test → Type 0) → Test-F Test → Type 0
+IsToldStep AreChildren (Test-F.Logic operator negate of) = AreChildren of
+IsToldStep AreChildren (Test-F.Fact n) = IsSpelled n
+IsToldStep AreChildren (Test-F.Check k) = IsToldKey k
+
+-- a test of at most so many levels of logic
+abbrev pub IsToldTest : ℕ → Test → Type 0
+IsToldTest zero t = IsToldStep (λ of. ⊥) (out-Test t)
+IsToldTest (suc levels) t = IsToldStep (AreCounted (IsToldTest levels)) (out-Test t)
+
+pub record IsToldStatement (s : Statement) : Type 0 where
+  pub id : IsText s.id
+  pub title : IsText s.title
+  pub test : IsToldTest MOST_LEVELS s.test
+
+abbrev pub IsToldResult : KeptResult → Type 0
+IsToldResult r = IsToldKey r.key
+
+pub record AreTold (rows : PlacedRows) : Type 0 where
+  pub entries : AreCounted IsToldEntry rows.entries
+  pub items : AreCounted IsSpelled rows.items
+  pub statements : AreCounted IsToldStatement rows.statements
+  pub results : AreCounted IsToldResult rows.results
+
+-- the bytes are the snapshot of these rows
+abbrev pub Spells : PlacedRows → List ℕ → Type 0
+Spells rows bytes = AreTold rows × (bytes ≡ snapshot_of rows)
