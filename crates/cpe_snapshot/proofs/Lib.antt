@@ -1,2 +1,3 @@
 mod PartLemmas
 mod Loop
+mod TestLemmas

@@ -27,6 +27,7 @@ use Rattle.cpe_snapshot.specs.declared.fault.LoadFault.TheVariants as fault
 use Rattle.cpe_snapshot.specs.declared.rows.PlacedDeprecation.{PlacedDeprecation}
 use Rattle.cpe_snapshot.specs.declared.rows.PlacedEntry.{PlacedEntry}
 use Rattle.cpe_snapshot.specs.declared.read.Details.{Details}
+use Rattle.cpe_snapshot.specs.declared.load.Head.{Head}
 use Rattle.cpe_snapshot.specs.declared.rows.KeptResult.{KeptResult}
 use Rattle.cpe_snapshot.specs.declared.rows.PlacedRows.{PlacedRows}
 use Rattle.cpe_snapshot.specs.Snapshot.{mark}
@@ -225,14 +226,20 @@ test_of logic (suc zero) bytes = made Fact name_at bytes
 test_of logic (suc (suc zero)) bytes = made Check key_at bytes
 test_of logic (suc (suc (suc b))) bytes = None
 
+-- a test by its first byte
+abbrev pub node_at : (List ℕ → Option (Test × List ℕ)) → List ℕ → Option (Test × List ℕ)
+node_at logic bytes = do
+  b ← byte_at bytes
+  test_of logic b.0 b.1
+
+-- what stands after the byte of a logical test of at most so many levels
+unfoldable pub logic_within : ℕ → List ℕ → Option (Test × List ℕ)
+logic_within zero bytes = None
+logic_within (suc levels) bytes = logic_at (node_at (logic_within levels)) bytes
+
 -- a test of at most so many levels of logic
 unfoldable pub test_at : ℕ → List ℕ → Option (Test × List ℕ)
-test_at zero bytes = do
-  b ← byte_at bytes
-  test_of (λ rest. None) b.0 b.1
-test_at (suc levels) bytes = do
-  b ← byte_at bytes
-  test_of (logic_at (test_at levels)) b.0 b.1
+test_at levels bytes = node_at (logic_within levels) bytes
 
 abbrev pub statement_from : (List ℕ × (List ℕ × (Mode × Test))) → Statement
 statement_from p = record { id = p.0; title = p.1.0; mode = p.1.1.0; test = p.1.1.1 }
@@ -256,16 +263,27 @@ nothing_if false = None
 unfoldable pub mark_at : List ℕ → Option (Unit {0} × List ℕ)
 mark_at bytes = told (λ s. nothing_if (bytes_eq s mark)) (bytes_at 8) bytes
 
+abbrev pub head_from : (Unit {0} × (ℕ × (ℕ × (ℕ × ℕ)))) → Head
+head_from p = record { entries = p.1.0; items = p.1.1.0; statements = p.1.1.1.0; results = p.1.1.1.1 }
+
+-- the mark, and how many rows there are
+unfoldable pub head_at : List ℕ → Option (Head × List ℕ)
+head_at bytes = made head_from (both mark_at (both number_at (both number_at (both number_at number_at)))) bytes
+
+abbrev pub rows_from : (List PlacedEntry × (List Values × (List Statement × List KeptResult))) → PlacedRows
+rows_from p = record { entries = p.0; items = p.1.0; statements = p.1.1.0; results = p.1.1.1 }
+
+-- as many rows as the head says
+unfoldable pub rows_at : Head → List ℕ → Option (PlacedRows × List ℕ)
+rows_at h bytes = made rows_from (both (many entry_at h.entries) (both (many name_at h.items) (both (many statement_at h.statements) (many result_at h.results)))) bytes
+
+-- what was read, where nothing is left
+abbrev pub whole : {A : Type 0} → (A × List ℕ) → Option A
+whole x = if length x.1 == 0 then Some x.0 else None
+
 -- all of the bytes
 unfoldable pub rows_of : List ℕ → Option PlacedRows
 rows_of bytes = do
-  m ← mark_at bytes
-  e ← number_at m.1
-  i ← number_at e.1
-  s ← number_at i.1
-  r ← number_at s.1
-  entries ← many entry_at e.0 r.1
-  items ← many name_at i.0 entries.1
-  statements ← many statement_at s.0 items.1
-  results ← many result_at r.0 statements.1
-  if length results.1 == 0 then Some (record { entries = entries.0; items = items.0; statements = statements.0; results = results.0 }) else None
+  h ← head_at bytes
+  rows ← rows_at h.0 h.1
+  whole rows

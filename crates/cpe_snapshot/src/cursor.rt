@@ -6,6 +6,7 @@ use crate::fault::LoadFault;
 use std::marker::Model;
 
 /// The bytes that are left to be read. Contracts see it as these.
+#[derive(Drop)]
 pub(crate) struct Cursor<'a> {
     left: &'a [u8],
 }

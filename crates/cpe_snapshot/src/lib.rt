@@ -3,9 +3,11 @@
 
 mod cursor;
 mod fault;
+mod load;
 mod parts;
 mod read;
 mod rows;
+mod test;
 
 pub use fault::LoadFault;
 pub use rows::{KeptResult, PlacedDeprecation, PlacedEntry, PlacedRows};

@@ -177,7 +177,7 @@ impl Part for PlacedEntry {
 // ---- results
 
 #[tactic(auto, unfolding(crate::specs::Reading::key_at))]
-fn key(alloc: Global, cursor: &mut Cursor<'_>) -> Result<CheckKey, LoadFault>
+pub(crate) fn key(alloc: Global, cursor: &mut Cursor<'_>) -> Result<CheckKey, LoadFault>
     ensures { Took result cursor.new (key_at cursor.old) }
 {
     let system = text(alloc, cursor)?;

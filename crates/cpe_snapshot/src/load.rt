@@ -1,0 +1,79 @@
+// All rows that are read from bytes.
+ghost use Rattle.std.specs.Prelude.{◌≡◌};
+ghost use Rattle.cpe_snapshot.specs.Reading.{Took, Found, Tells, mark_at, head_at, rows_at, rows_of};
+
+use crate::cursor::Cursor;
+use crate::fault::LoadFault;
+use crate::parts::many;
+use crate::rows::{KeptResult, PlacedEntry, PlacedRows};
+use cpe_name::Wfn;
+use cpe_rows::Statement;
+use std::alloc::Global;
+
+/// How many rows of each kind there are.
+#[derive(Clone, Copy)]
+pub(crate) struct Head {
+    entries: u32,
+    items: u32,
+    statements: u32,
+    results: u32,
+}
+
+#[tactic(auto, unfolding(crate::specs::Reading::mark_at))]
+fn mark(cursor: &mut Cursor<'_>) -> Result<(), LoadFault>
+    ensures { Found result cursor.new (mark_at cursor.old) }
+{
+    let bytes = cursor.bytes(8)?;
+    if bytes == b"CPESNAP1".as_slice() {
+        Ok(())
+    } else {
+        Err(LoadFault::NotSnapshot)
+    }
+}
+
+#[tactic(auto, unfolding(crate::specs::Reading::head_at))]
+fn read_head(cursor: &mut Cursor<'_>) -> Result<Head, LoadFault>
+    ensures { Found result cursor.new (head_at cursor.old) }
+{
+    mark(cursor)?;
+    let entries = cursor.number()?;
+    let items = cursor.number()?;
+    let statements = cursor.number()?;
+    let results = cursor.number()?;
+    Ok(Head {
+        entries,
+        items,
+        statements,
+        results,
+    })
+}
+
+#[tactic(auto, unfolding(crate::specs::Reading::rows_at))]
+fn rows(alloc: Global, cursor: &mut Cursor<'_>, head: Head) -> Result<PlacedRows, LoadFault>
+    ensures { Took result cursor.new (rows_at head cursor.old) }
+{
+    let entries = many::<PlacedEntry>(alloc, cursor, head.entries)?;
+    let items = many::<Wfn>(alloc, cursor, head.items)?;
+    let statements = many::<Statement>(alloc, cursor, head.statements)?;
+    let results = many::<KeptResult>(alloc, cursor, head.results)?;
+    Ok(PlacedRows {
+        entries,
+        items,
+        statements,
+        results,
+    })
+}
+
+#[tactic(auto, unfolding(crate::specs::Reading::rows_of))]
+fn all(alloc: Global, bytes: &[u8]) -> Result<PlacedRows, LoadFault>
+    ensures { Tells result (rows_of bytes.now) }
+{
+    let mut cursor = Cursor::new(bytes);
+    let head = read_head(&mut cursor)?;
+    let rows = rows(alloc, &mut cursor, head)?;
+    if cursor.is_done() {
+        Ok(rows)
+    } else {
+        Err(LoadFault::NotSnapshot)
+    }
+}
