@@ -1,3 +1,6 @@
 mod PartLemmas
 mod Loop
 mod TestLemmas
+mod Readers
+mod PartReaders
+mod RowReaders

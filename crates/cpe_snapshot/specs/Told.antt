@@ -24,15 +24,15 @@ use Rattle.cpe_snapshot.specs.Snapshot.{snapshot_of}
 abbrev pub IsNumber : ℕ → Type 0
 IsNumber n = n < 2 ^ 32
 
--- UTF-8, and not too long
+-- not too long, and UTF-8
 abbrev pub IsText : List ℕ → Type 0
-IsText bytes = (is_utf8 bytes ≡ true) × IsNumber (length bytes)
+IsText bytes = IsNumber (length bytes) × (is_utf8 bytes ≡ true)
 
--- a name in lower case (NIST IR 7695, 5), and not too long
+-- not too long, and a name in lower case (NIST IR 7695, 5)
 abbrev pub IsSpelled : Values → Type 0
-IsSpelled n = IsName n × (is_lower n ≡ true) × IsNumber (length (fs_text n))
+IsSpelled n = IsNumber (length (fs_text n)) × (IsName n × (is_lower n ≡ true))
 
--- each of them, and not too many
+-- not too many, and each of them
 abbrev pub AreCounted : {A : Type 0} → (A → Type 0) → List A → Type 0
 AreCounted Fits xs = IsNumber (length xs) × AllByRecursion Fits xs
 

@@ -3,6 +3,7 @@
 
 mod cursor;
 mod fault;
+mod laws;
 mod load;
 mod parts;
 mod read;
@@ -10,4 +11,5 @@ mod rows;
 mod test;
 
 pub use fault::LoadFault;
+pub use laws::probe;
 pub use rows::{KeptResult, PlacedDeprecation, PlacedEntry, PlacedRows};
