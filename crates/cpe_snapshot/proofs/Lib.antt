@@ -4,3 +4,4 @@ mod TestLemmas
 mod Readers
 mod PartReaders
 mod RowReaders
+mod TestReaders

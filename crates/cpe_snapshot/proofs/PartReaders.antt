@@ -49,7 +49,7 @@ IsAny x = Unit {0}
 abbrev pub one_byte : ℕ → List ℕ
 one_byte b = b ∷ []
 
-IsBytes-rest : (b : ℕ) (bytes : List ℕ) → IsBytes (b ∷ bytes) → IsBytes bytes
+pub IsBytes-rest : (b : ℕ) (bytes : List ℕ) → IsBytes (b ∷ bytes) → IsBytes bytes
 IsBytes-rest b bytes are i = are (suc i)
 
 pub byte_read : IsReader IsAny one_byte byte_at
