@@ -5,3 +5,5 @@ mod Readers
 mod PartReaders
 mod RowReaders
 mod TestReaders
+mod RowsReader
+mod WriteLemmas

@@ -1,6 +1,6 @@
 -- Rows that have a snapshot. Definitions on rows see a name as eleven values, a text and a date as numbers: what is asked here is what a
 -- name, a text and a date are, that no number passes four bytes, and that no test is deeper than one may be.
-use Rattle.std.specs.Prelude.{◌≡◌, ℕ, suc, zero, ◌<◌, ◌^◌, List, length, true, IfSome, Option, Some, None}
+use Rattle.std.specs.Prelude.{◌≡◌, ◌⊎◌, ℕ, suc, zero, ◌<◌, ◌^◌, List, length, true, IfSome, Option, Some, None, Result, Ok, Err}
 use Rattle.std.specs.Str.{is_utf8}
 use Rattle.std.specs.List.{AllByRecursion}
 use Rattle.cpe_name.specs.declared.name.Values.{Values}
@@ -14,6 +14,8 @@ use Rattle.cpe_rows.specs.declared.test.CheckKey.{CheckKey}
 use Rattle.cpe_rows.specs.declared.test.Test.{Test, out-Test}
 use Rattle.cpe_rows.specs.declared.test.Test.TheOpen.{Test-F}
 use Rattle.cpe_rows.specs.declared.limits.TheConstants.{MOST_LEVELS}
+use Rattle.cpe_snapshot.specs.declared.fault.LoadFault.{LoadFault}
+use Rattle.cpe_snapshot.specs.declared.fault.LoadFault.TheVariants as load
 use Rattle.cpe_snapshot.specs.declared.rows.PlacedDeprecation.{PlacedDeprecation}
 use Rattle.cpe_snapshot.specs.declared.rows.PlacedEntry.{PlacedEntry}
 use Rattle.cpe_snapshot.specs.declared.rows.KeptResult.{KeptResult}
@@ -82,3 +84,19 @@ pub record AreTold (rows : PlacedRows) : Type 0 where
 -- the bytes are the snapshot of these rows
 abbrev pub Spells : PlacedRows → List ℕ → Type 0
 Spells rows bytes = AreTold rows × (bytes ≡ snapshot_of rows)
+
+-- ---- what reading answers
+
+-- the rows that the bytes spell; or that no rows have them as their snapshot
+abbrev pub Reads : List ℕ → Result PlacedRows LoadFault → Type 0
+Reads bytes (Ok rows) = Spells rows bytes
+Reads bytes (Err load.NotSnapshot) = (rows : PlacedRows) → Spells rows bytes → ⊥
+Reads bytes (Err load.Memory) = Unit {0}
+
+-- bytes are the snapshot of no two rows; that rows have but one snapshot is seen, since it is a function's value
+abbrev pub SnapshotsAreClear : Type 0
+SnapshotsAreClear = (rows others : PlacedRows) (bytes : List ℕ) → Spells rows bytes → Spells others bytes → rows ≡ others
+
+-- rows that were written are read again, unless memory runs out
+abbrev pub SnapshotsAreRead : Type 0
+SnapshotsAreRead = (rows : PlacedRows) (result : Result PlacedRows LoadFault) → AreTold rows → Reads (snapshot_of rows) result → (result ≡ Ok rows) ⊎ (result ≡ Err load.Memory)

@@ -1,8 +1,8 @@
 // Laws of snapshots. These functions do nothing: their clauses are the laws.
-ghost use Rattle.std.specs.Prelude.{◌≡◌, [], None};
-ghost use Rattle.cpe_snapshot.specs.Reading.{number_at};
+ghost use Rattle.cpe_snapshot.specs.Told.{SnapshotsAreClear, SnapshotsAreRead};
 
-/// Probe.
-pub fn probe()
-    ensures { number_at [] ≡ None }
+/// Bytes are the snapshot of no two rows, and rows that were written are read again, unless memory runs out.
+pub fn snapshots_are_clear()
+    ensures clear { SnapshotsAreClear }
+    ensures read { SnapshotsAreRead }
 {}

@@ -9,7 +9,10 @@ mod parts;
 mod read;
 mod rows;
 mod test;
+mod write;
 
 pub use fault::LoadFault;
-pub use laws::probe;
+pub use laws::snapshots_are_clear;
+pub use load::read_rows;
+pub use write::push_name;
 pub use rows::{KeptResult, PlacedDeprecation, PlacedEntry, PlacedRows};

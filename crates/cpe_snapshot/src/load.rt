@@ -1,6 +1,7 @@
 // All rows that are read from bytes.
 ghost use Rattle.std.specs.Prelude.{◌≡◌};
 ghost use Rattle.cpe_snapshot.specs.Reading.{Took, Found, Tells, mark_at, head_at, rows_at, rows_of};
+ghost use Rattle.cpe_snapshot.specs.Told.{Reads};
 
 use crate::cursor::Cursor;
 use crate::fault::LoadFault;
@@ -76,4 +77,16 @@ fn all(alloc: Global, bytes: &[u8]) -> Result<PlacedRows, LoadFault>
     } else {
         Err(LoadFault::NotSnapshot)
     }
+}
+
+/// The rows whose snapshot these bytes are, all of the bytes.
+///
+/// No number in the bytes is trusted: a list grows while its parts are there, and a text is taken only where it is there.
+///
+/// # Errors
+/// That no rows have this snapshot, or want of memory.
+pub fn read_rows(alloc: Global, bytes: &[u8]) -> Result<PlacedRows, LoadFault>
+    ensures { Reads bytes.now result }
+{
+    all(alloc, bytes)
 }
