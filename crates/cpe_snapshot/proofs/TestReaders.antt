@@ -67,17 +67,17 @@ out_check k = ap out-Test (sym (rolls-Check k)) ∙ out-roll-Test (Test-F.Check 
 abbrev spell_logic : Operator × (Bool × List Test) → List ℕ
 spell_logic p = operator_byte p.0 ∷ (flag_byte p.1.0 ∷ list test_part p.1.1)
 
-part_logic : (p : Operator × (Bool × List Test)) → test_part (logic_from p) ≡ 0 ∷ spell_logic p
+pub part_logic : (p : Operator × (Bool × List Test)) → test_part (logic_from p) ≡ 0 ∷ spell_logic p
 part_logic p =
     ap test_part (sym (rolls-Logic p.0 p.1.0 p.1.1)) ∙ fold-roll-Test (List ℕ) test_step (Test-F.Logic p.0 p.1.0 p.1.1)
     ∙ ap (λ (t : List ℕ). 0 ∷ operator_byte p.0 ∷ flag_byte p.1.0 ∷ t)
     (ap (λ n. number n ++ flat_map (λ (child : List ℕ). child) (map test_part p.1.1)) (length-map p.1.1 test_part)
     ∙ ap (λ (t : List ℕ). number (length p.1.1) ++ t) (flat_map-map (λ (child : List ℕ). child) test_part p.1.1))
 
-part_fact : (n : Values) → test_part (Fact n) ≡ 1 ∷ name n
+pub part_fact : (n : Values) → test_part (Fact n) ≡ 1 ∷ name n
 part_fact n = ap test_part (sym (rolls-Fact n)) ∙ fold-roll-Test (List ℕ) test_step (Test-F.Fact n)
 
-part_check : (k : CheckKey) → test_part (Check k) ≡ 2 ∷ key_part k
+pub part_check : (k : CheckKey) → test_part (Check k) ≡ 2 ∷ key_part k
 part_check k = ap test_part (sym (rolls-Check k)) ∙ fold-roll-Test (List ℕ) test_step (Test-F.Check k)
 
 -- ---- one level

@@ -101,3 +101,8 @@ abbrev pub snapshot_of : PlacedRows → List ℕ
 snapshot_of rows =
     head rows ++ (flat_map entry_row rows.entries ++ (flat_map name rows.items
     ++ (flat_map statement_row rows.statements ++ flat_map result_row rows.results)))
+
+-- the deprecation of this kind, if there is one, whose successors have these places
+abbrev pub placed : Option Kind → List ℕ → Option PlacedDeprecation
+placed None successors = None
+placed (Some k) successors = Some (record { kind = k; successors = successors })

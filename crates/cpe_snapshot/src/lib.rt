@@ -14,5 +14,5 @@ mod write;
 pub use fault::LoadFault;
 pub use laws::snapshots_are_clear;
 pub use load::read_rows;
-pub use write::push_name;
+pub use write::{push_entry, push_head, push_name, push_result, push_statement};
 pub use rows::{KeptResult, PlacedDeprecation, PlacedEntry, PlacedRows};
