@@ -7,3 +7,4 @@ mod RowReaders
 mod TestReaders
 mod RowsReader
 mod WriteLemmas
+mod StateLemmas

@@ -1,4 +1,5 @@
 pub mod Parts
 pub mod Snapshot
 pub mod Told
+pub mod States
 pub mod Reading
