@@ -8,3 +8,4 @@ mod TestReaders
 mod RowsReader
 mod WriteLemmas
 mod StateLemmas
+mod SmallCases

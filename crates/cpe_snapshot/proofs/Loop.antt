@@ -1,36 +1,36 @@
 -- Reading parts one after the other, as a loop does.
-use Rattle.std.proofs.Common.{◌≡◌, ℕ, suc, ◌-◌, ◌+◌, ◌≤◌, ◌<◌, List, [], ◌∷◌, ◌++◌, Option, Some, None, Result, Ok, Err, refl, sym, ap, ◌∙◌, append_assoc, arith}
+use Rattle.std.proofs.Common.{◌≡◌, ℕ, suc, ◌-◌, ◌+◌, ◌≤◌, ◌<◌, List, [], ◌∷◌, ◌++◌, Option, Some, None, Err, refl, sym, ap, ◌∙◌, append_assoc, arith}
 use Rattle.std.proofs.lemmas.List.{append-nil}
 use Rattle.cpe_snapshot.specs.declared.fault.LoadFault.{LoadFault}
 use Rattle.cpe_snapshot.specs.declared.fault.LoadFault.TheVariants as fault
 use Rattle.cpe_snapshot.specs.Reading.{◌>>=◌, Took, many}
 
 -- what was read before, and what is still read
-abbrev pub with_front : {A : Type 0} → List A → Option (List A × List ℕ) → Option (List A × List ℕ)
-with_front front read = read >>= λ x. Some (front ++ x.0, x.1)
+abbrev pub with_prefix : {A : Type 0} → List A → Option (List A × List ℕ) → Option (List A × List ℕ)
+with_prefix prefix read = read >>= λ x. Some (prefix ++ x.0, x.1)
 
-regroup : {A : Type 0} (front : List A) (n : A) (read : Option (List A × List ℕ)) → with_front front (read >>= λ x. Some (n ∷ x.0, x.1)) ≡ with_front (front ++ n ∷ []) read
-regroup front n (Some x) = ap (λ (ns : List _). Some (ns, x.1)) (simp append_assoc)
-regroup front n None = refl
+regroup : {A : Type 0} (prefix : List A) (n : A) (read : Option (List A × List ℕ)) → with_prefix prefix (read >>= λ x. Some (n ∷ x.0, x.1)) ≡ with_prefix (prefix ++ n ∷ []) read
+regroup prefix n (Some x) = ap (λ (ns : List _). Some (ns, x.1)) (simp append_assoc)
+regroup prefix n None = refl
 
 module _ {A : Type 0} (read : List ℕ → Option (A × List ℕ)) where
-  pub goes_on : (front : List A) (count i : ℕ) (bytes : List ℕ) (n : A) (after : List ℕ) (total : Option (List A × List ℕ)) → i < count → read bytes ≡ Some (n, after)
-      → with_front front (many read (count - i) bytes) ≡ total → with_front (front ++ n ∷ []) (many read (count - (i + 1)) after) ≡ total
-  goes_on front count i bytes n after total lt h so_far =
+  pub goes_on : (prefix : List A) (count i : ℕ) (bytes : List ℕ) (n : A) (after : List ℕ) (total : Option (List A × List ℕ)) → i < count → read bytes ≡ Some (n, after)
+      → with_prefix prefix (many read (count - i) bytes) ≡ total → with_prefix (prefix ++ n ∷ []) (many read (count - (i + 1)) after) ≡ total
+  goes_on prefix count i bytes n after total lt h so_far =
       let k : count - i ≡ suc (count - (i + 1)) = omega arith in
-      let one : with_front front (many read (count - i) bytes) ≡ with_front (front ++ n ∷ []) (many read (count - (i + 1)) after) = rw (k, h) (regroup front n (many read (count - (i + 1)) after)) in
+      let one : with_prefix prefix (many read (count - i) bytes) ≡ with_prefix (prefix ++ n ∷ []) (many read (count - (i + 1)) after) = rw (k, h) (regroup prefix n (many read (count - (i + 1)) after)) in
       sym one ∙ so_far
 
-  pub ends : (e : LoadFault) (front : List A) (count i : ℕ) (bytes left other : List ℕ) (total : Option (List A × List ℕ)) → i < count → Took (Err e) left (read bytes)
-      → with_front front (many read (count - i) bytes) ≡ total → Took (Err e) other total
-  ends fault.Memory front count i bytes left other total lt h so_far = tt
-  ends fault.NotSnapshot front count i bytes left other total lt h so_far =
+  pub ends : (e : LoadFault) (prefix : List A) (count i : ℕ) (bytes left other : List ℕ) (total : Option (List A × List ℕ)) → i < count → Took (Err e) left (read bytes)
+      → with_prefix prefix (many read (count - i) bytes) ≡ total → Took (Err e) other total
+  ends fault.Memory prefix count i bytes left other total lt h so_far = tt
+  ends fault.NotSnapshot prefix count i bytes left other total lt h so_far =
       let k : count - i ≡ suc (count - (i + 1)) = omega arith in
-      let one : with_front front (many read (count - i) bytes) ≡ None = rw (k, h) refl in
+      let one : with_prefix prefix (many read (count - i) bytes) ≡ None = rw (k, h) refl in
       sym so_far ∙ one
 
-  pub is_done : (front : List A) (count i : ℕ) (bytes : List ℕ) (total : Option (List A × List ℕ)) → count ≤ i → with_front front (many read (count - i) bytes) ≡ total → total ≡ Some (front, bytes)
-  is_done front count i bytes total le so_far =
+  pub is_done : (prefix : List A) (count i : ℕ) (bytes : List ℕ) (total : Option (List A × List ℕ)) → count ≤ i → with_prefix prefix (many read (count - i) bytes) ≡ total → total ≡ Some (prefix, bytes)
+  is_done prefix count i bytes total le so_far =
       let k : count - i ≡ 0 = omega arith in
-      let one : with_front front (many read (count - i) bytes) ≡ Some (front, bytes) = rw k (ap (λ (ns : List A). Some (ns, bytes)) (append-nil front)) in
+      let one : with_prefix prefix (many read (count - i) bytes) ≡ Some (prefix, bytes) = rw k (ap (λ (ns : List A). Some (ns, bytes)) (append-nil prefix)) in
       sym so_far ∙ one

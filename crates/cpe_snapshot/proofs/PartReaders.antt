@@ -1,7 +1,7 @@
 -- The readers of numbers, texts, names and lists.
-use Rattle.std.proofs.Common.{◌≡◌, refl, sym, ◌∙◌, ap, subst, ℕ, zero, suc, ◌+◌, ◌<◌, ◌≤◌, ◌^◌, Bool, true, false, cond, ltb, List, [], ◌∷◌, ◌++◌, length, get_or, take, drop, Option, Some, None, Result, Ok, Err, append_assoc, arith, inl, inr}
-use Rattle.std.specs.Int.{w32, from_be_bytes, to_be_bytes}
-use Rattle.std.specs.List.{AllByRecursion, flat_map}
+use Rattle.std.proofs.Common.{◌≡◌, refl, sym, ◌∙◌, ap, subst, ℕ, suc, ◌+◌, ◌≤◌, Bool, true, false, cond, ltb, List, [], ◌∷◌, ◌++◌, length, take, drop, Option, Some, None, Result, Ok, Err, append_assoc, arith, inl, inr}
+use Rattle.std.specs.Int.{w32, from_be_bytes}
+use Rattle.std.specs.List.{flat_map}
 use Rattle.std.specs.Str.{is_utf8}
 use Rattle.std.proofs.lemmas.Bool.{cases_lt, ltb-false, le-ltb}
 use Rattle.std.proofs.lemmas.List.{take_at, drop_at, take-append-drop, length-append, length-take, get_or-drop, get_or-take, get_or_past}
@@ -14,8 +14,8 @@ use Rattle.cpe_fs.proofs.Said.{read_name, name_has}
 use Rattle.cpe_rows.specs.Names.{is_lower}
 use Rattle.cpe_snapshot.specs.Parts.{number, text, name, list}
 use Rattle.cpe_snapshot.specs.Told.{IsNumber, IsText, IsSpelled, AreCounted}
-use Rattle.cpe_snapshot.specs.Reading.{◌>>=◌, byte_at, bytes_at, number_at, counted_at, text_at, name_at, name_of, named_by, when, many, list_at}
-use Rattle.cpe_snapshot.proofs.Readers.{IsBytes, IsTaken, IsReader, bind_some, some_is, told_read, many_read, AreMany}
+use Rattle.cpe_snapshot.specs.Reading.{byte_at, bytes_at, number_at, counted_at, text_at, name_at, name_of, named_by, when, many, list_at}
+use Rattle.cpe_snapshot.proofs.Readers.{IsBytes, IsTaken, IsReader, bind_some, some_is, told_read, many_read}
 
 IsBytes-drop : (n : ℕ) (bytes : List ℕ) → IsBytes bytes → IsBytes (drop n bytes)
 IsBytes-drop n bytes h i = rw get_or-drop (h (n + i))
@@ -94,11 +94,11 @@ number_taken bytes x rest are e =
     let n : ℕ = from_be_bytes w32 (take 4 bytes) in
     let made : ℕ × List ℕ = (n, drop 4 bytes) in
     let same : made ≡ (x, rest) = ap (λ (q : List ℕ × List ℕ). (from_be_bytes w32 q.0, q.1)) g.1 ∙ some_is (from_be_bytes w32 a.0.0, a.0.1) (x, rest) a.2 in
-    let front : number n ≡ take 4 bytes = be_bytes_4 (take 4 bytes) n four each refl in
+    let first : number n ≡ take 4 bytes = be_bytes_4 (take 4 bytes) n four each refl in
     subst (λ (q : ℕ × List ℕ). IsTaken IsNumber number bytes q.0 q.1) same
     (record {
       fits = omega (arith, each 0, each 1, each 2, each 3);
-      parts = sym (take-append-drop 4 bytes) ∙ ap (λ (t : List ℕ). t ++ drop 4 bytes) (sym front);
+      parts = sym (take-append-drop 4 bytes) ∙ ap (λ (t : List ℕ). t ++ drop 4 bytes) (sym first);
       are_bytes = IsBytes-drop 4 bytes are;
     })
 

@@ -1,13 +1,12 @@
 -- A reader reads what is spelled, and nothing else: one law for each way of putting readers together.
-use Rattle.std.proofs.Common.{◌≡◌, refl, sym, ◌∙◌, ap, subst, ℕ, zero, suc, ◌+◌, ◌<◌, Bool, true, false, List, [], ◌∷◌, ◌++◌, length, get_or, take, drop, Option, Some, None, append_assoc, arith}
+use Rattle.std.proofs.Common.{◌≡◌, refl, sym, ◌∙◌, ap, subst, ℕ, zero, suc, ◌<◌, List, [], ◌∷◌, ◌++◌, length, get_or, Option, Some, None, append_assoc, arith}
 use Rattle.std.specs.List.{AllByRecursion, flat_map}
-use Rattle.std.proofs.lemmas.List.Concat.{flat_map-cons}
-use Rattle.cpe_snapshot.specs.Reading.{◌>>=◌, both, made, told, many, byte_at}
+use Rattle.cpe_snapshot.specs.Reading.{◌>>=◌, both, made, told, many}
 
 abbrev pub IsBytes : List ℕ → Type 0
 IsBytes bytes = (i : ℕ) → get_or bytes i 0 < 256
 
--- x is spelled at the front of the bytes, and the rest stands after it
+-- the bytes are the spelling of x, and a rest after it
 pub record IsTaken {A : Type 0} (Fits : A → Type 0) (spell : A → List ℕ) (bytes : List ℕ) (x : A) (rest : List ℕ) : Type 0 where
   pub fits : Fits x
   pub parts : bytes ≡ spell x ++ rest

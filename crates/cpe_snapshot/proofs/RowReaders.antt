@@ -1,6 +1,5 @@
 -- The readers of rows.
-use Rattle.std.proofs.Common.{◌≡◌, refl, sym, ◌∙◌, ap, subst, ℕ, zero, suc, ◌+◌, ◌<◌, ◌&&◌, Bool, true, false, List, [], ◌∷◌, ◌++◌, length, Option, Some, None, append_assoc, arith}
-use Rattle.std.specs.List.{AllByRecursion, flat_map}
+use Rattle.std.proofs.Common.{◌≡◌, refl, sym, ◌∙◌, ap, subst, ℕ, zero, suc, ◌&&◌, Bool, true, false, List, [], ◌∷◌, ◌++◌, length, Option, Some, None, append_assoc}
 use Rattle.cpe_name.specs.declared.name.Values.{Values}
 use Rattle.cpe_rows.specs.Date.{is_date, follows, digit, dash}
 use Rattle.cpe_rows.specs.declared.entry.Note.{Note}
@@ -18,8 +17,8 @@ use Rattle.cpe_snapshot.specs.declared.rows.PlacedDeprecation.{PlacedDeprecation
 use Rattle.cpe_snapshot.specs.declared.rows.PlacedEntry.{PlacedEntry}
 use Rattle.cpe_snapshot.specs.Parts.{number, text, name, list}
 use Rattle.cpe_snapshot.specs.Snapshot.{kind_byte, note_byte, truth_byte, note_row, deprecation_part, entry_row, key_part, result_row}
-use Rattle.cpe_snapshot.specs.Told.{IsNumber, IsText, IsSpelled, AreCounted, IsToldNote, IsToldDeprecation, IsToldEntry, IsToldKey, IsToldResult}
-use Rattle.cpe_snapshot.specs.Reading.{◌>>=◌, both, made, told, when, byte_at, bytes_at, number_at, text_at, name_at, list_at, kind_of, note_kind_of, truth_of, date_at, note_from, note_at, successors_at, deprecation_at, provenance_from, provenance_at, details_from, details_at, entry_from, entry_at, key_from, key_at, result_from, result_at}
+use Rattle.cpe_snapshot.specs.Told.{IsNumber, IsText, AreCounted, IsToldNote, IsToldDeprecation, IsToldEntry, IsToldKey, IsToldResult}
+use Rattle.cpe_snapshot.specs.Reading.{told, when, byte_at, bytes_at, number_at, list_at, kind_of, note_kind_of, truth_of, date_at, note_from, note_at, successors_at, deprecation_at, provenance_from, provenance_at, details_from, details_at, entry_from, entry_at, key_from, key_at, result_from, result_at}
 use Rattle.cpe_snapshot.proofs.Readers.{IsBytes, IsTaken, IsReader, bind_some, some_is, both_read, made_read, told_read}
 use Rattle.cpe_snapshot.proofs.PartReaders.{IsAny, IsLong, one_byte, plain, when_some, when_true, byte_read, bytes_read, number_read, text_read, name_read, list_read}
 

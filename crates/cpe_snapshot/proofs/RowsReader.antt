@@ -1,5 +1,5 @@
 -- The reader of all rows.
-use Rattle.std.proofs.Common.{◌≡◌, ◌⊎◌, inl, inr, refl, sym, ◌∙◌, ap, subst, ℕ, zero, suc, Bool, true, false, cond, eqb, List, [], ◌∷◌, ◌++◌, length, Option, Some, None, Result, Ok, Err, append_assoc}
+use Rattle.std.proofs.Common.{◌≡◌, inl, inr, refl, sym, ◌∙◌, ap, subst, ℕ, zero, suc, Bool, true, false, cond, eqb, List, [], ◌++◌, length, Option, Some, None, Result, Ok, Err}
 use Rattle.std.specs.List.{AllByRecursion, flat_map}
 use Rattle.std.specs.Str.{bytes_eq}
 use Rattle.std.proofs.lemmas.Bool.{eqb-true}
@@ -17,12 +17,12 @@ use Rattle.cpe_snapshot.specs.declared.load.Head.{Head}
 use Rattle.cpe_snapshot.specs.declared.rows.KeptResult.{KeptResult}
 use Rattle.cpe_snapshot.specs.declared.rows.PlacedEntry.{PlacedEntry}
 use Rattle.cpe_snapshot.specs.declared.rows.PlacedRows.{PlacedRows}
-use Rattle.cpe_snapshot.specs.Parts.{number, text, name, list}
-use Rattle.cpe_snapshot.specs.Snapshot.{mode_byte, entry_row, statement_row, result_row, test_part, mark, head, snapshot_of}
-use Rattle.cpe_snapshot.specs.Told.{IsNumber, IsText, IsSpelled, IsToldEntry, IsToldTest, IsToldStatement, IsToldResult, AreTold, Spells, Reads, SnapshotsAreClear, SnapshotsAreRead}
-use Rattle.cpe_snapshot.specs.Reading.{◌>>=◌, Tells, both, made, told, many, byte_at, bytes_at, number_at, text_at, name_at, mode_of, test_at, entry_at, statement_from, statement_at, result_at, nothing_if, mark_at, head_from, head_at, rows_from, rows_at, whole, rows_of}
-use Rattle.cpe_snapshot.proofs.Readers.{IsBytes, IsTaken, IsReader, bind_some, some_is, both_read, made_read, told_read, many_read, AreMany}
-use Rattle.cpe_snapshot.proofs.PartReaders.{IsAny, IsLong, one_byte, plain, bytes_read, number_read, text_read, name_read}
+use Rattle.cpe_snapshot.specs.Parts.{number, name}
+use Rattle.cpe_snapshot.specs.Snapshot.{mode_byte, entry_row, statement_row, result_row, mark, snapshot_of}
+use Rattle.cpe_snapshot.specs.Told.{IsNumber, IsSpelled, IsToldEntry, IsToldStatement, IsToldResult, AreTold, Spells, Reads, SnapshotsAreClear, SnapshotsAreRead}
+use Rattle.cpe_snapshot.specs.Reading.{◌>>=◌, Tells, told, bytes_at, name_at, mode_of, entry_at, statement_from, statement_at, result_at, nothing_if, mark_at, head_from, head_at, rows_from, rows_at, whole, rows_of}
+use Rattle.cpe_snapshot.proofs.Readers.{IsBytes, IsReader, bind_some, some_is, both_read, made_read, told_read, many_read}
+use Rattle.cpe_snapshot.proofs.PartReaders.{IsAny, IsLong, plain, bytes_read, number_read, text_read, name_read}
 use Rattle.cpe_snapshot.proofs.RowReaders.{refit, tag_read, entry_read, result_read}
 use Rattle.cpe_snapshot.proofs.TestReaders.{test_read}
 
@@ -137,8 +137,8 @@ rows_spelled bytes rows are e =
     let h = head_read.takes bytes a.0.0 a.0.1 are a.1 in
     let r = (rows_read a.0.0).takes a.0.1 b.0.0 b.0.1 h.are_bytes b.1 in
     let spelled : bytes ≡ snapshot_of b.0.0 =
-      h.parts ∙ ap (λ (t : List ℕ). spell_head a.0.0 ++ t) (r.parts ∙ ap (λ (t : List ℕ). spell_rows b.0.0 ++ t) w.1 ∙ append-nil (spell_rows b.0.0))
-      ∙ ap (λ k. spell_head k ++ spell_rows b.0.0) (sym (heads_are a.0.0 b.0.0 r.fits)) in
+    h.parts ∙ ap (λ (t : List ℕ). spell_head a.0.0 ++ t) (r.parts ∙ ap (λ (t : List ℕ). spell_rows b.0.0 ++ t) w.1 ∙ append-nil (spell_rows b.0.0))
+    ∙ ap (λ k. spell_head k ++ spell_rows b.0.0) (sym (heads_are a.0.0 b.0.0 r.fits)) in
     subst (λ q. Spells q bytes) w.0 (told_by a.0.0 b.0.0 h.fits r.fits, spelled)
 
 pub spelled_again : (rows : PlacedRows) → AreTold rows → rows_of (snapshot_of rows) ≡ Some rows
@@ -146,8 +146,8 @@ unfolding rows_of
 spelled_again rows are =
     let h = head_read.again (head_of rows) (spell_rows rows) (tt, (are.entries.0, (are.items.0, (are.statements.0, are.results.0)))) in
     let r : rows_at (head_of rows) (spell_rows rows) ≡ Some (rows, []) =
-      ap (rows_at (head_of rows)) (sym (append-nil (spell_rows rows)))
-      ∙ (rows_read (head_of rows)).again rows [] ((refl, are.entries.1), ((refl, are.items.1), ((refl, are.statements.1), (refl, are.results.1)))) in
+    ap (rows_at (head_of rows)) (sym (append-nil (spell_rows rows)))
+    ∙ (rows_read (head_of rows)).again rows [] ((refl, are.entries.1), ((refl, are.items.1), ((refl, are.statements.1), (refl, are.results.1)))) in
     rw h (rw r refl)
 
 pub spelled_are_read : (rows : PlacedRows) (bytes : List ℕ) → Spells rows bytes → rows_of bytes ≡ Some rows

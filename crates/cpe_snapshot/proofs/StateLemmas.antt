@@ -1,10 +1,9 @@
 -- States and the rows that mean them.
-use Rattle.std.proofs.Common.{◌≡◌, refl, sym, ◌∙◌, ap, subst, ℕ, zero, suc, ◌&&◌, ◌||◌, Bool, true, false, cond, not, List, [], ◌∷◌, map, Option, Some, None, IsTrue, slice_get}
+use Rattle.std.proofs.Common.{◌≡◌, refl, sym, ◌∙◌, ap, subst, ℕ, zero, suc, ◌&&◌, ◌||◌, Bool, true, false, cond, not, List, [], ◌∷◌, map, Option, Some, None, slice_get}
 use Rattle.std.specs.Option.{option_map}
 use Rattle.std.specs.List.{list_any, list_all}
 use Rattle.cpe_name.specs.declared.name.Values.{Values}
 use Rattle.cpe_rows.proofs.NameTests.{same_is}
-use Rattle.cpe_rows.specs.Names.{is_same}
 use Rattle.cpe_rows.specs.Rows.{Rows, is_named}
 use Rattle.cpe_rows.specs.Chains.{successors_of}
 use Rattle.cpe_rows.specs.Lawful.{IsLawful, are_different, has_successors}
@@ -17,8 +16,7 @@ use Rattle.cpe_snapshot.specs.declared.rows.PlacedDeprecation.{PlacedDeprecation
 use Rattle.cpe_snapshot.specs.declared.rows.PlacedEntry.{PlacedEntry}
 use Rattle.cpe_snapshot.specs.declared.rows.PlacedRows.{PlacedRows}
 use Rattle.cpe_snapshot.specs.Snapshot.{snapshot_of}
-use Rattle.cpe_snapshot.specs.Told.{AreTold, Spells}
-use Rattle.cpe_snapshot.specs.States.{AreNamed, IsMeantDeprecation, IsMeant, AreMeantEntries, AreMeant, Snap, pair_of, place_in, placed_deprecation, placed_entry, placed_rows, result_of, snapshot, StatesAreClear, StatesHaveSnapshots, StatesHaveOne}
+use Rattle.cpe_snapshot.specs.States.{AreNamed, IsMeantDeprecation, IsMeant, AreMeantEntries, AreMeant, pair_of, place_in, placed_deprecation, placed_entry, placed_rows, result_of, StatesAreClear, StatesHaveSnapshots, StatesHaveOne}
 use Rattle.cpe_snapshot.proofs.Readers.{some_is}
 use Rattle.cpe_snapshot.proofs.RowsReader.{clear}
 
@@ -97,9 +95,10 @@ at_place all (e ∷ es) n any = go (is_named n e) refl (at_place all es n) where
 
 all_named : (all : List Entry) (ns : List Values) → list_all (λ s. list_any (is_named s) all) ns ≡ true → AreNamed (map (placed_entry all) all) (map (place_in all) ns) ns
 all_named all [] are = tt
-all_named all (n ∷ ns) are =
-    (at_place all all n (and_first (list_any (is_named n) all) (list_all (λ s. list_any (is_named s) all) ns) are),
-    all_named all ns (and_second (list_any (is_named n) all) (list_all (λ s. list_any (is_named s) all) ns) are))
+all_named all (n ∷ ns) are = (
+  at_place all all n (and_first (list_any (is_named n) all) (list_all (λ s. list_any (is_named s) all) ns) are),
+  all_named all ns (and_second (list_any (is_named n) all) (list_all (λ s. list_any (is_named s) all) ns) are),
+)
 
 meant_deprecation : (all : List Entry) (d : Option Deprecation) (e : Entry) → e.deprecation ≡ d → has_successors all e ≡ true
     → IsMeantDeprecation (map (placed_entry all) all) (option_map (placed_deprecation all) d) d
@@ -109,9 +108,10 @@ meant_deprecation all (Some d) e is has =
 
 meant_entries : (all es : List Entry) → list_all (has_successors all) es ≡ true → AreMeantEntries (map (placed_entry all) all) (map (placed_entry all) es) es
 meant_entries all [] are = tt
-meant_entries all (e ∷ es) are =
-    (record { name = refl; title = refl; provenance = refl; deprecation = meant_deprecation all e.deprecation e refl (and_first (has_successors all e) (list_all (has_successors all) es) are) },
-    meant_entries all es (and_second (has_successors all e) (list_all (has_successors all) es) are))
+meant_entries all (e ∷ es) are = (
+  record { name = refl; title = refl; provenance = refl; deprecation = meant_deprecation all e.deprecation e refl (and_first (has_successors all e) (list_all (has_successors all) es) are) },
+  meant_entries all es (and_second (has_successors all e) (list_all (has_successors all) es) are),
+)
 
 pairs_back : (cs : List (CheckKey × Truth)) → map pair_of (map result_of cs) ≡ cs
 pairs_back [] = refl

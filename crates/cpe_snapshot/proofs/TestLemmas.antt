@@ -1,5 +1,5 @@
 -- Tests by their levels.
-use Rattle.std.proofs.Common.{◌≡◌, refl, ap, ℕ, zero, suc, ◌-◌, ◌<◌, List, Option, None, arith}
+use Rattle.std.proofs.Common.{◌≡◌, refl, ℕ, zero, suc, ◌-◌, List, None, arith}
 use Rattle.cpe_snapshot.specs.Reading.{logic_within, logic_at, test_at}
 
 pub none_within : (bytes : List ℕ) → logic_within 0 bytes ≡ None

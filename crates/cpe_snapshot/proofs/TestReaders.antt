@@ -1,5 +1,5 @@
 -- The readers of tests, by their levels of logic.
-use Rattle.std.proofs.Common.{◌≡◌, refl, sym, ◌∙◌, ap, subst, ℕ, zero, suc, Bool, true, false, List, [], ◌∷◌, ◌++◌, length, map, Option, Some, None, append_assoc}
+use Rattle.std.proofs.Common.{◌≡◌, refl, sym, ◌∙◌, ap, subst, ℕ, zero, suc, Bool, true, false, List, [], ◌∷◌, ◌++◌, length, map, Option, Some, None}
 use Rattle.std.specs.List.{flat_map}
 use Rattle.std.proofs.lemmas.List.{length-map}
 use Rattle.std.proofs.lemmas.List.Folds.{flat_map-map}
@@ -7,7 +7,7 @@ use Rattle.cpe_name.specs.declared.name.Values.{Values}
 use Rattle.cpe_rows.specs.declared.test.CheckKey.{CheckKey}
 use Rattle.cpe_rows.specs.declared.test.Operator.{Operator}
 use Rattle.cpe_rows.specs.declared.test.Operator.TheVariants.{And, Or}
-use Rattle.cpe_rows.specs.declared.test.Test.{Test, Logic, Fact, Check, out-Test}
+use Rattle.cpe_rows.specs.declared.test.Test.{Test, Fact, Check, out-Test}
 use Rattle.cpe_rows.specs.declared.test.Test.TheOpen.{Test-F}
 use Rattle.cpe_rows.specs.declared.test.Test.TheViews.{roll-Test, out-roll-Test, roll-out-Test}
 use Rattle.cpe_rows.specs.declared.test.Test.TheVariants.{rolls-Logic, rolls-Fact, rolls-Check}
@@ -15,9 +15,9 @@ use Rattle.cpe_rows.specs.declared.test.Test.TheFolds.{fold-roll-Test}
 use Rattle.cpe_snapshot.specs.Parts.{number, name, list}
 use Rattle.cpe_snapshot.specs.Snapshot.{operator_byte, flag_byte, key_part, test_step, test_part}
 use Rattle.cpe_snapshot.specs.Told.{IsSpelled, AreCounted, IsToldKey, IsToldStep, IsToldTest}
-use Rattle.cpe_snapshot.specs.Reading.{◌>>=◌, both, made, told, byte_at, name_at, key_at, list_at, operator_of, flag_of, logic_from, logic_at, test_of, node_at, logic_within, test_at}
+use Rattle.cpe_snapshot.specs.Reading.{both, made, told, byte_at, name_at, key_at, list_at, operator_of, flag_of, logic_from, logic_at, test_of, node_at, logic_within, test_at}
 use Rattle.cpe_snapshot.proofs.Readers.{IsBytes, IsTaken, IsReader, bind_some, some_is, both_read}
-use Rattle.cpe_snapshot.proofs.PartReaders.{IsAny, one_byte, IsBytes-rest, name_read, list_read}
+use Rattle.cpe_snapshot.proofs.PartReaders.{IsAny, IsBytes-rest, name_read, list_read}
 use Rattle.cpe_snapshot.proofs.RowReaders.{tag_read, key_read}
 
 -- ---- bytes of kinds
@@ -159,7 +159,7 @@ module _ (Fits : Test → Type 0) (child : List ℕ → Option (Test × List ℕ
   unfolding logic_at
   logic_read = record {
     takes = λ bytes t rest are e. (let m = made_takes FitJoined spell_logic _ joined_read logic_from bytes t rest are e in
-      (m.0, m.1, record { fits = m.2.fits.1.1; parts = m.2.parts; are_bytes = m.2.are_bytes }));
+        (m.0, m.1, record { fits = m.2.fits.1.1; parts = m.2.parts; are_bytes = m.2.are_bytes }));
     again = λ p rest fits. made_again FitJoined spell_logic _ joined_read logic_from p rest (tt, (tt, fits));
   }
 

@@ -1,6 +1,6 @@
 -- Rows that have a snapshot. Definitions on rows see a name as eleven values, a text and a date as numbers: what is asked here is what a
 -- name, a text and a date are, that no number passes four bytes, and that no test is deeper than one may be.
-use Rattle.std.specs.Prelude.{◌≡◌, ◌⊎◌, ℕ, suc, zero, ◌<◌, ◌^◌, List, length, true, IfSome, Option, Some, None, Result, Ok, Err}
+use Rattle.std.specs.Prelude.{◌≡◌, ◌⊎◌, ℕ, suc, zero, ◌<◌, ◌^◌, List, length, true, Option, Some, None, Result, Ok, Err}
 use Rattle.std.specs.Str.{is_utf8}
 use Rattle.std.specs.List.{AllByRecursion}
 use Rattle.cpe_name.specs.declared.name.Values.{Values}

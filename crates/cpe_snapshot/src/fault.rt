@@ -9,7 +9,7 @@ use cpe_values::Memory;
 pub enum LoadFault {
     /// No rows have these bytes as their snapshot.
     NotSnapshot,
-    /// There is no memory.
+    /// Memory ran out.
     Memory,
 }
 

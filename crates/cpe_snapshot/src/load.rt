@@ -84,7 +84,7 @@ fn all(alloc: Global, bytes: &[u8]) -> Result<PlacedRows, LoadFault>
 /// No number in the bytes is trusted: a list grows while its parts are there, and a text is taken only where it is there.
 ///
 /// # Errors
-/// That no rows have this snapshot, or want of memory.
+/// No rows have this snapshot, or memory runs out.
 pub fn read_rows(alloc: Global, bytes: &[u8]) -> Result<PlacedRows, LoadFault>
     ensures { Reads bytes.now result }
 {

@@ -108,10 +108,7 @@ pub(crate) fn many<P: Part>(
 
 /// A number, and so many parts.
 #[tactic(auto, unfolding(crate::specs::Reading::list_at))]
-pub(crate) fn list<P: Part>(
-    alloc: Global,
-    cursor: &mut Cursor<'_>,
-) -> Result<List<P>, LoadFault>
+pub(crate) fn list<P: Part>(alloc: Global, cursor: &mut Cursor<'_>) -> Result<List<P>, LoadFault>
     ensures { Took result cursor.new (list_at P.read cursor.old) }
 {
     let count = cursor.number()?;

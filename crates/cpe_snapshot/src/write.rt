@@ -1,5 +1,5 @@
-// Rows that are written as bytes, one after the other. Each function puts what it writes behind what a buffer holds, and drops the
-// buffer where memory runs out.
+// Rows that are written as bytes, one after the other. Each function puts what it writes after what a buffer holds. Where memory runs
+// out the buffer is dropped.
 ghost use Rattle.std.specs.Prelude.{◌≡◌, ◌++◌, ◌∷◌, [], IfOk, length, map};
 ghost use Rattle.std.specs.List.{flat_map};
 ghost use Rattle.cpe_snapshot.specs.Parts.{number, text, name, list};
@@ -48,10 +48,10 @@ fn push_text(bytes: Vec<u8>, said: &Text) -> Result<Vec<u8>, Memory>
     push_bytes(push_number(bytes, said.len() as u128)?, said)
 }
 
-/// Puts a name behind what the bytes are.
+/// Puts a name after these bytes.
 ///
 /// # Errors
-/// Want of memory alone.
+/// Out of memory; the bytes are then dropped.
 pub fn push_name(bytes: Vec<u8>, put: &Wfn) -> Result<Vec<u8>, Memory>
     ensures { IfOk result (λ b. b.items ≡ bytes.items ++ name put.now) }
 {
@@ -167,10 +167,10 @@ fn push_provenance(bytes: Vec<u8>, provenance: &Provenance) -> Result<Vec<u8>, M
     push_notes(out, provenance.notes.as_slice())
 }
 
-/// Puts an entry behind what the bytes are: its parts, and by which kind it is deprecated, if it is, with the places of its successors.
+/// Puts an entry after these bytes: its parts, and by which kind it is deprecated, if it is, with the places of its successors.
 ///
 /// # Errors
-/// Want of memory alone.
+/// Out of memory; the bytes are then dropped.
 pub fn push_entry(
     bytes: Vec<u8>,
     put: &Wfn,
@@ -232,10 +232,10 @@ fn push_test(bytes: Vec<u8>, test: &Test) -> Result<Vec<u8>, Memory>
     }
 }
 
-/// Puts a statement behind what the bytes are.
+/// Puts a statement after these bytes.
 ///
 /// # Errors
-/// Want of memory alone.
+/// Out of memory; the bytes are then dropped.
 pub fn push_statement(bytes: Vec<u8>, statement: &Statement) -> Result<Vec<u8>, Memory>
     ensures { IfOk result (λ b. b.items ≡ bytes.items ++ statement_row statement.now) }
 {
@@ -245,10 +245,10 @@ pub fn push_statement(bytes: Vec<u8>, statement: &Statement) -> Result<Vec<u8>, 
     push_test(out, &statement.test)
 }
 
-/// Puts the result that is kept for a key behind what the bytes are.
+/// Puts the result that is kept for a key after these bytes.
 ///
 /// # Errors
-/// Want of memory alone.
+/// Out of memory; the bytes are then dropped.
 pub fn push_result(bytes: Vec<u8>, key: &CheckKey, truth: Truth) -> Result<Vec<u8>, Memory>
     ensures { IfOk result (λ b. b.items ≡ bytes.items ++ result_row (record { key = key.now; result = truth })) }
 {
@@ -257,11 +257,11 @@ pub fn push_result(bytes: Vec<u8>, key: &CheckKey, truth: Truth) -> Result<Vec<u
 
 // ---- the head
 
-/// Puts what stands before the rows behind what the bytes are: the mark, and how many entries, items, statements and kept results
+/// Puts what stands before the rows after these bytes: the mark, and how many entries, items, statements and kept results
 /// there are.
 ///
 /// # Errors
-/// Want of memory alone.
+/// Out of memory; the bytes are then dropped.
 pub fn push_head(
     bytes: Vec<u8>,
     entries: usize,

@@ -1,4 +1,3 @@
-use Rattle.std.proofs.Common.{◌≡◌, List, Option}
 use Rattle.cpe_snapshot.specs.Reading.{many}
 use Rattle.cpe_snapshot.proofs.Loop.{goes_on}
 use Rattle.cpe_snapshot.proofs.parts.many.Goals as goal

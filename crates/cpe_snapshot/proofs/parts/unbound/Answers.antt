@@ -1,5 +1,3 @@
-use Rattle.std.proofs.Common.{subst}
-use Rattle.cpe_fs.specs.Grammar.{Refuses}
 use Rattle.cpe_snapshot.proofs.PartLemmas.{unnamed, refused_at}
 use Rattle.cpe_snapshot.proofs.parts.unbound.Goals as goal
 

@@ -1,4 +1,4 @@
-use Rattle.std.proofs.Common.{◌≡◌, List, Option, subst, sym, ap, ◌∙◌}
+use Rattle.std.proofs.Common.{subst, sym, ap, ◌∙◌}
 use Rattle.cpe_snapshot.specs.Reading.{Took, many, test_at, logic_within}
 use Rattle.cpe_snapshot.proofs.Loop.{goes_on}
 use Rattle.cpe_snapshot.proofs.TestLemmas.{none_within, within_is}

@@ -1,7 +1,7 @@
-use Rattle.std.proofs.Common.{◌≡◌, ◌++◌, ◌∙◌, ap, sym, subst, take_all, IfOk, List, length}
+use Rattle.std.proofs.Common.{◌≡◌, ◌++◌, ◌∙◌, ap, sym, subst, take_all, IfOk}
 use Rattle.std.specs.List.{flat_map}
-use Rattle.cpe_snapshot.specs.Parts.{name, number}
-use Rattle.cpe_snapshot.specs.Snapshot.{test_part, key_part}
+use Rattle.cpe_snapshot.specs.Parts.{name}
+use Rattle.cpe_snapshot.specs.Snapshot.{test_part}
 use Rattle.cpe_snapshot.proofs.WriteLemmas.{logic_put, fact_put, check_put}
 use Rattle.cpe_snapshot.proofs.write.+push_test.Goals as goal
 

@@ -1,4 +1,4 @@
-use Rattle.std.proofs.Common.{◌≡◌, ◌++◌, IfOk, subst}
+use Rattle.std.proofs.Common.{◌≡◌, IfOk, subst}
 use Rattle.cpe_snapshot.specs.Parts.{text, name, list}
 use Rattle.cpe_snapshot.specs.Snapshot.{note_row, deprecation_part, placed}
 use Rattle.cpe_snapshot.proofs.WriteLemmas.{five_parts}

@@ -1,4 +1,4 @@
-use Rattle.std.proofs.Common.{◌≡◌, ◌++◌, IfOk, subst}
+use Rattle.std.proofs.Common.{◌≡◌, IfOk, subst}
 use Rattle.cpe_snapshot.specs.Parts.{number}
 use Rattle.cpe_snapshot.specs.Snapshot.{mark}
 use Rattle.cpe_snapshot.proofs.WriteLemmas.{four_numbers}

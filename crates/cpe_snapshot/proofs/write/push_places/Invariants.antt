@@ -1,7 +1,6 @@
 use Rattle.std.proofs.Common.{◌≡◌, ◌++◌, length, take}
 use Rattle.std.specs.List.{flat_map}
 use Rattle.cpe_snapshot.specs.Parts.{number}
-use Rattle.cpe_snapshot.specs.Snapshot.{note_row}
 use Rattle.cpe_snapshot.proofs.write.push_places.Given as goal
 
 abbrev pub invariant-loop-place : goal.invariant-loop-place
