@@ -9,3 +9,4 @@ mod RowsReader
 mod WriteLemmas
 mod StateLemmas
 mod SmallCases
+mod ToldLemmas

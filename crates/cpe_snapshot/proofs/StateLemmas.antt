@@ -16,7 +16,7 @@ use Rattle.cpe_snapshot.specs.declared.rows.PlacedDeprecation.{PlacedDeprecation
 use Rattle.cpe_snapshot.specs.declared.rows.PlacedEntry.{PlacedEntry}
 use Rattle.cpe_snapshot.specs.declared.rows.PlacedRows.{PlacedRows}
 use Rattle.cpe_snapshot.specs.Snapshot.{snapshot_of}
-use Rattle.cpe_snapshot.specs.States.{AreNamed, IsMeantDeprecation, IsMeant, AreMeantEntries, AreMeant, pair_of, place_in, placed_deprecation, placed_entry, placed_rows, result_of, StatesAreClear, StatesHaveSnapshots, StatesHaveOne}
+use Rattle.cpe_snapshot.specs.States.{AreNamed, IsMeantDeprecation, IsMeant, AreMeantEntries, AreMeant, pair_of, place_in, placed_deprecation, placed_entry, placed_rows, result_of, StatesAreClear, StatesHaveOne}
 use Rattle.cpe_snapshot.proofs.Readers.{some_is}
 use Rattle.cpe_snapshot.proofs.RowsReader.{clear}
 
@@ -77,11 +77,11 @@ states_are_clear rows others bytes a b =
 
 -- ---- each state is meant by its rows with places
 
-and_first : (a b : Bool) → a && b ≡ true → a ≡ true
+pub and_first : (a b : Bool) → a && b ≡ true → a ≡ true
 and_first true b e = refl
 and_first false b e = absurd cc
 
-and_second : (a b : Bool) → a && b ≡ true → b ≡ true
+pub and_second : (a b : Bool) → a && b ≡ true → b ≡ true
 and_second true b e = e
 and_second false b e = absurd cc
 
@@ -120,8 +120,6 @@ pairs_back (c ∷ cs) = ap (λ (ds : List (CheckKey × Truth)). c ∷ ds) (pairs
 pub is_meant : (rows : Rows) → IsLawful rows → AreMeant (placed_rows rows) rows
 is_meant rows lawful = record { entries = meant_entries rows.entries rows.entries lawful.dictionary.successors; items = refl; statements = refl; checks = pairs_back rows.checks }
 
-pub states_have_snapshots : StatesHaveSnapshots
-states_have_snapshots rows lawful told = (placed_rows rows, is_meant rows lawful, (told, refl))
 
 -- ---- by no other rows with places
 

@@ -1,12 +1,19 @@
 -- The snapshot of a plain state: that of its rows, where an entry's successors stand by their places.
-use Rattle.std.specs.Prelude.{◌≡◌, ℕ, suc, List, [], ◌∷◌, map, if◌then◌else◌, Option, Some, None, slice_get}
+use Rattle.std.specs.Prelude.{◌≡◌, ℕ, suc, List, [], ◌∷◌, map, if◌then◌else◌, Option, Some, None, slice_get, true}
 use Rattle.std.specs.Option.{option_map}
+use Rattle.std.specs.List.{AllByRecursion, flat_map}
+use Rattle.std.specs.Str.{is_utf8}
 use Rattle.cpe_name.specs.declared.name.Values.{Values}
 use Rattle.cpe_rows.specs.Rows.{Rows, is_named}
 use Rattle.cpe_rows.specs.Lawful.{IsLawful}
 use Rattle.cpe_rows.specs.declared.entry.Deprecation.{Deprecation}
 use Rattle.cpe_rows.specs.declared.entry.Entry.{Entry}
+use Rattle.cpe_rows.specs.declared.entry.Note.{Note}
+use Rattle.cpe_rows.specs.declared.statement.Statement.{Statement}
 use Rattle.cpe_rows.specs.declared.test.CheckKey.{CheckKey}
+use Rattle.cpe_rows.specs.declared.test.Test.{Test}
+use Rattle.cpe_rows.specs.declared.test.Test.TheOpen.{Test-F}
+use Rattle.cpe_rows.specs.declared.test.Test.TheFolds.{fold-Test}
 use Rattle.cpe_rows.specs.declared.truth.Truth.{Truth}
 use Rattle.cpe_snapshot.specs.declared.rows.KeptResult.{KeptResult}
 use Rattle.cpe_snapshot.specs.declared.rows.PlacedDeprecation.{PlacedDeprecation}
@@ -84,15 +91,52 @@ placed_rows rows = record {
 abbrev pub snapshot : Rows → List ℕ
 snapshot rows = snapshot_of (placed_rows rows)
 
+-- ---- the texts of a state
+
+-- what a program's texts are by their type; definitions on rows see them as numbers
+abbrev pub IsString : List ℕ → Type 0
+IsString bytes = is_utf8 bytes ≡ true
+
+pub record IsTextEntry (e : Entry) : Type 0 where
+  pub title : IsString e.title
+  pub submitter : IsString e.provenance.submitter
+  pub authority : IsString e.provenance.authority
+  pub comments : AllByRecursion (λ (n : Note). IsString n.comment) e.provenance.notes
+
+pub record IsTextKey (k : CheckKey) : Type 0 where
+  pub system : IsString k.system
+  pub href : IsString k.href
+  pub id : IsString k.id
+
+-- the keys of a test's check references, in the order of its arrays
+abbrev pub keys_step : Test-F (List CheckKey) → List CheckKey
+keys_step (Test-F.Logic operator negate of) = flat_map (λ keys. keys) of
+keys_step (Test-F.Fact n) = []
+keys_step (Test-F.Check k) = k ∷ []
+
+abbrev pub keys_of : Test → List CheckKey
+keys_of = fold-Test (List CheckKey) keys_step
+
+pub record IsTextStatement (s : Statement) : Type 0 where
+  pub id : IsString s.id
+  pub title : IsString s.title
+  pub keys : AllByRecursion IsTextKey (keys_of s.test)
+
+-- all of them are UTF-8
+pub record AreTexts (rows : Rows) : Type 0 where
+  pub entries : AllByRecursion IsTextEntry rows.entries
+  pub statements : AllByRecursion IsTextStatement rows.statements
+  pub checks : AllByRecursion (λ (c : CheckKey × Truth). IsTextKey c.0) rows.checks
+
 -- ---- laws
 
 -- no two states have the same snapshot
 abbrev pub StatesAreClear : Type 0
 StatesAreClear = (rows others : Rows) (bytes : List ℕ) → Snap rows bytes → Snap others bytes → rows ≡ others
 
--- a lawful state of names, dates and texts has this snapshot
+-- a lawful state has this snapshot
 abbrev pub StatesHaveSnapshots : Type 0
-StatesHaveSnapshots = (rows : Rows) → IsLawful rows → AreTold (placed_rows rows) → Snap rows (snapshot rows)
+StatesHaveSnapshots = (rows : Rows) → IsLawful rows → AreTexts rows → Snap rows (snapshot rows)
 
 -- and no other
 abbrev pub StatesHaveOne : Type 0
