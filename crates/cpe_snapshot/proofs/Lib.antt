@@ -10,3 +10,4 @@ mod WriteLemmas
 mod StateLemmas
 mod SmallCases
 mod ToldLemmas
+mod ShortLemmas

@@ -45,7 +45,7 @@ use Rattle.cpe_snapshot.proofs.StateLemmas.{and_first, and_second, is_meant}
 abbrev pub MOST : ℕ
 MOST = 536870912
 
-within : (rows : Rows) → AreWithin rows → weight rows ≤ MOST
+pub within : (rows : Rows) → AreWithin rows → weight rows ≤ MOST
 within rows are = grind (arith, nat_tests, each_within rows are limit.Weight)
 
 few_entries : (rows : Rows) → AreWithin rows → length rows.entries ≤ 2000000
@@ -134,7 +134,7 @@ key_told k light texts = ((omega (arith, light), texts.system), (omega (arith, l
 
 -- ---- tests
 
-weight_logic : (operator : Operator) (negate : Bool) (of : List Test) → test_weight (Logic operator negate of) ≡ 32 + total (map test_weight of)
+pub weight_logic : (operator : Operator) (negate : Bool) (of : List Test) → test_weight (Logic operator negate of) ≡ 32 + total (map test_weight of)
 weight_logic operator negate of = ap test_weight (sym (rolls-Logic operator negate of)) ∙ fold-roll-Test ℕ test_step (Test-F.Logic operator negate of)
 
 sound_logic : (operator : Operator) (negate : Bool) (of : List Test) → is_sound (Logic operator negate of) ≡ (nat_lt 0 (length (map is_sound of)) && list_all (λ b. b) (map is_sound of))

@@ -1,11 +1,12 @@
 -- The snapshot of a plain state: that of its rows, where an entry's successors stand by their places.
-use Rattle.std.specs.Prelude.{◌≡◌, ℕ, suc, List, [], ◌∷◌, map, if◌then◌else◌, Option, Some, None, slice_get, true}
+use Rattle.std.specs.Prelude.{◌≡◌, ◌+◌, ◌≤◌, ℕ, suc, length, List, [], ◌∷◌, map, if◌then◌else◌, Option, Some, None, slice_get, true}
 use Rattle.std.specs.Option.{option_map}
 use Rattle.std.specs.List.{AllByRecursion, flat_map}
 use Rattle.std.specs.Str.{is_utf8}
 use Rattle.cpe_name.specs.declared.name.Values.{Values}
 use Rattle.cpe_rows.specs.Rows.{Rows, is_named}
 use Rattle.cpe_rows.specs.Lawful.{IsLawful}
+use Rattle.cpe_rows.specs.Weight.{weight}
 use Rattle.cpe_rows.specs.declared.entry.Deprecation.{Deprecation}
 use Rattle.cpe_rows.specs.declared.entry.Entry.{Entry}
 use Rattle.cpe_rows.specs.declared.entry.Note.{Note}
@@ -141,3 +142,14 @@ StatesHaveSnapshots = (rows : Rows) → IsLawful rows → AreTexts rows → Snap
 -- and no other
 abbrev pub StatesHaveOne : Type 0
 StatesHaveOne = (rows : Rows) (bytes : List ℕ) → IsLawful rows → Snap rows bytes → bytes ≡ snapshot rows
+
+-- it has at most 24 bytes more than the rows weigh
+abbrev pub SnapshotsAreShort : Type 0
+SnapshotsAreShort = (rows : Rows) → IsLawful rows → AreTexts rows → length (snapshot rows) ≤ weight rows + 24
+
+-- so no more than these, since no more may be weighed
+abbrev pub most_bytes : ℕ
+most_bytes = 536870936
+
+abbrev pub SnapshotsAreWithin : Type 0
+SnapshotsAreWithin = (rows : Rows) → IsLawful rows → AreTexts rows → length (snapshot rows) ≤ most_bytes

@@ -2,7 +2,7 @@
 ghost use Rattle.std.specs.Prelude.{◌≡◌, ◌++◌, codes, length};
 ghost use Rattle.cpe_rows.specs.Rows.{no_rows};
 ghost use Rattle.cpe_snapshot.specs.Cases.{one_item, three_rows, three_rows_bytes};
-ghost use Rattle.cpe_snapshot.specs.States.{snapshot, StatesAreClear, StatesHaveOne, StatesHaveSnapshots};
+ghost use Rattle.cpe_snapshot.specs.States.{snapshot, SnapshotsAreShort, SnapshotsAreWithin, StatesAreClear, StatesHaveOne, StatesHaveSnapshots};
 ghost use Rattle.cpe_snapshot.specs.Told.{SnapshotsAreClear, SnapshotsAreRead};
 
 /// Bytes are the snapshot of no two rows, and rows that were written are read again, unless memory runs out.
@@ -16,6 +16,12 @@ pub fn states_have_snapshots()
     ensures clear { StatesAreClear }
     ensures some { StatesHaveSnapshots }
     ensures one { StatesHaveOne }
+{}
+
+/// The snapshot of a lawful state has at most 24 bytes more than the rows weigh, so it has at most 536,870,936.
+pub fn snapshots_are_short()
+    ensures short { SnapshotsAreShort }
+    ensures within { SnapshotsAreWithin }
 {}
 
 /// The snapshot of a state without rows is the mark and 16 zeros, that of the item `cpe:/a` has 57 bytes, and that of two entries
