@@ -1,30 +1,26 @@
 -- A snapshot has at most 24 bytes more than its rows weigh.
-use Rattle.std.proofs.Common.{◌≡◌, refl, sym, ◌∙◌, ap, subst, ℕ, zero, suc, ◌+◌, ◌≤◌, Bool, List, [], ◌∷◌, ◌++◌, length, map, Option, Some, None, arith}
+use Rattle.std.proofs.Common.{◌≡◌, sym, ◌∙◌, ap, subst, ℕ, zero, suc, ◌+◌, ◌≤◌, List, [], ◌∷◌, ◌++◌, length, map, Option, Some, None, arith}
 use Rattle.std.specs.List.{AllByRecursion, flat_map}
 use Rattle.std.specs.Option.{option_map, option_map_or}
 use Rattle.std.proofs.lemmas.List.{length-append}
 use Rattle.std.proofs.lemmas.List.Folds.{flat_map-map}
 use Rattle.cpe_name.specs.declared.name.Values.{Values}
-use Rattle.cpe_rows.specs.Lawful.{IsLawful}
-use Rattle.cpe_rows.specs.Rows.{Rows}
-use Rattle.cpe_rows.specs.Weight.{total, weighs, weight, name_weight, note_weight, deprecation_weight, entry_weight, key_weight, test_weight, test_step, statement_weight, check_weight}
+use Rattle.cpe_rows.specs.Weight.{total, name_weight, note_weight, deprecation_weight, entry_weight, key_weight, test_weight, test_step, statement_weight, check_weight}
 use Rattle.cpe_rows.specs.declared.entry.Deprecation.{Deprecation}
 use Rattle.cpe_rows.specs.declared.entry.Entry.{Entry}
 use Rattle.cpe_rows.specs.declared.entry.Note.{Note}
 use Rattle.cpe_rows.specs.declared.statement.Statement.{Statement}
 use Rattle.cpe_rows.specs.declared.test.CheckKey.{CheckKey}
-use Rattle.cpe_rows.specs.declared.test.Operator.{Operator}
-use Rattle.cpe_rows.specs.declared.test.Test.{Test, Logic, out-Test}
+use Rattle.cpe_rows.specs.declared.test.Test.{Test, out-Test}
 use Rattle.cpe_rows.specs.declared.test.Test.TheOpen.{Test-F}
 use Rattle.cpe_rows.specs.declared.test.Test.TheViews.{roll-Test, roll-out-Test}
 use Rattle.cpe_rows.specs.declared.test.Test.TheVariants.{rolls-Logic, rolls-Fact, rolls-Check}
 use Rattle.cpe_rows.specs.declared.test.Test.TheFolds.{fold-roll-Test}
 use Rattle.cpe_rows.specs.declared.truth.Truth.{Truth}
-use Rattle.cpe_snapshot.specs.declared.rows.KeptResult.{KeptResult}
 use Rattle.cpe_snapshot.specs.Parts.{number, text, name, list}
-use Rattle.cpe_snapshot.specs.Snapshot.{mark, note_row, deprecation_part, entry_row, key_part, test_part, statement_row, result_row, head, operator_byte, flag_byte, mode_byte, truth_byte}
-use Rattle.cpe_snapshot.specs.Told.{AreCounted, IsToldStep, IsToldTest, IsToldStatement, AreTold}
-use Rattle.cpe_snapshot.specs.States.{AreTexts, place_in, placed_deprecation, placed_entry, placed_rows, result_of, snapshot, SnapshotsAreShort, SnapshotsAreWithin}
+use Rattle.cpe_snapshot.specs.Snapshot.{note_row, deprecation_part, entry_row, key_part, test_part, statement_row, result_row, head, mode_byte, truth_byte}
+use Rattle.cpe_snapshot.specs.Told.{AreCounted, IsToldStep, IsToldTest, IsToldStatement}
+use Rattle.cpe_snapshot.specs.States.{place_in, placed_deprecation, placed_entry, placed_rows, result_of, SnapshotsAreShort, SnapshotsAreWithin}
 use Rattle.cpe_snapshot.proofs.TestReaders.{part_logic, part_fact, part_check}
 use Rattle.cpe_snapshot.proofs.ToldLemmas.{within, weight_logic, lawful_are_told}
 
@@ -61,9 +57,17 @@ entry_short all e =
     let d = deprecation_part (option_map (placed_deprecation all) e.deprecation) in
     let notes = list note_row p.notes in
     let many = short_rows note_row note_weight p.notes (all_of (λ n. length (note_row n) ≤ note_weight n) note_short p.notes) in
-    omega (arith, deprecation_short all e.deprecation, many, length-append (flat_map note_row p.notes) d, length-append p.authority (notes ++ d),
-    length-append p.submitter (text p.authority ++ (notes ++ d)), length-append e.title (text p.submitter ++ (text p.authority ++ (notes ++ d))),
-    length-append (name e.name) (text e.title ++ (text p.submitter ++ (text p.authority ++ (notes ++ d)))), text_long e.title)
+    omega (
+      arith,
+      deprecation_short all e.deprecation,
+      many,
+      length-append (flat_map note_row p.notes) d,
+      length-append p.authority (notes ++ d),
+      length-append p.submitter (text p.authority ++ (notes ++ d)),
+      length-append e.title (text p.submitter ++ (text p.authority ++ (notes ++ d))),
+      length-append (name e.name) (text e.title ++ (text p.submitter ++ (text p.authority ++ (notes ++ d)))),
+      text_long e.title,
+    )
 
 key_short : (k : CheckKey) → length (key_part k) + 20 ≤ key_weight k
 key_short k = omega (arith, length-append k.system (text k.href ++ text k.id), length-append k.href (text k.id), text_long k.id)
@@ -117,9 +121,19 @@ snapshots_are_short rows lawful texts =
     let items : List ℕ = flat_map name rows.items in
     let statements : List ℕ = flat_map statement_row rows.statements in
     let results : List ℕ = flat_map result_row (map result_of rows.checks) in
-    omega (arith, es, ns, ss, cs, ap length (flat_map-map entry_row (placed_entry rows.entries) rows.entries), ap length (flat_map-map result_row result_of rows.checks),
-    length-append statements results, length-append items (statements ++ results), length-append entries (items ++ (statements ++ results)),
-    length-append (head (placed_rows rows)) (entries ++ (items ++ (statements ++ results))))
+    omega (
+      arith,
+      es,
+      ns,
+      ss,
+      cs,
+      ap length (flat_map-map entry_row (placed_entry rows.entries) rows.entries),
+      ap length (flat_map-map result_row result_of rows.checks),
+      length-append statements results,
+      length-append items (statements ++ results),
+      length-append entries (items ++ (statements ++ results)),
+      length-append (head (placed_rows rows)) (entries ++ (items ++ (statements ++ results))),
+    )
 
 pub snapshots_are_within : SnapshotsAreWithin
 snapshots_are_within rows lawful texts = omega (arith, snapshots_are_short rows lawful texts, within rows lawful.within)

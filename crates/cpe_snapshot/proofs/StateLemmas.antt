@@ -120,7 +120,6 @@ pairs_back (c ∷ cs) = ap (λ (ds : List (CheckKey × Truth)). c ∷ ds) (pairs
 pub is_meant : (rows : Rows) → IsLawful rows → AreMeant (placed_rows rows) rows
 is_meant rows lawful = record { entries = meant_entries rows.entries rows.entries lawful.dictionary.successors; items = refl; statements = refl; checks = pairs_back rows.checks }
 
-
 -- ---- by no other rows with places
 
 abbrev pub name_at : List PlacedEntry → ℕ → Option Values

@@ -1,6 +1,6 @@
 -- Lawful states of texts have a snapshot: their parts are not too long, since they weigh as much as their texts are long.
-use Rattle.std.proofs.Common.{◌≡◌, refl, sym, ◌∙◌, ap, subst, ℕ, zero, suc, max, ◌+◌, ◌≤◌, ◌<◌, ◌&&◌, Bool, true, false, nat_le, nat_lt, not, List, [], ◌∷◌, ◌++◌, length, map, Option, Some, None, IsTrue, if◌then◌else◌, arith}
-use Rattle.std.specs.List.{AllByRecursion, All, flat_map, list_all}
+use Rattle.std.proofs.Common.{◌≡◌, refl, sym, ◌∙◌, ap, subst, ℕ, zero, suc, ◌+◌, ◌≤◌, ◌&&◌, Bool, true, false, nat_le, nat_lt, not, List, [], ◌∷◌, ◌++◌, length, map, Option, Some, None, if◌then◌else◌, arith}
+use Rattle.std.specs.List.{AllByRecursion, flat_map, list_all}
 use Rattle.std.specs.Option.{option_map, option_map_or}
 use Rattle.std.proofs.lemmas.List.{length-map}
 use Rattle.std.proofs.lemmas.List.Elements.{recursion_from_All}
@@ -8,17 +8,15 @@ use Rattle.std.proofs.lemmas.List.Folds.{flat_map-map}
 use Rattle.std.proofs.lemmas.Bool.Decides.{nat_tests}
 use Rattle.cpe_name.specs.declared.name.Values.{Values}
 use Rattle.cpe_name.specs.Names.{IsName}
-use Rattle.cpe_fs.specs.Grammar.{fs_text}
-use Rattle.cpe_rows.specs.Date.{is_date}
 use Rattle.cpe_rows.specs.Names.{is_lower, is_identifier, has_wildcards}
 use Rattle.cpe_rows.specs.FactNames.{fact_names, fact_names_step}
 use Rattle.cpe_rows.specs.Formed.{IsDated, IsFormedEntry, IsFormedStatement}
 use Rattle.cpe_rows.specs.Lawful.{IsLawful, is_entry_name, is_item_name, is_lawful_statement}
-use Rattle.cpe_rows.specs.Limits.{AreWithin, most, number_of, exceeds}
+use Rattle.cpe_rows.specs.Limits.{AreWithin}
 use Rattle.cpe_rows.specs.Rows.{Rows, is_named}
 use Rattle.cpe_rows.specs.Shape.{largest, depth_of, is_sound, sound_step}
 use Rattle.cpe_rows.specs.Valid.{is_id, is_statement_test, is_logic}
-use Rattle.cpe_rows.specs.Weight.{total, weighs, weight, name_weight, note_weight, deprecation_weight, entry_weight, key_weight, test_weight, test_step, statement_weight, check_weight}
+use Rattle.cpe_rows.specs.Weight.{total, weight, name_weight, note_weight, deprecation_weight, entry_weight, key_weight, test_weight, test_step, statement_weight, check_weight}
 use Rattle.cpe_rows.specs.declared.fault.Which.TheVariants as limit
 use Rattle.cpe_rows.specs.declared.entry.Deprecation.{Deprecation}
 use Rattle.cpe_rows.specs.declared.entry.Entry.{Entry}
@@ -26,17 +24,16 @@ use Rattle.cpe_rows.specs.declared.entry.Note.{Note}
 use Rattle.cpe_rows.specs.declared.statement.Statement.{Statement}
 use Rattle.cpe_rows.specs.declared.test.CheckKey.{CheckKey}
 use Rattle.cpe_rows.specs.declared.test.Operator.{Operator}
-use Rattle.cpe_rows.specs.declared.test.Test.{Test, Logic, Fact, Check, out-Test}
+use Rattle.cpe_rows.specs.declared.test.Test.{Test, Logic, out-Test}
 use Rattle.cpe_rows.specs.declared.test.Test.TheOpen.{Test-F}
-use Rattle.cpe_rows.specs.declared.test.Test.TheViews.{roll-Test, out-roll-Test, roll-out-Test}
+use Rattle.cpe_rows.specs.declared.test.Test.TheViews.{roll-Test, roll-out-Test}
 use Rattle.cpe_rows.specs.declared.test.Test.TheVariants.{rolls-Logic}
 use Rattle.cpe_rows.specs.declared.test.Test.TheFolds.{fold-roll-Test}
 use Rattle.cpe_rows.specs.declared.truth.Truth.{Truth}
 use Rattle.cpe_rows.proofs.Limited.{each_within}
 use Rattle.cpe_rows.proofs.Within.{depth-logic}
 use Rattle.cpe_rows.proofs.TestNames.{names-logic}
-use Rattle.cpe_snapshot.specs.declared.rows.PlacedDeprecation.{PlacedDeprecation}
-use Rattle.cpe_snapshot.specs.Told.{IsNumber, IsText, IsSpelled, AreCounted, IsToldNote, IsToldDeprecation, IsToldEntry, IsToldKey, IsToldStep, IsToldTest, IsToldStatement, IsToldResult, AreTold}
+use Rattle.cpe_snapshot.specs.Told.{IsNumber, IsSpelled, AreCounted, IsToldNote, IsToldDeprecation, IsToldEntry, IsToldKey, IsToldStep, IsToldTest, IsToldStatement, IsToldResult, AreTold}
 use Rattle.cpe_snapshot.specs.States.{IsString, IsTextEntry, IsTextKey, keys_step, keys_of, IsTextStatement, AreTexts, place_in, placed_deprecation, placed_entry, placed_rows, result_of, StatesHaveSnapshots}
 use Rattle.cpe_snapshot.proofs.StateLemmas.{and_first, and_second, is_meant}
 
@@ -81,10 +78,11 @@ note_told : (n : Note) → note_weight n ≤ MOST → IsDated n × IsString n.co
 note_told n light is = (is.0, (omega (arith, light), is.1))
 
 notes_told : (ns : List Note) → total (map note_weight ns) ≤ MOST → AllByRecursion IsDated ns → AllByRecursion (λ (n : Note). IsString n.comment) ns → AreCounted IsToldNote ns
-notes_told ns light dated strings =
-    (omega (arith, light, few note_weight (λ n. omega arith) ns),
-    zipped (λ n. note_weight n ≤ MOST) (λ n. IsDated n × IsString n.comment) IsToldNote note_told ns (each_below note_weight MOST ns light)
-    (zipped IsDated (λ n. IsString n.comment) (λ n. IsDated n × IsString n.comment) (λ n a b. (a, b)) ns dated strings))
+notes_told ns light dated strings = (
+  omega (arith, light, few note_weight (λ n. omega arith) ns),
+  zipped (λ n. note_weight n ≤ MOST) (λ n. IsDated n × IsString n.comment) IsToldNote note_told ns (each_below note_weight MOST ns light)
+      (zipped IsDated (λ n. IsString n.comment) (λ n. IsDated n × IsString n.comment) (λ n a b. (a, b)) ns dated strings),
+)
 
 place_below : (all : List Entry) (n : Values) → place_in all n ≤ length all
 place_below [] n = omega arith
@@ -163,15 +161,16 @@ children_fine : (levels : ℕ) (of : List Test) → total (map test_weight of) �
 children_fine levels [] light depth sound named keyed = tt
 children_fine levels (t ∷ of) light depth sound named keyed =
     let names = appended IsName (fact_names t) (flat_map fact_names of) named in
-    let keys = appended IsTextKey (keys_of t) (flat_map keys_of of) keyed in
-    (record {
-      light = omega (arith, light);
-      depth = grind (arith, nat_tests, depth);
-      sound = and_first (is_sound t) (list_all (λ b. b) (map is_sound of)) sound;
-      named = names.0;
-      keyed = keys.0;
-    },
-    children_fine levels of (omega (arith, light)) (grind (arith, nat_tests, depth)) (and_second (is_sound t) (list_all (λ b. b) (map is_sound of)) sound) names.1 keys.1)
+    let keys = appended IsTextKey (keys_of t) (flat_map keys_of of) keyed in (
+      record {
+        light = omega (arith, light);
+        depth = grind (arith, nat_tests, depth);
+        sound = and_first (is_sound t) (list_all (λ b. b) (map is_sound of)) sound;
+        named = names.0;
+        keyed = keys.0;
+      },
+      children_fine levels of (omega (arith, light)) (grind (arith, nat_tests, depth)) (and_second (is_sound t) (list_all (λ b. b) (map is_sound of)) sound) names.1 keys.1,
+    )
 
 each_told : (levels : ℕ) → ((t : Test) → IsFine levels t → IsToldTest levels t) → (of : List Test) → AllByRecursion (IsFine levels) of → AllByRecursion (IsToldTest levels) of
 each_told levels told [] fine = tt
@@ -218,7 +217,7 @@ test_told zero t fine = step_told (λ of. ⊥) 0 t no_levels fine
 test_told (suc levels) t fine =
     step_told (AreCounted (IsToldTest levels)) (suc levels) t
     (λ operator negate of is.
-      (omega (arith, is.light, weight_logic operator negate of, few test_weight weighs_some of), each_told levels (test_told levels) of (logic_fine levels operator negate of is))) fine
+    (omega (arith, is.light, weight_logic operator negate of, few test_weight weighs_some of), each_told levels (test_told levels) of (logic_fine levels operator negate of is))) fine
 
 -- ---- statements
 
@@ -263,18 +262,26 @@ lawful_are_told rows lawful texts =
     let light : weight rows ≤ MOST = within rows lawful.within in
     let short : length rows.entries ≤ 2000000 = few_entries rows lawful.within in
     record {
-      entries = (omega (arith, short, length-map rows.entries (placed_entry rows.entries)),
+      entries = (
+        omega (arith, short, length-map rows.entries (placed_entry rows.entries)),
         entries_told rows.entries short rows.entries (each_below entry_weight MOST rows.entries (omega (arith, light)))
-        (recursion_from_All IsFormedEntry rows.entries lawful.formed.entries) texts.entries (tested (λ e. is_entry_name e.name) rows.entries lawful.dictionary.names));
-      items = (omega (arith, few_items rows lawful.within),
+            (recursion_from_All IsFormedEntry rows.entries lawful.formed.entries) texts.entries (tested (λ e. is_entry_name e.name) rows.entries lawful.dictionary.names),
+      );
+      items = (
+        omega (arith, few_items rows lawful.within),
         zipped (λ n. name_weight n ≤ MOST) (λ n. IsName n × (is_item_name n ≡ true)) IsSpelled item_told rows.items (each_below name_weight MOST rows.items (omega (arith, light)))
-        (zipped IsName (λ n. is_item_name n ≡ true) (λ n. IsName n × (is_item_name n ≡ true)) (λ n a b. (a, b)) rows.items
-        (recursion_from_All IsName rows.items lawful.formed.items) (tested is_item_name rows.items lawful.item_names)));
-      statements = (omega (arith, few_statements rows lawful.within),
+            (zipped IsName (λ n. is_item_name n ≡ true) (λ n. IsName n × (is_item_name n ≡ true)) (λ n a b. (a, b)) rows.items
+            (recursion_from_All IsName rows.items lawful.formed.items) (tested is_item_name rows.items lawful.item_names)),
+      );
+      statements = (
+        omega (arith, few_statements rows lawful.within),
         statements_told rows.statements (each_below statement_weight MOST rows.statements (omega (arith, light)))
-        (recursion_from_All IsFormedStatement rows.statements lawful.formed.statements) (tested is_lawful_statement rows.statements lawful.lawful_statements) texts.statements);
-      results = (omega (arith, few_checks rows lawful.within, length-map rows.checks result_of),
-        results_told rows.checks (each_below check_weight MOST rows.checks (omega (arith, light))) texts.checks);
+            (recursion_from_All IsFormedStatement rows.statements lawful.formed.statements) (tested is_lawful_statement rows.statements lawful.lawful_statements) texts.statements,
+      );
+      results = (
+        omega (arith, few_checks rows lawful.within, length-map rows.checks result_of),
+        results_told rows.checks (each_below check_weight MOST rows.checks (omega (arith, light))) texts.checks,
+      );
     }
 
 pub states_have_snapshots : StatesHaveSnapshots

@@ -21,7 +21,7 @@ use Rattle.cpe_snapshot.specs.declared.rows.PlacedDeprecation.{PlacedDeprecation
 use Rattle.cpe_snapshot.specs.declared.rows.PlacedEntry.{PlacedEntry}
 use Rattle.cpe_snapshot.specs.declared.rows.PlacedRows.{PlacedRows}
 use Rattle.cpe_snapshot.specs.Snapshot.{snapshot_of}
-use Rattle.cpe_snapshot.specs.Told.{AreTold, Spells}
+use Rattle.cpe_snapshot.specs.Told.{Spells}
 
 -- ---- which rows are meant
 
