@@ -1,12 +1,12 @@
 -- The reader of all rows.
-use Rattle.std.proofs.Common.{◌≡◌, inl, inr, refl, sym, ◌∙◌, ap, subst, ℕ, zero, suc, Bool, true, false, cond, eqb, List, [], ◌++◌, length, Option, Some, None, Result, Ok, Err}
+use Rattle.std.proofs.Common.{nat_le, ◌&&◌, ◌≤◌, arith, ◌≡◌, inl, inr, refl, sym, ◌∙◌, ap, subst, ℕ, zero, suc, Bool, true, false, cond, eqb, List, [], ◌++◌, length, Option, Some, None, Result, Ok, Err}
 use Rattle.std.specs.List.{AllByRecursion, flat_map}
 use Rattle.std.specs.Str.{bytes_eq}
-use Rattle.std.proofs.lemmas.Bool.{eqb-true}
+use Rattle.std.proofs.lemmas.Bool.{eqb-true, leb-true}
 use Rattle.std.proofs.lemmas.Slice.Eq.{bytes_eq-Decides}
 use Rattle.std.proofs.lemmas.List.{append-nil, nil_from_length}
 use Rattle.cpe_name.specs.declared.name.Values.{Values}
-use Rattle.cpe_rows.specs.declared.limits.TheConstants.{MOST_LEVELS}
+use Rattle.cpe_rows.specs.declared.limits.TheConstants.{MOST_LEVELS, MOST_ENTRIES, MOST_ITEMS, MOST_STATEMENTS, MOST_CHECKS}
 use Rattle.cpe_rows.specs.declared.statement.Statement.{Statement}
 use Rattle.cpe_rows.specs.declared.statement.Mode.{Mode}
 use Rattle.cpe_rows.specs.declared.statement.Mode.TheVariants.{Plain, Follow}
@@ -20,11 +20,24 @@ use Rattle.cpe_snapshot.specs.declared.rows.PlacedRows.{PlacedRows}
 use Rattle.cpe_snapshot.specs.Parts.{number, name}
 use Rattle.cpe_snapshot.specs.Snapshot.{mode_byte, entry_row, statement_row, result_row, mark, snapshot_of}
 use Rattle.cpe_snapshot.specs.Told.{IsNumber, IsSpelled, IsToldEntry, IsToldStatement, IsToldResult, AreTold, Spells, Reads, SnapshotsAreClear, SnapshotsAreRead}
-use Rattle.cpe_snapshot.specs.Reading.{◌>>=◌, Tells, told, bytes_at, name_at, mode_of, entry_at, statement_from, statement_at, result_at, nothing_if, mark_at, head_from, head_at, rows_from, rows_at, whole, rows_of}
+use Rattle.cpe_snapshot.specs.Reading.{◌>>=◌, Tells, told, bytes_at, name_at, mode_of, entry_at, statement_from, statement_at, result_at, nothing_if, mark_at, is_few, when, head_from, numbers_at, head_at, rows_from, rows_at, whole, rows_of}
 use Rattle.cpe_snapshot.proofs.Readers.{IsBytes, IsReader, bind_some, some_is, both_read, made_read, told_read, many_read}
-use Rattle.cpe_snapshot.proofs.PartReaders.{IsAny, IsLong, plain, bytes_read, number_read, text_read, name_read}
+use Rattle.cpe_snapshot.proofs.PartReaders.{when_some, when_true, IsAny, IsLong, plain, bytes_read, number_read, text_read, name_read}
 use Rattle.cpe_snapshot.proofs.RowReaders.{refit, tag_read, entry_read, result_read}
 use Rattle.cpe_snapshot.proofs.TestReaders.{test_read}
+
+-- ---- truths
+
+and_first : (a b : Bool) → a && b ≡ true → a ≡ true
+and_first true b e = refl
+and_first false b e = absurd cc
+
+and_second : (a b : Bool) → a && b ≡ true → b ≡ true
+and_second true b e = e
+and_second false b e = absurd cc
+
+all_true : (a b c d : Bool) → a ≡ true → b ≡ true → c ≡ true → d ≡ true → a && (b && (c && d)) ≡ true
+all_true a b c d p q r t = ap (λ x. x && (b && (c && d))) p ∙ (ap (λ x. x && (c && d)) q ∙ (ap (λ x. x && d) r ∙ t))
 
 -- ---- statements
 
@@ -76,11 +89,23 @@ FitHead h = Unit {0} × (IsNumber h.entries × (IsNumber h.items × (IsNumber h.
 abbrev spell_head : Head → List ℕ
 spell_head h = mark ++ (number h.entries ++ (number h.items ++ (number h.statements ++ number h.results)))
 
-head_read : IsReader FitHead spell_head head_at
-unfolding head_at
-head_read =
+numbers_read : IsReader FitHead spell_head numbers_at
+unfolding numbers_at
+numbers_read =
     made_read _ _ _ (both_read _ _ _ _ _ _ mark_read (both_read _ _ _ _ _ _ number_read (both_read _ _ _ _ _ _ number_read (both_read _ _ _ _ _ _ number_read number_read))))
     head_from head_seen (λ x. refl) (λ y. refl)
+
+abbrev IsFew : Head → Type 0
+IsFew h = is_few h ≡ true
+
+abbrev same_head : Head → Head
+same_head h = h
+
+head_read : IsReader (λ h. FitHead h × IsFew h) spell_head head_at
+unfolding head_at
+head_read =
+    told_read FitHead spell_head numbers_at numbers_read (when is_few) same_head IsFew
+    (λ x y fits e. let w = when_some is_few x y e in (sym w.0, w.1)) (λ y few. when_true is_few y few)
 
 -- ---- as many rows as the head says
 
@@ -120,13 +145,35 @@ whole_some x y e = go (eqb (length x.1) 0) refl e where
   go true is e = (some_is x.0 y e, nil_from_length x.1 (eqb-true (length x.1) 0 is))
   go false is e = absurd cc
 
-told_by : (h : Head) (rows : PlacedRows) → FitHead h → FitRows h rows → AreTold rows
-told_by h rows head_fits fits = record {
-  entries = (subst IsNumber (sym fits.0.0) head_fits.1.0, fits.0.1);
-  items = (subst IsNumber (sym fits.1.0.0) head_fits.1.1.0, fits.1.0.1);
-  statements = (subst IsNumber (sym fits.1.1.0.0) head_fits.1.1.1.0, fits.1.1.0.1);
-  results = (subst IsNumber (sym fits.1.1.1.0) head_fits.1.1.1.1, fits.1.1.1.1);
-}
+told_by : (h : Head) (rows : PlacedRows) → IsFew h → FitRows h rows → AreTold rows
+told_by h rows few fits =
+    let all : is_few (head_of rows) ≡ true = ap is_few (heads_are h rows fits) ∙ few in
+    let items = and_second (nat_le (length rows.entries) MOST_ENTRIES) _ all in
+    let statements = and_second (nat_le (length rows.items) MOST_ITEMS) _ items in
+    record {
+      entries = (and_first (nat_le (length rows.entries) MOST_ENTRIES) _ all, fits.0.1);
+      items = (and_first (nat_le (length rows.items) MOST_ITEMS) _ items, fits.1.0.1);
+      statements = (and_first (nat_le (length rows.statements) MOST_STATEMENTS) _ statements, fits.1.1.0.1);
+      results = (and_second (nat_le (length rows.statements) MOST_STATEMENTS) _ statements, fits.1.1.1.1);
+    }
+
+few_by : (rows : PlacedRows) → AreTold rows → IsFew (head_of rows)
+few_by rows are = all_true _ _ _ _ are.entries.0 are.items.0 are.statements.0 are.results.0
+
+number_by : (n most : ℕ) → most ≤ 2000000 → nat_le n most ≡ true → IsNumber n
+number_by n most small below = omega (arith, small, leb-true n most below)
+
+fit_by : (rows : PlacedRows) → AreTold rows → FitHead (head_of rows)
+fit_by rows are = (
+  tt,
+  (
+    number_by _ MOST_ENTRIES (omega arith) are.entries.0,
+    (
+      number_by _ MOST_ITEMS (omega arith) are.items.0,
+      (number_by _ MOST_STATEMENTS (omega arith) are.statements.0, number_by _ MOST_CHECKS (omega arith) are.results.0),
+    ),
+  ),
+)
 
 pub rows_spelled : (bytes : List ℕ) (rows : PlacedRows) → IsBytes bytes → rows_of bytes ≡ Some rows → Spells rows bytes
 unfolding rows_of
@@ -139,12 +186,12 @@ rows_spelled bytes rows are e =
     let spelled : bytes ≡ snapshot_of b.0.0 =
     h.parts ∙ ap (λ (t : List ℕ). spell_head a.0.0 ++ t) (r.parts ∙ ap (λ (t : List ℕ). spell_rows b.0.0 ++ t) w.1 ∙ append-nil (spell_rows b.0.0))
     ∙ ap (λ k. spell_head k ++ spell_rows b.0.0) (sym (heads_are a.0.0 b.0.0 r.fits)) in
-    subst (λ q. Spells q bytes) w.0 (told_by a.0.0 b.0.0 h.fits r.fits, spelled)
+    subst (λ q. Spells q bytes) w.0 (told_by a.0.0 b.0.0 h.fits.1 r.fits, spelled)
 
 pub spelled_again : (rows : PlacedRows) → AreTold rows → rows_of (snapshot_of rows) ≡ Some rows
 unfolding rows_of
 spelled_again rows are =
-    let h = head_read.again (head_of rows) (spell_rows rows) (tt, (are.entries.0, (are.items.0, (are.statements.0, are.results.0)))) in
+    let h = head_read.again (head_of rows) (spell_rows rows) (fit_by rows are, few_by rows are) in
     let r : rows_at (head_of rows) (spell_rows rows) ≡ Some (rows, []) =
     ap (rows_at (head_of rows)) (sym (append-nil (spell_rows rows)))
     ∙ (rows_read (head_of rows)).again rows [] ((refl, are.entries.1), ((refl, are.items.1), ((refl, are.statements.1), (refl, are.results.1)))) in

@@ -1,7 +1,8 @@
 -- States and the rows that mean them.
-use Rattle.std.proofs.Common.{◌≡◌, refl, sym, ◌∙◌, ap, subst, ℕ, zero, suc, ◌&&◌, ◌||◌, Bool, true, false, cond, not, List, [], ◌∷◌, map, Option, Some, None, slice_get}
+use Rattle.std.proofs.Common.{◌≡◌, refl, sym, ◌∙◌, ap, subst, ℕ, zero, suc, ◌+◌, arith, ◌&&◌, ◌||◌, Bool, true, false, cond, not, List, [], ◌∷◌, map, Option, Some, None, slice_get}
 use Rattle.std.specs.Option.{option_map}
-use Rattle.std.specs.List.{list_any, list_all}
+use Rattle.std.specs.List.{list_any, list_all, position_from}
+use Rattle.std.proofs.lemmas.Iterator.Adapters.{position_from-zero}
 use Rattle.cpe_name.specs.declared.name.Values.{Values}
 use Rattle.cpe_rows.proofs.NameTests.{same_is}
 use Rattle.cpe_rows.specs.Rows.{Rows, is_named}
@@ -16,7 +17,7 @@ use Rattle.cpe_snapshot.specs.declared.rows.PlacedDeprecation.{PlacedDeprecation
 use Rattle.cpe_snapshot.specs.declared.rows.PlacedEntry.{PlacedEntry}
 use Rattle.cpe_snapshot.specs.declared.rows.PlacedRows.{PlacedRows}
 use Rattle.cpe_snapshot.specs.Snapshot.{snapshot_of}
-use Rattle.cpe_snapshot.specs.States.{AreNamed, IsMeantDeprecation, IsMeant, AreMeantEntries, AreMeant, pair_of, place_in, placed_deprecation, placed_entry, placed_rows, result_of, StatesAreClear, StatesHaveOne}
+use Rattle.cpe_snapshot.specs.States.{AreNamed, IsMeantDeprecation, IsMeant, AreMeantEntries, AreMeant, pair_of, place_in, placed_deprecation, placed_entry, placed_rows, result_of, StatesAreClear, StatesHaveOne, PlacesArePositions}
 use Rattle.cpe_snapshot.proofs.Readers.{some_is}
 use Rattle.cpe_snapshot.proofs.RowsReader.{clear}
 
@@ -210,3 +211,18 @@ placed_is p rows differ meant =
 
 pub states_have_one : StatesHaveOne
 states_have_one rows bytes lawful snap = snap.2.1 ∙ ap snapshot_of (placed_is snap.0 rows lawful.dictionary.names_differ snap.1)
+
+-- ---- where entries are found
+
+found_from : (es : List Entry) (n : Values) (i k : ℕ) → position_from (is_named n) i es ≡ Some k → place_in es n + i ≡ k
+found_from [] n i k found = absurd (nothing k found) where
+  nothing : (m : ℕ) → ◌≡◌ {A = Option ℕ} None (Some m) → ⊥
+  nothing m e = cc
+found_from (e ∷ es) n i k found = go (is_named n e) refl found (found_from es n (i + 1) k) where
+  go : (b : Bool) → is_named n e ≡ b → cond b (Some i) (position_from (is_named n) (i + 1) es) ≡ Some k → (position_from (is_named n) (i + 1) es ≡ Some k → place_in es n + (i + 1) ≡ k)
+      → cond b 0 (suc (place_in es n)) + i ≡ k
+  go true is at later = omega (arith, some_is i k at)
+  go false is at later = omega (arith, later at)
+
+pub places_are_positions : PlacesArePositions
+places_are_positions es n k found = omega (arith, found_from es n 0 k (sym (position_from-zero (is_named n) es) ∙ found))

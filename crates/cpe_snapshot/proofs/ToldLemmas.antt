@@ -5,6 +5,7 @@ use Rattle.std.specs.Option.{option_map, option_map_or}
 use Rattle.std.proofs.lemmas.List.{length-map}
 use Rattle.std.proofs.lemmas.List.Elements.{recursion_from_All}
 use Rattle.std.proofs.lemmas.List.Folds.{flat_map-map}
+use Rattle.std.proofs.lemmas.Bool.{le-leb}
 use Rattle.std.proofs.lemmas.Bool.Decides.{nat_tests}
 use Rattle.cpe_name.specs.declared.name.Values.{Values}
 use Rattle.cpe_name.specs.Names.{IsName}
@@ -263,23 +264,23 @@ lawful_are_told rows lawful texts =
     let short : length rows.entries ≤ 2000000 = few_entries rows lawful.within in
     record {
       entries = (
-        omega (arith, short, length-map rows.entries (placed_entry rows.entries)),
+        le-leb _ _ (omega (arith, short, length-map rows.entries (placed_entry rows.entries))),
         entries_told rows.entries short rows.entries (each_below entry_weight MOST rows.entries (omega (arith, light)))
             (recursion_from_All IsFormedEntry rows.entries lawful.formed.entries) texts.entries (tested (λ e. is_entry_name e.name) rows.entries lawful.dictionary.names),
       );
       items = (
-        omega (arith, few_items rows lawful.within),
+        le-leb _ _ (few_items rows lawful.within),
         zipped (λ n. name_weight n ≤ MOST) (λ n. IsName n × (is_item_name n ≡ true)) IsSpelled item_told rows.items (each_below name_weight MOST rows.items (omega (arith, light)))
             (zipped IsName (λ n. is_item_name n ≡ true) (λ n. IsName n × (is_item_name n ≡ true)) (λ n a b. (a, b)) rows.items
             (recursion_from_All IsName rows.items lawful.formed.items) (tested is_item_name rows.items lawful.item_names)),
       );
       statements = (
-        omega (arith, few_statements rows lawful.within),
+        le-leb _ _ (few_statements rows lawful.within),
         statements_told rows.statements (each_below statement_weight MOST rows.statements (omega (arith, light)))
             (recursion_from_All IsFormedStatement rows.statements lawful.formed.statements) (tested is_lawful_statement rows.statements lawful.lawful_statements) texts.statements,
       );
       results = (
-        omega (arith, few_checks rows lawful.within, length-map rows.checks result_of),
+        le-leb _ _ (omega (arith, few_checks rows lawful.within, length-map rows.checks result_of)),
         results_told rows.checks (each_below check_weight MOST rows.checks (omega (arith, light))) texts.checks,
       );
     }

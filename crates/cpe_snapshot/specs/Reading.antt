@@ -1,5 +1,5 @@
 -- Reading from left to right: a part, and the bytes that are left after it.
-use Rattle.std.specs.Prelude.{◌≡◌, ℕ, zero, suc, ◌==◌, List, [], ◌∷◌, length, take, drop, Bool, true, false, Option, Some, None, Result, Ok, Err, nat_lt, if◌then◌else◌}
+use Rattle.std.specs.Prelude.{nat_le, ◌&&◌, ◌≡◌, ℕ, zero, suc, ◌==◌, List, [], ◌∷◌, length, take, drop, Bool, true, false, Option, Some, None, Result, Ok, Err, nat_lt, if◌then◌else◌}
 use Rattle.std.specs.Str.{is_utf8, bytes_eq}
 use Rattle.std.specs.Int.{w32, from_be_bytes}
 use Rattle.cpe_name.specs.declared.name.Values.{Values}
@@ -21,7 +21,7 @@ use Rattle.cpe_rows.specs.declared.test.Operator.TheVariants.{And, Or}
 use Rattle.cpe_rows.specs.declared.test.Test.{Test, Logic, Fact, Check}
 use Rattle.cpe_rows.specs.declared.truth.Truth.{Truth}
 use Rattle.cpe_rows.specs.declared.truth.Truth.TheVariants.{True, False, Error, Unknown}
-use Rattle.cpe_rows.specs.declared.limits.TheConstants.{MOST_LEVELS}
+use Rattle.cpe_rows.specs.declared.limits.TheConstants.{MOST_LEVELS, MOST_ENTRIES, MOST_ITEMS, MOST_STATEMENTS, MOST_CHECKS}
 use Rattle.cpe_snapshot.specs.declared.fault.LoadFault.{LoadFault}
 use Rattle.cpe_snapshot.specs.declared.fault.LoadFault.TheVariants as fault
 use Rattle.cpe_snapshot.specs.declared.rows.PlacedDeprecation.{PlacedDeprecation}
@@ -266,9 +266,16 @@ mark_at bytes = told (λ s. nothing_if (bytes_eq s mark)) (bytes_at 8) bytes
 abbrev pub head_from : (Unit {0} × (ℕ × (ℕ × (ℕ × ℕ)))) → Head
 head_from p = record { entries = p.1.0; items = p.1.1.0; statements = p.1.1.1.0; results = p.1.1.1.1 }
 
+-- no more rows than there may be
+abbrev pub is_few : Head → Bool
+is_few h = nat_le h.entries MOST_ENTRIES && (nat_le h.items MOST_ITEMS && (nat_le h.statements MOST_STATEMENTS && nat_le h.results MOST_CHECKS))
+
+unfoldable pub numbers_at : List ℕ → Option (Head × List ℕ)
+numbers_at bytes = made head_from (both mark_at (both number_at (both number_at (both number_at number_at)))) bytes
+
 -- the mark, and how many rows there are
 unfoldable pub head_at : List ℕ → Option (Head × List ℕ)
-head_at bytes = made head_from (both mark_at (both number_at (both number_at (both number_at number_at)))) bytes
+head_at bytes = told (when is_few) numbers_at bytes
 
 abbrev pub rows_from : (List PlacedEntry × (List Values × (List Statement × List KeptResult))) → PlacedRows
 rows_from p = record { entries = p.0; items = p.1.0; statements = p.1.1.0; results = p.1.1.1 }

@@ -1,5 +1,5 @@
 -- The snapshot of a plain state: that of its rows, where an entry's successors stand by their places.
-use Rattle.std.specs.Prelude.{◌≡◌, ◌+◌, ◌≤◌, ℕ, suc, length, List, [], ◌∷◌, map, if◌then◌else◌, Option, Some, None, slice_get, true}
+use Rattle.std.specs.Prelude.{position, ◌≡◌, ◌+◌, ◌≤◌, ℕ, suc, length, List, [], ◌∷◌, map, if◌then◌else◌, Option, Some, None, slice_get, true}
 use Rattle.std.specs.Option.{option_map}
 use Rattle.std.specs.List.{AllByRecursion, flat_map}
 use Rattle.std.specs.Str.{is_utf8}
@@ -130,6 +130,10 @@ pub record AreTexts (rows : Rows) : Type 0 where
   pub checks : AllByRecursion (λ (c : CheckKey × Truth). IsTextKey c.0) rows.checks
 
 -- ---- laws
+
+-- the place is where the entry of the name is found
+abbrev pub PlacesArePositions : Type 0
+PlacesArePositions = (entries : List Entry) (n : Values) (k : ℕ) → position (is_named n) entries ≡ Some k → place_in entries n ≡ k
 
 -- no two states have the same snapshot
 abbrev pub StatesAreClear : Type 0

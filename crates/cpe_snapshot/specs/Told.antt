@@ -1,6 +1,6 @@
 -- Rows that have a snapshot. Definitions on rows see a name as eleven values, a text and a date as numbers: what is asked here is what a
--- name, a text and a date are, that no number passes four bytes, and that no test is deeper than one may be.
-use Rattle.std.specs.Prelude.{◌≡◌, ◌⊎◌, ℕ, suc, zero, ◌<◌, ◌^◌, List, length, true, Option, Some, None, Result, Ok, Err}
+-- name, a text and a date are, that no number passes four bytes, and that there are no more rows, and no test is deeper, than may be.
+use Rattle.std.specs.Prelude.{nat_le, ◌≡◌, ◌⊎◌, ℕ, suc, zero, ◌<◌, ◌^◌, List, length, true, Option, Some, None, Result, Ok, Err}
 use Rattle.std.specs.Str.{is_utf8}
 use Rattle.std.specs.List.{AllByRecursion}
 use Rattle.cpe_name.specs.declared.name.Values.{Values}
@@ -13,7 +13,7 @@ use Rattle.cpe_rows.specs.declared.statement.Statement.{Statement}
 use Rattle.cpe_rows.specs.declared.test.CheckKey.{CheckKey}
 use Rattle.cpe_rows.specs.declared.test.Test.{Test, out-Test}
 use Rattle.cpe_rows.specs.declared.test.Test.TheOpen.{Test-F}
-use Rattle.cpe_rows.specs.declared.limits.TheConstants.{MOST_LEVELS}
+use Rattle.cpe_rows.specs.declared.limits.TheConstants.{MOST_LEVELS, MOST_ENTRIES, MOST_ITEMS, MOST_STATEMENTS, MOST_CHECKS}
 use Rattle.cpe_snapshot.specs.declared.fault.LoadFault.{LoadFault}
 use Rattle.cpe_snapshot.specs.declared.fault.LoadFault.TheVariants as load
 use Rattle.cpe_snapshot.specs.declared.rows.PlacedDeprecation.{PlacedDeprecation}
@@ -75,11 +75,15 @@ pub record IsToldStatement (s : Statement) : Type 0 where
 abbrev pub IsToldResult : KeptResult → Type 0
 IsToldResult r = IsToldKey r.key
 
+-- no more than there may be, and each of them
+abbrev pub AreAtMost : {A : Type 0} → ℕ → (A → Type 0) → List A → Type 0
+AreAtMost most Fits xs = (nat_le (length xs) most ≡ true) × AllByRecursion Fits xs
+
 pub record AreTold (rows : PlacedRows) : Type 0 where
-  pub entries : AreCounted IsToldEntry rows.entries
-  pub items : AreCounted IsSpelled rows.items
-  pub statements : AreCounted IsToldStatement rows.statements
-  pub results : AreCounted IsToldResult rows.results
+  pub entries : AreAtMost MOST_ENTRIES IsToldEntry rows.entries
+  pub items : AreAtMost MOST_ITEMS IsSpelled rows.items
+  pub statements : AreAtMost MOST_STATEMENTS IsToldStatement rows.statements
+  pub results : AreAtMost MOST_CHECKS IsToldResult rows.results
 
 -- the bytes are the snapshot of these rows
 abbrev pub Spells : PlacedRows → List ℕ → Type 0

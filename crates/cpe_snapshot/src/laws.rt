@@ -2,7 +2,7 @@
 ghost use Rattle.std.specs.Prelude.{◌≡◌, ◌++◌, codes, length};
 ghost use Rattle.cpe_rows.specs.Rows.{no_rows};
 ghost use Rattle.cpe_snapshot.specs.Cases.{one_item, three_rows, three_rows_bytes};
-ghost use Rattle.cpe_snapshot.specs.States.{snapshot, SnapshotsAreShort, SnapshotsAreWithin, StatesAreClear, StatesHaveOne, StatesHaveSnapshots};
+ghost use Rattle.cpe_snapshot.specs.States.{snapshot, PlacesArePositions, SnapshotsAreShort, SnapshotsAreWithin, StatesAreClear, StatesHaveOne, StatesHaveSnapshots};
 ghost use Rattle.cpe_snapshot.specs.Told.{SnapshotsAreClear, SnapshotsAreRead};
 
 /// Bytes are the snapshot of no two rows, and rows that were written are read again, unless memory runs out.
@@ -16,6 +16,11 @@ pub fn states_have_snapshots()
     ensures clear { StatesAreClear }
     ensures some { StatesHaveSnapshots }
     ensures one { StatesHaveOne }
+{}
+
+/// The place of a successor is where the entry of its name is found.
+pub fn places_are_positions()
+    ensures { PlacesArePositions }
 {}
 
 /// The snapshot of a lawful state has at most 24 bytes more than the rows weigh, so it has at most 536,870,936.

@@ -12,7 +12,10 @@ mod test;
 mod write;
 
 pub use fault::LoadFault;
-pub use laws::{small_snapshots, snapshots_are_clear, snapshots_are_short, states_have_snapshots};
+pub use laws::{
+    places_are_positions, small_snapshots, snapshots_are_clear, snapshots_are_short,
+    states_have_snapshots,
+};
 pub use load::read_rows;
 pub use rows::{KeptResult, PlacedDeprecation, PlacedEntry, PlacedRows};
 pub use write::{push_entry, push_head, push_name, push_result, push_statement};

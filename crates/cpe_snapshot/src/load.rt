@@ -1,6 +1,6 @@
 // All rows that are read from bytes.
 ghost use Rattle.std.specs.Prelude.{◌≡◌};
-ghost use Rattle.cpe_snapshot.specs.Reading.{Took, Found, Tells, mark_at, head_at, rows_at, rows_of};
+ghost use Rattle.cpe_snapshot.specs.Reading.{Took, Found, Tells, is_few, mark_at, numbers_at, head_at, rows_at, rows_of};
 ghost use Rattle.cpe_snapshot.specs.Told.{Reads};
 
 use crate::cursor::Cursor;
@@ -8,7 +8,7 @@ use crate::fault::LoadFault;
 use crate::parts::many;
 use crate::rows::{KeptResult, PlacedEntry, PlacedRows};
 use cpe_name::Wfn;
-use cpe_rows::Statement;
+use cpe_rows::{MOST_CHECKS, MOST_ENTRIES, MOST_ITEMS, MOST_STATEMENTS, Statement};
 use std::alloc::Global;
 
 /// How many rows of each kind there are.
@@ -32,9 +32,9 @@ fn mark(cursor: &mut Cursor<'_>) -> Result<(), LoadFault>
     }
 }
 
-#[tactic(auto, unfolding(crate::specs::Reading::head_at))]
-fn read_head(cursor: &mut Cursor<'_>) -> Result<Head, LoadFault>
-    ensures { Found result cursor.new (head_at cursor.old) }
+#[tactic(auto, unfolding(crate::specs::Reading::numbers_at))]
+fn numbers(cursor: &mut Cursor<'_>) -> Result<Head, LoadFault>
+    ensures { Found result cursor.new (numbers_at cursor.old) }
 {
     mark(cursor)?;
     let entries = cursor.number()?;
@@ -47,6 +47,28 @@ fn read_head(cursor: &mut Cursor<'_>) -> Result<Head, LoadFault>
         statements,
         results,
     })
+}
+
+// Whether there are no more rows than there may be.
+fn is_few(head: Head) -> bool
+    ensures { result ≡ is_few head }
+{
+    head.entries as usize <= MOST_ENTRIES
+        && head.items as usize <= MOST_ITEMS
+        && head.statements as usize <= MOST_STATEMENTS
+        && head.results as usize <= MOST_CHECKS
+}
+
+#[tactic(auto, unfolding(crate::specs::Reading::head_at))]
+fn read_head(cursor: &mut Cursor<'_>) -> Result<Head, LoadFault>
+    ensures { Found result cursor.new (head_at cursor.old) }
+{
+    let head = numbers(cursor)?;
+    if is_few(head) {
+        Ok(head)
+    } else {
+        Err(LoadFault::NotSnapshot)
+    }
 }
 
 #[tactic(auto, unfolding(crate::specs::Reading::rows_at))]
