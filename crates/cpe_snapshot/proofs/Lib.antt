@@ -11,3 +11,4 @@ mod StateLemmas
 mod SmallCases
 mod ToldLemmas
 mod ShortLemmas
+mod NameLemmas

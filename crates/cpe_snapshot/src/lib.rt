@@ -5,6 +5,7 @@ mod cursor;
 mod fault;
 mod laws;
 mod load;
+mod names;
 mod parts;
 mod read;
 mod rows;
@@ -17,5 +18,6 @@ pub use laws::{
     states_have_snapshots,
 };
 pub use load::read_rows;
+pub use names::names_at;
 pub use rows::{KeptResult, PlacedDeprecation, PlacedEntry, PlacedRows};
 pub use write::{push_entry, push_head, push_name, push_result, push_statement};
