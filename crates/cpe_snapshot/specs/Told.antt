@@ -3,7 +3,7 @@
 use Rattle.std.specs.Prelude.{nat_le, ◌≡◌, ◌⊎◌, ℕ, suc, zero, ◌<◌, ◌^◌, List, length, true, Option, Some, None, Result, Ok, Err}
 use Rattle.std.specs.Str.{is_utf8}
 use Rattle.std.specs.List.{AllByRecursion}
-use Rattle.cpe_name.specs.declared.name.Values.{Values}
+use Rattle.cpe_name.specs.Eleven.{Values}
 use Rattle.cpe_name.specs.Names.{IsName}
 use Rattle.cpe_fs.specs.Grammar.{fs_text}
 use Rattle.cpe_rows.specs.Date.{is_date}

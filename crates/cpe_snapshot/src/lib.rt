@@ -3,7 +3,7 @@
 
 mod cursor;
 mod fault;
-mod laws;
+pub mod law;
 mod load;
 mod names;
 mod parts;
@@ -13,10 +13,6 @@ mod test;
 mod write;
 
 pub use fault::LoadFault;
-pub use laws::{
-    places_are_positions, small_snapshots, snapshots_are_clear, snapshots_are_short,
-    states_have_snapshots,
-};
 pub use load::read_rows;
 pub use names::names_at;
 pub use rows::{KeptResult, PlacedDeprecation, PlacedEntry, PlacedRows};

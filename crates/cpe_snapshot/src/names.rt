@@ -1,6 +1,6 @@
 // The names that places mean.
 ghost use Rattle.std.specs.Prelude.{◌≡◌, List, IfOk, IfErr};
-ghost use Rattle.cpe_name.specs.declared.name.Values.{Values};
+ghost use Rattle.cpe_name.specs.Eleven.{Values};
 ghost use Rattle.cpe_snapshot.specs.States.{AreNamed};
 
 use crate::fault::LoadFault;

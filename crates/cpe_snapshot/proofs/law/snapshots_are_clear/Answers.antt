@@ -1,5 +1,5 @@
 use Rattle.cpe_snapshot.proofs.RowsReader.{clear, read_again}
-use Rattle.cpe_snapshot.proofs.laws.snapshots_are_clear.Goals as goal
+use Rattle.cpe_snapshot.proofs.law.snapshots_are_clear.Goals as goal
 
 pub returns-clause-clear : goal.returns-clause-clear
 returns-clause-clear c = clear

@@ -1,6 +1,6 @@
 use Rattle.cpe_snapshot.proofs.StateLemmas.{states_are_clear, states_have_one}
 use Rattle.cpe_snapshot.proofs.ToldLemmas.{states_have_snapshots}
-use Rattle.cpe_snapshot.proofs.laws.states_have_snapshots.Goals as goal
+use Rattle.cpe_snapshot.proofs.law.states_have_snapshots.Goals as goal
 
 pub returns-clause-clear : goal.returns-clause-clear
 returns-clause-clear c = states_are_clear
