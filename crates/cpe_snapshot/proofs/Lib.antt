@@ -1,0 +1,14 @@
+mod PartLemmas
+mod Loop
+mod TestLemmas
+mod Readers
+mod PartReaders
+mod RowReaders
+mod TestReaders
+mod RowsReader
+mod WriteLemmas
+mod StateLemmas
+mod SmallCases
+mod ToldLemmas
+mod ShortLemmas
+mod NameLemmas

@@ -1,0 +1,159 @@
+-- The snapshot of a plain state: that of its rows, where an entry's successors stand by their places.
+use Rattle.std.specs.Prelude.{position, ◌≡◌, ◌+◌, ◌≤◌, ℕ, suc, length, List, [], ◌∷◌, map, if◌then◌else◌, Option, Some, None, slice_get, true}
+use Rattle.std.specs.Option.{option_map}
+use Rattle.std.specs.List.{AllByRecursion, flat_map}
+use Rattle.std.specs.Str.{is_utf8}
+use Rattle.cpe_name.specs.Eleven.{Values}
+use Rattle.cpe_rows.specs.Rows.{Rows, is_named}
+use Rattle.cpe_rows.specs.Lawful.{IsLawful}
+use Rattle.cpe_rows.specs.Weight.{weight}
+use Rattle.cpe_rows.specs.declared.entry.Deprecation.{Deprecation}
+use Rattle.cpe_rows.specs.declared.entry.Entry.{Entry}
+use Rattle.cpe_rows.specs.declared.entry.Note.{Note}
+use Rattle.cpe_rows.specs.declared.statement.Statement.{Statement}
+use Rattle.cpe_rows.specs.declared.test.CheckKey.{CheckKey}
+use Rattle.cpe_rows.specs.declared.test.Test.{Test}
+use Rattle.cpe_rows.specs.declared.test.Test.TheOpen.{Test-F}
+use Rattle.cpe_rows.specs.declared.test.Test.TheFolds.{fold-Test}
+use Rattle.cpe_rows.specs.declared.truth.Truth.{Truth}
+use Rattle.cpe_snapshot.specs.declared.rows.KeptResult.{KeptResult}
+use Rattle.cpe_snapshot.specs.declared.rows.PlacedDeprecation.{PlacedDeprecation}
+use Rattle.cpe_snapshot.specs.declared.rows.PlacedEntry.{PlacedEntry}
+use Rattle.cpe_snapshot.specs.declared.rows.PlacedRows.{PlacedRows}
+use Rattle.cpe_snapshot.specs.Snapshot.{snapshot_of}
+use Rattle.cpe_snapshot.specs.Told.{Spells}
+
+-- ---- which rows are meant
+
+-- these are the names of the entries at these places, one by one
+abbrev pub AreNamed : List PlacedEntry → List ℕ → List Values → Type 0
+AreNamed entries [] [] = Unit {0}
+AreNamed entries [] (n ∷ ns) = ⊥
+AreNamed entries (k ∷ ks) [] = ⊥
+AreNamed entries (k ∷ ks) (n ∷ ns) = (option_map (λ e. e.name) (slice_get entries k) ≡ Some n) × AreNamed entries ks ns
+
+abbrev pub IsMeantDeprecation : List PlacedEntry → Option PlacedDeprecation → Option Deprecation → Type 0
+IsMeantDeprecation entries None None = Unit {0}
+IsMeantDeprecation entries None (Some d) = ⊥
+IsMeantDeprecation entries (Some p) None = ⊥
+IsMeantDeprecation entries (Some p) (Some d) = (p.kind ≡ d.kind) × AreNamed entries p.successors d.successors
+
+-- the entry, with the names of its successors in the place of their places
+pub record IsMeant (entries : List PlacedEntry) (p : PlacedEntry) (e : Entry) : Type 0 where
+  pub name : p.name ≡ e.name
+  pub title : p.title ≡ e.title
+  pub provenance : p.provenance ≡ e.provenance
+  pub deprecation : IsMeantDeprecation entries p.deprecation e.deprecation
+
+abbrev pub AreMeantEntries : List PlacedEntry → List PlacedEntry → List Entry → Type 0
+AreMeantEntries entries [] [] = Unit {0}
+AreMeantEntries entries [] (e ∷ es) = ⊥
+AreMeantEntries entries (p ∷ ps) [] = ⊥
+AreMeantEntries entries (p ∷ ps) (e ∷ es) = IsMeant entries p e × AreMeantEntries entries ps es
+
+abbrev pub pair_of : KeptResult → CheckKey × Truth
+pair_of r = (r.key, r.result)
+
+-- the state that these rows mean
+pub record AreMeant (placed : PlacedRows) (rows : Rows) : Type 0 where
+  pub entries : AreMeantEntries placed.entries placed.entries rows.entries
+  pub items : placed.items ≡ rows.items
+  pub statements : placed.statements ≡ rows.statements
+  pub checks : map pair_of placed.results ≡ rows.checks
+
+-- the bytes are a snapshot of this state
+abbrev pub Snap : Rows → List ℕ → Type 0
+Snap rows bytes = (placed : PlacedRows) × AreMeant placed rows × Spells placed bytes
+
+-- ---- the places in a state
+
+-- how many entries stand before that of this name
+abbrev pub place_in : List Entry → Values → ℕ
+place_in [] n = 0
+place_in (e ∷ es) n = if is_named n e then 0 else suc (place_in es n)
+
+abbrev pub placed_deprecation : List Entry → Deprecation → PlacedDeprecation
+placed_deprecation entries d = record { kind = d.kind; successors = map (place_in entries) d.successors }
+
+abbrev pub placed_entry : List Entry → Entry → PlacedEntry
+placed_entry entries e = record { name = e.name; title = e.title; provenance = e.provenance; deprecation = option_map (placed_deprecation entries) e.deprecation }
+
+abbrev pub result_of : (CheckKey × Truth) → KeptResult
+result_of c = record { key = c.0; result = c.1 }
+
+abbrev pub placed_rows : Rows → PlacedRows
+placed_rows rows = record {
+  entries = map (placed_entry rows.entries) rows.entries;
+  items = rows.items;
+  statements = rows.statements;
+  results = map result_of rows.checks;
+}
+
+abbrev pub snapshot : Rows → List ℕ
+snapshot rows = snapshot_of (placed_rows rows)
+
+-- ---- the texts of a state
+
+-- what a program's texts are by their type; definitions on rows see them as numbers
+abbrev pub IsString : List ℕ → Type 0
+IsString bytes = is_utf8 bytes ≡ true
+
+pub record IsTextEntry (e : Entry) : Type 0 where
+  pub title : IsString e.title
+  pub submitter : IsString e.provenance.submitter
+  pub authority : IsString e.provenance.authority
+  pub comments : AllByRecursion (λ (n : Note). IsString n.comment) e.provenance.notes
+
+pub record IsTextKey (k : CheckKey) : Type 0 where
+  pub system : IsString k.system
+  pub href : IsString k.href
+  pub id : IsString k.id
+
+-- the keys of a test's check references, in the order of its arrays
+abbrev pub keys_step : Test-F (List CheckKey) → List CheckKey
+keys_step (Test-F.Logic operator negate of) = flat_map (λ keys. keys) of
+keys_step (Test-F.Fact n) = []
+keys_step (Test-F.Check k) = k ∷ []
+
+abbrev pub keys_of : Test → List CheckKey
+keys_of = fold-Test (List CheckKey) keys_step
+
+pub record IsTextStatement (s : Statement) : Type 0 where
+  pub id : IsString s.id
+  pub title : IsString s.title
+  pub keys : AllByRecursion IsTextKey (keys_of s.test)
+
+-- all of them are UTF-8
+pub record AreTexts (rows : Rows) : Type 0 where
+  pub entries : AllByRecursion IsTextEntry rows.entries
+  pub statements : AllByRecursion IsTextStatement rows.statements
+  pub checks : AllByRecursion (λ (c : CheckKey × Truth). IsTextKey c.0) rows.checks
+
+-- ---- laws
+
+-- the place is where the entry of the name is found
+abbrev pub PlacesArePositions : Type 0
+PlacesArePositions = (entries : List Entry) (n : Values) (k : ℕ) → position (is_named n) entries ≡ Some k → place_in entries n ≡ k
+
+-- no two states have the same snapshot
+abbrev pub StatesAreClear : Type 0
+StatesAreClear = (rows others : Rows) (bytes : List ℕ) → Snap rows bytes → Snap others bytes → rows ≡ others
+
+-- a lawful state has this snapshot
+abbrev pub StatesHaveSnapshots : Type 0
+StatesHaveSnapshots = (rows : Rows) → IsLawful rows → AreTexts rows → Snap rows (snapshot rows)
+
+-- and no other
+abbrev pub StatesHaveOne : Type 0
+StatesHaveOne = (rows : Rows) (bytes : List ℕ) → IsLawful rows → Snap rows bytes → bytes ≡ snapshot rows
+
+-- it has at most 24 bytes more than the rows weigh
+abbrev pub SnapshotsAreShort : Type 0
+SnapshotsAreShort = (rows : Rows) → IsLawful rows → AreTexts rows → length (snapshot rows) ≤ weight rows + 24
+
+-- so no more than these, since no more may be weighed
+abbrev pub most_bytes : ℕ
+most_bytes = 536870936
+
+abbrev pub SnapshotsAreWithin : Type 0
+SnapshotsAreWithin = (rows : Rows) → IsLawful rows → AreTexts rows → length (snapshot rows) ≤ most_bytes

@@ -1,0 +1,33 @@
+// The names that places mean.
+ghost use Rattle.std.specs.Prelude.{◌≡◌, List, IfOk, IfErr};
+ghost use Rattle.cpe_name.specs.Eleven.{Values};
+ghost use Rattle.cpe_snapshot.specs.States.{AreNamed};
+
+use crate::fault::LoadFault;
+use crate::rows::PlacedEntry;
+use cpe_name::Wfn;
+use cpe_rows::List;
+use std::alloc::Global;
+
+/// The names of the entries at these places, one by one, as copies.
+///
+/// # Errors
+/// `NotSnapshot` where some place has no entry, or memory runs out.
+pub fn names_at(
+    alloc: Global,
+    entries: &[PlacedEntry],
+    places: &[u32],
+) -> Result<List<Wfn>, LoadFault>
+    ensures named { IfOk result (λ ns. AreNamed entries.now places.now ns) }
+    ensures refused { IfErr result (λ f. f ≡ LoadFault.NotSnapshot → (ns : List Values) → AreNamed entries.now places.now ns → ⊥) }
+{
+    let mut names = List::with_room(alloc, places.len())?;
+    for place in places {
+        let Some(entry) = entries.get(*place as usize) else {
+            drop(names);
+            return Err(LoadFault::NotSnapshot);
+        };
+        names.push(entry.name.copy(alloc)?)?;
+    }
+    Ok(names)
+}

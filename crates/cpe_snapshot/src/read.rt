@@ -1,0 +1,200 @@
+// Rows that are read from bytes.
+ghost use Rattle.std.specs.Prelude.{◌≡◌};
+ghost use Rattle.cpe_snapshot.specs.Reading.{Took, Found, told, kind_of, note_kind_of, mode_of, truth_of, byte_at, number_at, name_at, date_at, note_at, deprecation_at, provenance_at, details_at, entry_at, key_at, statement_at, result_at, successors_at};
+
+use crate::cursor::Cursor;
+use crate::fault::LoadFault;
+use crate::parts::{Part, list, name, text};
+use crate::rows::{KeptResult, PlacedDeprecation, PlacedEntry};
+use cpe_name::Wfn;
+use cpe_rows::{CheckKey, Date, Kind, Note, NoteKind, Provenance, Text, Truth};
+use std::alloc::Global;
+
+// ---- bytes of kinds
+
+fn kind(cursor: &mut Cursor<'_>) -> Result<Option<Kind>, LoadFault>
+    ensures { Found result cursor.new (told kind_of byte_at cursor.old) }
+{
+    match cursor.byte()? {
+        0 => Ok(None),
+        1 => Ok(Some(Kind::NameCorrection)),
+        2 => Ok(Some(Kind::NameRemoval)),
+        3 => Ok(Some(Kind::AdditionalInformation)),
+        _ => Err(LoadFault::NotSnapshot),
+    }
+}
+
+fn note_kind(cursor: &mut Cursor<'_>) -> Result<NoteKind, LoadFault>
+    ensures { Found result cursor.new (told note_kind_of byte_at cursor.old) }
+{
+    match cursor.byte()? {
+        0 => Ok(NoteKind::OriginalRecord),
+        1 => Ok(NoteKind::AuthorityChange),
+        2 => Ok(NoteKind::Deprecation),
+        3 => Ok(NoteKind::DeprecationModification),
+        _ => Err(LoadFault::NotSnapshot),
+    }
+}
+
+fn truth(cursor: &mut Cursor<'_>) -> Result<Truth, LoadFault>
+    ensures { Found result cursor.new (told truth_of byte_at cursor.old) }
+{
+    match cursor.byte()? {
+        0 => Ok(Truth::True),
+        1 => Ok(Truth::False),
+        2 => Ok(Truth::Error),
+        3 => Ok(Truth::Unknown),
+        _ => Err(LoadFault::NotSnapshot),
+    }
+}
+
+// ---- entries
+
+#[tactic(auto, unfolding(crate::specs::Reading::date_at))]
+fn date(cursor: &mut Cursor<'_>) -> Result<Date, LoadFault>
+    ensures { Found result cursor.new (date_at cursor.old) }
+{
+    let bytes = cursor.bytes(10)?;
+    match Date::new(bytes) {
+        Some(date) => Ok(date),
+        None => Err(LoadFault::NotSnapshot),
+    }
+}
+
+impl Part for Note {
+    ghost use Rattle.cpe_snapshot.specs.Reading.{note_at};
+
+    ghost read = { note_at };
+
+    #[tactic(auto, unfolding(crate::specs::Reading::note_at))]
+    fn take(alloc: Global, cursor: &mut Cursor<'_>) -> Result<Note, LoadFault> {
+        let kind = note_kind(cursor)?;
+        let date = date(cursor)?;
+        let comment = text(alloc, cursor)?;
+        Ok(Note {
+            kind,
+            date,
+            comment,
+        })
+    }
+}
+
+impl Part for u32 {
+    ghost use Rattle.cpe_snapshot.specs.Reading.{number_at};
+
+    ghost read = { number_at };
+
+    fn take(_alloc: Global, cursor: &mut Cursor<'_>) -> Result<u32, LoadFault> {
+        cursor.number()
+    }
+}
+
+impl Part for Wfn {
+    ghost use Rattle.cpe_snapshot.specs.Reading.{name_at};
+
+    ghost read = { name_at };
+
+    fn take(alloc: Global, cursor: &mut Cursor<'_>) -> Result<Wfn, LoadFault> {
+        name(alloc, cursor)
+    }
+}
+
+#[tactic(auto, unfolding(crate::specs::Reading::deprecation_at))]
+fn deprecation(
+    alloc: Global,
+    cursor: &mut Cursor<'_>,
+) -> Result<Option<PlacedDeprecation>, LoadFault>
+    ensures { Took result cursor.new (deprecation_at cursor.old) }
+{
+    match kind(cursor)? {
+        Some(kind) => Ok(Some(PlacedDeprecation {
+            kind,
+            successors: list::<u32>(alloc, cursor)?,
+        })),
+        None => Ok(None),
+    }
+}
+
+#[tactic(auto, unfolding(crate::specs::Reading::provenance_at))]
+fn provenance(alloc: Global, cursor: &mut Cursor<'_>) -> Result<Provenance, LoadFault>
+    ensures { Took result cursor.new (provenance_at cursor.old) }
+{
+    let submitter = text(alloc, cursor)?;
+    let authority = text(alloc, cursor)?;
+    let notes = list::<Note>(alloc, cursor)?;
+    Ok(Provenance {
+        submitter,
+        authority,
+        notes,
+    })
+}
+
+// What an entry has beside its name.
+#[derive(Drop)]
+pub(crate) struct Details {
+    title: Text,
+    provenance: Provenance,
+    deprecation: Option<PlacedDeprecation>,
+}
+
+#[tactic(auto, unfolding(crate::specs::Reading::details_at))]
+fn after_name(alloc: Global, cursor: &mut Cursor<'_>) -> Result<Details, LoadFault>
+    ensures { Took result cursor.new (details_at cursor.old) }
+{
+    let title = text(alloc, cursor)?;
+    let provenance = provenance(alloc, cursor)?;
+    let deprecation = deprecation(alloc, cursor)?;
+    Ok(Details {
+        title,
+        provenance,
+        deprecation,
+    })
+}
+
+impl Part for PlacedEntry {
+    ghost use Rattle.cpe_snapshot.specs.Reading.{entry_at};
+
+    ghost read = { entry_at };
+
+    #[tactic(auto, unfolding(crate::specs::Reading::entry_at))]
+    fn take(alloc: Global, cursor: &mut Cursor<'_>) -> Result<PlacedEntry, LoadFault> {
+        let name = name(alloc, cursor)?;
+        match after_name(alloc, cursor) {
+            Ok(details) => Ok(PlacedEntry {
+                name,
+                title: details.title,
+                provenance: details.provenance,
+                deprecation: details.deprecation,
+            }),
+            Err(fault) => {
+                drop(name);
+                Err(fault)
+            }
+        }
+    }
+}
+
+// ---- results
+
+#[tactic(auto, unfolding(crate::specs::Reading::key_at))]
+pub(crate) fn key(alloc: Global, cursor: &mut Cursor<'_>) -> Result<CheckKey, LoadFault>
+    ensures { Took result cursor.new (key_at cursor.old) }
+{
+    let system = text(alloc, cursor)?;
+    let href = text(alloc, cursor)?;
+    let id = text(alloc, cursor)?;
+    Ok(CheckKey { system, href, id })
+}
+
+impl Part for KeptResult {
+    ghost use Rattle.cpe_snapshot.specs.Reading.{result_at};
+
+    ghost read = { result_at };
+
+    #[tactic(auto, unfolding(crate::specs::Reading::result_at))]
+    fn take(alloc: Global, cursor: &mut Cursor<'_>) -> Result<KeptResult, LoadFault> {
+        let key = key(alloc, cursor)?;
+        let result = truth(cursor)?;
+        Ok(KeptResult { key, result })
+    }
+}

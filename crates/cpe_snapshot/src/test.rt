@@ -1,0 +1,129 @@
+// Statements and their tests that are read from bytes.
+ghost use Rattle.std.specs.Prelude.{◌≡◌};
+ghost use Rattle.cpe_snapshot.specs.Reading.{Took, Found, told, operator_of, flag_of, mode_of, byte_at, made, many, name_at, logic_at, logic_within, test_at};
+ghost use Rattle.cpe_rows.specs.declared.test.Test.{Fact};
+
+use crate::cursor::Cursor;
+use crate::fault::LoadFault;
+use crate::parts::{Part, name, text};
+use crate::read::key;
+use cpe_rows::{BoxedName, List, MOST_LEVELS, Mode, Operator, Statement, Test};
+use std::alloc::Global;
+
+fn operator(cursor: &mut Cursor<'_>) -> Result<Operator, LoadFault>
+    ensures { Found result cursor.new (told operator_of byte_at cursor.old) }
+{
+    match cursor.byte()? {
+        0 => Ok(Operator::And),
+        1 => Ok(Operator::Or),
+        _ => Err(LoadFault::NotSnapshot),
+    }
+}
+
+fn flag(cursor: &mut Cursor<'_>) -> Result<bool, LoadFault>
+    ensures { Found result cursor.new (told flag_of byte_at cursor.old) }
+{
+    match cursor.byte()? {
+        0 => Ok(false),
+        1 => Ok(true),
+        _ => Err(LoadFault::NotSnapshot),
+    }
+}
+
+fn mode(cursor: &mut Cursor<'_>) -> Result<Mode, LoadFault>
+    ensures { Found result cursor.new (told mode_of byte_at cursor.old) }
+{
+    match cursor.byte()? {
+        0 => Ok(Mode::Plain),
+        1 => Ok(Mode::Follow),
+        _ => Err(LoadFault::NotSnapshot),
+    }
+}
+
+fn fact(alloc: Global, cursor: &mut Cursor<'_>) -> Result<Test, LoadFault>
+    ensures { Took result cursor.new (made Fact name_at cursor.old) }
+{
+    let name = name(alloc, cursor)?;
+    Ok(Test::Fact(BoxedName::new(alloc, name)?))
+}
+
+// So many tests of at most so many levels of logic.
+#[cycle(levels)]
+fn children(
+    alloc: Global,
+    cursor: &mut Cursor<'_>,
+    levels: u32,
+    count: u32,
+) -> Result<List<Test>, LoadFault>
+    ensures { Took result cursor.new (many (test_at levels) count cursor.old) }
+{
+    let mut of = List::new(alloc);
+    for _ in 0..count {
+        let child = test(alloc, cursor, levels)?;
+        of.push(child)?;
+    }
+    Ok(of)
+}
+
+// How children of at most so many levels are joined, and these.
+#[cycle(levels)]
+#[tactic(auto, unfolding(crate::specs::Reading::logic_at, crate::specs::Reading::list_at))]
+fn joined(alloc: Global, cursor: &mut Cursor<'_>, levels: u32) -> Result<Test, LoadFault>
+    ensures { Took result cursor.new (logic_at (test_at levels) cursor.old) }
+{
+    let operator = operator(cursor)?;
+    let negate = flag(cursor)?;
+    let count = cursor.number()?;
+    let of = children(alloc, cursor, levels, count)?;
+    Ok(Test::Logic {
+        operator,
+        negate,
+        of,
+    })
+}
+
+// What stands after the byte of a logical test of at most so many levels.
+#[cycle(levels)]
+fn logic(alloc: Global, cursor: &mut Cursor<'_>, levels: u32) -> Result<Test, LoadFault>
+    ensures { Took result cursor.new (logic_within levels cursor.old) }
+{
+    if levels == 0 {
+        Err(LoadFault::NotSnapshot)
+    } else {
+        joined(alloc, cursor, levels - 1)
+    }
+}
+
+// A test of at most so many levels of logic: so the stack is bounded.
+#[cycle(levels)]
+#[tactic(auto, unfolding(crate::specs::Reading::test_at))]
+fn test(alloc: Global, cursor: &mut Cursor<'_>, levels: u32) -> Result<Test, LoadFault>
+    ensures { Took result cursor.new (test_at levels cursor.old) }
+{
+    match cursor.byte()? {
+        0 => logic(alloc, cursor, levels),
+        1 => fact(alloc, cursor),
+        2 => Ok(Test::Check(key(alloc, cursor)?)),
+        _ => Err(LoadFault::NotSnapshot),
+    }
+}
+
+impl Part for Statement {
+    ghost use Rattle.cpe_snapshot.specs.Reading.{statement_at};
+
+    ghost read = { statement_at };
+
+    #[tactic(auto, unfolding(crate::specs::Reading::statement_at))]
+    fn take(alloc: Global, cursor: &mut Cursor<'_>) -> Result<Statement, LoadFault> {
+        let id = text(alloc, cursor)?;
+        let title = text(alloc, cursor)?;
+        let mode = mode(cursor)?;
+        let test = test(alloc, cursor, MOST_LEVELS)?;
+        Ok(Statement {
+            id,
+            title,
+            mode,
+            test,
+        })
+    }
+}
