@@ -11,7 +11,8 @@ use Rattle.cpe_name.specs.declared.name.NameFault.{NameFault}
 use Rattle.cpe_name.specs.declared.name.NameFault.TheVariants.{BadPart, BadLanguage}
 use Rattle.cpe_name.specs.Eleven.{Values}
 use Rattle.cpe_name.specs.Names.{attributes, IsName, IsFault}
-use Rattle.cpe_name.specs.Put.{any_values, put}
+use Rattle.cpe_name.specs.Eleven.{put}
+use Rattle.cpe_name.specs.Names.{any_values}
 use Rattle.cpe_name.specs.Shapes.{is_part, is_language}
 use Rattle.cpe_name.proofs.WholeTexts.{no_fault}
 use Rattle.cpe_members.specs.NameObjects.{has_shape, value_at, first_without, values_at, IsGiven, IsFilled}

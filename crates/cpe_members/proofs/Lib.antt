@@ -3,3 +3,10 @@ pub mod Lists
 pub mod LowerNames
 pub mod YieldLemmas
 pub mod FilledNames
+pub mod Depths
+pub mod DraftDepth
+pub mod Drafts
+pub mod FormedTests
+pub mod InTurn
+pub mod SoundTests
+pub mod StatementTests

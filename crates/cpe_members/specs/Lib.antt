@@ -7,3 +7,4 @@ pub mod Formats
 pub mod NameObjects
 pub mod Names
 pub mod Provenance
+pub mod Tests

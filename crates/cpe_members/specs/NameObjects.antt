@@ -8,7 +8,7 @@ use Rattle.cpe_name.specs.declared.attribute.Attribute.{Attribute}
 use Rattle.cpe_name.specs.declared.attribute.Attribute.TheVariants.{Part, Vendor, Product, Version, Update, Edition, Language, SwEdition, TargetSw, TargetHw, Other}
 use Rattle.cpe_name.specs.Eleven.{Values}
 use Rattle.cpe_name.specs.Names.{attributes, named}
-use Rattle.cpe_name.specs.Put.{put}
+use Rattle.cpe_name.specs.Eleven.{put}
 use Rattle.cpe_name.specs.Shapes.{is_part, is_language}
 use Rattle.cpe_name.specs.Text.{attribute_name}
 use Rattle.cpe_fs.specs.Component.{read_component}

@@ -90,7 +90,7 @@ pub fn date_at(source: &Value, member: Member) -> Result<Date, RecordFault>
 
 /// The items of the array at a key, where there is one. It takes no memory.
 #[tactic(auto, using(crate::proofs::Lists::list_of_view))]
-pub fn array_in<'v>(source: &'v Value, key: &str) -> Option<&'v [Value]>
+pub(crate) fn array_in<'v>(source: &'v Value, key: &str) -> Option<&'v [Value]>
     ensures { option_map (λ s. map view s.now) result
         ≡ option_map list_of (option_and_then as_array (get key.now (view source.now))) }
 {
@@ -108,7 +108,7 @@ pub fn array_in<'v>(source: &'v Value, key: &str) -> Option<&'v [Value]>
 /// # Errors
 /// The fault of the member, exactly where something else stands there.
 #[tactic(auto, using(crate::proofs::Lists::list_of_view))]
-pub fn list_or_empty<'v>(
+pub(crate) fn list_or_empty<'v>(
     source: &'v Value,
     member: Member,
     key: &str,
@@ -129,7 +129,7 @@ pub fn list_or_empty<'v>(
 ///
 /// # Errors
 /// That memory ran out, exactly where the count would pass 2^32 - 1: so many things are in no memory.
-pub fn count_on(k: u32) -> Result<u32, RecordFault>
+pub(crate) fn count_on(k: u32) -> Result<u32, RecordFault>
     ensures ok { IfOk result (λ n. n ≡ k + 1) }
     ensures err { IfErr result (λ e. (e ≡ RecordFault.Memory) × (2 ^ 32 ≤ k + 1)) }
 {

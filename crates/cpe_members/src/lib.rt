@@ -6,8 +6,14 @@
 //!
 //! Each reader takes the whole object and answers what stands at its member, or the fault of that member. What may be absent
 //! has a default; a member that is there has its form or is refused, `null` too.
+//!
+//! The test of an applicability statement (NIST IR 7698) is an object that is told by its members. With `op` it is a logical test: it
+//! joins what stands in the array `of`, at least one thing, by `AND` or by `OR`, and swaps the outcome where `negate` is there and
+//! `true`. Without `op`, one with `fact` refers to a fact, by a name. Without either, one with `check` refers to a check, by the texts
+//! `system`, `href` and `id` in an object.
 #![tactic(auto)]
 
+mod draft;
 mod form;
 mod format;
 mod member;
@@ -16,15 +22,13 @@ mod object;
 mod provenance;
 mod words;
 
-pub use form::{
-    array_in, count_on, date_at, flag_or_false, list_or_empty, text_at, text_in, text_of,
-    text_or_empty,
-};
+pub use draft::test_at;
+pub use form::{date_at, flag_or_false, text_at, text_in, text_of, text_or_empty};
 pub use format::{Format, format_at};
 pub use member::{Member, NameSpot, NotName, RecordFault};
-pub use name::{at_spot, name_at, name_in, successors_at};
+pub use name::{name_at, successors_at};
 pub use provenance::provenance_or_empty;
 pub use words::{
     attribute_word, kind_of, kind_word, mode_of, mode_word, note_kind_of, note_kind_word,
-    operator_of, operator_word, truth_of, truth_word,
+    operator_word, truth_of, truth_word,
 };

@@ -83,7 +83,7 @@ fn object_in(
 ///
 /// # Errors
 /// The fault of the member, exactly where the value has not the form of a name; else that memory ran out.
-pub fn name_in(
+pub(crate) fn name_in(
     alloc: Global,
     format: Format,
     member: Member,
@@ -101,7 +101,7 @@ pub fn name_in(
 ///
 /// # Errors
 /// Exactly where there is no name: the place of a text, or the attribute of an object, with the spot.
-pub fn at_spot(spot: NameSpot, found: Result<Wfn, NotName>) -> Result<Wfn, RecordFault>
+pub(crate) fn at_spot(spot: NameSpot, found: Result<Wfn, NotName>) -> Result<Wfn, RecordFault>
     ensures { result ≡ at_spot spot found }
 {
     match found {

@@ -1,7 +1,8 @@
 // Names that are written as objects of their attributes.
 ghost use Rattle.std.specs.Prelude.{◌≡◌, true, Err, IfOk, IfErr, IsErr, OnOk};
 ghost use Rattle.serde_json.specs.View.{view};
-ghost use Rattle.cpe_name.specs.Put.{any_values, put};
+ghost use Rattle.cpe_name.specs.Eleven.{put};
+ghost use Rattle.cpe_name.specs.Names.{any_values};
 ghost use Rattle.cpe_fs.specs.Component.{read_component};
 ghost use Rattle.cpe_members.specs.NameObjects.{component_in, component_at, has_shape, value_at, Finds, Lacks, IsGiven, IsFilled};
 ghost use Rattle.cpe_members.specs.Names.{object_name};

@@ -105,7 +105,7 @@ pub fn operator_word(operator: Operator) -> &'static str
 }
 
 /// The operator that is written so, if there is one.
-pub fn operator_of(text: &str) -> Option<Operator>
+pub(crate) fn operator_of(text: &str) -> Option<Operator>
     ensures { result ≡ operator_of text.now }
 {
     let operators = [Operator::And, Operator::Or];

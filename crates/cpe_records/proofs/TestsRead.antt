@@ -28,13 +28,13 @@ use Rattle.cpe_members.specs.declared.format.Format.TheVariants.{Two}
 use Rattle.cpe_members.specs.declared.member.Member.TheVariants as part
 use Rattle.cpe_members.specs.declared.member.RecordFault.{RecordFault}
 use Rattle.cpe_members.specs.declared.member.RecordFault.TheVariants as fault
-use Rattle.cpe_logic.specs.Tests.{key_in, logic_in, leaf_in, draft_of, drafts_of, draft_depth, within_limit, in_turn, names_from, name_step, test_in}
-use Rattle.cpe_logic.specs.declared.draft.Draft.{Draft, Logic, Fact, Check}
-use Rattle.cpe_logic.specs.declared.draft.Draft.TheOpen.{Draft-F}
-use Rattle.cpe_logic.specs.declared.draft.Draft.TheFolds.{fold-roll-Draft}
-use Rattle.cpe_logic.specs.declared.draft.Draft.TheVariants.{rolls-Fact, rolls-Check}
-use Rattle.cpe_logic.proofs.InTurn.{names_from_read}
-use Rattle.cpe_logic.proofs.SoundTests.{Each, Agrees, reads_as}
+use Rattle.cpe_members.specs.Tests.{key_in, logic_in, leaf_in, draft_of, drafts_of, draft_depth, within_limit, in_turn, names_from, name_step, test_in}
+use Rattle.cpe_members.specs.declared.draft.Draft.{Draft, Logic, Fact, Check}
+use Rattle.cpe_members.specs.declared.draft.Draft.TheOpen.{Draft-F}
+use Rattle.cpe_members.specs.declared.draft.Draft.TheFolds.{fold-roll-Draft}
+use Rattle.cpe_members.specs.declared.draft.Draft.TheVariants.{rolls-Fact, rolls-Check}
+use Rattle.cpe_members.proofs.InTurn.{names_from_read}
+use Rattle.cpe_members.proofs.SoundTests.{Each, Agrees, reads_as}
 use Rattle.cpe_records.specs.NameObject.{name_object}
 use Rattle.cpe_records.specs.WrittenRecord.{key_json, items_of, test_step, test_json}
 use Rattle.cpe_records.proofs.ReadBack.{data_of, data_items}

@@ -12,7 +12,7 @@ use Rattle.cpe_members.specs.Forms.{word_at, text_or_empty}
 use Rattle.cpe_members.specs.Names.{name_at}
 use Rattle.cpe_members.specs.Formats.{format_at}
 use Rattle.cpe_members.specs.declared.format.Format.{Format}
-use Rattle.cpe_logic.specs.Tests.{test_at}
+use Rattle.cpe_members.specs.Tests.{test_at}
 use Rattle.cpe_records.specs.Kinds.{id_at, entry_in, deprecation_in, restore_in, key_at, check_in, search_in, statement_in, mode_at}
 use Rattle.cpe_rows.specs.declared.edit.Edit.{Edit}
 use Rattle.cpe_rows.specs.declared.edit.Edit.TheVariants as edit
@@ -29,7 +29,7 @@ use Rattle.cpe_members.specs.Yields.{Yields}
 use Rattle.cpe_members.proofs.YieldLemmas.{then_yields, behind}
 use Rattle.cpe_members.proofs.LowerNames.{name_lower}
 use Rattle.cpe_records.proofs.ValidLemmas.{entry_valid, deprecate_valid, amend_valid, restore_valid, check_valid, search_valid, id_valid, is_new, as_edit, as_query}
-use Rattle.cpe_logic.proofs.StatementTests.{test_at_valid}
+use Rattle.cpe_members.proofs.StatementTests.{test_at_valid}
 
 -- its id and its test are those of a statement
 abbrev is_whole : Statement → Bool

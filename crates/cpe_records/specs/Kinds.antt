@@ -20,7 +20,7 @@ use Rattle.cpe_members.specs.Forms.{required, or_default, tested, member_at, tex
 use Rattle.cpe_members.specs.Names.{name_at, successors_at}
 use Rattle.cpe_members.specs.declared.format.Format.{Format}
 use Rattle.cpe_members.specs.Provenance.{provenance_or_empty}
-use Rattle.cpe_logic.specs.Tests.{test_at}
+use Rattle.cpe_members.specs.Tests.{test_at}
 use Rattle.cpe_records.specs.declared.kinds.Description.{Description}
 use Rattle.cpe_records.specs.declared.kinds.Remark.{Remark}
 use Rattle.cpe_records.specs.declared.kinds.Change.{Change}

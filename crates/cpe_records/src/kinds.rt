@@ -10,10 +10,9 @@ ghost use Rattle.cpe_members.specs.Gives.{Gives};
 ghost use Rattle.cpe_members.specs.Forms.{word_at};
 ghost use Rattle.cpe_records.specs.Kinds.{comment_at, id_at, mode_at, description_in, entry_in, remark_in, change_in, deprecation_in, restore_in, statement_in, key_at, check_in, search_in};
 
-use cpe_logic::test_at;
 use cpe_members::{
     Format, Member, RecordFault, date_at, flag_or_false, kind_of, mode_of, name_at,
-    provenance_or_empty, successors_at, text_at, text_of, text_or_empty, truth_of,
+    provenance_or_empty, successors_at, test_at, text_at, text_of, text_or_empty, truth_of,
 };
 use cpe_name::Wfn;
 use cpe_rows::{

@@ -24,7 +24,7 @@
 //! | `verdict` | `id` |
 //!
 //! The `id` of a statement has 1 to 256 visible characters of ASCII; `system`, `href` and `id` of a check are any texts. The form
-//! of `test`, the test of a statement, stands at `cpe_logic`.
+//! of `test`, the test of a statement, stands at `cpe_members`.
 #![tactic(auto)]
 
 mod ascii;

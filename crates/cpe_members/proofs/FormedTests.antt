@@ -12,17 +12,17 @@ use Rattle.cpe_rows.specs.declared.test.CheckKey.{CheckKey}
 use Rattle.cpe_members.specs.Forms.{required, flag_or_false}
 use Rattle.cpe_members.specs.Names.{name_in}
 use Rattle.cpe_members.specs.declared.format.Format.{Format}
-use Rattle.cpe_logic.specs.Tests.{operator_in, key_in, logic_in, leaf_by, leaf_in, draft_of, children_in, drafts_in, drafts_of}
+use Rattle.cpe_members.specs.Tests.{operator_in, key_in, logic_in, leaf_by, leaf_in, draft_of, children_in, drafts_in, drafts_of}
 use Rattle.cpe_members.specs.declared.member.Member.TheVariants as part
 use Rattle.cpe_members.specs.declared.member.RecordFault.{RecordFault}
-use Rattle.cpe_logic.specs.declared.draft.Draft.{Draft, Check}
-use Rattle.cpe_logic.specs.declared.draft.Draft.TheOpen.{Draft-F}
-use Rattle.cpe_logic.specs.declared.draft.Draft.TheVariants.{rolls-Check}
-use Rattle.cpe_logic.specs.declared.draft.Draft.TheFolds.{fold-roll-Draft}
+use Rattle.cpe_members.specs.declared.draft.Draft.{Draft, Check}
+use Rattle.cpe_members.specs.declared.draft.Draft.TheOpen.{Draft-F}
+use Rattle.cpe_members.specs.declared.draft.Draft.TheVariants.{rolls-Check}
+use Rattle.cpe_members.specs.declared.draft.Draft.TheFolds.{fold-roll-Draft}
 use Rattle.cpe_members.specs.Yields.{Yields}
 use Rattle.cpe_members.proofs.YieldLemmas.{then_yields, behind}
 use Rattle.cpe_members.proofs.LowerNames.{is_lowered, name_in_lower}
-use Rattle.cpe_logic.proofs.SoundTests.{formed, formed_step, formed-logic, formed-fact}
+use Rattle.cpe_members.proofs.SoundTests.{formed, formed_step, formed-logic, formed-fact}
 
 all_mapped : (ds : List Draft) → list_all (λ b. b) (map formed ds) ≡ list_all formed ds
 all_mapped [] = refl

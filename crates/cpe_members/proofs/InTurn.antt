@@ -5,11 +5,11 @@ use Rattle.cpe_members.specs.declared.member.RecordFault.{RecordFault}
 use Rattle.cpe_members.specs.Gives.{◌>>=◌}
 use Rattle.cpe_rows.specs.declared.test.Operator.{Operator}
 use Rattle.cpe_rows.specs.declared.test.Test as test
-use Rattle.cpe_logic.specs.declared.draft.Draft.{Draft, Logic}
-use Rattle.cpe_logic.specs.declared.draft.Draft.TheOpen.{Draft-F}
-use Rattle.cpe_logic.specs.declared.draft.Draft.TheVariants.{rolls-Logic}
-use Rattle.cpe_logic.specs.declared.draft.Draft.TheFolds.{fold-roll-Draft}
-use Rattle.cpe_logic.specs.Tests.{in_turn, names_from, name_step}
+use Rattle.cpe_members.specs.declared.draft.Draft.{Draft, Logic}
+use Rattle.cpe_members.specs.declared.draft.Draft.TheOpen.{Draft-F}
+use Rattle.cpe_members.specs.declared.draft.Draft.TheVariants.{rolls-Logic}
+use Rattle.cpe_members.specs.declared.draft.Draft.TheFolds.{fold-roll-Draft}
+use Rattle.cpe_members.specs.Tests.{in_turn, names_from, name_step}
 
 -- what is read of the rest, after what was read
 abbrev pub turned : {X B : Type 0} → (X → ℕ → Result (B × ℕ) RecordFault) → List B → List X → ℕ → Result (List B × ℕ) RecordFault

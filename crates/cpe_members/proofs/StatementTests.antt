@@ -13,22 +13,22 @@ use Rattle.cpe_rows.specs.declared.test.Test.TheViews.{out-roll-Test}
 use Rattle.cpe_rows.specs.declared.test.Test.TheVariants as test_rolls
 use Rattle.cpe_members.specs.Gives.{◌>>=◌}
 use Rattle.cpe_members.specs.Forms.{required, member_at, flag_or_false}
-use Rattle.cpe_logic.specs.Tests.{operator_in, logic_in, leaf_in, draft_of, draft_depth, within_limit, in_turn, names_from, test_in, test_at}
+use Rattle.cpe_members.specs.Tests.{operator_in, logic_in, leaf_in, draft_of, draft_depth, within_limit, in_turn, names_from, test_in, test_at}
 use Rattle.cpe_members.specs.declared.format.Format.{Format}
 use Rattle.cpe_members.specs.declared.member.Member.TheVariants as part
 use Rattle.cpe_members.specs.declared.member.RecordFault.{RecordFault}
 use Rattle.cpe_members.specs.declared.member.RecordFault.TheVariants as fault
-use Rattle.cpe_logic.specs.declared.draft.Draft.{Draft, Logic}
-use Rattle.cpe_logic.specs.declared.draft.Draft.TheOpen.{Draft-F}
-use Rattle.cpe_logic.specs.declared.draft.Draft.TheViews.{roll-Draft}
-use Rattle.cpe_logic.specs.declared.draft.Draft.TheVariants.{rolls-Logic}
-use Rattle.cpe_logic.specs.declared.draft.Draft.TheFolds.{fold-Draft, fold-roll-Draft, ind-Draft, map-Draft}
-use Rattle.cpe_logic.proofs.Drafts.{draft_of-looked_up, looked_up}
-use Rattle.cpe_logic.proofs.InTurn.{names_from-logic}
+use Rattle.cpe_members.specs.declared.draft.Draft.{Draft, Logic}
+use Rattle.cpe_members.specs.declared.draft.Draft.TheOpen.{Draft-F}
+use Rattle.cpe_members.specs.declared.draft.Draft.TheViews.{roll-Draft}
+use Rattle.cpe_members.specs.declared.draft.Draft.TheVariants.{rolls-Logic}
+use Rattle.cpe_members.specs.declared.draft.Draft.TheFolds.{fold-Draft, fold-roll-Draft, ind-Draft, map-Draft}
+use Rattle.cpe_members.proofs.Drafts.{draft_of-looked_up, looked_up}
+use Rattle.cpe_members.proofs.InTurn.{names_from-logic}
 use Rattle.cpe_members.specs.Yields.{Yields}
 use Rattle.cpe_members.proofs.YieldLemmas.{behind}
-use Rattle.cpe_logic.proofs.SoundTests.{Each, formed, Agrees, reads_as}
-use Rattle.cpe_logic.proofs.FormedTests.{data_formed}
+use Rattle.cpe_members.proofs.SoundTests.{Each, formed, Agrees, reads_as}
+use Rattle.cpe_members.proofs.FormedTests.{data_formed}
 
 abbrev logic_step : Draft-F Bool → Bool
 logic_step (Draft-F.Logic operator negate of) = true

@@ -3,12 +3,12 @@ ghost use Rattle.std.specs.Prelude.{◌≡◌, nat_le, Ok};
 ghost use Rattle.serde_json.specs.View.{view};
 ghost use Rattle.cpe_members.specs.Gives.{Gives};
 ghost use Rattle.cpe_members.specs.Names.{at_spot};
-ghost use Rattle.cpe_logic.specs.Tests.{operator_in, part_in, key_in, fact_in, leaf_in, logic_in, draft_of, names_from, within_limit, test_in, test_at};
+ghost use Rattle.cpe_members.specs.Tests.{operator_in, part_in, key_in, fact_in, leaf_in, logic_in, draft_of, names_from, within_limit, test_in, test_at};
 
-use cpe_members::{
-    Format, Member, NameSpot, NotName, RecordFault, array_in, count_on, flag_or_false, name_in,
-    operator_of, text_in,
-};
+use crate::form::{array_in, count_on, flag_or_false, text_in};
+use crate::name::name_in;
+use crate::words::operator_of;
+use crate::{Format, Member, NameSpot, NotName, RecordFault};
 use cpe_rows::{BoxedName, CheckKey, List, MOST_LEVELS, Operator, Test, Text};
 use serde_json::Value;
 use std::alloc::Global;
@@ -162,7 +162,7 @@ fn names_from(alloc: Global, draft: Draft, fact: u32) -> Result<(Test, u32), Rec
 }
 
 impl Draft {
-    ghost use Rattle.cpe_logic.specs.Tests.{draft_depth};
+    ghost use Rattle.cpe_members.specs.Tests.{draft_depth};
 
     /// Whether the depth is within a limit.
     fn is_within(&self, limit: u32) -> bool

@@ -18,9 +18,9 @@ use Rattle.cpe_members.specs.declared.member.RecordFault.{RecordFault}
 use Rattle.cpe_members.specs.declared.member.RecordFault.TheVariants as fault
 use Rattle.cpe_members.specs.declared.member.Member.TheVariants as part
 use Rattle.cpe_members.specs.declared.member.NameSpot.TheVariants as spot
-use Rattle.cpe_logic.specs.declared.draft.Draft.{Draft, Logic, Fact, Check}
-use Rattle.cpe_logic.specs.declared.draft.Draft.TheOpen.{Draft-F}
-use Rattle.cpe_logic.specs.declared.draft.Draft.TheFolds.{fold-Draft}
+use Rattle.cpe_members.specs.declared.draft.Draft.{Draft, Logic, Fact, Check}
+use Rattle.cpe_members.specs.declared.draft.Draft.TheOpen.{Draft-F}
+use Rattle.cpe_members.specs.declared.draft.Draft.TheFolds.{fold-Draft}
 
 -- ---- form
 

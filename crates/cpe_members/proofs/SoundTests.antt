@@ -13,19 +13,19 @@ use Rattle.cpe_rows.specs.declared.test.Test.TheOpen.{Test-F}
 use Rattle.cpe_rows.specs.declared.test.Test.TheFolds.{fold-roll-Test}
 use Rattle.cpe_rows.specs.declared.test.Test.TheVariants as test_rolls
 use Rattle.cpe_rows.proofs.Within.{depth-logic}
-use Rattle.cpe_logic.proofs.DraftDepth.{draft_depth-logic}
+use Rattle.cpe_members.proofs.DraftDepth.{draft_depth-logic}
 use Rattle.cpe_members.specs.Gives.{◌>>=◌}
 use Rattle.cpe_members.specs.Names.{at_spot}
 use Rattle.cpe_members.specs.declared.member.NotName.{NotName}
-use Rattle.cpe_logic.specs.Tests.{draft_depth, depth_step, in_turn, name_step, names_from}
+use Rattle.cpe_members.specs.Tests.{draft_depth, depth_step, in_turn, name_step, names_from}
 use Rattle.cpe_members.specs.declared.member.NameSpot.TheVariants as spot
 use Rattle.cpe_members.specs.declared.member.RecordFault.{RecordFault}
-use Rattle.cpe_logic.specs.declared.draft.Draft.{Draft, Logic, Fact, Check}
-use Rattle.cpe_logic.specs.declared.draft.Draft.TheOpen.{Draft-F}
-use Rattle.cpe_logic.specs.declared.draft.Draft.TheViews.{roll-Draft}
-use Rattle.cpe_logic.specs.declared.draft.Draft.TheVariants.{rolls-Logic, rolls-Fact, rolls-Check}
-use Rattle.cpe_logic.specs.declared.draft.Draft.TheFolds.{fold-Draft, fold-roll-Draft, ind-Draft, map-Draft}
-use Rattle.cpe_logic.proofs.InTurn.{names_from-logic}
+use Rattle.cpe_members.specs.declared.draft.Draft.{Draft, Logic, Fact, Check}
+use Rattle.cpe_members.specs.declared.draft.Draft.TheOpen.{Draft-F}
+use Rattle.cpe_members.specs.declared.draft.Draft.TheViews.{roll-Draft}
+use Rattle.cpe_members.specs.declared.draft.Draft.TheVariants.{rolls-Logic, rolls-Fact, rolls-Check}
+use Rattle.cpe_members.specs.declared.draft.Draft.TheFolds.{fold-Draft, fold-roll-Draft, ind-Draft, map-Draft}
+use Rattle.cpe_members.proofs.InTurn.{names_from-logic}
 use Rattle.cpe_members.specs.Yields.{Yields}
 use Rattle.cpe_members.proofs.LowerNames.{is_lowered, at_spot_lower}
 

@@ -1,8 +1,8 @@
 use Rattle.std.proofs.Common.{◌≡◌, length, map}
 use Rattle.std.specs.Vec.Iter.{into_iter_items, into_iter_len}
-use Rattle.cpe_logic.specs.Tests.{in_turn, names_from}
-use Rattle.cpe_logic.proofs.InTurn.{turned}
-use Rattle.cpe_logic.proofs.draft.+names_from.Given as goal
+use Rattle.cpe_members.specs.Tests.{in_turn, names_from}
+use Rattle.cpe_members.proofs.InTurn.{turned}
+use Rattle.cpe_members.proofs.draft.+names_from.Given as goal
 
 abbrev pub invariant-loop-child : goal.invariant-loop-child
 invariant-loop-child l = record {

@@ -8,11 +8,11 @@ use Rattle.serde_json.specs.Data.{depth}
 use Rattle.serde_json.specs.Find.{get}
 use Rattle.serde_json.specs.View.{view}
 use Rattle.cpe_members.specs.Gives.{all_from, Fails, Gives}
-use Rattle.cpe_logic.specs.Tests.{draft_of, logic_in}
+use Rattle.cpe_members.specs.Tests.{draft_of, logic_in}
 use Rattle.cpe_members.proofs.AllFrom.{all_from-more, all_from_fails}
-use Rattle.cpe_logic.proofs.Depths.{below_depth}
-use Rattle.cpe_logic.proofs.Drafts.{draft_of-logic, logic_fails, looked_up, looked_up-items, looked_up-none}
-use Rattle.cpe_logic.proofs.draft.+draft_of.Goals as goal
+use Rattle.cpe_members.proofs.Depths.{below_depth}
+use Rattle.cpe_members.proofs.Drafts.{draft_of-logic, logic_fails, looked_up, looked_up-items, looked_up-none}
+use Rattle.cpe_members.proofs.draft.+draft_of.Goals as goal
 
 pub returns-in_default : goal.returns-in_default
 returns-in_default t c =

@@ -3,8 +3,8 @@ use Rattle.std.specs.Prelude.{Ok}
 use Rattle.serde_json.specs.Data.{depth}
 use Rattle.serde_json.specs.View.{view}
 use Rattle.cpe_members.specs.Gives.{all_from}
-use Rattle.cpe_logic.specs.Tests.{draft_of}
-use Rattle.cpe_logic.proofs.draft.+draft_of.Given as goal
+use Rattle.cpe_members.specs.Tests.{draft_of}
+use Rattle.cpe_members.proofs.draft.+draft_of.Given as goal
 
 abbrev pub decreases-draft_of : goal.decreases-draft_of
 decreases-draft_of l = depth (view l.source.now)

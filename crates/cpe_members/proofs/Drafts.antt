@@ -9,10 +9,10 @@ use Rattle.cpe_members.specs.declared.member.RecordFault.{RecordFault}
 use Rattle.cpe_members.specs.declared.member.RecordFault.TheVariants as fault
 use Rattle.cpe_members.specs.declared.member.Member.TheVariants as part
 use Rattle.cpe_members.specs.declared.format.Format.{Format}
-use Rattle.cpe_logic.specs.declared.draft.Draft.{Draft}
+use Rattle.cpe_members.specs.declared.draft.Draft.{Draft}
 use Rattle.cpe_members.specs.Gives.{◌>>=◌, all_from, Fails}
 use Rattle.cpe_members.specs.Forms.{list_of}
-use Rattle.cpe_logic.specs.Tests.{draft_of, drafts_of, drafts_in, children_in, draft_by, logic_in, leaf_in}
+use Rattle.cpe_members.specs.Tests.{draft_of, drafts_of, drafts_in, children_in, draft_by, logic_in, leaf_in}
 
 -- the children that are looked up
 abbrev pub children_by : Format → Option (List Data) → Result (List Draft) RecordFault

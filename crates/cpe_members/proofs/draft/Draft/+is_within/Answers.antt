@@ -1,12 +1,12 @@
 use Rattle.std.proofs.Common.{true, false, take_all, ◌≡◌, ◌-◌, List, map, take, get_or, nat_le}
 use Rattle.std.proofs.lemmas.List.{map_more}
 use Rattle.cpe_rows.specs.Shape.{largest}
-use Rattle.cpe_logic.specs.Tests.{draft_depth}
-use Rattle.cpe_logic.specs.declared.draft.Draft.{Draft}
+use Rattle.cpe_members.specs.Tests.{draft_depth}
+use Rattle.cpe_members.specs.declared.draft.Draft.{Draft}
 use Rattle.cpe_rows.proofs.Within.{within-snoc, and_true, and_false, suc_within}
-use Rattle.cpe_logic.proofs.DraftDepth.{draft_depth-logic}
-use Rattle.cpe_logic.proofs.draft.Draft.+is_within.Goals as goal
-use Rattle.cpe_logic.proofs.draft.Draft.+is_within.Goals.{then-within, else-within}
+use Rattle.cpe_members.proofs.DraftDepth.{draft_depth-logic}
+use Rattle.cpe_members.proofs.draft.Draft.+is_within.Goals as goal
+use Rattle.cpe_members.proofs.draft.Draft.+is_within.Goals.{then-within, else-within}
 
 pub loop-child-preserved : goal.loop-child-preserved
 loop-child-preserved t c =
