@@ -32,7 +32,7 @@ use Rattle.cpe_members.specs.declared.member.NameSpot.TheVariants as spot
 use Rattle.cpe_members.specs.declared.member.RecordFault.{RecordFault}
 use Rattle.cpe_records.specs.Kinds.{description_in, entry_in, remark_in, change_in, deprecation_in, restore_in, statement_in, key_at, check_in, search_in}
 use Rattle.cpe_records.specs.NameObject.{name_object}
-use Rattle.cpe_records.specs.Reading.{json_of, value_of, record_by, record_of}
+use Rattle.cpe_records.specs.Reading.{record_by, record_of}
 use Rattle.cpe_records.specs.Taken.{is_valid_record, IsFormedQuery, IsFormedRecord}
 use Rattle.cpe_records.specs.Verbs.{verb_of}
 use Rattle.cpe_records.specs.declared.kinds.Description.{Description}
