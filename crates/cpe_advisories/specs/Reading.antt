@@ -1,16 +1,15 @@
 -- The record of a line, by its members in the order in which they are tested.
-use Rattle.std.specs.Prelude.{ℕ, List, [], ◌∷◌, codes, Bool, false, if◌then◌else◌, Option, Some, None, option_map, option_and_then, Result, Ok, Err}
-use Rattle.std.specs.Str.{is_utf8}
+use Rattle.std.specs.Prelude.{ℕ, List, [], ◌∷◌, codes, Bool, Option, Some, None, option_map, option_and_then, Result, Ok, Err, ok_or}
 use Rattle.serde_json.specs.Data.{Data}
-use Rattle.serde_json.specs.Find.{as_str, as_bool, get}
-use Rattle.serde_json.specs.Read.{read}
+use Rattle.serde_json.specs.Find.{as_str, get}
 use Rattle.cpe_name.specs.Eleven.{Values}
 use Rattle.cpe_uri.specs.EitherBinding.{read_any}
 use Rattle.cpe_rows.specs.Valid.{is_id}
-use Rattle.cpe_members.specs.Forms.{or_default, tested}
+use Rattle.cpe_members.specs.FirstFault.{◌>>=◌}
+use Rattle.cpe_members.specs.Forms.{or_default, tested, text_in, flag_in}
+use Rattle.cpe_members.specs.Line.{value_of}
 use Rattle.cpe_members.specs.Names.{lowered}
 use Rattle.cpe_members.specs.Words.{spelled}
-use Rattle.cpe_advisories.specs.Gives.{◌>>=◌}
 use Rattle.cpe_advisories.specs.declared.advisory.Bound.{Bound}
 use Rattle.cpe_advisories.specs.declared.advisory.Advisory.{Advisory}
 use Rattle.cpe_advisories.specs.declared.edit.AdviceEdit.TheVariants as edit
@@ -50,19 +49,14 @@ verb_of = spelled verb_word (verb.Item ∷ verb.DropItem ∷ verb.Advisory ∷ v
 
 -- what the form makes of a member, or the member's fault
 abbrev pub required : {A : Type 0} → AdviceMember → Option A → Result A AdviceReadFault
-required m (Some x) = Ok x
-required m None = Err (fault.Member m)
-
--- the text that stands at a member, if it is there
-abbrev pub text_of : AdviceMember → Data → Option (List ℕ)
-text_of m d = option_and_then as_str (get (key_of m) d)
+required m form = ok_or form (fault.Member m)
 
 abbrev pub verb_at : Data → Result Verb AdviceReadFault
-verb_at d = required member.Do (option_and_then verb_of (text_of member.Do d))
+verb_at d = required member.Do (option_and_then verb_of (text_in (key_of member.Do) d))
 
 -- 1 to 256 visible characters
 abbrev pub id_at : Data → Result (List ℕ) AdviceReadFault
-id_at d = required member.Id (option_and_then (tested is_id) (text_of member.Id d))
+id_at d = required member.Id (option_and_then (tested is_id) (text_in (key_of member.Id) d))
 
 -- the name in lower case, or where its text goes wrong
 abbrev pub named : Result Values ℕ → Result Values AdviceReadFault
@@ -72,7 +66,7 @@ named (Err place) = Err (fault.Name place)
 -- a text, and then that of a name in either binding
 unfoldable pub name_at : Data → Result Values AdviceReadFault
 name_at d = do
-  text ← required member.Name (text_of member.Name d)
+  text ← required member.Name (text_in (key_of member.Name) d)
   named (read_any text)
 
 -- a version of the form of an id
@@ -85,7 +79,7 @@ version_at m d = required m (or_default None version_in (get (key_of m) d))
 
 -- `true` or `false`, which may be absent and is then `false`
 abbrev pub flag_at : AdviceMember → Data → Result Bool AdviceReadFault
-flag_at m d = required m (or_default false as_bool (get (key_of m) d))
+flag_at m d = required m (flag_in (key_of m) d)
 
 -- ---- kinds
 
@@ -117,13 +111,8 @@ advice_by verb.DropAdvisory d = id_at d >>= λ id. Ok (Edit (edit.Drop id))
 advice_by verb.Affected d = id_at d >>= λ id. Ok (Query (query.Affected id))
 advice_by verb.Advisories d = name_at d >>= λ n. Ok (Query (query.Advisories n))
 
--- what the line is as JSON (RFC 8259), if it is a value
-abbrev pub value_of : List ℕ → Option Data
-value_of line = if is_utf8 line then read line else None
-
 abbrev pub json_of : Option Data → Result Data AdviceReadFault
-json_of None = Err fault.Json
-json_of (Some d) = Ok d
+json_of value = ok_or value fault.Json
 
 -- a value, its kind, and then the members of that kind
 unfoldable pub advice_of : List ℕ → Result Advice AdviceReadFault

@@ -1,16 +1,17 @@
 // The record of a line.
 ghost use Rattle.std.specs.Prelude.{◌≡◌, IfOk, MatchResult, Ok, Err, Option, option_map, true};
 ghost use Rattle.serde_json.specs.View.{view};
-ghost use Rattle.serde_json.specs.Find.{as_str, get};
+ghost use Rattle.cpe_members.specs.Forms.{text_in};
+ghost use Rattle.cpe_members.specs.Line.{value_of};
 ghost use Rattle.cpe_members.specs.Names.{lowered};
 ghost use Rattle.cpe_uri.specs.EitherBinding.{read_any, SaysFault};
 ghost use Rattle.cpe_advisories.specs.Gives.{Gives, GivesBy};
-ghost use Rattle.cpe_advisories.specs.Reading.{advice_by, advice_of, advisory_in, bound_of, bounds_in, flag_at, id_at, json_of, key_of, name_at, named, text_of, value_of, verb_at, version_at, version_in, required};
+ghost use Rattle.cpe_advisories.specs.Reading.{advice_by, advice_of, advisory_in, bound_of, bounds_in, flag_at, id_at, json_of, key_of, name_at, named, verb_at, version_at, version_in, required};
 ghost use Rattle.cpe_advisories.specs.Valid.{is_valid_advice};
 
 use crate::verb::{Verb, verb_of};
 use crate::{AdviceEdit, AdviceMember, AdviceQuery, AdviceReadFault, Advisory, Bound};
-use cpe_members::text_in;
+use cpe_members::{flag_in, text_in, value_of};
 use cpe_name::Wfn;
 use cpe_rows::{Text, is_id};
 use cpe_uri::{UriFault, unbind_any};
@@ -36,7 +37,7 @@ struct Bounds {
 // ---- members
 
 fn text_of(source: &Value, member: AdviceMember) -> Option<&str>
-    ensures { option_map (λ s. s.now) result ≡ text_of member (view source.now) }
+    ensures { option_map (λ s. s.now) result ≡ text_in (key_of member) (view source.now) }
 {
     text_in(source, member.key())
 }
@@ -135,10 +136,7 @@ fn version_at(
 fn flag_at(source: &Value, member: AdviceMember) -> Result<bool, AdviceReadFault>
     ensures { Gives result (flag_at member (view source.now)) }
 {
-    match source.get(member.key()) {
-        Some(value) => value.as_bool().ok_or(AdviceReadFault::Member(member)),
-        None => Ok(false),
-    }
+    flag_in(source, member.key()).ok_or(AdviceReadFault::Member(member))
 }
 
 // ---- kinds
@@ -205,19 +203,10 @@ fn advice_by(alloc: Global, verb: Verb, source: &Value) -> Result<Advice, Advice
     }
 }
 
-fn value_of(alloc: Global, line: &[u8]) -> Result<Value, AdviceReadFault>
+fn json_of(alloc: Global, line: &[u8]) -> Result<Value, AdviceReadFault>
     ensures { GivesBy view result (json_of (value_of line.now)) }
 {
-    match Value::from_slice(alloc, line) {
-        Ok(value) => Ok(value),
-        Err(error) => {
-            if error.is_memory() {
-                Err(AdviceReadFault::Memory)
-            } else {
-                Err(AdviceReadFault::Json)
-            }
-        }
-    }
+    value_of(alloc, line)?.ok_or(AdviceReadFault::Json)
 }
 
 // The record of a line, before it is known that it is in order.
@@ -225,7 +214,7 @@ fn value_of(alloc: Global, line: &[u8]) -> Result<Value, AdviceReadFault>
 fn advice_in(alloc: Global, line: &[u8]) -> Result<Advice, AdviceReadFault>
     ensures { Gives result (advice_of line.now) }
 {
-    let value = value_of(alloc, line)?;
+    let value = json_of(alloc, line)?;
     let verb = verb_at(&value)?;
     advice_by(alloc, verb, &value)
 }

@@ -10,8 +10,9 @@ use Rattle.cpe_members.specs.declared.member.RecordFault.TheVariants as fault
 use Rattle.cpe_members.specs.declared.member.Member.TheVariants as part
 use Rattle.cpe_members.specs.declared.format.Format.{Format}
 use Rattle.cpe_members.specs.declared.draft.Draft.{Draft}
-use Rattle.cpe_members.specs.Gives.{◌>>=◌, all_from, Fails}
+use Rattle.cpe_members.specs.Gives.{◌>>=◌, all_from, Fails, is_out_of_memory}
 use Rattle.cpe_members.specs.Forms.{list_of}
+use Rattle.cpe_members.proofs.AllFrom.{carried}
 use Rattle.cpe_members.specs.Tests.{draft_of, drafts_of, drafts_in, children_in, draft_by, logic_in, leaf_in}
 
 -- the children that are looked up
@@ -61,12 +62,7 @@ draft_of-logic view f d (Some v) e there = draft_of-looked_up f d ∙ ap (branch
 -- what the children's fault makes of a logical test
 pub logic_fails : (d : Data) (e : RecordFault) (r : Result (List Draft) RecordFault) → Fails e r → Fails e (logic_in d r)
 unfolding logic_in
-logic_fails d fault.Json r h = ap (logic_in d) h
-logic_fails d (fault.Member m) r h = ap (logic_in d) h
-logic_fails d (fault.Name s k) r h = ap (logic_in d) h
-logic_fails d (fault.Attribute s a) r h = ap (logic_in d) h
-logic_fails d fault.TooDeep r h = ap (logic_in d) h
-logic_fails d fault.Memory r h = tt
+logic_fails d e r h = carried is_out_of_memory e r (logic_in d r) (λ p. ap (logic_in d) p) h
 
 pub looked_up-items : (f : Format) (o : Option Data) (ds : List Data) → Some ds ≡ option_map list_of (option_and_then as_array o) → looked_up f o ≡ all_from (λ k. draft_of f) 1 ds
 looked_up-items f o ds h = ap (children_by f) (sym h)

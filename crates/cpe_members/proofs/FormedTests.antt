@@ -19,7 +19,7 @@ use Rattle.cpe_members.specs.declared.draft.Draft.{Draft, Check}
 use Rattle.cpe_members.specs.declared.draft.Draft.TheOpen.{Draft-F}
 use Rattle.cpe_members.specs.declared.draft.Draft.TheVariants.{rolls-Check}
 use Rattle.cpe_members.specs.declared.draft.Draft.TheFolds.{fold-roll-Draft}
-use Rattle.cpe_members.specs.Yields.{Yields}
+use Rattle.cpe_members.specs.FirstFault.{Yields}
 use Rattle.cpe_members.proofs.YieldLemmas.{then_yields, behind}
 use Rattle.cpe_members.proofs.LowerNames.{is_lowered, name_in_lower}
 use Rattle.cpe_members.proofs.SoundTests.{formed, formed_step, formed-logic, formed-fact}

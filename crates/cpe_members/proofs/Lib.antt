@@ -1,5 +1,6 @@
 pub mod AllFrom
 pub mod Lists
+pub mod LineLemmas
 pub mod LowerNames
 pub mod YieldLemmas
 pub mod FilledNames

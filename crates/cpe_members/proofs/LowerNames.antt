@@ -11,7 +11,7 @@ use Rattle.cpe_name.specs.Equal.{same_name-Decides}
 use Rattle.cpe_uri.specs.EitherBinding.{read_any}
 use Rattle.cpe_uri.proofs.Canonical.{lower_is_lower}
 use Rattle.cpe_rows.specs.Names.{is_lower}
-use Rattle.cpe_members.specs.Yields.{Yields}
+use Rattle.cpe_members.specs.FirstFault.{Yields}
 use Rattle.cpe_members.specs.Forms.{required, member_at, list_or_empty}
 use Rattle.cpe_members.specs.NameObjects.{first_without, values_at}
 use Rattle.cpe_members.specs.Names.{lowered, of_text, of_object, object_name, object_in, text_or, name_in, at_spot, named_in, name_at, all_written, successors_at}
@@ -25,7 +25,7 @@ use Rattle.cpe_members.specs.declared.member.NotName.{NotName}
 use Rattle.cpe_members.specs.declared.member.NotName.TheVariants as not_name
 use Rattle.cpe_members.proofs.YieldLemmas.{then_yields, behind, all_yield}
 
-lowered_is_lower : (n : Values) → is_lower (lowered n) ≡ true
+pub lowered_is_lower : (n : Values) → is_lower (lowered n) ≡ true
 unfolding is_lower lowered
 lowered_is_lower n = (same_name-Decides (lower_name (lower_name n)) (lower_name n)).1 (lower_is_lower n)
 

@@ -26,7 +26,7 @@ use Rattle.cpe_members.specs.declared.draft.Draft.TheViews.{roll-Draft}
 use Rattle.cpe_members.specs.declared.draft.Draft.TheVariants.{rolls-Logic, rolls-Fact, rolls-Check}
 use Rattle.cpe_members.specs.declared.draft.Draft.TheFolds.{fold-Draft, fold-roll-Draft, ind-Draft, map-Draft}
 use Rattle.cpe_members.proofs.InTurn.{names_from-logic}
-use Rattle.cpe_members.specs.Yields.{Yields}
+use Rattle.cpe_members.specs.FirstFault.{Yields}
 use Rattle.cpe_members.proofs.LowerNames.{is_lowered, at_spot_lower}
 
 abbrev pub Each : {A : Type 0} → (A → Type 0) → Result A RecordFault → Type 0

@@ -25,7 +25,7 @@ use Rattle.cpe_members.specs.declared.draft.Draft.TheVariants.{rolls-Logic}
 use Rattle.cpe_members.specs.declared.draft.Draft.TheFolds.{fold-Draft, fold-roll-Draft, ind-Draft, map-Draft}
 use Rattle.cpe_members.proofs.Drafts.{draft_of-looked_up, looked_up}
 use Rattle.cpe_members.proofs.InTurn.{names_from-logic}
-use Rattle.cpe_members.specs.Yields.{Yields}
+use Rattle.cpe_members.specs.FirstFault.{Yields}
 use Rattle.cpe_members.proofs.YieldLemmas.{behind}
 use Rattle.cpe_members.proofs.SoundTests.{Each, formed, Agrees, reads_as}
 use Rattle.cpe_members.proofs.FormedTests.{data_formed}

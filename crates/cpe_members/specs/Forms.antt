@@ -1,5 +1,5 @@
 -- The forms of members that are no names.
-use Rattle.std.specs.Prelude.{ℕ, List, [], ◌∷◌, codes, Bool, false, Option, Some, None, Result, Ok, Err, option_and_then, option_map, if◌then◌else◌}
+use Rattle.std.specs.Prelude.{ℕ, List, [], ◌∷◌, codes, Bool, false, Option, Some, None, Result, ok_or, option_and_then, option_map, if◌then◌else◌}
 use Rattle.serde_json.specs.Data.{Data, Items, no_items, item}
 use Rattle.serde_json.specs.Find.{get, as_str, as_bool, as_array}
 use Rattle.cpe_rows.specs.Date.{is_date}
@@ -10,8 +10,7 @@ use Rattle.cpe_members.specs.declared.member.RecordFault.TheVariants as fault
 
 -- what the form makes of a member, or the member's fault
 abbrev pub required : {A : Type 0} → Member → Option A → Result A RecordFault
-required m (Some x) = Ok x
-required m None = Err (fault.Member m)
+required m form = ok_or form (fault.Member m)
 
 -- an absent member has the default
 abbrev pub or_default : {A : Type 0} → A → (Data → Option A) → Option Data → Option A
@@ -26,25 +25,33 @@ tested passes s = if passes s then Some s else None
 abbrev pub member_at : Member → Data → Option Data
 member_at m d = get (key_of m) d
 
+-- at this key a text
+abbrev pub text_in : List ℕ → Data → Option (List ℕ)
+text_in key d = option_and_then as_str (get key d)
+
+-- at this key `true` or `false`, which may be absent and is then `false`
+abbrev pub flag_in : List ℕ → Data → Option Bool
+flag_in key d = or_default false as_bool (get key d)
+
 -- at this member a text
 abbrev pub text_at : Member → Data → Result (List ℕ) RecordFault
-text_at m d = required m (option_and_then as_str (member_at m d))
+text_at m d = required m (text_in (key_of m) d)
 
 -- a text that is one of the words
 abbrev pub word_at : {A : Type 0} → (List ℕ → Option A) → Member → Data → Result A RecordFault
-word_at word m d = required m (option_and_then word (option_and_then as_str (member_at m d)))
+word_at word m d = required m (option_and_then word (text_in (key_of m) d))
 
 -- at this key a text, which may be absent and is then empty
 abbrev pub text_or_empty : Member → List ℕ → Data → Result (List ℕ) RecordFault
 text_or_empty m key d = required m (or_default [] as_str (get key d))
 
--- at this key `true` or `false`, which may be absent and is then `false`
+-- the same, or the member's fault
 abbrev pub flag_or_false : Member → List ℕ → Data → Result Bool RecordFault
-flag_or_false m key d = required m (or_default false as_bool (get key d))
+flag_or_false m key d = required m (flag_in key d)
 
 -- at the key `date` a text of the shape of a date
 abbrev pub date_at : Member → Data → Result (List ℕ) RecordFault
-date_at m d = required m (option_and_then (tested is_date) (option_and_then as_str (get (codes "date") d)))
+date_at m d = required m (option_and_then (tested is_date) (text_in (codes "date") d))
 
 abbrev pub list_of : Items → List Data
 list_of no_items = []

@@ -1,7 +1,8 @@
 pub mod Keys
 pub mod Words
+pub mod FirstFault
 pub mod Gives
-pub mod Yields
+pub mod Line
 pub mod Forms
 pub mod Formats
 pub mod NameObjects

@@ -3,7 +3,7 @@ ghost use Rattle.std.specs.Prelude.{◌≡◌, option_map, option_and_then, IfOk
 ghost use Rattle.serde_json.specs.View.{view};
 ghost use Rattle.serde_json.specs.Find.{as_str, as_array, get};
 ghost use Rattle.cpe_members.specs.Gives.{Gives, GivesBy};
-ghost use Rattle.cpe_members.specs.Forms.{member_at, text_at, text_or_empty, flag_or_false, date_at, list_of, list_or_empty};
+ghost use Rattle.cpe_members.specs.Forms.{member_at, text_at, text_or_empty, flag_in, flag_or_false, date_at, list_of, list_or_empty};
 
 use crate::{Member, RecordFault};
 use cpe_rows::{Date, Text};
@@ -60,6 +60,16 @@ pub fn text_or_empty(
     }
 }
 
+/// The `true` or `false` at a key, which may be absent and is then `false`; none where something else stands there. It takes no memory.
+pub fn flag_in(source: &Value, key: &str) -> Option<bool>
+    ensures { result ≡ flag_in key.now (view source.now) }
+{
+    match source.get(key) {
+        Some(value) => value.as_bool(),
+        None => Some(false),
+    }
+}
+
 /// The `true` or `false` at a key, which may be absent and is then `false`. It takes no memory.
 ///
 /// # Errors
@@ -68,10 +78,7 @@ pub fn flag_or_false(source: &Value, member: Member, key: &str) -> Result<bool, 
     ensures read { Gives result (flag_or_false member key.now (view source.now)) }
     ensures fault { IfErr result (λ e. e ≡ RecordFault.Member member) }
 {
-    match source.get(key) {
-        Some(value) => value.as_bool().ok_or(RecordFault::Member(member)),
-        None => Ok(false),
-    }
+    flag_in(source, key).ok_or(RecordFault::Member(member))
 }
 
 /// The date at the key `date`. It takes no memory.

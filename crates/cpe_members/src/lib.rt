@@ -16,6 +16,7 @@
 mod draft;
 mod form;
 mod format;
+mod line;
 mod member;
 mod name;
 mod object;
@@ -23,8 +24,9 @@ mod provenance;
 mod words;
 
 pub use draft::test_at;
-pub use form::{date_at, flag_or_false, text_at, text_in, text_of, text_or_empty};
+pub use form::{date_at, flag_in, flag_or_false, text_at, text_in, text_of, text_or_empty};
 pub use format::{Format, format_at};
+pub use line::value_of;
 pub use member::{Member, NameSpot, NotName, RecordFault};
 pub use name::{name_at, successors_at};
 pub use provenance::provenance_or_empty;

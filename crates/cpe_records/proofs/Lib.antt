@@ -1,4 +1,3 @@
-pub mod Line
 pub mod ValidLemmas
 pub mod ValidRecords
 pub mod Pieces

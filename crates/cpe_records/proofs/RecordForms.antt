@@ -1,5 +1,5 @@
 -- The written form of a record is read as the data of its JSON.
-use Rattle.std.proofs.Common.{◌≡◌, ℕ, suc, List, [], ◌∷◌, Bool, true, ◌&&◌, nat_le, refl, arith}
+use Rattle.std.proofs.Common.{◌≡◌, ℕ, suc, List, [], ◌∷◌, Bool, true, ◌&&◌, nat_le, refl, ap, arith}
 use Rattle.std.specs.Str.{IsUtf8}
 use Rattle.std.specs.Prelude.{Ok}
 use Rattle.std.proofs.lemmas.Bool.{and_parts, and_from}
@@ -17,13 +17,14 @@ use Rattle.cpe_rows.specs.declared.edit.Edit.TheVariants as edit
 use Rattle.cpe_rows.specs.declared.edit.Query.{Query}
 use Rattle.cpe_rows.specs.declared.edit.Query.TheVariants as query
 use Rattle.cpe_records.specs.NameObject.{name_object}
-use Rattle.cpe_records.specs.Reading.{json_of, value_of}
+use Rattle.cpe_records.specs.Reading.{json_of}
+use Rattle.cpe_members.specs.Line.{value_of}
 use Rattle.cpe_records.specs.Taken.{is_valid_record}
 use Rattle.cpe_records.specs.Written.{items_by, note_json, provenance_json}
 use Rattle.cpe_records.specs.WrittenRecord.{test_json, edit_json, query_json, record_json, record_text}
 use Rattle.cpe_records.specs.declared.read.Record.{Record}
 use Rattle.cpe_records.specs.declared.read.Record.TheVariants as of_kind
-use Rattle.cpe_records.proofs.Line.{line_read}
+use Rattle.cpe_members.proofs.LineLemmas.{line_read}
 use Rattle.cpe_records.proofs.ReadBack.{data_of, fits, fit_items, read-printed}
 use Rattle.cpe_records.proofs.NameObjects.{fits-name_object}
 use Rattle.cpe_records.proofs.TestForms.{fits-test_json}
@@ -79,4 +80,4 @@ record_fits (of_kind.Query q) h = query_fits q
 -- as a line, the written form is the record's JSON as data
 pub form_read : (r : Record) → is_valid_record r ≡ true → IsUtf8 (record_text r) → json_of (value_of (record_text r)) ≡ Ok (data_of (record_json r))
 unfolding record_text
-form_read r h u = line_read (record_text r) (data_of (record_json r)) (u, read-printed (record_json r) (record_fits r h))
+form_read r h u = ap json_of (line_read (record_text r) (data_of (record_json r)) (u, read-printed (record_json r) (record_fits r h)))

@@ -1,10 +1,9 @@
 -- What is read is valid: names are in lower case, and an id has the form of one.
-use Rattle.std.proofs.Common.{◌≡◌, ℕ, List, Bool, true, false, ◌&&◌, if◌then◌else◌, refl}
-use Rattle.std.specs.Prelude.{Option, Some, None, option_and_then, is_none, codes}
+use Rattle.std.proofs.Common.{◌≡◌, ℕ, List, Bool, true, ◌&&◌, refl}
+use Rattle.std.specs.Prelude.{is_none, codes}
 use Rattle.std.specs.List.{list_all}
 use Rattle.std.proofs.lemmas.Bool.{and_from}
 use Rattle.serde_json.specs.Data.{Data}
-use Rattle.serde_json.specs.Find.{as_str}
 use Rattle.cpe_rows.specs.Names.{is_lower}
 use Rattle.cpe_rows.specs.Valid.{is_id}
 use Rattle.cpe_rows.specs.declared.edit.Edit.{Edit}
@@ -13,11 +12,12 @@ use Rattle.cpe_rows.specs.declared.edit.Query.{Query}
 use Rattle.cpe_rows.specs.declared.entry.Deprecation.{Deprecation}
 use Rattle.cpe_rows.specs.declared.entry.Entry.{Entry}
 use Rattle.cpe_name.specs.Eleven.{Values}
-use Rattle.cpe_members.specs.Yields.{Yields}
-use Rattle.cpe_members.proofs.YieldLemmas.{then_yields, behind}
+use Rattle.cpe_members.specs.FirstFault.{Yields}
+use Rattle.cpe_members.proofs.YieldLemmas.{then_yields, behind, tested_yields}
 use Rattle.cpe_members.proofs.LowerNames.{name_lower, successors_lower}
+use Rattle.cpe_members.specs.Keys.{key_of}
 use Rattle.cpe_members.specs.Words.{kind_of, truth_of}
-use Rattle.cpe_members.specs.Forms.{required, member_at, word_at, flag_or_false, tested}
+use Rattle.cpe_members.specs.Forms.{word_at, flag_or_false, text_in}
 use Rattle.cpe_members.specs.Names.{name_at, successors_at}
 use Rattle.cpe_members.specs.declared.format.Format.{Format}
 use Rattle.cpe_records.specs.Kinds.{id_at, description_in, entry_in, remark_in, change_in, deprecation_in, restore_in, key_at, check_in, search_in}
@@ -25,6 +25,7 @@ use Rattle.cpe_records.specs.Taken.{is_valid_record}
 use Rattle.cpe_records.specs.declared.read.Record.TheVariants as TheRecord
 use Rattle.cpe_records.specs.declared.kinds.Change.{Change}
 use Rattle.cpe_members.specs.declared.member.Member.TheVariants as member
+use Rattle.cpe_members.specs.declared.member.RecordFault.TheVariants as fault
 
 abbrev pub as_edit : Edit → Bool
 as_edit e = is_valid_record (TheRecord.Edit e)
@@ -75,13 +76,5 @@ unfolding search_in
 search_valid f d =
     then_yields is_lower as_query (name_at f d) _ (name_lower f d) (λ n h. behind as_query (flag_or_false member.Active (codes "active") d) _ (λ a. h))
 
-tested_id : (s : List ℕ) (b : Bool) → is_id s ≡ b → Yields is_id (required member.Id (if b then Some s else None))
-tested_id s true e = e
-tested_id s false e = tt
-
-text_id : (o : Option (List ℕ)) → Yields is_id (required member.Id (option_and_then (tested is_id) o))
-text_id None = tt
-text_id (Some s) = tested_id s (is_id s) refl
-
 pub id_valid : (d : Data) → Yields is_id (id_at d)
-id_valid d = text_id (option_and_then as_str (member_at member.Id d))
+id_valid d = tested_yields is_id (fault.Member member.Id) (text_in (key_of member.Id) d)

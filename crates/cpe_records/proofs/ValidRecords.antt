@@ -18,14 +18,15 @@ use Rattle.cpe_rows.specs.declared.edit.Edit.{Edit}
 use Rattle.cpe_rows.specs.declared.edit.Edit.TheVariants as edit
 use Rattle.cpe_rows.specs.declared.statement.Statement.{Statement}
 use Rattle.cpe_records.specs.Taken.{is_valid_record}
-use Rattle.cpe_records.specs.Reading.{record_by, record_of, json_of, value_of}
+use Rattle.cpe_records.specs.Reading.{record_by, record_of, json_of}
+use Rattle.cpe_members.specs.Line.{value_of}
 use Rattle.cpe_records.specs.declared.read.Record.{Record}
 use Rattle.cpe_records.specs.declared.read.Record.TheVariants as TheRecord
 use Rattle.cpe_records.specs.declared.verb.Verb.{Verb}
 use Rattle.cpe_records.specs.declared.verb.Verb.TheVariants as verb
 use Rattle.cpe_members.specs.declared.member.Member.TheVariants as member
 use Rattle.cpe_members.specs.declared.member.RecordFault.{RecordFault}
-use Rattle.cpe_members.specs.Yields.{Yields}
+use Rattle.cpe_members.specs.FirstFault.{Yields}
 use Rattle.cpe_members.proofs.YieldLemmas.{then_yields, behind}
 use Rattle.cpe_members.proofs.LowerNames.{name_lower}
 use Rattle.cpe_records.proofs.ValidLemmas.{entry_valid, deprecate_valid, amend_valid, restore_valid, check_valid, search_valid, id_valid, is_new, as_edit, as_query}

@@ -1,11 +1,10 @@
 -- The record of a line.
-use Rattle.std.specs.Prelude.{ℕ, List, Option, Some, None, Result, Ok, Err, if◌then◌else◌}
-use Rattle.std.specs.Str.{is_utf8}
+use Rattle.std.specs.Prelude.{ℕ, List, Option, Result, Ok, ok_or}
 use Rattle.serde_json.specs.Data.{Data}
-use Rattle.serde_json.specs.Read.{read}
 use Rattle.cpe_rows.specs.declared.edit.Edit.TheVariants as edit
 use Rattle.cpe_rows.specs.declared.edit.Query.TheVariants as query
 use Rattle.cpe_members.specs.Gives.{◌>>=◌}
+use Rattle.cpe_members.specs.Line.{value_of}
 use Rattle.cpe_records.specs.Verbs.{verb_of}
 use Rattle.cpe_members.specs.Forms.{word_at}
 use Rattle.cpe_members.specs.Formats.{format_at}
@@ -39,13 +38,8 @@ record_by verb.Chain f d = name_at f d >>= λ n. Ok (Query (query.Chain n))
 record_by verb.Show f d = name_at f d >>= λ n. Ok (Query (query.Show n))
 record_by verb.Verdict f d = id_at d >>= λ id. Ok (Query (query.Verdict id))
 
--- what the line is as JSON (RFC 8259), if it is a value
-abbrev pub value_of : List ℕ → Option Data
-value_of line = if is_utf8 line then read line else None
-
 abbrev pub json_of : Option Data → Result Data RecordFault
-json_of None = Err fault.Json
-json_of (Some d) = Ok d
+json_of value = ok_or value fault.Json
 
 -- a value, its kind, its format, and then the members of that kind
 unfoldable pub record_of : List ℕ → Result Record RecordFault

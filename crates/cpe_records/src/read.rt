@@ -6,14 +6,15 @@ ghost use Rattle.cpe_records.specs.Verbs.{verb_of};
 ghost use Rattle.cpe_records.specs.declared.verb.Verb.TheVariants as verb;
 ghost use Rattle.cpe_members.specs.Gives.{Gives, GivesBy};
 ghost use Rattle.cpe_members.specs.Forms.{word_at};
+ghost use Rattle.cpe_members.specs.Line.{value_of};
 ghost use Rattle.cpe_records.specs.Taken.{is_valid_record};
-ghost use Rattle.cpe_records.specs.Reading.{record_by, json_of, value_of, record_of};
+ghost use Rattle.cpe_records.specs.Reading.{record_by, json_of, record_of};
 
 use crate::kinds::{
     check_in, deprecation_in, entry_in, id_at, key_at, restore_in, search_in, statement_in,
 };
 use crate::verb::{Verb, verb_of};
-use cpe_members::{Format, Member, RecordFault, format_at, name_at, text_of};
+use cpe_members::{Format, Member, RecordFault, format_at, name_at, text_of, value_of};
 use cpe_rows::{Edit, Query};
 use serde_json::Value;
 use std::alloc::Global;
@@ -178,19 +179,10 @@ fn record_by(
     }
 }
 
-fn value_of(alloc: Global, line: &[u8]) -> Result<Value, RecordFault>
+fn json_of(alloc: Global, line: &[u8]) -> Result<Value, RecordFault>
     ensures { GivesBy view result (json_of (value_of line.now)) }
 {
-    match Value::from_slice(alloc, line) {
-        Ok(value) => Ok(value),
-        Err(error) => {
-            if error.is_memory() {
-                Err(RecordFault::Memory)
-            } else {
-                Err(RecordFault::Json)
-            }
-        }
-    }
+    value_of(alloc, line)?.ok_or(RecordFault::Json)
 }
 
 // The record of a line, before it is known that an engine takes it.
@@ -198,7 +190,7 @@ fn value_of(alloc: Global, line: &[u8]) -> Result<Value, RecordFault>
 fn record_in(alloc: Global, line: &[u8]) -> Result<Record, RecordFault>
     ensures { Gives result (record_of line.now) }
 {
-    let value = value_of(alloc, line)?;
+    let value = json_of(alloc, line)?;
     let verb = verb_at(&value)?;
     let format = format_at(&value)?;
     record_by(alloc, verb, format, &value)

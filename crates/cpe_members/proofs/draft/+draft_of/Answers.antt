@@ -7,7 +7,7 @@ use Rattle.std.proofs.lemmas.List.{length-map}
 use Rattle.serde_json.specs.Data.{depth}
 use Rattle.serde_json.specs.Find.{get}
 use Rattle.serde_json.specs.View.{view}
-use Rattle.cpe_members.specs.Gives.{all_from, Fails, Gives}
+use Rattle.cpe_members.specs.Gives.{all_from, Fails, Gives, is_out_of_memory}
 use Rattle.cpe_members.specs.Tests.{draft_of, logic_in}
 use Rattle.cpe_members.proofs.AllFrom.{all_from-more, all_from_fails}
 use Rattle.cpe_members.proofs.Depths.{below_depth}
@@ -35,7 +35,7 @@ pub returns-in-Err : goal.returns-in-Err
 returns-in-Err t c =
     let d = view c.args.source.now in
     let fails = all_from_fails view (λ k. draft_of c.args.format) 1 c.loop-item.item-index c.in-Some.items.now c.item-item.result c.loop-item-test.true
-    c.loop-item.of c.in-Err.fault c.loop-item.invariant (subst (λ v. Fails c.in-Err.fault (draft_of c.args.format (view v))) c.item-item.is c.in-Err.ensures) in
+    is_out_of_memory c.loop-item.of c.in-Err.fault c.loop-item.invariant (subst (λ v. Fails c.in-Err.fault (draft_of c.args.format (view v))) c.item-item.is c.in-Err.ensures) in
     let logic = draft_of-logic (λ v. view v.now) c.args.format d c.get.result c.get.ensures (c.is_none.ensures ∙ ap not c.if-is_none.false) in
     let children : Fails c.in-Err.fault (looked_up c.args.format (get (codes "of") d)) =
     subst (Fails c.in-Err.fault) (sym (looked_up-items c.args.format (get (codes "of") d) (map view c.in-Some.items.now) c.in-Some.ensures)) fails in

@@ -2,7 +2,7 @@ use Rattle.std.proofs.Common.{◌≡◌, ◌+◌, sym, ap, ◌∙◌, subst, get
 use Rattle.std.specs.Prelude.{Ok}
 use Rattle.serde_json.specs.View.{view}
 use Rattle.cpe_members.specs.Names.{named_in}
-use Rattle.cpe_members.specs.Gives.{Fails}
+use Rattle.cpe_members.specs.Gives.{Fails, is_out_of_memory}
 use Rattle.cpe_members.specs.declared.member.Member.TheVariants as member
 use Rattle.cpe_members.specs.declared.member.NameSpot.TheVariants as spot
 use Rattle.cpe_members.proofs.AllFrom.{all_from-more, all_from_fails}
@@ -24,5 +24,5 @@ returns-in-Err c =
     let i = c.loop-source.source-index in
     let at = subst (λ k. Fails c.in-Err.fault (named_in f member.Successors (spot.Successor k) (view c.source-item.result))) c.loop-source.invariant.0 c.in-Err.ensures in
     all_from_fails view (λ k. named_in f member.Successors (spot.Successor k)) 1 i c.args.sources.now c.source-item.result c.loop-source-test.true
-    c.loop-source.names c.in-Err.fault c.loop-source.invariant.1
+    is_out_of_memory c.loop-source.names c.in-Err.fault c.loop-source.invariant.1
     (subst (λ v. Fails c.in-Err.fault (named_in f member.Successors (spot.Successor (1 + i)) (view v))) c.source-item.is at)

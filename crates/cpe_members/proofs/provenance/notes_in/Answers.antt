@@ -1,7 +1,7 @@
 use Rattle.std.proofs.Common.{sym, ap, ◌∙◌, subst}
 use Rattle.serde_json.specs.View.{view}
 use Rattle.cpe_members.specs.Provenance.{note_in}
-use Rattle.cpe_members.specs.Gives.{Fails}
+use Rattle.cpe_members.specs.Gives.{Fails, is_out_of_memory}
 use Rattle.cpe_members.proofs.AllFrom.{all_from-more, all_from_fails}
 use Rattle.cpe_members.proofs.provenance.notes_in.Goals as goal
 
@@ -15,4 +15,4 @@ loop-source-preserved c =
 pub returns-in-Err : goal.returns-in-Err
 returns-in-Err c =
     all_from_fails view (λ n. note_in) 1 c.loop-source.source-index c.args.sources.now c.source-item.result c.loop-source-test.true
-    c.loop-source.notes c.in-Err.fault c.loop-source.invariant (subst (λ v. Fails c.in-Err.fault (note_in (view v))) c.source-item.is c.in-Err.ensures)
+    is_out_of_memory c.loop-source.notes c.in-Err.fault c.loop-source.invariant (subst (λ v. Fails c.in-Err.fault (note_in (view v))) c.source-item.is c.in-Err.ensures)
