@@ -1,5 +1,5 @@
 -- A refusal is one line, and no record.
-use Rattle.std.proofs.Common.{◌≡◌, ℕ, zero, suc, ◌+◌, ◌/◌, ◌%◌, Bool, true, false, ◌==◌, nat_lt, nat_le, List, [], ◌∷◌, ◌++◌, length, Option, Some, None, if◌then◌else◌, codes, refl, ap, arith}
+use Rattle.std.proofs.Common.{◌≡◌, ℕ, zero, suc, ◌+◌, ◌/◌, ◌%◌, Bool, true, false, ◌==◌, nat_lt, nat_le, List, [], ◌∷◌, ◌++◌, Some, None, if◌then◌else◌, codes, refl, ap, arith}
 use Rattle.std.specs.Prelude.{Result, Err}
 use Rattle.std.specs.Fmt.{decimal, digits, digits_onto, digit_glyph}
 use Rattle.std.proofs.lemmas.Bool.{le-leb}
@@ -23,12 +23,12 @@ use Rattle.cpe_members.specs.declared.member.NameSpot.TheVariants.{Name, Success
 use Rattle.cpe_members.specs.declared.member.RecordFault.{RecordFault}
 use Rattle.cpe_members.specs.declared.member.RecordFault.TheVariants as fault
 use Rattle.cpe_records.specs.Edited.{edited, line_edited}
-use Rattle.cpe_records.specs.Reading.{record_by, record_of}
+use Rattle.cpe_records.specs.Reading.{json_of, record_by, record_of}
 use Rattle.cpe_records.specs.Verbs.{verb_of}
 use Rattle.cpe_records.specs.declared.read.Record.{Record}
-use Rattle.cpe_records.proofs.Line.{line_refused}
+use Rattle.cpe_members.proofs.LineLemmas.{line_refused}
 use Rattle.cpe_replies.specs.Reasons.{record_fault_text, spot_text}
-use Rattle.cpe_convert.proofs.Clean.{Clean, clean-append, clean-cons, clean-line_of}
+use Rattle.cpe_convert.proofs.Clean.{Clean, clean-append, clean-cons}
 
 clean_glyph : (d : ℕ) → nat_le 32 (digit_glyph false d) ≡ true
 clean_glyph d = go (nat_lt d 10) where
@@ -119,7 +119,7 @@ record_in d = word_at verb_of member.Do d >>= λ v. format_at d >>= λ f. record
 
 no_record : (more : List ℕ) → record_of (114 ∷ more) ≡ Err fault.Json
 unfolding record_of
-no_record more = ap (λ read. read >>= record_in) (line_refused (114 ∷ more) (λ u. no_json more))
+no_record more = ap (λ value. json_of value >>= record_in) (line_refused (114 ∷ more) (λ u. no_json more))
 
 no_bytes : read [] ≡ None
 unfolding lex punctuate value
@@ -127,7 +127,7 @@ no_bytes = refl
 
 pub no_bytes_no_record : record_of [] ≡ Err fault.Json
 unfolding record_of
-no_bytes_no_record = ap (λ read. read >>= record_in) (line_refused [] (λ u. no_bytes))
+no_bytes_no_record = ap (λ value. json_of value >>= record_in) (line_refused [] (λ u. no_bytes))
 
 pub refused_edits : (rows : Rows) (number : ℕ) (reason : List ℕ) → (b : Bool) → line_edited rows (if b then Some (refused_line number reason) else None) ≡ rows
 refused_edits rows number reason true = ap (edited rows) (no_record _)

@@ -29,7 +29,7 @@ impl Stateless for Convert {
         text: &[u8],
     ) -> Result<Option<ConvertReason>, AllocError> {
         match read_record(alloc, text) {
-            Ok(record) => say_form(alloc, page, &record),
+            Ok(record) => say_form(alloc, page, record),
             Err(RecordFault::Memory) => Err(AllocError),
             Err(fault) => Ok(Some(ConvertReason::Unread(fault))),
         }
@@ -41,12 +41,20 @@ impl Stateless for Convert {
 fn say_form(
     alloc: Global,
     page: &mut Page,
-    what: &Record,
+    what: Record,
 ) -> Result<Option<ConvertReason>, AllocError>
-    ensures { IfOk result (Puts (as_line (record_text what.now)) page.old page.new) }
+    ensures { IfOk result (Puts (as_line (record_text what)) page.old page.new) }
 {
-    match write_record(alloc, what) {
-        Ok(form) => say_line(page, &form),
+    let form = form_of(alloc, what)?;
+    say_line(page, &form)
+}
+
+// The written form of a record, which is let go.
+fn form_of(alloc: Global, what: Record) -> Result<Vec<u8>, AllocError>
+    ensures { IfOk result (λ form. form.items ≡ record_text what) }
+{
+    match write_record(alloc, &what) {
+        Ok(form) => Ok(form),
         Err(_) => Err(AllocError),
     }
 }
