@@ -336,7 +336,8 @@ def parts_of(program, others, lines):
 
 
 def vectors_of(*commands):
-    return [path for it in commands for path in sorted((VECTORS / it.split()[1]).glob("*.in"))]
+    """The vectors of these commands in the first format of records, which is the one that the twins read."""
+    return [path for it in commands for path in sorted((VECTORS / it.split()[1]).glob("*.in")) if "second-format" not in path.name]
 
 
 def sizes_of(lines):
