@@ -37,8 +37,8 @@ fn the_form_of_a_change(rt: HostRuntime) {
     assert!(rt;
         has_form(
             rt.alloc(),
-            r#"{"do":"amend","name":"cpe:2.3:o:V:p\\+x:-:*:*:*:*:*:*:?","kind":"NAME_REMOVAL","date":"2024-01-02"}"#,
-            r#"{"comment":"","date":"2024-01-02","do":"amend","kind":"NAME_REMOVAL","name":{"other":"?","part":"o","product":"p\\+x","vendor":"v","version":"-"},"successors":[],"v":"2"}"#
+            r#"{"do":"amend","name":"cpe:2.3:o:V:p\\+x:-:*:*:*:*:*:*:x?","kind":"NAME_REMOVAL","date":"2024-01-02"}"#,
+            r#"{"comment":"","date":"2024-01-02","do":"amend","kind":"NAME_REMOVAL","name":{"other":"x?","part":"o","product":"p\\+x","vendor":"v","version":"-"},"successors":[],"v":"2"}"#
         )
     );
 }
