@@ -983,6 +983,7 @@ checks_of_evaluate() {
     cat examples/dictionary.out "$room/none.out" > "$room/verdicts.out"
     answers 'a dictionary: evaluate' examples/dictionary.jsonl "$room/verdicts.out" 1 evaluate
     answers 'an inventory' examples/inventory.jsonl examples/inventory.out 1 evaluate
+    answers 'an inventory whose names are objects' examples/objects.jsonl examples/objects.out 1 evaluate
     answers 'an empty input: evaluate' /dev/null "$room/none.out" 0 evaluate
     answers 'a word too many: evaluate' examples/inventory.jsonl "$room/usage.out" 2 evaluate names
     answers_in_pieces tests/vectors/evaluate/dictionary-and-advisories.in tests/vectors/evaluate/dictionary-and-advisories.out evaluate
@@ -1154,7 +1155,7 @@ checks_of_convert() {
     answers_vectors convert convert
     answers_vectors_in_pieces convert convert
     answers_forms_alike resolve examples/dictionary.jsonl examples/deprecations.jsonl
-    answers_forms_alike evaluate examples/inventory.jsonl tests/vectors/evaluate/*.in
+    answers_forms_alike evaluate examples/inventory.jsonl examples/objects.jsonl tests/vectors/evaluate/*.in
     answers_at_once tests/vectors/convert/kinds-with-defaults.in tests/vectors/convert/kinds-with-defaults.out 0 convert
     fails_on_a_full_device examples/convert.jsonl convert
     answers 'a read that fails ends with status 3: convert' . /dev/null 3 convert
