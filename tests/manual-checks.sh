@@ -75,7 +75,7 @@ limits_of_code() {
         sed -n 's/^pub const MOST_\([A-Z_]*\): u[a-z0-9]* = \([0-9_]*\);$/\1 \2/p' |
         tr -d _ | sed 's/^LEVELS/depth/; s/^IDBYTES/id/' | tr '[:upper:]' '[:lower:]'
     sed -n 's/^pub const LONGEST: usize = \([0-9]*\);$/line \1/p' crates/cpe_io/src/line.rt
-    sed -n 's/^const MOST_BYTES: u64 = 1 << \([0-9]*\);$/\1/p' crates/cpe_session/src/session.rt | awk '{ n = 1; for (k = 0; k < $1; k++) n *= 2; printf "input %.0f\n", n }'
+    sed -n 's/^pub const MOST_BYTES: u64 = 1 << \([0-9]*\);$/\1/p' crates/cpe_session/src/session.rt | awk '{ n = 1; for (k = 0; k < $1; k++) n *= 2; printf "input %.0f\n", n }'
     sed -n 's/^pub const MOST_LINES: u32 = \([0-9_]*\);$/N \1/p' crates/cpe_drill/src/line.rt | tr -d _
 }
 
@@ -102,7 +102,7 @@ compares_lists() {
     sed -n 's/.*result of a check weighs \([0-9]*\)$/\1/p' "$page" > "$room/page"
     are_one 'what a row weighs at least on the manual page is that of the code'
 
-    codes verb_word crates/cpe_records/specs/Verbs.antt > "$room/code"
+    codes record_word crates/cpe_records/specs/RecordKinds.antt > "$room/code"
     heads RECORDS Kinds > "$room/page"
     are_one 'the kinds of records on the manual page are those of the code'
 
@@ -110,7 +110,7 @@ compares_lists() {
     heads RECORDS Members > "$room/page"
     are_one 'the members of records on the manual page are those of the code'
 
-    codes verb_word crates/cpe_advisories/specs/Reading.antt > "$room/code"
+    codes record_word crates/cpe_advisories/specs/Reading.antt > "$room/code"
     heads 'RECORDS OF ADVISE' Kinds > "$room/page"
     are_one 'the kinds of records of advise on the manual page are those of the code'
 

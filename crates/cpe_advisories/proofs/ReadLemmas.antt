@@ -15,7 +15,7 @@ use Rattle.cpe_members.specs.Line.{value_of}
 use Rattle.cpe_members.proofs.LowerNames.{lowered_is_lower}
 use Rattle.cpe_members.proofs.YieldLemmas.{then_yields, behind, tested_yields}
 use Rattle.cpe_advisories.specs.Gives.{Gives}
-use Rattle.cpe_advisories.specs.Reading.{advice_by, advice_of, advisory_in, bound_of, bounds_in, flag_at, id_at, json_of, key_of, name_at, named, required, verb_at, version_at, version_in}
+use Rattle.cpe_advisories.specs.Reading.{advice_by, advice_of, advisory_in, bound_of, bounds_in, flag_at, id_at, json_of, key_of, name_at, named, required, record_kind_at, version_at, version_in}
 use Rattle.cpe_advisories.specs.Valid.{is_bound, is_valid_advice, is_valid_advisory}
 use Rattle.cpe_advisories.specs.declared.member.AdviceMember.{AdviceMember}
 use Rattle.cpe_advisories.specs.declared.member.AdviceMember.TheVariants as member
@@ -23,8 +23,8 @@ use Rattle.cpe_advisories.specs.declared.member.AdviceReadFault.{AdviceReadFault
 use Rattle.cpe_advisories.specs.declared.member.AdviceReadFault.TheVariants as fault
 use Rattle.cpe_advisories.specs.declared.read.Advice.{Advice}
 use Rattle.cpe_advisories.specs.declared.read.Bounds.{Bounds}
-use Rattle.cpe_advisories.specs.declared.verb.Verb.{Verb}
-use Rattle.cpe_advisories.specs.declared.verb.Verb.TheVariants as verb
+use Rattle.cpe_advisories.specs.declared.record_kind.RecordKind.{RecordKind}
+use Rattle.cpe_advisories.specs.declared.record_kind.RecordKind.TheVariants as record_kind
 
 -- ---- members
 
@@ -84,17 +84,17 @@ advisory_valid d =
     (λ n hn. then_yields are_bounds is_valid_advisory (bounds_in d) _ (bounds_valid d)
     (λ b hb. let both = and_parts (is_bound b.start) (is_bound b.end) hb in and_from _ _ (and_from _ _ (and_from _ _ hi hn) both.0) both.1)))
 
-advice_valid : (v : Verb) (d : Data) → Yields is_valid_advice (advice_by v d)
-advice_valid verb.Item d = then_yields is_lower is_valid_advice (name_at d) _ (name_lower d) (λ n h. h)
-advice_valid verb.DropItem d = then_yields is_lower is_valid_advice (name_at d) _ (name_lower d) (λ n h. h)
-advice_valid verb.Advisory d = then_yields is_valid_advisory is_valid_advice (advisory_in d) _ (advisory_valid d) (λ a h. h)
-advice_valid verb.DropAdvisory d = then_yields is_id is_valid_advice (id_at d) _ (id_valid d) (λ i h. h)
-advice_valid verb.Affected d = then_yields is_id is_valid_advice (id_at d) _ (id_valid d) (λ i h. h)
-advice_valid verb.Advisories d = then_yields is_lower is_valid_advice (name_at d) _ (name_lower d) (λ n h. h)
+advice_valid : (v : RecordKind) (d : Data) → Yields is_valid_advice (advice_by v d)
+advice_valid record_kind.Item d = then_yields is_lower is_valid_advice (name_at d) _ (name_lower d) (λ n h. h)
+advice_valid record_kind.DropItem d = then_yields is_lower is_valid_advice (name_at d) _ (name_lower d) (λ n h. h)
+advice_valid record_kind.Advisory d = then_yields is_valid_advisory is_valid_advice (advisory_in d) _ (advisory_valid d) (λ a h. h)
+advice_valid record_kind.DropAdvisory d = then_yields is_id is_valid_advice (id_at d) _ (id_valid d) (λ i h. h)
+advice_valid record_kind.Affected d = then_yields is_id is_valid_advice (id_at d) _ (id_valid d) (λ i h. h)
+advice_valid record_kind.Advisories d = then_yields is_lower is_valid_advice (name_at d) _ (name_lower d) (λ n h. h)
 
 line_valid : (line : List ℕ) → Yields is_valid_advice (advice_of line)
 unfolding advice_of
-line_valid line = behind is_valid_advice (json_of (value_of line)) _ (λ d. behind is_valid_advice (verb_at d) _ (λ v. advice_valid v d))
+line_valid line = behind is_valid_advice (json_of (value_of line)) _ (λ d. behind is_valid_advice (record_kind_at d) _ (λ v. advice_valid v d))
 
 -- what a reader of the line answered is in order
 pub valid_by : (line : List ℕ) (r : Result Advice AdviceReadFault) → Gives r (advice_of line) → IfOk r (λ a. is_valid_advice a ≡ true)

@@ -21,8 +21,8 @@ use Rattle.cpe_advisories.specs.declared.member.AdviceReadFault.TheVariants as f
 use Rattle.cpe_advisories.specs.declared.read.Advice.{Advice}
 use Rattle.cpe_advisories.specs.declared.read.Advice.TheVariants.{Edit, Query}
 use Rattle.cpe_advisories.specs.declared.read.Bounds.{Bounds}
-use Rattle.cpe_advisories.specs.declared.verb.Verb.{Verb}
-use Rattle.cpe_advisories.specs.declared.verb.Verb.TheVariants as verb
+use Rattle.cpe_advisories.specs.declared.record_kind.RecordKind.{RecordKind}
+use Rattle.cpe_advisories.specs.declared.record_kind.RecordKind.TheVariants as record_kind
 
 -- how a member is written
 abbrev pub key_of : AdviceMember → List ℕ
@@ -34,16 +34,16 @@ key_of member.End = codes "end"
 key_of member.StartExcluded = codes "start-excluded"
 key_of member.EndExcluded = codes "end-excluded"
 
-abbrev pub verb_word : Verb → List ℕ
-verb_word verb.Item = codes "item"
-verb_word verb.DropItem = codes "drop-item"
-verb_word verb.Advisory = codes "advisory"
-verb_word verb.DropAdvisory = codes "drop-advisory"
-verb_word verb.Affected = codes "affected"
-verb_word verb.Advisories = codes "advisories"
+abbrev pub record_word : RecordKind → List ℕ
+record_word record_kind.Item = codes "item"
+record_word record_kind.DropItem = codes "drop-item"
+record_word record_kind.Advisory = codes "advisory"
+record_word record_kind.DropAdvisory = codes "drop-advisory"
+record_word record_kind.Affected = codes "affected"
+record_word record_kind.Advisories = codes "advisories"
 
-abbrev pub verb_of : List ℕ → Option Verb
-verb_of = spelled verb_word (verb.Item ∷ verb.DropItem ∷ verb.Advisory ∷ verb.DropAdvisory ∷ verb.Affected ∷ verb.Advisories ∷ [])
+abbrev pub record_kind_of : List ℕ → Option RecordKind
+record_kind_of = spelled record_word (record_kind.Item ∷ record_kind.DropItem ∷ record_kind.Advisory ∷ record_kind.DropAdvisory ∷ record_kind.Affected ∷ record_kind.Advisories ∷ [])
 
 -- ---- forms of single members
 
@@ -51,8 +51,8 @@ verb_of = spelled verb_word (verb.Item ∷ verb.DropItem ∷ verb.Advisory ∷ v
 abbrev pub required : {A : Type 0} → AdviceMember → Option A → Result A AdviceReadFault
 required m form = ok_or form (fault.Member m)
 
-abbrev pub verb_at : Data → Result Verb AdviceReadFault
-verb_at d = required member.Do (option_and_then verb_of (text_in (key_of member.Do) d))
+abbrev pub record_kind_at : Data → Result RecordKind AdviceReadFault
+record_kind_at d = required member.Do (option_and_then record_kind_of (text_in (key_of member.Do) d))
 
 -- 1 to 256 visible characters
 abbrev pub id_at : Data → Result (List ℕ) AdviceReadFault
@@ -103,13 +103,13 @@ advisory_in d = do
   Ok (record { id = id; name = name; start = bounds.start; end = bounds.end })
 
 -- the record of this kind, by its members
-abbrev pub advice_by : Verb → Data → Result Advice AdviceReadFault
-advice_by verb.Item d = name_at d >>= λ n. Ok (Edit (edit.Item n))
-advice_by verb.DropItem d = name_at d >>= λ n. Ok (Edit (edit.DropItem n))
-advice_by verb.Advisory d = advisory_in d >>= λ a. Ok (Edit (edit.Put a))
-advice_by verb.DropAdvisory d = id_at d >>= λ id. Ok (Edit (edit.Drop id))
-advice_by verb.Affected d = id_at d >>= λ id. Ok (Query (query.Affected id))
-advice_by verb.Advisories d = name_at d >>= λ n. Ok (Query (query.Advisories n))
+abbrev pub advice_by : RecordKind → Data → Result Advice AdviceReadFault
+advice_by record_kind.Item d = name_at d >>= λ n. Ok (Edit (edit.Item n))
+advice_by record_kind.DropItem d = name_at d >>= λ n. Ok (Edit (edit.DropItem n))
+advice_by record_kind.Advisory d = advisory_in d >>= λ a. Ok (Edit (edit.Put a))
+advice_by record_kind.DropAdvisory d = id_at d >>= λ id. Ok (Edit (edit.Drop id))
+advice_by record_kind.Affected d = id_at d >>= λ id. Ok (Query (query.Affected id))
+advice_by record_kind.Advisories d = name_at d >>= λ n. Ok (Query (query.Advisories n))
 
 abbrev pub json_of : Option Data → Result Data AdviceReadFault
 json_of value = ok_or value fault.Json
@@ -118,5 +118,5 @@ json_of value = ok_or value fault.Json
 unfoldable pub advice_of : List ℕ → Result Advice AdviceReadFault
 advice_of line = do
   d ← json_of (value_of line)
-  v ← verb_at d
+  v ← record_kind_at d
   advice_by v d

@@ -6,7 +6,7 @@ mod advisory;
 mod edit;
 mod member;
 mod read;
-mod verb;
+mod record_kind;
 
 pub use advisory::{Advisory, Bound};
 pub use edit::{AdviceEdit, AdviceFault, AdviceQuery, AdviceReply, AdviceWhich};

@@ -6,10 +6,10 @@ ghost use Rattle.cpe_members.specs.Line.{value_of};
 ghost use Rattle.cpe_members.specs.Names.{lowered};
 ghost use Rattle.cpe_uri.specs.EitherBinding.{read_any, SaysFault};
 ghost use Rattle.cpe_advisories.specs.Gives.{Gives, GivesBy};
-ghost use Rattle.cpe_advisories.specs.Reading.{advice_by, advice_of, advisory_in, bound_of, bounds_in, flag_at, id_at, json_of, key_of, name_at, named, verb_at, version_at, version_in, required};
+ghost use Rattle.cpe_advisories.specs.Reading.{advice_by, advice_of, advisory_in, bound_of, bounds_in, flag_at, id_at, json_of, key_of, name_at, named, record_kind_at, version_at, version_in, required};
 ghost use Rattle.cpe_advisories.specs.Valid.{is_valid_advice};
 
-use crate::verb::{Verb, verb_of};
+use crate::record_kind::{RecordKind, record_kind_of};
 use crate::{AdviceEdit, AdviceMember, AdviceQuery, AdviceReadFault, Advisory, Bound};
 use cpe_members::{flag_in, text_in, value_of};
 use cpe_name::Wfn;
@@ -42,11 +42,11 @@ fn text_of(source: &Value, member: AdviceMember) -> Option<&str>
     text_in(source, member.key())
 }
 
-fn verb_at(source: &Value) -> Result<Verb, AdviceReadFault>
-    ensures { Gives result (verb_at (view source.now)) }
+fn record_kind_at(source: &Value) -> Result<RecordKind, AdviceReadFault>
+    ensures { Gives result (record_kind_at (view source.now)) }
 {
     match text_of(source, AdviceMember::Do) {
-        Some(text) => verb_of(text).ok_or(AdviceReadFault::Member(AdviceMember::Do)),
+        Some(text) => record_kind_of(text).ok_or(AdviceReadFault::Member(AdviceMember::Do)),
         None => Err(AdviceReadFault::Member(AdviceMember::Do)),
     }
 }
@@ -190,16 +190,18 @@ fn advisory_in(alloc: Global, source: &Value) -> Result<Advisory, AdviceReadFaul
     }
 }
 
-fn advice_by(alloc: Global, verb: Verb, source: &Value) -> Result<Advice, AdviceReadFault>
-    ensures { Gives result (advice_by verb (view source.now)) }
+fn advice_by(alloc: Global, kind: RecordKind, source: &Value) -> Result<Advice, AdviceReadFault>
+    ensures { Gives result (advice_by kind (view source.now)) }
 {
-    match verb {
-        Verb::Item => Ok(Advice::Edit(AdviceEdit::Item(name_at(alloc, source)?))),
-        Verb::DropItem => Ok(Advice::Edit(AdviceEdit::DropItem(name_at(alloc, source)?))),
-        Verb::Advisory => Ok(Advice::Edit(AdviceEdit::Put(advisory_in(alloc, source)?))),
-        Verb::DropAdvisory => Ok(Advice::Edit(AdviceEdit::Drop(id_at(alloc, source)?))),
-        Verb::Affected => Ok(Advice::Query(AdviceQuery::Affected(id_at(alloc, source)?))),
-        Verb::Advisories => Ok(Advice::Query(AdviceQuery::Advisories(name_at(alloc, source)?))),
+    match kind {
+        RecordKind::Item => Ok(Advice::Edit(AdviceEdit::Item(name_at(alloc, source)?))),
+        RecordKind::DropItem => Ok(Advice::Edit(AdviceEdit::DropItem(name_at(alloc, source)?))),
+        RecordKind::Advisory => Ok(Advice::Edit(AdviceEdit::Put(advisory_in(alloc, source)?))),
+        RecordKind::DropAdvisory => Ok(Advice::Edit(AdviceEdit::Drop(id_at(alloc, source)?))),
+        RecordKind::Affected => Ok(Advice::Query(AdviceQuery::Affected(id_at(alloc, source)?))),
+        RecordKind::Advisories => Ok(Advice::Query(AdviceQuery::Advisories(name_at(
+            alloc, source,
+        )?))),
     }
 }
 
@@ -215,8 +217,8 @@ fn advice_in(alloc: Global, line: &[u8]) -> Result<Advice, AdviceReadFault>
     ensures { Gives result (advice_of line.now) }
 {
     let value = json_of(alloc, line)?;
-    let verb = verb_at(&value)?;
-    advice_by(alloc, verb, &value)
+    let kind = record_kind_at(&value)?;
+    advice_by(alloc, kind, &value)
 }
 
 /// The record of a line: a JSON value, of a kind that its member `do` says, whose members have their forms. Its names are in lower case.

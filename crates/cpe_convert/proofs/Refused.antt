@@ -24,7 +24,7 @@ use Rattle.cpe_members.specs.declared.member.RecordFault.{RecordFault}
 use Rattle.cpe_members.specs.declared.member.RecordFault.TheVariants as fault
 use Rattle.cpe_records.specs.Edited.{edited, line_edited}
 use Rattle.cpe_records.specs.Reading.{json_of, record_by, record_of}
-use Rattle.cpe_records.specs.Verbs.{verb_of}
+use Rattle.cpe_records.specs.RecordKinds.{record_kind_of}
 use Rattle.cpe_records.specs.declared.read.Record.{Record}
 use Rattle.cpe_members.proofs.LineLemmas.{line_refused}
 use Rattle.cpe_replies.specs.Reasons.{record_fault_text, spot_text}
@@ -115,7 +115,7 @@ no_json more = refl
 
 -- what is made of a value of JSON
 abbrev record_in : Data → Result Record RecordFault
-record_in d = word_at verb_of member.Do d >>= λ v. format_at d >>= λ f. record_by v f d
+record_in d = word_at record_kind_of member.Do d >>= λ v. format_at d >>= λ f. record_by v f d
 
 no_record : (more : List ℕ) → record_of (114 ∷ more) ≡ Err fault.Json
 unfolding record_of

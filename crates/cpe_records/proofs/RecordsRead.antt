@@ -34,14 +34,14 @@ use Rattle.cpe_records.specs.Kinds.{description_in, entry_in, remark_in, change_
 use Rattle.cpe_records.specs.NameObject.{name_object}
 use Rattle.cpe_records.specs.Reading.{record_by, record_of}
 use Rattle.cpe_records.specs.Taken.{is_valid_record, IsFormedQuery, IsFormedRecord}
-use Rattle.cpe_records.specs.Verbs.{verb_of}
+use Rattle.cpe_records.specs.RecordKinds.{record_kind_of}
 use Rattle.cpe_records.specs.declared.kinds.Description.{Description}
 use Rattle.cpe_records.specs.declared.kinds.Remark.{Remark}
 use Rattle.cpe_records.specs.WrittenRecord.{change_json, edit_json, query_json, record_json, record_text}
 use Rattle.cpe_records.specs.declared.read.Record.{Record}
 use Rattle.cpe_records.specs.declared.read.Record.TheVariants as of_kind
-use Rattle.cpe_records.specs.declared.verb.Verb.{Verb}
-use Rattle.cpe_records.specs.declared.verb.Verb.TheVariants as verb
+use Rattle.cpe_records.specs.declared.record_kind.RecordKind.{RecordKind}
+use Rattle.cpe_records.specs.declared.record_kind.RecordKind.TheVariants as record_kind
 use Rattle.cpe_records.proofs.ReadBack.{data_of}
 use Rattle.cpe_records.proofs.NamesRead.{ReadsComponents, named_read, names_read}
 use Rattle.cpe_records.proofs.ProvenanceForms.{dated, provenance_read}
@@ -90,14 +90,14 @@ module _ (reads : ReadsComponents) where
       name_there e.name h.name lower (data_of (edit_json (edit.Entry e))) refl i >>= λ name. description_read e h.notes i >>= λ rest.
       Ok (record { name = name; title = rest.title; provenance = rest.provenance; deprecation = no_deprecation e.deprecation none i })
 
-  change_read : (v : Verb) (n : Values) (d : Deprecation) (date comment : List ℕ) → All IsName d.successors → list_all is_lower d.successors ≡ true → IsTrue (is_date date)
+  change_read : (v : RecordKind) (n : Values) (d : Deprecation) (date comment : List ℕ) → All IsName d.successors → list_all is_lower d.successors ≡ true → IsTrue (is_date date)
       → change_in Two (data_of (change_json v n d date comment)) ≡ Ok (record { deprecation = d; remark = remarked date comment })
   unfolding change_in successors_at
   change_read v n d date comment names lower h = λ i.
       required member.Kind (kind_read d.kind i) >>= λ kind. names_read reads spot.Successor member.Successors d.successors names lower i >>= λ successors.
       remark_read date comment h (data_of (change_json v n d date comment)) refl refl i >>= λ remark. Ok (record { deprecation = record { kind = kind; successors = successors }; remark = remark })
 
-  deprecation_read : (f : Values → Deprecation → List ℕ → List ℕ → Edit) (v : Verb) (n : Values) (d : Deprecation) (date comment : List ℕ) → IsName n → is_lower n ≡ true
+  deprecation_read : (f : Values → Deprecation → List ℕ → List ℕ → Edit) (v : RecordKind) (n : Values) (d : Deprecation) (date comment : List ℕ) → IsName n → is_lower n ≡ true
       → All IsName d.successors → list_all is_lower d.successors ≡ true → IsTrue (is_date date)
       → deprecation_in f Two (data_of (change_json v n d date comment)) ≡ Ok (f n d date comment)
   unfolding deprecation_in
@@ -132,7 +132,7 @@ module _ (reads : ReadsComponents) where
 
   -- the kind, the format and the members
   abbrev members_read : Data → Result Record RecordFault
-  members_read d = word_at verb_of member.Do d >>= λ v. format_at d >>= λ f. record_by v f d
+  members_read d = word_at record_kind_of member.Do d >>= λ v. format_at d >>= λ f. record_by v f d
 
   edit_read : (e : Edit) → IsFormed e → is_valid_edit e ≡ true → members_read (data_of (edit_json e)) ≡ Ok (of_kind.Edit e)
   edit_read (edit.Entry e) h k = let p = and_parts (is_lower e.name) (is_none e.deprecation) k in ap (λ r. r >>= λ e. Ok (of_kind.Edit (edit.Entry e))) (entry_read e h p.0 p.1)
@@ -140,10 +140,10 @@ module _ (reads : ReadsComponents) where
   edit_read (edit.DropItem n) h k = about_read n h k (data_of (edit_json (edit.DropItem n))) refl (λ n. Ok (of_kind.Edit (edit.DropItem n)))
   edit_read (edit.Deprecate n d date comment) h k =
       let p = and_parts (is_lower n) (list_all is_lower d.successors) k in
-      ap (λ r. r >>= λ e. Ok (of_kind.Edit e)) (deprecation_read edit.Deprecate verb.Deprecate n d date comment h.0 p.0 h.1 p.1 h.2)
+      ap (λ r. r >>= λ e. Ok (of_kind.Edit e)) (deprecation_read edit.Deprecate record_kind.Deprecate n d date comment h.0 p.0 h.1 p.1 h.2)
   edit_read (edit.Amend n d date comment) h k =
       let p = and_parts (is_lower n) (list_all is_lower d.successors) k in
-      ap (λ r. r >>= λ e. Ok (of_kind.Edit e)) (deprecation_read edit.Amend verb.Amend n d date comment h.0 p.0 h.1 p.1 h.2)
+      ap (λ r. r >>= λ e. Ok (of_kind.Edit e)) (deprecation_read edit.Amend record_kind.Amend n d date comment h.0 p.0 h.1 p.1 h.2)
   edit_read (edit.Restore n date comment) h k = ap (λ r. r >>= λ e. Ok (of_kind.Edit e)) (restore_read n date comment h.0 k h.1)
   edit_read (edit.PutStatement s) h k = let p = and_parts (is_id s.id) (is_statement_test s.test) k in ap (λ r. r >>= λ s. Ok (of_kind.Edit (edit.PutStatement s))) (statement_read s h p.0 p.1)
   edit_read (edit.DropStatement id) h k = id_read id k (λ id. Ok (of_kind.Edit (edit.DropStatement id)))

@@ -7,7 +7,7 @@ use Rattle.cpe_name.specs.Eleven.{Values}
 use Rattle.cpe_rows.specs.Names.{is_lower}
 use Rattle.cpe_rows.specs.Valid.{is_id, is_statement_test}
 use Rattle.cpe_members.specs.Gives.{◌>>=◌, Gives}
-use Rattle.cpe_records.specs.Verbs.{verb_of}
+use Rattle.cpe_records.specs.RecordKinds.{record_kind_of}
 use Rattle.cpe_members.specs.Forms.{word_at, text_or_empty}
 use Rattle.cpe_members.specs.Names.{name_at}
 use Rattle.cpe_members.specs.Formats.{format_at}
@@ -22,8 +22,8 @@ use Rattle.cpe_records.specs.Reading.{record_by, record_of, json_of}
 use Rattle.cpe_members.specs.Line.{value_of}
 use Rattle.cpe_records.specs.declared.read.Record.{Record}
 use Rattle.cpe_records.specs.declared.read.Record.TheVariants as TheRecord
-use Rattle.cpe_records.specs.declared.verb.Verb.{Verb}
-use Rattle.cpe_records.specs.declared.verb.Verb.TheVariants as verb
+use Rattle.cpe_records.specs.declared.record_kind.RecordKind.{RecordKind}
+use Rattle.cpe_records.specs.declared.record_kind.RecordKind.TheVariants as record_kind
 use Rattle.cpe_members.specs.declared.member.Member.TheVariants as member
 use Rattle.cpe_members.specs.declared.member.RecordFault.{RecordFault}
 use Rattle.cpe_members.specs.FirstFault.{Yields}
@@ -50,29 +50,29 @@ name_valid f d as_record h = then_yields is_lower is_valid_record (name_at f d) 
 edit_valid : (r : Result Edit RecordFault) → Yields as_edit r → Yields is_valid_record (r >>= λ e. Ok (TheRecord.Edit e))
 edit_valid r h = then_yields as_edit is_valid_record r _ h (λ e k. k)
 
-pub record_valid : (v : Verb) (f : Format) (d : Data) → Yields is_valid_record (record_by v f d)
-record_valid verb.Entry f d = then_yields is_new is_valid_record (entry_in f d) _ (entry_valid f d) (λ e h. h)
-record_valid verb.Deprecate f d = edit_valid (deprecation_in edit.Deprecate f d) (deprecate_valid f d)
-record_valid verb.Amend f d = edit_valid (deprecation_in edit.Amend f d) (amend_valid f d)
-record_valid verb.Restore f d = edit_valid (restore_in f d) (restore_valid f d)
-record_valid verb.Item f d = name_valid f d _ (λ n h. h)
-record_valid verb.DropItem f d = name_valid f d _ (λ n h. h)
-record_valid verb.Statement f d = then_yields is_whole is_valid_record (statement_in f d) _ (statement_valid f d) (λ s h. h)
-record_valid verb.DropStatement f d = then_yields is_id is_valid_record (id_at d) _ (id_valid d) (λ i h. h)
-record_valid verb.Check f d = edit_valid (check_in d) (check_valid d)
-record_valid verb.DropCheck f d = behind is_valid_record (key_at d) _ (λ k. refl)
-record_valid verb.Lookup f d = name_valid f d _ (λ n h. h)
-record_valid verb.Search f d = then_yields as_query is_valid_record (search_in f d) _ (search_valid f d) (λ q h. h)
-record_valid verb.Items f d = name_valid f d _ (λ n h. h)
-record_valid verb.Chain f d = name_valid f d _ (λ n h. h)
-record_valid verb.Show f d = name_valid f d _ (λ n h. h)
-record_valid verb.Verdict f d = then_yields is_id is_valid_record (id_at d) _ (id_valid d) (λ i h. h)
+pub record_valid : (v : RecordKind) (f : Format) (d : Data) → Yields is_valid_record (record_by v f d)
+record_valid record_kind.Entry f d = then_yields is_new is_valid_record (entry_in f d) _ (entry_valid f d) (λ e h. h)
+record_valid record_kind.Deprecate f d = edit_valid (deprecation_in edit.Deprecate f d) (deprecate_valid f d)
+record_valid record_kind.Amend f d = edit_valid (deprecation_in edit.Amend f d) (amend_valid f d)
+record_valid record_kind.Restore f d = edit_valid (restore_in f d) (restore_valid f d)
+record_valid record_kind.Item f d = name_valid f d _ (λ n h. h)
+record_valid record_kind.DropItem f d = name_valid f d _ (λ n h. h)
+record_valid record_kind.Statement f d = then_yields is_whole is_valid_record (statement_in f d) _ (statement_valid f d) (λ s h. h)
+record_valid record_kind.DropStatement f d = then_yields is_id is_valid_record (id_at d) _ (id_valid d) (λ i h. h)
+record_valid record_kind.Check f d = edit_valid (check_in d) (check_valid d)
+record_valid record_kind.DropCheck f d = behind is_valid_record (key_at d) _ (λ k. refl)
+record_valid record_kind.Lookup f d = name_valid f d _ (λ n h. h)
+record_valid record_kind.Search f d = then_yields as_query is_valid_record (search_in f d) _ (search_valid f d) (λ q h. h)
+record_valid record_kind.Items f d = name_valid f d _ (λ n h. h)
+record_valid record_kind.Chain f d = name_valid f d _ (λ n h. h)
+record_valid record_kind.Show f d = name_valid f d _ (λ n h. h)
+record_valid record_kind.Verdict f d = then_yields is_id is_valid_record (id_at d) _ (id_valid d) (λ i h. h)
 
 -- what a line gives, if anything, is valid
 pub line_valid : (line : List ℕ) → Yields is_valid_record (record_of line)
 unfolding record_of
 line_valid line =
-    behind is_valid_record (json_of (value_of line)) _ (λ d. behind is_valid_record (word_at verb_of member.Do d) _ (λ v. behind is_valid_record (format_at d) _ (λ f. record_valid v f d)))
+    behind is_valid_record (json_of (value_of line)) _ (λ d. behind is_valid_record (word_at record_kind_of member.Do d) _ (λ v. behind is_valid_record (format_at d) _ (λ f. record_valid v f d)))
 
 -- so what was read is valid
 pub read_valid : (line : List ℕ) (r : Record) → record_of line ≡ Ok r → is_valid_record r ≡ true

@@ -11,9 +11,9 @@ use Rattle.cpe_rows.specs.declared.test.Operator.TheVariants.{And, Or}
 use Rattle.cpe_rows.specs.declared.truth.Truth.{Truth}
 use Rattle.cpe_rows.specs.declared.truth.Truth.TheVariants as truth
 use Rattle.cpe_members.specs.Words.{kind_word, kind_of, note_kind_word, note_kind_of, mode_word, mode_of, operator_word, operator_of, truth_word, truth_of}
-use Rattle.cpe_records.specs.Verbs.{verb_word, verb_of}
-use Rattle.cpe_records.specs.declared.verb.Verb.{Verb}
-use Rattle.cpe_records.specs.declared.verb.Verb.TheVariants as verb
+use Rattle.cpe_records.specs.RecordKinds.{record_word, record_kind_of}
+use Rattle.cpe_records.specs.declared.record_kind.RecordKind.{RecordKind}
+use Rattle.cpe_records.specs.declared.record_kind.RecordKind.TheVariants as record_kind
 
 pub kind_read : (k : Kind) → kind_of (kind_word k) ≡ Some k
 kind_read NameCorrection = refl
@@ -40,20 +40,20 @@ truth_read truth.False = refl
 truth_read truth.Error = refl
 truth_read truth.Unknown = refl
 
-pub verb_read : (v : Verb) → verb_of (verb_word v) ≡ Some v
-verb_read verb.Entry = refl
-verb_read verb.Deprecate = refl
-verb_read verb.Amend = refl
-verb_read verb.Restore = refl
-verb_read verb.Item = refl
-verb_read verb.DropItem = refl
-verb_read verb.Statement = refl
-verb_read verb.DropStatement = refl
-verb_read verb.Check = refl
-verb_read verb.DropCheck = refl
-verb_read verb.Lookup = refl
-verb_read verb.Search = refl
-verb_read verb.Items = refl
-verb_read verb.Chain = refl
-verb_read verb.Show = refl
-verb_read verb.Verdict = refl
+pub record_kind_read : (v : RecordKind) → record_kind_of (record_word v) ≡ Some v
+record_kind_read record_kind.Entry = refl
+record_kind_read record_kind.Deprecate = refl
+record_kind_read record_kind.Amend = refl
+record_kind_read record_kind.Restore = refl
+record_kind_read record_kind.Item = refl
+record_kind_read record_kind.DropItem = refl
+record_kind_read record_kind.Statement = refl
+record_kind_read record_kind.DropStatement = refl
+record_kind_read record_kind.Check = refl
+record_kind_read record_kind.DropCheck = refl
+record_kind_read record_kind.Lookup = refl
+record_kind_read record_kind.Search = refl
+record_kind_read record_kind.Items = refl
+record_kind_read record_kind.Chain = refl
+record_kind_read record_kind.Show = refl
+record_kind_read record_kind.Verdict = refl

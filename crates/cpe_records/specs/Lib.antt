@@ -1,4 +1,4 @@
-pub mod Verbs
+pub mod RecordKinds
 pub mod Kinds
 pub mod Reading
 pub mod Taken

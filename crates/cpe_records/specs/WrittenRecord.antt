@@ -16,13 +16,13 @@ use Rattle.cpe_rows.specs.declared.edit.Edit.TheVariants as edit
 use Rattle.cpe_rows.specs.declared.edit.Query.{Query}
 use Rattle.cpe_rows.specs.declared.edit.Query.TheVariants as query
 use Rattle.cpe_members.specs.Words.{kind_word, mode_word, operator_word, truth_word}
-use Rattle.cpe_records.specs.Verbs.{verb_word}
+use Rattle.cpe_records.specs.RecordKinds.{record_word}
 use Rattle.cpe_records.specs.NameObject.{name_object}
 use Rattle.cpe_records.specs.Written.{items_by, provenance_json}
 use Rattle.cpe_records.specs.declared.read.Record.{Record}
 use Rattle.cpe_records.specs.declared.read.Record.TheVariants as record_of_kind
-use Rattle.cpe_records.specs.declared.verb.Verb.{Verb}
-use Rattle.cpe_records.specs.declared.verb.Verb.TheVariants as verb
+use Rattle.cpe_records.specs.declared.record_kind.RecordKind.{RecordKind}
+use Rattle.cpe_records.specs.declared.record_kind.RecordKind.TheVariants as record_kind
 
 -- ---- tests (NIST IR 7698)
 
@@ -55,8 +55,8 @@ test_json = fold-Test Json test_step
 
 -- ---- members that several kinds have
 
-abbrev pub does : Verb → Members → Members
-does v rest = member (codes "do") (string (verb_word v)) rest
+abbrev pub does : RecordKind → Members → Members
+does v rest = member (codes "do") (string (record_word v)) rest
 
 -- the format
 abbrev pub version : Members
@@ -71,14 +71,14 @@ remarked date comment rest = member (codes "comment") (string comment) (member (
 -- ---- records
 
 -- what is about a name alone
-abbrev pub about_json : Verb → Values → Json
+abbrev pub about_json : RecordKind → Values → Json
 about_json v n = object (does v (named n version))
 
 -- what is about a statement alone
-abbrev pub about_id_json : Verb → List ℕ → Json
+abbrev pub about_id_json : RecordKind → List ℕ → Json
 about_id_json v id = object (does v (member (codes "id") (string id) version))
 
-abbrev pub change_json : Verb → Values → Deprecation → List ℕ → List ℕ → Json
+abbrev pub change_json : RecordKind → Values → Deprecation → List ℕ → List ℕ → Json
 change_json v n d date comment = object (
     remarked date comment (does v (
     member (codes "kind") (string (kind_word d.kind)) (
@@ -86,48 +86,48 @@ change_json v n d date comment = object (
     member (codes "successors") (array (items_by name_object d.successors)) version)))))
 
 -- the tokens of a change before those of its successors
-abbrev pub change_head : Verb → Values → Deprecation → List ℕ → List ℕ → List Token
+abbrev pub change_head : RecordKind → Values → Deprecation → List ℕ → List ℕ → List Token
 change_head v n d date comment =
-    begin_object ∷ key (codes "comment") ∷ Token.string comment ∷ key (codes "date") ∷ Token.string date ∷ key (codes "do") ∷ Token.string (verb_word v)
+    begin_object ∷ key (codes "comment") ∷ Token.string comment ∷ key (codes "date") ∷ Token.string date ∷ key (codes "do") ∷ Token.string (record_word v)
     ∷ key (codes "kind") ∷ Token.string (kind_word d.kind) ∷ key (codes "name") ∷ (json_tokens (name_object n) ++ key (codes "successors") ∷ begin_array ∷ [])
 
 abbrev pub edit_json : Edit → Json
 edit_json (edit.Entry e) = object (
-    does verb.Entry (
+    does record_kind.Entry (
     named e.name (
     member (codes "provenance") (provenance_json e.provenance) (
     member (codes "title") (string e.title) version))))
-edit_json (edit.Item n) = about_json verb.Item n
-edit_json (edit.DropItem n) = about_json verb.DropItem n
-edit_json (edit.Deprecate n d date comment) = change_json verb.Deprecate n d date comment
-edit_json (edit.Amend n d date comment) = change_json verb.Amend n d date comment
-edit_json (edit.Restore n date comment) = object (remarked date comment (does verb.Restore (named n version)))
+edit_json (edit.Item n) = about_json record_kind.Item n
+edit_json (edit.DropItem n) = about_json record_kind.DropItem n
+edit_json (edit.Deprecate n d date comment) = change_json record_kind.Deprecate n d date comment
+edit_json (edit.Amend n d date comment) = change_json record_kind.Amend n d date comment
+edit_json (edit.Restore n date comment) = object (remarked date comment (does record_kind.Restore (named n version)))
 edit_json (edit.PutStatement s) = object (
-    does verb.Statement (
+    does record_kind.Statement (
     member (codes "id") (string s.id) (
     member (codes "mode") (string (mode_word s.mode)) (
     member (codes "test") (test_json s.test) (
     member (codes "title") (string s.title) version)))))
-edit_json (edit.DropStatement id) = about_id_json verb.DropStatement id
+edit_json (edit.DropStatement id) = about_id_json record_kind.DropStatement id
 edit_json (edit.SetCheck k result) = object (
-    does verb.Check (
+    does record_kind.Check (
     member (codes "href") (string k.href) (
     member (codes "id") (string k.id) (
     member (codes "result") (string (truth_word result)) (
     member (codes "system") (string k.system) version)))))
 edit_json (edit.DropCheck k) = object (
-    does verb.DropCheck (
+    does record_kind.DropCheck (
     member (codes "href") (string k.href) (
     member (codes "id") (string k.id) (
     member (codes "system") (string k.system) version))))
 
 abbrev pub query_json : Query → Json
-query_json (query.Lookup n) = about_json verb.Lookup n
-query_json (query.Search n active_only) = object (member (codes "active") (boolean active_only) (does verb.Search (named n version)))
-query_json (query.Items n) = about_json verb.Items n
-query_json (query.Chain n) = about_json verb.Chain n
-query_json (query.Show n) = about_json verb.Show n
-query_json (query.Verdict id) = about_id_json verb.Verdict id
+query_json (query.Lookup n) = about_json record_kind.Lookup n
+query_json (query.Search n active_only) = object (member (codes "active") (boolean active_only) (does record_kind.Search (named n version)))
+query_json (query.Items n) = about_json record_kind.Items n
+query_json (query.Chain n) = about_json record_kind.Chain n
+query_json (query.Show n) = about_json record_kind.Show n
+query_json (query.Verdict id) = about_id_json record_kind.Verdict id
 
 abbrev pub record_json : Record → Json
 record_json (record_of_kind.Edit e) = edit_json e

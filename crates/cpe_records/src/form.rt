@@ -4,7 +4,7 @@ ghost use Rattle.std.specs.Str.{IsUtf8};
 ghost use Rattle.json.specs.Tree.{json_tokens};
 ghost use Rattle.cpe_rows.specs.declared.edit.Edit.TheVariants as edit;
 ghost use Rattle.cpe_rows.specs.declared.edit.Query.TheVariants as query;
-ghost use Rattle.cpe_records.specs.declared.verb.Verb.TheVariants as verb;
+ghost use Rattle.cpe_records.specs.declared.record_kind.RecordKind.TheVariants as record_kind;
 ghost use Rattle.cpe_records.specs.Puts.{Puts};
 ghost use Rattle.cpe_records.specs.Reading.{record_of};
 ghost use Rattle.cpe_records.specs.Taken.{is_valid_record, IsFormedQuery, IsFormedRecord};
@@ -14,8 +14,8 @@ ghost use Rattle.cpe_records.specs.WrittenRecord.{about_json, about_id_json, cha
 use crate::ascii::date_str;
 use crate::object::{put_around_name, put_name_objects};
 use crate::read::Record;
+use crate::record_kind::RecordKind;
 use crate::test::put_test;
-use crate::verb::Verb;
 use crate::write::{put, put_provenance};
 use cpe_fs::read_component_is;
 use cpe_members::{kind_word, mode_word, truth_word};
@@ -25,8 +25,8 @@ use cpe_values::Memory;
 use json::{Token, Writer};
 use std::alloc::Global;
 
-fn put_about(alloc: Global, writer: &mut Writer, verb: Verb, name: &Wfn) -> Result<(), Memory>
-    ensures { Puts result writer.old writer.new (json_tokens (about_json verb name.now)) }
+fn put_about(alloc: Global, writer: &mut Writer, kind: RecordKind, name: &Wfn) -> Result<(), Memory>
+    ensures { Puts result writer.old writer.new (json_tokens (about_json kind name.now)) }
 {
     put_around_name(
         alloc,
@@ -34,7 +34,7 @@ fn put_about(alloc: Global, writer: &mut Writer, verb: Verb, name: &Wfn) -> Resu
         &[
             Token::BeginObject,
             Token::Key("do"),
-            Token::String(verb.word()),
+            Token::String(kind.word()),
             Token::Key("name"),
         ],
         name,
@@ -42,15 +42,15 @@ fn put_about(alloc: Global, writer: &mut Writer, verb: Verb, name: &Wfn) -> Resu
     )
 }
 
-fn put_about_id(writer: &mut Writer, verb: Verb, id: &Text) -> Result<(), Memory>
-    ensures { Puts result writer.old writer.new (json_tokens (about_id_json verb id.now)) }
+fn put_about_id(writer: &mut Writer, kind: RecordKind, id: &Text) -> Result<(), Memory>
+    ensures { Puts result writer.old writer.new (json_tokens (about_id_json kind id.now)) }
 {
     put(
         writer,
         &[
             Token::BeginObject,
             Token::Key("do"),
-            Token::String(verb.word()),
+            Token::String(kind.word()),
             Token::Key("id"),
             Token::String(id.as_str()),
             Token::Key("v"),
@@ -69,7 +69,7 @@ fn put_entry_record(alloc: Global, writer: &mut Writer, entry: &Entry) -> Result
         &[
             Token::BeginObject,
             Token::Key("do"),
-            Token::String(Verb::Entry.word()),
+            Token::String(RecordKind::Entry.word()),
             Token::Key("name"),
         ],
         &entry.name,
@@ -93,13 +93,13 @@ fn put_entry_record(alloc: Global, writer: &mut Writer, entry: &Entry) -> Result
 fn put_change_head<'x>(
     alloc: Global,
     writer: &mut Writer,
-    verb: Verb,
+    kind: RecordKind,
     name: &Wfn,
     deprecation: &Deprecation,
     date: &'x Date,
     comment: &'x Text,
 ) -> Result<(), Memory>
-    ensures { Puts result writer.old writer.new (change_head verb name.now deprecation.now date.now comment.now) }
+    ensures { Puts result writer.old writer.new (change_head kind name.now deprecation.now date.now comment.now) }
 {
     put_around_name(
         alloc,
@@ -111,7 +111,7 @@ fn put_change_head<'x>(
             Token::Key("date"),
             Token::String(date_str(date)),
             Token::Key("do"),
-            Token::String(verb.word()),
+            Token::String(kind.word()),
             Token::Key("kind"),
             Token::String(kind_word(deprecation.kind)),
             Token::Key("name"),
@@ -125,15 +125,15 @@ fn put_change_head<'x>(
 fn put_change<'x>(
     alloc: Global,
     writer: &mut Writer,
-    verb: Verb,
+    kind: RecordKind,
     name: &Wfn,
     deprecation: &Deprecation,
     date: &'x Date,
     comment: &'x Text,
 ) -> Result<(), Memory>
-    ensures { Puts result writer.old writer.new (json_tokens (change_json verb name.now deprecation.now date.now comment.now)) }
+    ensures { Puts result writer.old writer.new (json_tokens (change_json kind name.now deprecation.now date.now comment.now)) }
 {
-    put_change_head(alloc, writer, verb, name, deprecation, date, comment)?;
+    put_change_head(alloc, writer, kind, name, deprecation, date, comment)?;
     put_name_objects(alloc, writer, deprecation.successors.as_slice())?;
     put(
         writer,
@@ -166,7 +166,7 @@ fn put_restore<'x>(
             Token::Key("date"),
             Token::String(date_str(date)),
             Token::Key("do"),
-            Token::String(Verb::Restore.word()),
+            Token::String(RecordKind::Restore.word()),
             Token::Key("name"),
         ],
         name,
@@ -182,7 +182,7 @@ fn put_statement(alloc: Global, writer: &mut Writer, statement: &Statement) -> R
         &[
             Token::BeginObject,
             Token::Key("do"),
-            Token::String(Verb::Statement.word()),
+            Token::String(RecordKind::Statement.word()),
             Token::Key("id"),
             Token::String(statement.id.as_str()),
             Token::Key("mode"),
@@ -212,7 +212,7 @@ fn put_result(writer: &mut Writer, key: &CheckKey, truth: Truth) -> Result<(), M
         &[
             Token::BeginObject,
             Token::Key("do"),
-            Token::String(Verb::Check.word()),
+            Token::String(RecordKind::Check.word()),
             Token::Key("href"),
             Token::String(key.href.as_str()),
             Token::Key("id"),
@@ -237,7 +237,7 @@ fn put_dropped_check(writer: &mut Writer, key: &CheckKey) -> Result<(), Memory>
         &[
             Token::BeginObject,
             Token::Key("do"),
-            Token::String(Verb::DropCheck.word()),
+            Token::String(RecordKind::DropCheck.word()),
             Token::Key("href"),
             Token::String(key.href.as_str()),
             Token::Key("id"),
@@ -268,7 +268,7 @@ fn put_search(
             Token::Key("active"),
             Token::Bool(active_only),
             Token::Key("do"),
-            Token::String(Verb::Search.word()),
+            Token::String(RecordKind::Search.word()),
             Token::Key("name"),
         ],
         name,
@@ -282,8 +282,8 @@ fn put_edit(alloc: Global, writer: &mut Writer, edit: &Edit) -> Result<(), Memor
 {
     match edit {
         Edit::Entry(entry) => put_entry_record(alloc, writer, entry),
-        Edit::Item(name) => put_about(alloc, writer, Verb::Item, name),
-        Edit::DropItem(name) => put_about(alloc, writer, Verb::DropItem, name),
+        Edit::Item(name) => put_about(alloc, writer, RecordKind::Item, name),
+        Edit::DropItem(name) => put_about(alloc, writer, RecordKind::DropItem, name),
         Edit::Deprecate {
             name,
             deprecation,
@@ -292,7 +292,7 @@ fn put_edit(alloc: Global, writer: &mut Writer, edit: &Edit) -> Result<(), Memor
         } => put_change(
             alloc,
             writer,
-            Verb::Deprecate,
+            RecordKind::Deprecate,
             name,
             deprecation,
             date,
@@ -303,14 +303,22 @@ fn put_edit(alloc: Global, writer: &mut Writer, edit: &Edit) -> Result<(), Memor
             deprecation,
             date,
             comment,
-        } => put_change(alloc, writer, Verb::Amend, name, deprecation, date, comment),
+        } => put_change(
+            alloc,
+            writer,
+            RecordKind::Amend,
+            name,
+            deprecation,
+            date,
+            comment,
+        ),
         Edit::Restore {
             name,
             date,
             comment,
         } => put_restore(alloc, writer, name, date, comment),
         Edit::PutStatement(statement) => put_statement(alloc, writer, statement),
-        Edit::DropStatement(id) => put_about_id(writer, Verb::DropStatement, id),
+        Edit::DropStatement(id) => put_about_id(writer, RecordKind::DropStatement, id),
         Edit::SetCheck { key, result } => put_result(writer, key, *result),
         Edit::DropCheck(key) => put_dropped_check(writer, key),
     }
@@ -320,12 +328,12 @@ fn put_query(alloc: Global, writer: &mut Writer, query: &Query) -> Result<(), Me
     ensures { Puts result writer.old writer.new (json_tokens (query_json query.now)) }
 {
     match query {
-        Query::Lookup(name) => put_about(alloc, writer, Verb::Lookup, name),
+        Query::Lookup(name) => put_about(alloc, writer, RecordKind::Lookup, name),
         Query::Search { name, active_only } => put_search(alloc, writer, name, *active_only),
-        Query::Items(name) => put_about(alloc, writer, Verb::Items, name),
-        Query::Chain(name) => put_about(alloc, writer, Verb::Chain, name),
-        Query::Show(name) => put_about(alloc, writer, Verb::Show, name),
-        Query::Verdict(id) => put_about_id(writer, Verb::Verdict, id),
+        Query::Items(name) => put_about(alloc, writer, RecordKind::Items, name),
+        Query::Chain(name) => put_about(alloc, writer, RecordKind::Chain, name),
+        Query::Show(name) => put_about(alloc, writer, RecordKind::Show, name),
+        Query::Verdict(id) => put_about_id(writer, RecordKind::Verdict, id),
     }
 }
 

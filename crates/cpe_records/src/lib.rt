@@ -32,8 +32,8 @@ mod form;
 mod kinds;
 mod object;
 mod read;
+mod record_kind;
 mod test;
-mod verb;
 mod write;
 
 pub use cpe_members::{Format, Member, NameSpot, RecordFault};

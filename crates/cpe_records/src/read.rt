@@ -2,8 +2,8 @@
 ghost use Rattle.std.specs.Prelude.{◌≡◌, true, IfOk};
 ghost use Rattle.serde_json.specs.View.{view};
 ghost use Rattle.cpe_members.specs.declared.format.Format.{Format};
-ghost use Rattle.cpe_records.specs.Verbs.{verb_of};
-ghost use Rattle.cpe_records.specs.declared.verb.Verb.TheVariants as verb;
+ghost use Rattle.cpe_records.specs.RecordKinds.{record_kind_of};
+ghost use Rattle.cpe_records.specs.declared.record_kind.RecordKind.TheVariants as record_kind;
 ghost use Rattle.cpe_members.specs.Gives.{Gives, GivesBy};
 ghost use Rattle.cpe_members.specs.Forms.{word_at};
 ghost use Rattle.cpe_members.specs.Line.{value_of};
@@ -13,7 +13,7 @@ ghost use Rattle.cpe_records.specs.Reading.{record_by, json_of, record_of};
 use crate::kinds::{
     check_in, deprecation_in, entry_in, id_at, key_at, restore_in, search_in, statement_in,
 };
-use crate::verb::{Verb, verb_of};
+use crate::record_kind::{RecordKind, record_kind_of};
 use cpe_members::{Format, Member, RecordFault, format_at, name_at, text_of, value_of};
 use cpe_rows::{Edit, Query};
 use serde_json::Value;
@@ -28,11 +28,11 @@ pub enum Record {
     Query(Query),
 }
 
-fn verb_at(source: &Value) -> Result<Verb, RecordFault>
-    ensures { Gives result (word_at verb_of Member.Do (view source.now)) }
+fn record_kind_at(source: &Value) -> Result<RecordKind, RecordFault>
+    ensures { Gives result (word_at record_kind_of Member.Do (view source.now)) }
 {
     match text_of(source, Member::Do) {
-        Some(text) => verb_of(text).ok_or(RecordFault::Member(Member::Do)),
+        Some(text) => record_kind_of(text).ok_or(RecordFault::Member(Member::Do)),
         None => Err(RecordFault::Member(Member::Do)),
     }
 }
@@ -41,141 +41,141 @@ fn verb_at(source: &Value) -> Result<Verb, RecordFault>
 
 #[inline(never)]
 fn entry_record(alloc: Global, format: Format, source: &Value) -> Result<Record, RecordFault>
-    ensures { Gives result (record_by verb.Entry format (view source.now)) }
+    ensures { Gives result (record_by record_kind.Entry format (view source.now)) }
 {
     Ok(Record::Edit(Edit::Entry(entry_in(alloc, format, source)?)))
 }
 
 #[inline(never)]
 fn deprecate_record(alloc: Global, format: Format, source: &Value) -> Result<Record, RecordFault>
-    ensures { Gives result (record_by verb.Deprecate format (view source.now)) }
+    ensures { Gives result (record_by record_kind.Deprecate format (view source.now)) }
 {
     Ok(Record::Edit(deprecation_in(alloc, format, source, false)?))
 }
 
 #[inline(never)]
 fn amend_record(alloc: Global, format: Format, source: &Value) -> Result<Record, RecordFault>
-    ensures { Gives result (record_by verb.Amend format (view source.now)) }
+    ensures { Gives result (record_by record_kind.Amend format (view source.now)) }
 {
     Ok(Record::Edit(deprecation_in(alloc, format, source, true)?))
 }
 
 #[inline(never)]
 fn restore_record(alloc: Global, format: Format, source: &Value) -> Result<Record, RecordFault>
-    ensures { Gives result (record_by verb.Restore format (view source.now)) }
+    ensures { Gives result (record_by record_kind.Restore format (view source.now)) }
 {
     Ok(Record::Edit(restore_in(alloc, format, source)?))
 }
 
 #[inline(never)]
 fn item_record(alloc: Global, format: Format, source: &Value) -> Result<Record, RecordFault>
-    ensures { Gives result (record_by verb.Item format (view source.now)) }
+    ensures { Gives result (record_by record_kind.Item format (view source.now)) }
 {
     Ok(Record::Edit(Edit::Item(name_at(alloc, format, source)?)))
 }
 
 #[inline(never)]
 fn drop_item_record(alloc: Global, format: Format, source: &Value) -> Result<Record, RecordFault>
-    ensures { Gives result (record_by verb.DropItem format (view source.now)) }
+    ensures { Gives result (record_by record_kind.DropItem format (view source.now)) }
 {
     Ok(Record::Edit(Edit::DropItem(name_at(alloc, format, source)?)))
 }
 
 #[inline(never)]
 fn statement_record(alloc: Global, format: Format, source: &Value) -> Result<Record, RecordFault>
-    ensures { Gives result (record_by verb.Statement format (view source.now)) }
+    ensures { Gives result (record_by record_kind.Statement format (view source.now)) }
 {
     Ok(Record::Edit(Edit::PutStatement(statement_in(alloc, format, source)?)))
 }
 
 #[inline(never)]
 fn drop_statement_record(alloc: Global, source: &Value) -> Result<Record, RecordFault>
-    ensures { (f : Format) → Gives result (record_by verb.DropStatement f (view source.now)) }
+    ensures { (f : Format) → Gives result (record_by record_kind.DropStatement f (view source.now)) }
 {
     Ok(Record::Edit(Edit::DropStatement(id_at(alloc, source)?)))
 }
 
 #[inline(never)]
 fn check_record(alloc: Global, source: &Value) -> Result<Record, RecordFault>
-    ensures { (f : Format) → Gives result (record_by verb.Check f (view source.now)) }
+    ensures { (f : Format) → Gives result (record_by record_kind.Check f (view source.now)) }
 {
     Ok(Record::Edit(check_in(alloc, source)?))
 }
 
 #[inline(never)]
 fn drop_check_record(alloc: Global, source: &Value) -> Result<Record, RecordFault>
-    ensures { (f : Format) → Gives result (record_by verb.DropCheck f (view source.now)) }
+    ensures { (f : Format) → Gives result (record_by record_kind.DropCheck f (view source.now)) }
 {
     Ok(Record::Edit(Edit::DropCheck(key_at(alloc, source)?)))
 }
 
 #[inline(never)]
 fn lookup_record(alloc: Global, format: Format, source: &Value) -> Result<Record, RecordFault>
-    ensures { Gives result (record_by verb.Lookup format (view source.now)) }
+    ensures { Gives result (record_by record_kind.Lookup format (view source.now)) }
 {
     Ok(Record::Query(Query::Lookup(name_at(alloc, format, source)?)))
 }
 
 #[inline(never)]
 fn search_record(alloc: Global, format: Format, source: &Value) -> Result<Record, RecordFault>
-    ensures { Gives result (record_by verb.Search format (view source.now)) }
+    ensures { Gives result (record_by record_kind.Search format (view source.now)) }
 {
     Ok(Record::Query(search_in(alloc, format, source)?))
 }
 
 #[inline(never)]
 fn items_record(alloc: Global, format: Format, source: &Value) -> Result<Record, RecordFault>
-    ensures { Gives result (record_by verb.Items format (view source.now)) }
+    ensures { Gives result (record_by record_kind.Items format (view source.now)) }
 {
     Ok(Record::Query(Query::Items(name_at(alloc, format, source)?)))
 }
 
 #[inline(never)]
 fn chain_record(alloc: Global, format: Format, source: &Value) -> Result<Record, RecordFault>
-    ensures { Gives result (record_by verb.Chain format (view source.now)) }
+    ensures { Gives result (record_by record_kind.Chain format (view source.now)) }
 {
     Ok(Record::Query(Query::Chain(name_at(alloc, format, source)?)))
 }
 
 #[inline(never)]
 fn show_record(alloc: Global, format: Format, source: &Value) -> Result<Record, RecordFault>
-    ensures { Gives result (record_by verb.Show format (view source.now)) }
+    ensures { Gives result (record_by record_kind.Show format (view source.now)) }
 {
     Ok(Record::Query(Query::Show(name_at(alloc, format, source)?)))
 }
 
 #[inline(never)]
 fn verdict_record(alloc: Global, source: &Value) -> Result<Record, RecordFault>
-    ensures { (f : Format) → Gives result (record_by verb.Verdict f (view source.now)) }
+    ensures { (f : Format) → Gives result (record_by record_kind.Verdict f (view source.now)) }
 {
     Ok(Record::Query(Query::Verdict(id_at(alloc, source)?)))
 }
 
 fn record_by(
     alloc: Global,
-    verb: Verb,
+    kind: RecordKind,
     format: Format,
     source: &Value,
 ) -> Result<Record, RecordFault>
-    ensures { Gives result (record_by verb format (view source.now)) }
+    ensures { Gives result (record_by kind format (view source.now)) }
 {
-    match verb {
-        Verb::Entry => entry_record(alloc, format, source),
-        Verb::Deprecate => deprecate_record(alloc, format, source),
-        Verb::Amend => amend_record(alloc, format, source),
-        Verb::Restore => restore_record(alloc, format, source),
-        Verb::Item => item_record(alloc, format, source),
-        Verb::DropItem => drop_item_record(alloc, format, source),
-        Verb::Statement => statement_record(alloc, format, source),
-        Verb::DropStatement => drop_statement_record(alloc, source),
-        Verb::Check => check_record(alloc, source),
-        Verb::DropCheck => drop_check_record(alloc, source),
-        Verb::Lookup => lookup_record(alloc, format, source),
-        Verb::Search => search_record(alloc, format, source),
-        Verb::Items => items_record(alloc, format, source),
-        Verb::Chain => chain_record(alloc, format, source),
-        Verb::Show => show_record(alloc, format, source),
-        Verb::Verdict => verdict_record(alloc, source),
+    match kind {
+        RecordKind::Entry => entry_record(alloc, format, source),
+        RecordKind::Deprecate => deprecate_record(alloc, format, source),
+        RecordKind::Amend => amend_record(alloc, format, source),
+        RecordKind::Restore => restore_record(alloc, format, source),
+        RecordKind::Item => item_record(alloc, format, source),
+        RecordKind::DropItem => drop_item_record(alloc, format, source),
+        RecordKind::Statement => statement_record(alloc, format, source),
+        RecordKind::DropStatement => drop_statement_record(alloc, source),
+        RecordKind::Check => check_record(alloc, source),
+        RecordKind::DropCheck => drop_check_record(alloc, source),
+        RecordKind::Lookup => lookup_record(alloc, format, source),
+        RecordKind::Search => search_record(alloc, format, source),
+        RecordKind::Items => items_record(alloc, format, source),
+        RecordKind::Chain => chain_record(alloc, format, source),
+        RecordKind::Show => show_record(alloc, format, source),
+        RecordKind::Verdict => verdict_record(alloc, source),
     }
 }
 
@@ -191,9 +191,9 @@ fn record_in(alloc: Global, line: &[u8]) -> Result<Record, RecordFault>
     ensures { Gives result (record_of line.now) }
 {
     let value = json_of(alloc, line)?;
-    let verb = verb_at(&value)?;
+    let kind = record_kind_at(&value)?;
     let format = format_at(&value)?;
-    record_by(alloc, verb, format, &value)
+    record_by(alloc, kind, format, &value)
 }
 
 /// The record of a line: a JSON value, of a kind that its member `do` says, whose members have their forms. Its names are in lower case.

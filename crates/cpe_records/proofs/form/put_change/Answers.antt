@@ -3,7 +3,7 @@ use Rattle.std.specs.List.{flat_map}
 use Rattle.json.specs.Token.{Token, string, key, begin_object, begin_array, end_array, end_object}
 use Rattle.json.specs.Tree.{json_tokens}
 use Rattle.cpe_members.specs.Words.{kind_word}
-use Rattle.cpe_records.specs.Verbs.{verb_word}
+use Rattle.cpe_records.specs.RecordKinds.{record_word}
 use Rattle.cpe_records.specs.NameObject.{name_object}
 use Rattle.cpe_records.proofs.Pieces.{around, closed}
 use Rattle.cpe_records.proofs.form.put_change.Goals as goal
@@ -13,7 +13,7 @@ returns c =
     let d = c.args.deprecation.now in
     let start = c.args.writer.now.tokens in
     let before : List Token =
-    begin_object ∷ key (codes "comment") ∷ string c.args.comment.now ∷ key (codes "date") ∷ string c.args.date.now ∷ key (codes "do") ∷ string (verb_word c.args.verb) ∷ key (codes "kind") ∷ string (kind_word d.kind)
+    begin_object ∷ key (codes "comment") ∷ string c.args.comment.now ∷ key (codes "date") ∷ string c.args.date.now ∷ key (codes "do") ∷ string (record_word c.args.kind) ∷ key (codes "kind") ∷ string (kind_word d.kind)
     ∷ key (codes "name") ∷ [] in
     let name : List Token = json_tokens (name_object c.args.name.now) in
     let between : List Token = key (codes "successors") ∷ begin_array ∷ [] in
