@@ -1,0 +1,5 @@
+pub mod BetweenLemmas
+pub mod FitLemmas
+pub mod ListLemmas
+pub mod FillingLemmas
+pub mod StepLemmas
