@@ -22,7 +22,7 @@ use Rattle.cpe_applicability.specs.Entering.{among, is_empty}
 use Rattle.cpe_applicability.specs.Users.{askers_at, users_at}
 use Rattle.cpe_applicability.specs.Board.{is_used, known, same_mode}
 use Rattle.cpe_applicability.specs.Held.{anew, asks, at_tickets, each_verdict, has_row_id, is_changed, is_plain, settled, ticket_of, tickets, truths_by, uses_follow, uses_plain, verdict_after, verdict_now}
-use Rattle.cpe_applicability.specs.Invariant.{IsBoard, TellsEach, judged, one_or_none, part_verdict, state_of}
+use Rattle.cpe_applicability.specs.Invariant.{IsBoard, TellsEach, judged, one_or_none, part_verdict, state_in}
 use Rattle.cpe_applicability.specs.Told.{check_keys}
 use Rattle.cpe_applicability.specs.Truths.{truth_in}
 use Rattle.cpe_applicability.proofs.EnteringLemmas.{nat_decides}
@@ -198,7 +198,7 @@ pub all_map : (f : Row → Row) (P Q : Row → Type 0) → ((r : Row) → P r �
 all_map f P Q w [] h = tt
 all_map f P Q w (r ∷ rows) h = (w r h.0, all_map f P Q w rows h.1)
 
-pub judged-settled : (a : Parts) (rows : List Row) → AllByRecursion (λ r. r.verdict ≡ part_verdict a r) rows → map judged (map settled rows) ≡ map (known (state_of a)) (map judged rows)
+pub judged-settled : (a : Parts) (rows : List Row) → AllByRecursion (λ r. r.verdict ≡ part_verdict a r) rows → map judged (map settled rows) ≡ map (known (state_in a)) (map judged rows)
 judged-settled a [] h = refl
 judged-settled a (r ∷ rows) h = λ i. record (judged r) { was = h.0 i } ∷ judged-settled a rows h.1 i
 

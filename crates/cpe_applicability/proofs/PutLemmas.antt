@@ -21,7 +21,7 @@ use Rattle.cpe_applicability.specs.Board.{KeepsTruths, TakesTruths, is_of}
 use Rattle.cpe_applicability.specs.ByResult.{asks_one, each_result}
 use Rattle.cpe_applicability.specs.Entering.{entered, is_asked, is_empty}
 use Rattle.cpe_applicability.specs.Held.{asks, each_verdict, follow_use, has_row_id, is_changed, plain_use, ticket_of, tickets, uses_follow, uses_plain, verdict_by}
-use Rattle.cpe_applicability.specs.Invariant.{HasSameRows, IsBoard, IsEntered, IsReady, TellsEach, judged, new_row, one_or_none, part_verdict, state_of}
+use Rattle.cpe_applicability.specs.Invariant.{HasSameRows, IsBoard, IsEntered, IsReady, TellsEach, judged, new_row, one_or_none, part_verdict, state_in}
 use Rattle.cpe_applicability.specs.Tickets.{IsBelow}
 use Rattle.ticket_list.specs.Rising.{IsRisingBy}
 use Rattle.cpe_applicability.specs.Told.{check_keys}
@@ -164,7 +164,7 @@ module _ (a b : Parts) (h : IsBoard a) (given : Mode → ℕ → Truth) (r : Row
   unused : (uses : Row → Bool) (ts : List ℕ) → ts ≡ tickets uses a.rows.items → list_any uses a.rows.items ≡ false → is_empty ts ≡ true
   unused uses ts e none = ap is_empty (e ∙ none_tickets uses a.rows.items none)
 
-  pub takes_given : TakesTruths (state_of a) (state_of b) given
+  pub takes_given : TakesTruths (state_in a) (state_in b) given
   takes_given Plain q none some =
       let no_use = sym (any_plain q a.rows.items) ∙ none in
       ap truth_or_unknown (plain_fresh q (own_use (uses_plain q) no_use (sym (any_plain q b.rows.items) ∙ some)) (unused (uses_plain q) (users_at a.plain.users.entries q) (h.plain q) no_use))
@@ -176,7 +176,7 @@ module _ (a b : Parts) (h : IsBoard a) (given : Mode → ℕ → Truth) (r : Row
 pub keeps_old : (a b : Parts) → IsBoard a
     → ((q : ℕ) → is_empty (users_at a.plain.users.entries q) ≡ false → lookup (nat_eq q) b.plain.truths.entries ≡ lookup (nat_eq q) a.plain.truths.entries)
     → ((q : ℕ) → is_empty (users_at a.follow.users.entries q) ≡ false → lookup (nat_eq q) b.follow.truths.entries ≡ lookup (nat_eq q) a.follow.truths.entries)
-    → KeepsTruths (state_of a) (state_of b)
+    → KeepsTruths (state_in a) (state_in b)
 keeps_old a b h plain follow Plain id was used = ap truth_or_unknown (plain id (ap is_empty (h.plain id) ∙ used_plain id a.rows.items was))
 keeps_old a b h plain follow Follow id was used = ap truth_or_unknown (follow id (ap is_empty (h.follow id) ∙ used_follow id a.rows.items was))
 
@@ -264,10 +264,10 @@ module _ (a m b : Parts) (h : IsBoard a) (given : Mode → ℕ → Truth) (held 
       IsBoard-put a b h given (new_row m held) same.next refl verdict_is refl each_is rows_are (new_id held.value.statement.id a.rows.items fresh_id) ids_are plain_are follow_are asked_are
       plain_truths_are follow_truths_are plain_fresh_are follow_fresh_are (ap (λ v. v.items) changed ∙ same.changed) room_is (results ∙ same.results) (next ∙ ap (λ (n : ℕ). n + 1) same.next)
 
-  pub takes_after_put : TakesTruths (state_of a) (state_of b) given
+  pub takes_after_put : TakesTruths (state_in a) (state_in b) given
   takes_after_put =
       takes_given a b h given (new_row m held) same.next refl verdict_is refl each_is rows_are (new_id held.value.statement.id a.rows.items fresh_id) ids_are plain_are follow_are asked_are
       plain_truths_are follow_truths_are plain_fresh_are follow_fresh_are (ap (λ v. v.items) changed ∙ same.changed) room_is (results ∙ same.results) (next ∙ ap (λ (n : ℕ). n + 1) same.next)
 
-  pub keeps_after_put : KeepsTruths (state_of a) (state_of b)
+  pub keeps_after_put : KeepsTruths (state_in a) (state_in b)
   keeps_after_put = keeps_old a b h plain_truths_are follow_truths_are

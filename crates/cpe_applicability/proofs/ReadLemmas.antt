@@ -13,7 +13,7 @@ use Rattle.ticket_list.specs.Rising.{IsRisingBy}
 use Rattle.cpe_applicability.specs.Board.{changed_places, has_changed, is_of, places, verdict_of}
 use Rattle.cpe_applicability.specs.Tickets.{first_place}
 use Rattle.cpe_applicability.specs.Held.{has_row_id, is_changed, place_in, ticket_of, tickets}
-use Rattle.cpe_applicability.specs.Invariant.{judged, part_verdict, state_of}
+use Rattle.cpe_applicability.specs.Invariant.{judged, part_verdict, state_in}
 use Rattle.cpe_applicability.proofs.RowLemmas.{all_at, all_keys, nat_same, lower_differs}
 
 pub get-map : {X Y : Type 0} (f : X → Y) (xs : List X) (k : ℕ) → slice_get (map f xs) k ≡ option_map f (slice_get xs k)
@@ -105,12 +105,12 @@ pub places-map : {X Y : Type 0} (f : X → Y) (p : X → Bool) (q : Y → Bool) 
 places-map f p q n [] h = refl
 places-map f p q n (x ∷ xs) h = λ i. cond (h.0 i) (n ∷ places-map f p q (suc n) xs h.1 i) (places-map f p q (suc n) xs h.1 i)
 
-all_changed : (b : Parts) (rows : List Row) → AllByRecursion (λ r. r.verdict ≡ part_verdict b r) rows → AllByRecursion (λ r. has_changed (state_of b) (judged r) ≡ is_changed r) rows
+all_changed : (b : Parts) (rows : List Row) → AllByRecursion (λ r. r.verdict ≡ part_verdict b r) rows → AllByRecursion (λ r. has_changed (state_in b) (judged r) ≡ is_changed r) rows
 all_changed b [] h = tt
 all_changed b (r ∷ rows) h = (ap (λ (t : Truth). not (same_truth t r.was)) (sym h.0), all_changed b rows h.1)
 
-pub changed_are : (b : Parts) → AllByRecursion (λ r. r.verdict ≡ part_verdict b r) b.rows.items → changed_places (state_of b) ≡ places is_changed 0 b.rows.items
-changed_are b h = places-map judged is_changed (has_changed (state_of b)) 0 b.rows.items (all_changed b b.rows.items h)
+pub changed_are : (b : Parts) → AllByRecursion (λ r. r.verdict ≡ part_verdict b r) b.rows.items → changed_places (state_in b) ≡ places is_changed 0 b.rows.items
+changed_are b h = places-map judged is_changed (has_changed (state_in b)) 0 b.rows.items (all_changed b b.rows.items h)
 
 pub first-map : {X Y : Type 0} (f : X → Y) (q : Y → Bool) (xs : List X) → first_place q (map f xs) ≡ first_place (λ x. q (f x)) xs
 first-map f q [] = refl
@@ -140,13 +140,13 @@ module _ {X : Type 0} (p : X → Bool) where
         more n e ∙ ap (slice_get (x ∷ xs)) same
 
 pub verdict_there : (b : Parts) (k : ℕ) (r : Row) → AllByRecursion (λ r. r.verdict ≡ part_verdict b r) b.rows.items → slice_get b.rows.items k ≡ Some r
-    → Some r.verdict ≡ option_map (verdict_of (state_of b)) (slice_get (map judged b.rows.items) k)
+    → Some r.verdict ≡ option_map (verdict_of (state_in b)) (slice_get (map judged b.rows.items) k)
 verdict_there b k r h e =
     ap (λ (t : Truth). Some t) (all_at (λ r. r.verdict ≡ part_verdict b r) b.rows.items k r h e)
-    ∙ sym (ap (option_map (verdict_of (state_of b))) (get-map judged b.rows.items k ∙ ap (option_map judged) e))
+    ∙ sym (ap (option_map (verdict_of (state_in b))) (get-map judged b.rows.items k ∙ ap (option_map judged) e))
 
-pub verdict_none : (b : Parts) (k : ℕ) → slice_get b.rows.items k ≡ None → None ≡ option_map (verdict_of (state_of b)) (slice_get (map judged b.rows.items) k)
-verdict_none b k e = sym (ap (option_map (verdict_of (state_of b))) (get-map judged b.rows.items k ∙ ap (option_map judged) e))
+pub verdict_none : (b : Parts) (k : ℕ) → slice_get b.rows.items k ≡ None → None ≡ option_map (verdict_of (state_in b)) (slice_get (map judged b.rows.items) k)
+verdict_none b k e = sym (ap (option_map (verdict_of (state_in b))) (get-map judged b.rows.items k ∙ ap (option_map judged) e))
 
 pub verdict_found : (b : Parts) (id : List ℕ) (k : ℕ) → first_place (has_row_id id) b.rows.items ≡ Some k
     → find (is_of id) (map judged b.rows.items) ≡ slice_get (map judged b.rows.items) k

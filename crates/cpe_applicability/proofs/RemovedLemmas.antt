@@ -18,7 +18,7 @@ use Rattle.cpe_applicability.specs.Tickets.{first_place}
 use Rattle.cpe_applicability.specs.ByResult.{asks_one}
 use Rattle.cpe_applicability.specs.Entering.{among, is_empty, left_out}
 use Rattle.cpe_applicability.specs.Held.{asks, has_row_id, is_changed, is_plain, ticket_of, tickets, truths_by, uses_follow, uses_plain, verdict_by}
-use Rattle.cpe_applicability.specs.Invariant.{IsBoard, TellsEach, one_or_none, part_verdict, state_of}
+use Rattle.cpe_applicability.specs.Invariant.{IsBoard, TellsEach, one_or_none, part_verdict, state_in}
 use Rattle.cpe_applicability.specs.Tickets.{without}
 use Rattle.ticket_list.specs.Rising.{IsRisingBy}
 use Rattle.cpe_applicability.specs.Told.{check_keys}
@@ -263,7 +263,7 @@ module _ {X : Type 0} (p : X → Bool) where
 pub keeps_used : (a b : Parts) → IsBoard b
     → ((q : ℕ) → is_empty (users_at b.plain.users.entries q) ≡ false → lookup (nat_eq q) b.plain.truths.entries ≡ lookup (nat_eq q) a.plain.truths.entries)
     → ((q : ℕ) → is_empty (users_at b.follow.users.entries q) ≡ false → lookup (nat_eq q) b.follow.truths.entries ≡ lookup (nat_eq q) a.follow.truths.entries)
-    → KeepsTruths (state_of a) (state_of b)
+    → KeepsTruths (state_in a) (state_in b)
 keeps_used a b h plain follow Plain id was used = ap truth_or_unknown (plain id (ap is_empty (h.plain id) ∙ used_plain id b.rows.items used))
 keeps_used a b h plain follow Follow id was used = ap truth_or_unknown (follow id (ap is_empty (h.follow id) ∙ used_follow id b.rows.items used))
 

@@ -23,8 +23,8 @@ use Rattle.cpe_applicability.specs.Users.{AreAsked, AreUsed, askers_at, users_at
 abbrev pub judged : Row → Judged
 judged r = record { statement = r.held.value.statement; ids = r.held.value.ids.items; was = r.was }
 
-abbrev pub state_of : Parts → State
-state_of b = record { rows = map judged b.rows.items; plain = b.plain.truths.entries; follow = b.follow.truths.entries; checks = b.results }
+abbrev pub state_in : Parts → State
+state_in b = record { rows = map judged b.rows.items; plain = b.plain.truths.entries; follow = b.follow.truths.entries; checks = b.results }
 
 abbrev pub one_or_none : Option ℕ → List ℕ
 one_or_none None = []

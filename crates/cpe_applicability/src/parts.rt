@@ -14,7 +14,7 @@ ghost use Rattle.cpe_applicability.specs.Tickets.{first_place};
 ghost use Rattle.cpe_applicability.specs.Held.{has_row_id, is_changed};
 ghost use Rattle.cpe_applicability.specs.Entering.{left_out};
 ghost use Rattle.cpe_applicability.specs.Tickets.{IsRising};
-ghost use Rattle.cpe_applicability.specs.Invariant.{HasSameRows, HasSameUsers, IsBoard, IsEntered, IsLean, IsReady, new_row, state_of};
+ghost use Rattle.cpe_applicability.specs.Invariant.{HasSameRows, HasSameUsers, IsBoard, IsEntered, IsLean, IsReady, new_row, state_in};
 ghost use Rattle.std.specs.HashMap.{spare};
 
 use crate::askers::askers_of;
@@ -54,8 +54,8 @@ impl Parts {
     // No statements and no results.
     pub(crate) fn new(alloc: Global) -> Parts
         ensures board { IsBoard result }
-        ensures rows { (state_of result).rows ≡ [] }
-        ensures checks { (state_of result).checks ≡ [] }
+        ensures rows { (state_in result).rows ≡ [] }
+        ensures checks { (state_in result).checks ≡ [] }
         ensures lean { IsLean result }
     {
         Parts {
@@ -71,7 +71,7 @@ impl Parts {
     }
 
     pub(crate) fn len(&self) -> usize
-        ensures { result ≡ length (state_of self.now).rows }
+        ensures { result ≡ length (state_in self.now).rows }
     {
         self.rows.len()
     }
@@ -79,7 +79,7 @@ impl Parts {
     // How many statements of the mode have the number among theirs.
     pub(crate) fn users(&self, id: u32, mode: Mode) -> usize
         requires { IsBoard self.now }
-        ensures { result ≡ count_by (uses mode id) (state_of self.now).rows }
+        ensures { result ≡ count_by (uses mode id) (state_in self.now).rows }
     {
         match mode {
             Mode::Plain => count(users_of(&self.plain.users, id)),
@@ -89,7 +89,7 @@ impl Parts {
 
     // The truth that is kept for a number in a mode.
     fn truth(&self, id: u32, mode: Mode) -> Truth
-        ensures { result ≡ truth_at (state_of self.now) mode id }
+        ensures { result ≡ truth_at (state_in self.now) mode id }
     {
         match mode {
             Mode::Plain => truth_of(&self.plain.truths, id),
@@ -102,6 +102,13 @@ impl Parts {
         ensures { result ≡ length self.now.results }
     {
         self.results.len()
+    }
+
+    // The check at a place, with its result.
+    pub(crate) fn check_at(&self, place: usize) -> Option<(&CheckKey, Truth)>
+        ensures { option_map (λ p. (p.0.now, p.1)) result ≡ slice_get self.now.results place }
+    {
+        self.results.at(place)
     }
 
     // Whether a result is kept for a check.
@@ -133,9 +140,9 @@ impl Parts {
     pub(crate) fn fact_changed(&mut self, id: u32, mode: Mode, truth: Truth)
         requires { IsBoard self.old }
         ensures board { IsBoard self.new }
-        ensures rows { (state_of self.new).rows ≡ (state_of self.old).rows }
-        ensures checks { (state_of self.new).checks ≡ (state_of self.old).checks }
-        ensures truths { ChangesTruth (state_of self.old) (state_of self.new) mode id truth }
+        ensures rows { (state_in self.new).rows ≡ (state_in self.old).rows }
+        ensures checks { (state_in self.new).checks ≡ (state_in self.old).checks }
+        ensures truths { ChangesTruth (state_in self.old) (state_in self.new) mode id truth }
         ensures lean { IsLean self.old → IsLean self.new }
     {
         if !differ(self.truth(id, mode), truth) {
@@ -150,9 +157,9 @@ impl Parts {
     fn plain_changed(&mut self, id: u32, truth: Truth)
         requires { IsBoard self.old }
         ensures board { IsBoard self.new }
-        ensures rows { (state_of self.new).rows ≡ (state_of self.old).rows }
-        ensures checks { (state_of self.new).checks ≡ (state_of self.old).checks }
-        ensures truths { ChangesTruth (state_of self.old) (state_of self.new) Plain id truth }
+        ensures rows { (state_in self.new).rows ≡ (state_in self.old).rows }
+        ensures checks { (state_in self.new).checks ≡ (state_in self.old).checks }
+        ensures truths { ChangesTruth (state_in self.old) (state_in self.new) Plain id truth }
         ensures lean { IsLean self.old → IsLean self.new }
     {
         change_truth(&mut self.plain.truths, id, truth);
@@ -170,9 +177,9 @@ impl Parts {
     fn follow_changed(&mut self, id: u32, truth: Truth)
         requires { IsBoard self.old }
         ensures board { IsBoard self.new }
-        ensures rows { (state_of self.new).rows ≡ (state_of self.old).rows }
-        ensures checks { (state_of self.new).checks ≡ (state_of self.old).checks }
-        ensures truths { ChangesTruth (state_of self.old) (state_of self.new) Follow id truth }
+        ensures rows { (state_in self.new).rows ≡ (state_in self.old).rows }
+        ensures checks { (state_in self.new).checks ≡ (state_in self.old).checks }
+        ensures truths { ChangesTruth (state_in self.old) (state_in self.new) Follow id truth }
         ensures lean { IsLean self.old → IsLean self.new }
     {
         change_truth(&mut self.follow.truths, id, truth);
@@ -191,10 +198,10 @@ impl Parts {
     pub(crate) fn clear_changed(&mut self)
         requires { IsBoard self.old }
         ensures board { IsBoard self.new }
-        ensures rows { (state_of self.new).rows ≡ map (known (state_of self.old)) (state_of self.old).rows }
-        ensures plain { (state_of self.new).plain ≡ (state_of self.old).plain }
-        ensures follow { (state_of self.new).follow ≡ (state_of self.old).follow }
-        ensures checks { (state_of self.new).checks ≡ (state_of self.old).checks }
+        ensures rows { (state_in self.new).rows ≡ map (known (state_in self.old)) (state_in self.old).rows }
+        ensures plain { (state_in self.new).plain ≡ (state_in self.old).plain }
+        ensures follow { (state_in self.new).follow ≡ (state_in self.old).follow }
+        ensures checks { (state_in self.new).checks ≡ (state_in self.old).checks }
         ensures lean { IsLean self.old → IsLean self.new }
     {
         settle_rows(&mut self.rows, &mut self.changed);
@@ -206,9 +213,9 @@ impl Parts {
         ensures board { IsBoard self.new }
         ensures ok { OnOk result (self.new.results ≡ with_check key truth self.old.results) }
         ensures err { OnErr result (self.new ≡ self.old) }
-        ensures rows { (state_of self.new).rows ≡ (state_of self.old).rows }
-        ensures plain { (state_of self.new).plain ≡ (state_of self.old).plain }
-        ensures follow { (state_of self.new).follow ≡ (state_of self.old).follow }
+        ensures rows { (state_in self.new).rows ≡ (state_in self.old).rows }
+        ensures plain { (state_in self.new).plain ≡ (state_in self.old).plain }
+        ensures follow { (state_in self.new).follow ≡ (state_in self.old).follow }
         ensures lean { IsLean self.old → IsLean self.new }
     {
         let list = askers_of(&self.askers, &key);
@@ -231,9 +238,9 @@ impl Parts {
         ensures board { IsBoard self.new }
         ensures found { result ≡ list_any (has_key key.now) self.old.results }
         ensures checks { self.new.results ≡ without_first (has_key key.now) self.old.results }
-        ensures rows { (state_of self.new).rows ≡ (state_of self.old).rows }
-        ensures plain { (state_of self.new).plain ≡ (state_of self.old).plain }
-        ensures follow { (state_of self.new).follow ≡ (state_of self.old).follow }
+        ensures rows { (state_in self.new).rows ≡ (state_in self.old).rows }
+        ensures plain { (state_in self.new).plain ≡ (state_in self.old).plain }
+        ensures follow { (state_in self.new).follow ≡ (state_in self.old).follow }
         ensures lean { IsLean self.old → IsLean self.new }
     {
         let found = self.results.remove(key);
@@ -263,7 +270,7 @@ impl Parts {
     // Whether a statement has this id.
     pub(crate) fn has(&self, id: &Text) -> bool
         requires { IsBoard self.now }
-        ensures { result ≡ list_any (is_of id.now) (state_of self.now).rows }
+        ensures { result ≡ list_any (is_of id.now) (state_in self.now).rows }
     {
         match self.place_by_id(id) {
             Some(_) => true,
@@ -274,7 +281,7 @@ impl Parts {
     // The place of the statement of this id, as std has it.
     pub(crate) fn position(&self, id: &Text) -> Option<usize>
         requires { IsBoard self.now }
-        ensures { result ≡ position (is_of id.now) (state_of self.now).rows }
+        ensures { result ≡ position (is_of id.now) (state_in self.now).rows }
     {
         self.place_by_id(id)
     }
@@ -282,7 +289,7 @@ impl Parts {
     // The statement of this id.
     pub(crate) fn find(&self, id: &Text) -> Option<&Statement>
         requires { IsBoard self.now }
-        ensures { option_copied result ≡ find (has_id id.now) (statements_of (state_of self.now).rows) }
+        ensures { option_copied result ≡ find (has_id id.now) (statements_of (state_in self.now).rows) }
     {
         match self.place_by_id(id) {
             Some(place) => self.statement_at(place),
@@ -292,7 +299,7 @@ impl Parts {
 
     // The statement at a place.
     fn statement_at(&self, place: usize) -> Option<&Statement>
-        ensures { option_copied result ≡ slice_get (statements_of (state_of self.now).rows) place }
+        ensures { option_copied result ≡ slice_get (statements_of (state_in self.now).rows) place }
     {
         match self.rows.at(place) {
             Some(row) => Some(&row.held.statement),
@@ -303,8 +310,8 @@ impl Parts {
     // How many fact references go with the statement of this id.
     pub(crate) fn facts_of(&self, id: &Text) -> usize
         requires board { IsBoard self.now }
-        requires few { number_of_facts (statements_of (state_of self.now).rows) ≤ most which.Facts }
-        ensures { number_of_facts (statements_of (without_first (is_of id.now) (state_of self.now).rows)) + result ≡ number_of_facts (statements_of (state_of self.now).rows) }
+        requires few { number_of_facts (statements_of (state_in self.now).rows) ≤ most which.Facts }
+        ensures { number_of_facts (statements_of (without_first (is_of id.now) (state_in self.now).rows)) + result ≡ number_of_facts (statements_of (state_in self.now).rows) }
     {
         match self.find(id) {
             Some(statement) => with_facts_of(&statement.test, 0),
@@ -315,7 +322,7 @@ impl Parts {
     // The verdict of the statement of this id.
     pub(crate) fn verdict(&self, id: &Text) -> Option<Truth>
         requires { IsBoard self.now }
-        ensures { result ≡ option_map (verdict_of (state_of self.now)) (find (is_of id.now) (state_of self.now).rows) }
+        ensures { result ≡ option_map (verdict_of (state_in self.now)) (find (is_of id.now) (state_in self.now).rows) }
     {
         match self.place_by_id(id) {
             Some(place) => self.verdict_at(place),
@@ -326,7 +333,7 @@ impl Parts {
     // The verdict of the statement at a place.
     pub(crate) fn verdict_at(&self, place: usize) -> Option<Truth>
         requires { IsBoard self.now }
-        ensures { result ≡ option_map (verdict_of (state_of self.now)) (slice_get (state_of self.now).rows place) }
+        ensures { result ≡ option_map (verdict_of (state_in self.now)) (slice_get (state_in self.now).rows place) }
     {
         match self.rows.at(place) {
             Some(row) => Some(row.verdict),
@@ -337,8 +344,8 @@ impl Parts {
     // The statement at a place, with its verdict.
     pub(crate) fn at(&self, place: usize) -> Option<(&Statement, Truth)>
         requires { IsBoard self.now }
-        ensures statement { option_map (λ p. p.0.now) result ≡ option_map (λ j. j.statement) (slice_get (state_of self.now).rows place) }
-        ensures verdict { option_map (λ p. p.1) result ≡ option_map (verdict_of (state_of self.now)) (slice_get (state_of self.now).rows place) }
+        ensures statement { option_map (λ p. p.0.now) result ≡ option_map (λ j. j.statement) (slice_get (state_in self.now).rows place) }
+        ensures verdict { option_map (λ p. p.1) result ≡ option_map (verdict_of (state_in self.now)) (slice_get (state_in self.now).rows place) }
     {
         match self.rows.at(place) {
             Some(row) => Some((&row.held.statement, row.verdict)),
@@ -348,7 +355,7 @@ impl Parts {
 
     // The numbers of the fact references of the statement at a place.
     pub(crate) fn ids_at(&self, place: usize) -> Option<&[u32]>
-        ensures { option_map (λ ids. ids.now) result ≡ option_map (λ j. j.ids) (slice_get (state_of self.now).rows place) }
+        ensures { option_map (λ ids. ids.now) result ≡ option_map (λ j. j.ids) (slice_get (state_in self.now).rows place) }
     {
         match self.rows.at(place) {
             Some(row) => Some(row.held.ids.as_slice()),
@@ -358,7 +365,7 @@ impl Parts {
 
     // The verdict that callers know of the statement at a place.
     pub(crate) fn was(&self, place: usize) -> Option<Truth>
-        ensures { result ≡ option_map (λ j. j.was) (slice_get (state_of self.now).rows place) }
+        ensures { result ≡ option_map (λ j. j.was) (slice_get (state_in self.now).rows place) }
     {
         match self.rows.at(place) {
             Some(row) => Some(row.was),
@@ -369,7 +376,7 @@ impl Parts {
     // The place of the changed statement with this number among the changed ones, from 0.
     pub(crate) fn changed_at(&self, number: usize) -> Option<usize>
         requires { IsBoard self.now }
-        ensures { result ≡ slice_get (changed_places (state_of self.now)) number }
+        ensures { result ≡ slice_get (changed_places (state_in self.now)) number }
     {
         match ticket_at(&self.changed, number) {
             Some(ticket) => place_of(&self.rows, ticket),
@@ -380,7 +387,7 @@ impl Parts {
     // How many statements are changed.
     pub(crate) fn changed_len(&self) -> usize
         requires { IsBoard self.now }
-        ensures { result ≡ length (changed_places (state_of self.now)) }
+        ensures { result ≡ length (changed_places (state_in self.now)) }
     {
         count(&self.changed)
     }
@@ -389,10 +396,10 @@ impl Parts {
     pub(crate) fn drop_statement(&mut self, id: &Text) -> bool
         requires { IsBoard self.old }
         ensures board { IsBoard self.new }
-        ensures found { result ≡ list_any (is_of id.now) (state_of self.old).rows }
-        ensures rows { (state_of self.new).rows ≡ without_first (is_of id.now) (state_of self.old).rows }
-        ensures truths { KeepsTruths (state_of self.old) (state_of self.new) }
-        ensures checks { (state_of self.new).checks ≡ (state_of self.old).checks }
+        ensures found { result ≡ list_any (is_of id.now) (state_in self.old).rows }
+        ensures rows { (state_in self.new).rows ≡ without_first (is_of id.now) (state_in self.old).rows }
+        ensures truths { KeepsTruths (state_in self.old) (state_in self.new) }
+        ensures checks { (state_in self.new).checks ≡ (state_in self.old).checks }
         ensures lean { IsLean self.old → IsLean self.new }
     {
         match self.place_by_id(id) {
@@ -410,8 +417,8 @@ impl Parts {
         requires place { place < length self.old.rows.items }
         ensures board { IsBoard self.new }
         ensures rows { self.new.rows.items ≡ take place self.old.rows.items ++ drop (place + 1) self.old.rows.items }
-        ensures truths { KeepsTruths (state_of self.old) (state_of self.new) }
-        ensures checks { (state_of self.new).checks ≡ (state_of self.old).checks }
+        ensures truths { KeepsTruths (state_in self.old) (state_in self.new) }
+        ensures checks { (state_in self.new).checks ≡ (state_in self.old).checks }
         ensures lean { IsLean self.old → IsLean self.new }
     {
         let row = match take_row(&mut self.rows, place) {
@@ -439,13 +446,13 @@ impl Parts {
         given: &T,
     ) -> Result<(), Memory>
         requires board { IsBoard self.old }
-        requires new { list_any (is_of statement.id) (state_of self.old).rows ≡ false }
+        requires new { list_any (is_of statement.id) (state_in self.old).rows ≡ false }
         ensures board { IsBoard self.new }
-        ensures ok { OnOk result ((state_of self.new).rows ≡ (state_of self.old).rows ++ put_row (state_of self.new) statement (map (λ id. id.0) ids.now) ∷ []) }
-        ensures err { OnErr result ((state_of self.new).rows ≡ (state_of self.old).rows) }
-        ensures kept { KeepsTruths (state_of self.old) (state_of self.new) }
-        ensures fresh { OnOk result (TakesTruths (state_of self.old) (state_of self.new) (T.fact_truth given.now)) }
-        ensures checks { (state_of self.new).checks ≡ (state_of self.old).checks }
+        ensures ok { OnOk result ((state_in self.new).rows ≡ (state_in self.old).rows ++ put_row (state_in self.new) statement (map (λ id. id.0) ids.now) ∷ []) }
+        ensures err { OnErr result ((state_in self.new).rows ≡ (state_in self.old).rows) }
+        ensures kept { KeepsTruths (state_in self.old) (state_in self.new) }
+        ensures fresh { OnOk result (TakesTruths (state_in self.old) (state_in self.new) (T.fact_truth given.now)) }
+        ensures checks { (state_in self.new).checks ≡ (state_in self.old).checks }
         ensures lean { IsLean self.old → IsLean self.new }
     {
         let held = hold(alloc, statement, ids)?;
@@ -459,13 +466,13 @@ impl Parts {
         given: &T,
     ) -> Result<(), Memory>
         requires board { IsBoard self.old }
-        requires new { list_any (is_of held.value.statement.id) (state_of self.old).rows ≡ false }
+        requires new { list_any (is_of held.value.statement.id) (state_in self.old).rows ≡ false }
         ensures board { IsBoard self.new }
-        ensures ok { OnOk result ((state_of self.new).rows ≡ (state_of self.old).rows ++ put_row (state_of self.new) held.value.statement held.value.ids.items ∷ []) }
-        ensures err { OnErr result ((state_of self.new).rows ≡ (state_of self.old).rows) }
-        ensures kept { KeepsTruths (state_of self.old) (state_of self.new) }
-        ensures fresh { OnOk result (TakesTruths (state_of self.old) (state_of self.new) (T.fact_truth given.now)) }
-        ensures checks { (state_of self.new).checks ≡ (state_of self.old).checks }
+        ensures ok { OnOk result ((state_in self.new).rows ≡ (state_in self.old).rows ++ put_row (state_in self.new) held.value.statement held.value.ids.items ∷ []) }
+        ensures err { OnErr result ((state_in self.new).rows ≡ (state_in self.old).rows) }
+        ensures kept { KeepsTruths (state_in self.old) (state_in self.new) }
+        ensures fresh { OnOk result (TakesTruths (state_in self.old) (state_in self.new) (T.fact_truth given.now)) }
+        ensures checks { (state_in self.new).checks ≡ (state_in self.old).checks }
         ensures lean { IsLean self.old → IsLean self.new }
     {
         match self.make_room(alloc, &held, given) {

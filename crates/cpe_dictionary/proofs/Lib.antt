@@ -16,3 +16,8 @@ pub mod PlanLemmas
 pub mod LeftLemmas
 pub mod SourceLemmas
 pub mod EntryLemmas
+pub mod LawfulNodes
+pub mod GivenLemmas
+pub mod GivenGraph
+pub mod GivenNumbers
+pub mod GivenDetails

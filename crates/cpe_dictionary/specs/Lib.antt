@@ -6,3 +6,5 @@ pub mod Kept
 pub mod Causes
 pub mod Plans
 pub mod Sources
+pub mod Given
+pub mod Lent

@@ -39,7 +39,8 @@ impl<'t> Model for Entries<'t> {
     ghost invariant = { λ e. length e.names ≡ length e.details.now };
 }
 
-fn details_at(all: &[Details], place: usize) -> Option<&Details>
+// What stands at a place, if anything.
+pub(crate) fn details_at(all: &[Details], place: usize) -> Option<&Details>
     ensures { option_copied result ≡ slice_get all.now place }
 {
     all.get(place)

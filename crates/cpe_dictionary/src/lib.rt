@@ -19,6 +19,8 @@ mod chain;
 mod dictionary;
 mod ends;
 mod entries;
+mod entry_ref;
+mod given;
 mod kept;
 pub mod law;
 mod plans;
@@ -32,6 +34,7 @@ pub use by_number::{
     entries_are_numbered, faults_by_number,
 };
 pub use dictionary::Dictionary;
+pub use entry_ref::EntryRef;
 pub use plans::Plan;
 pub use sources::Sources;
 pub use store::KeptDictionary;

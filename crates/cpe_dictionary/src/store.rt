@@ -1,5 +1,5 @@
 // A dictionary as it is kept beside a table of names.
-ghost use Rattle.std.specs.Prelude.{◌≡◌, ◌+◌, ◌++◌, ◌∷◌, [], ◌≤◌, IfOk, OnOk, OnErr, length, position, slice_get, false};
+ghost use Rattle.std.specs.Prelude.{◌≡◌, ◌+◌, ◌++◌, ◌∷◌, [], ◌≤◌, IfOk, OnOk, OnErr, length, option_map, position, slice_get, false};
 ghost use Rattle.std.specs.List.{filter_map, list_any};
 ghost use Rattle.cpe_name.specs.Equal.{same_name};
 ghost use Rattle.cpe_rows.specs.Prelude.{is_named, IsDictionary, most};
@@ -7,11 +7,13 @@ ghost use Rattle.name_index.specs.Table.{IsLive, kept_at};
 ghost use Rattle.names_in_order.specs.InOrder.{AreInOrder, names_numbered};
 ghost use Rattle.cpe_rows.specs.declared.fault.Which.TheVariants as Which;
 ghost use Rattle.cpe_dictionary.specs.Kept.{details_written, entries_in, entries_of, entry_from, FitsTable, new_entry, rewritten, written};
+ghost use Rattle.cpe_dictionary.specs.Lent.{entry_lent};
 ghost use Rattle.cpe_dictionary.specs.Plans.{IsAllowed, numbered};
 
 use crate::by_number::{changes_by_number, edits_by_number};
 use crate::dictionary::Dictionary;
-use crate::entries::Entries;
+use crate::entries::{Entries, details_at};
+use crate::entry_ref::{EntryRef, lent};
 use crate::kept::{Details, rewrite};
 use crate::plans::Plan;
 use cpe_rows::{Deprecation, Note, Provenance, Text};
@@ -29,8 +31,8 @@ pub struct KeptDictionary {
     alloc: Global,
     names: GrowingNames,
     // By place.
-    details: Vec<Details>,
-    graph: DeprecationGraph,
+    pub(crate) details: Vec<Details>,
+    pub(crate) graph: DeprecationGraph,
 }
 
 impl Model for KeptDictionary {
@@ -146,6 +148,17 @@ impl KeptDictionary {
     {
         match self.names.place_of(table, id) {
             Some(place) => Some(place as u32),
+            None => None,
+        }
+    }
+
+    /// The entry at a place from 0, lent. There is none exactly where the place is the number of entries or more.
+    pub fn entry_at<'t>(&'t self, table: &'t NameTable, k: usize) -> Option<EntryRef<'t>>
+        requires { FitsTable table.now self.now }
+        ensures { option_map entry_lent result ≡ slice_get (entries_in table.now self.now) k }
+    {
+        match self.names.number_at(k) {
+            Some(id) => lent(table.name(id), details_at(&self.details, k)),
             None => None,
         }
     }

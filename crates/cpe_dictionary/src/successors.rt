@@ -17,8 +17,8 @@ use cpe_name::Wfn;
 use cpe_rows::{Deprecation, EditFault, Kind, List, MOST_SUCCESSORS};
 use std::alloc::Global;
 
-// Whether a deprecation of this kind may have so many successors.
-fn is_count(kind: Kind, count: usize) -> bool
+/// Whether a deprecation of this kind may have so many successors.
+pub(crate) fn is_count(kind: Kind, count: usize) -> bool
     ensures { result ≡ is_count kind count }
 {
     match kind {
@@ -53,8 +53,8 @@ fn find_numbers(
     Ok(numbers)
 }
 
-// The place, from 1, of the first number that stands earlier too.
-fn find_repeated(numbers: &[u32]) -> Option<u32>
+/// The place, from 1, of the first number that stands earlier too.
+pub(crate) fn find_repeated(numbers: &[u32]) -> Option<u32>
     requires { length numbers.now ≤ MOST_SUCCESSORS }
     ensures { result ≡ repeated_from nat_eq [] 1 numbers.now }
 {

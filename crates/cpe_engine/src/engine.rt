@@ -1,16 +1,23 @@
 // The engine, its edits and its answers.
-ghost use Rattle.std.specs.Prelude.{◌≡◌, IfOk, length, slice_get, true};
+ghost use Rattle.std.specs.Prelude.{◌≡◌, ◌+◌, ◌≤◌, IfOk, length, position, slice_get, true};
+ghost use Rattle.std.specs.List.{filter_map, list_any};
 ghost use Rattle.std.specs.Option.{option_map};
-ghost use Rattle.cpe_rows.specs.Prelude.{answer, Applied, changes, is_valid_edit, IsLawful, no_rows, verdict};
+ghost use Rattle.cpe_rows.specs.Prelude.{answer, Applied, changes, has_key, is_named, is_valid_edit, IsLawful, no_rows, verdict};
 ghost use Rattle.cpe_rows.specs.Counts.{counts_of};
 ghost use Rattle.cpe_rows.specs.Names.{is_lower};
 ghost use Rattle.cpe_rows.specs.Valid.{is_valid_query};
+ghost use Rattle.cpe_rows.specs.Weight.{weight};
+ghost use Rattle.cpe_dictionary.specs.Lent.{entry_lent};
 ghost use Rattle.cpe_steps.specs.Within.{StepsWithin};
 ghost use Rattle.cpe_engine.specs.Looks.{edit_looks, looks};
 
 use crate::parts::Parts;
+use cpe_dictionary::EntryRef;
+use cpe_inventory::ItemSlots;
 use cpe_name::Wfn;
-use cpe_rows::{Changed, Counts, Edit, EditFault, List, Query, Reply, Statement, Text, Truth};
+use cpe_rows::{
+    Changed, CheckKey, Counts, Edit, EditFault, List, Query, Reply, Statement, Text, Truth,
+};
 use cpe_steps::Steps;
 use cpe_values::Memory;
 use std::alloc::Global;
@@ -20,7 +27,7 @@ use std::sync::ledger::Ledger;
 /// An engine. Contracts see it as the rows that it keeps.
 #[derive(Drop)]
 pub struct Engine {
-    alloc: Global,
+    pub(crate) alloc: Global,
     pub(crate) parts: Parts,
 }
 
@@ -71,6 +78,71 @@ impl Engine {
             checks: self.parts.verdicts.checks_len() as u64,
             weight: self.parts.weight,
         }
+    }
+
+    /// The weight of the rows.
+    pub fn weight(&self) -> u64
+        ensures { result ≡ weight self.now }
+    {
+        self.parts.weight
+    }
+
+    /// How many entries there are.
+    pub fn entries_len(&self) -> usize
+        ensures { result ≡ length self.now.entries }
+    {
+        self.parts.registry.dictionary().len()
+    }
+
+    /// The entry at a place from 0, lent. There is none exactly where the place is the number of entries or more.
+    pub fn entry_at(&self, k: usize) -> Option<EntryRef<'_>>
+        ensures { option_map entry_lent result ≡ slice_get self.now.entries k }
+    {
+        self.parts.registry.entry_at(k)
+    }
+
+    /// The place from 0 of the entry of this name. It is found by the hash.
+    pub fn place_of(&self, name: &Wfn) -> Option<u32>
+        ensures { result ≡ position (is_named name.now) self.now.entries }
+    {
+        self.parts.registry.dictionary().number_of(name)
+    }
+
+    /// How many items there are.
+    pub fn items_len(&self) -> usize
+        ensures { result ≡ length self.now.items }
+    {
+        self.parts.registry.items().len()
+    }
+
+    /// The items by their slots, in their order. An item that goes leaves its slot to none, so that none can be found by its place among
+    /// all in one step; there are at most twice as many slots as items.
+    pub fn item_slots(&self) -> ItemSlots<'_>
+        ensures names { filter_map (λ slot. slot) result ≡ self.now.items }
+        ensures dense { length result ≤ length self.now.items + length self.now.items }
+    {
+        self.parts.registry.item_slots()
+    }
+
+    /// For how many checks a result is kept.
+    pub fn checks_len(&self) -> usize
+        ensures { result ≡ length self.now.checks }
+    {
+        self.parts.verdicts.checks_len()
+    }
+
+    /// The check at a place from 0 for which a result is kept, with it. There is none exactly where the place is their number or more.
+    pub fn check_at(&self, k: usize) -> Option<(&CheckKey, Truth)>
+        ensures { option_map (λ p. (p.0.now, p.1)) result ≡ slice_get self.now.checks k }
+    {
+        self.parts.verdicts.check_at(k)
+    }
+
+    /// Whether a result is kept for a check.
+    pub fn has_check(&self, key: &CheckKey) -> bool
+        ensures { result ≡ list_any (has_key key.now) self.now.checks }
+    {
+        self.parts.verdicts.has_check(key)
     }
 
     /// How many statements there are.

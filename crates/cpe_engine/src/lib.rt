@@ -7,6 +7,7 @@
 //! memory runs out. Refused, it lets its names go. Made, it answers the verdicts that it changed; to ask for a verdict evaluates nothing.
 #![tactic(auto)]
 
+mod adopting;
 mod checked;
 mod checks;
 mod edits;
@@ -19,4 +20,5 @@ mod numbered;
 mod parts;
 mod statements;
 
+pub use adopting::AdoptFault;
 pub use engine::Engine;

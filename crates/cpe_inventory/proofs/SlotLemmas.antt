@@ -1,7 +1,7 @@
 -- The names of slots, beside the table of their numbers.
-use Rattle.std.proofs.Common.{◌≡◌, suc, Bool, true, false, cond, ◌||◌, List, [], ◌∷◌, Option, Some, None, refl, sym, ap, subst, ◌∙◌}
+use Rattle.std.proofs.Common.{◌≡◌, suc, Bool, true, false, cond, ◌||◌, List, [], ◌∷◌, Option, Some, None, map, refl, sym, ap, subst, ◌∙◌}
 use Rattle.std.specs.Prelude.{option_map}
-use Rattle.std.specs.List.{cons_option, list_any}
+use Rattle.std.specs.List.{cons_option, filter_map, list_any}
 use Rattle.cpe_name.specs.Eleven.{Values}
 use Rattle.cpe_name.specs.Equal.{same_name}
 use Rattle.cpe_rows.specs.After.{without_first}
@@ -62,3 +62,12 @@ all_stay p (x ∷ xs) h = by (p x) (list_any p xs) h (λ none. all_stay p xs non
 
 pub all_slots : (table : Table) (slots : List (Option NameId)) (numbers : List NameId) → numbers_in slots ≡ numbers → AreLive table numbers → slot_names table slots ≡ names_numbered table numbers
 all_slots table slots numbers is live = slots_numbered table slots (subst (AreLive table) (sym is) live) ∙ ap (names_numbered table) is
+
+-- those slots that have a name
+pub slots_named : (table : Table) (slots : List (Option NameId)) → filter_map (λ (slot : Option Values). slot) (map (slot_name table) slots) ≡ slot_names table slots
+slots_named table [] = refl
+slots_named table (slot ∷ slots) = go (slot_name table slot) (slots_named table slots) where
+  go : (name : Option Values) → filter_map (λ (o : Option Values). o) (map (slot_name table) slots) ≡ slot_names table slots
+      → filter_map (λ (o : Option Values). o) (name ∷ map (slot_name table) slots) ≡ cons_option name (slot_names table slots)
+  go None rest = rest
+  go (Some n) rest = ap (λ (ns : List Values). n ∷ ns) rest

@@ -1,5 +1,5 @@
 // The results that are kept for checks.
-ghost use Rattle.std.specs.Prelude.{◌≡◌, ◌<◌, ◌++◌, ◌∷◌, [], true, cond, find, map, Some, None, IfOk, OnOk, OnErr, length};
+ghost use Rattle.std.specs.Prelude.{◌≡◌, ◌<◌, ◌++◌, ◌∷◌, [], true, cond, find, map, Some, None, IfOk, OnOk, OnErr, length, option_map, slice_get};
 ghost use Rattle.std.specs.Bool.{OnFalse};
 ghost use Rattle.std.specs.HashMap.{spare};
 ghost use Rattle.std.specs.List.{list_any};
@@ -64,6 +64,16 @@ impl Checks {
         ensures { result ≡ length self.now }
     {
         self.results.len()
+    }
+
+    /// The key at a place from 0, with its result. There is none exactly where the place is the number of keys or more.
+    pub fn at(&self, place: usize) -> Option<(&CheckKey, Truth)>
+        ensures { option_map (λ p. (p.0.now, p.1)) result ≡ slice_get self.now place }
+    {
+        match self.results.at(place) {
+            Some(kept) => Some((&kept.key, kept.truth)),
+            None => None,
+        }
     }
 
     /// Whether a result is kept for the key.

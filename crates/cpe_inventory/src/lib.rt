@@ -10,7 +10,9 @@ mod faults;
 mod items;
 mod kept;
 pub mod law;
+mod slots;
 
 pub use checks::Checks;
 pub use faults::check_fault;
 pub use items::Items;
+pub use slots::ItemSlots;

@@ -9,6 +9,7 @@
 
 mod ends;
 mod faults;
+mod given;
 mod registry;
 
 pub use registry::Registry;

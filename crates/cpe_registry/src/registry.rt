@@ -1,19 +1,19 @@
 // One table of names, and the entries and items that keep numbers of it.
-ghost use Rattle.std.specs.Prelude.{◌≡◌, ◌+◌, ◌++◌, ◌∷◌, [], ◌<◌, ◌≤◌, ℕ, IfOk, IfSome, IsNone, List, None, OnErr, OnOk, false, length, position, true};
-ghost use Rattle.std.specs.List.{list_any};
+ghost use Rattle.std.specs.Prelude.{◌≡◌, ◌+◌, ◌++◌, ◌∷◌, [], ◌<◌, ◌≤◌, ℕ, IfOk, IfSome, IsNone, List, None, OnErr, OnOk, false, length, option_map, position, slice_get, true};
+ghost use Rattle.std.specs.List.{filter_map, list_any};
 ghost use Rattle.cpe_name.specs.Lower.{IsLower};
 ghost use Rattle.cpe_name.specs.Eleven.{Values};
 ghost use Rattle.cpe_rows.specs.Names.{is_same};
 ghost use Rattle.cpe_rows.specs.Prelude.{is_named, IsDictionary, most, without_first};
 ghost use Rattle.cpe_rows.specs.declared.fault.Which.TheVariants as limit;
 ghost use Rattle.name_index.specs.Table.{AreNames, HasName, Holds, IsLive, kept_at, Releases};
-ghost use Rattle.cpe_inventory.specs.Slots.{slot_names};
 ghost use Rattle.cpe_dictionary.specs.Kept.{new_entry, rewritten, written};
+ghost use Rattle.cpe_dictionary.specs.Lent.{entry_lent};
 ghost use Rattle.cpe_dictionary.specs.Plans.{IsAllowed, numbered};
 ghost use Rattle.cpe_registry.specs.Registered.{AreHeld, name_in};
 
-use cpe_dictionary::{Dictionary, KeptDictionary, Plan};
-use cpe_inventory::Items;
+use cpe_dictionary::{Dictionary, EntryRef, KeptDictionary, Plan};
+use cpe_inventory::{ItemSlots, Items};
 use cpe_name::Wfn;
 use cpe_rows::{Deprecation, Note, Provenance, Text};
 use cpe_values::Memory;
@@ -26,7 +26,7 @@ use std::marker::Model;
 /// Contracts see the table, the entries and the items.
 #[derive(Drop)]
 pub struct Registry {
-    table: NameTable,
+    pub(crate) table: NameTable,
     pub(crate) dictionary: KeptDictionary,
     items: ChangingNames,
 }
@@ -85,11 +85,19 @@ impl Registry {
         &self.table
     }
 
-    /// The items by their numbers in the table, with marks among them where some went.
-    pub fn item_slots(&self) -> &[Option<NameId>]
-        ensures { slot_names self.now.table result.now ≡ self.now.items }
+    /// The entry at a place from 0, lent. There is none exactly where the place is the number of entries or more.
+    pub fn entry_at(&self, k: usize) -> Option<EntryRef<'_>>
+        ensures { option_map entry_lent result ≡ slice_get self.now.entries k }
     {
-        self.items.slots()
+        self.dictionary.entry_at(&self.table, k)
+    }
+
+    /// The items by their slots, of which there are at most twice as many.
+    pub fn item_slots(&self) -> ItemSlots<'_>
+        ensures names { filter_map (λ slot. slot) result ≡ self.now.items }
+        ensures dense { length result ≤ length self.now.items + length self.now.items }
+    {
+        ItemSlots::new(&self.table, self.items.slots())
     }
 
     /// The number of a name, by its hash. A name without a number is that of no entry and of no item.

@@ -97,6 +97,13 @@ impl KeptVerdicts {
         self.board.place_of(id)
     }
 
+    /// The check at a place from 0 for which a result is kept, with it. There is none exactly where the place is their number or more.
+    pub fn check_at(&self, place: usize) -> Option<(&CheckKey, Truth)>
+        ensures { option_map (λ p. (p.0.now, p.1)) result ≡ slice_get (checks_in self.now) place }
+    {
+        self.board.check_at(place)
+    }
+
     /// Whether there is a result of this check.
     pub fn has_check(&self, key: &CheckKey) -> bool
         ensures { result ≡ list_any (has_key key.now) (checks_in self.now) }

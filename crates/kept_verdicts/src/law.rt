@@ -1,10 +1,11 @@
 // What leaves verdicts as they are. The functions do nothing: their clauses are the laws.
-ghost use Rattle.std.specs.Prelude.{ℕ};
+ghost use Rattle.std.specs.Prelude.{ℕ, List};
 ghost use Rattle.cpe_name.specs.Eleven.{Values};
 ghost use Rattle.cpe_rows.specs.Prelude.{IsAccepted, Rows};
 ghost use Rattle.cpe_rows.specs.declared.edit.Edit.TheVariants as edit;
 ghost use Rattle.cpe_rows.specs.declared.entry.Entry.{Entry};
 ghost use Rattle.name_index.specs.Table.{AreNames, Holds, Names, Releases};
+ghost use Rattle.cpe_dictionary.specs.Kept.{rows_of};
 ghost use Rattle.kept_facts.specs.Kept.{AreKnown};
 ghost use Rattle.kept_verdicts.specs.Kept.{Stands, Verdicts};
 
@@ -20,3 +21,8 @@ pub fn verdicts_stand()
     kept_facts::law::tables_change();
     cpe_changes::law::untouched_verdicts_stay();
 }
+
+/// Verdicts of rows that are nothing but entries stand whatever these are.
+pub fn entries_alone_say_nothing()
+    ensures { (names : Names) (v : Verdicts) (was now : List Entry) → Stands names v (rows_of was) → Stands names v (rows_of now) }
+{}

@@ -1,12 +1,28 @@
-use Rattle.std.proofs.Common.{sym, ap, ◌∙◌}
-use Rattle.cpe_inventory.proofs.SlotLemmas.{all_slots}
-use Rattle.cpe_inventory.specs.Slots.{slot_names}
+use Rattle.std.proofs.Common.{◌≡◌, ◌+◌, ◌≤◌, List, length, sym, ap, subst, ◌∙◌, arith}
+use Rattle.std.specs.Prelude.{Option}
+use Rattle.std.specs.List.{filter_map}
+use Rattle.std.proofs.lemmas.List.{length-map}
+use Rattle.cpe_name.specs.Eleven.{Values}
+use Rattle.name_index.specs.declared.table.NameId.{NameId}
+use Rattle.name_index.specs.Table.{kept_at}
+use Rattle.cpe_inventory.proofs.SlotLemmas.{all_slots, slots_named}
+use Rattle.cpe_inventory.specs.Slots.{slot_name}
 use Rattle.cpe_registry.specs.Registered.{Registered}
 use Rattle.cpe_registry.proofs.registry.Registry.item_slots.Goals as goal
 
-pub returns : goal.returns
-returns c =
+pub returns-clause-names : goal.returns-clause-names
+returns-clause-names c =
     let i = c.self.inside in
-    ap (λ (r : Registered). slot_names r.table c.slots.result.now) (sym c.self.view_is)
-    ∙ all_slots i.table c.slots.result.now i.items.numbers c.slots.ensures.numbers c.self.invariant.items.live
+    let slots = c.slots.result.now in
+    ap (filter_map (λ (slot : Option Values). slot)) c.new.ensures
+    ∙ slots_named i.table slots
+    ∙ all_slots i.table slots i.items.numbers c.slots.ensures.numbers c.self.invariant.items.live
     ∙ ap (λ (r : Registered). r.items) c.self.view_is
+
+pub returns-clause-dense : goal.returns-clause-dense
+returns-clause-dense c =
+    let i = c.self.inside in
+    let slots = c.slots.result.now in
+    let many = length-map i.items.numbers (λ (x : NameId). (kept_at i.table x.0).name) in
+    let count : length c.new.result ≡ length slots = ap length c.new.ensures ∙ length-map slots (slot_name i.table) in
+    subst (λ (r : Registered). length c.new.result ≤ length r.items + length r.items) c.self.view_is (omega (arith, count, many, c.slots.ensures.dense))

@@ -1,0 +1,51 @@
+use Rattle.std.proofs.Common.{◌≡◌, List, length, sym, ap, subst, ◌∙◌}
+use Rattle.std.specs.Prelude.{Option}
+use Rattle.std.proofs.lemmas.List.{length-map}
+use Rattle.cpe_rows.specs.declared.entry.Deprecation.{Deprecation}
+use Rattle.cpe_rows.specs.declared.entry.Entry.{Entry}
+use Rattle.name_index.specs.declared.table.NameId.{NameId}
+use Rattle.name_index.specs.Table.{kept_at}
+use Rattle.names_in_order.specs.InOrder.{names_numbered}
+use Rattle.cpe_dictionary.specs.declared.kept.Details.{Details}
+use Rattle.cpe_dictionary.specs.Given.{each_deprecated}
+use Rattle.cpe_dictionary.specs.Kept.{entries_in, entries_of, FitsTable, IsKept, Stored}
+use Rattle.cpe_dictionary.proofs.EntryLemmas.{count_is}
+use Rattle.cpe_dictionary.proofs.GivenDetails.{given_beside, length_details}
+use Rattle.cpe_dictionary.proofs.store.KeptDictionary.deprecate_all.Goals as goal
+
+pub give_all-requires : goal.give_all-requires
+give_all-requires c =
+    let table = c.args.table.now in
+    let i = c.self.inside in
+    let back = sym c.self.view_is in
+    let ns = names_numbered table i.names.numbers in
+    let even = length-map i.names.numbers (λ (x : NameId). (kept_at table x.0).name) ∙ subst (λ (s : Stored). length s.names.numbers ≡ length s.details) back c.requires.fits.even in
+    c.requires.even ∙ ap (λ (s : Stored). length (entries_in table s)) back ∙ sym (count_is ns i.details.items even) ∙ even
+
+pub returns-in-Ok-clause-fits : goal.returns-in-Ok-clause-fits
+returns-in-Ok-clause-fits c =
+    let table = c.args.table.now in
+    let ds = c.args.deprecations in
+    let i = c.self.inside in
+    let back = sym c.self.view_is in
+    let fits = subst (FitsTable table) back c.requires.fits in
+    let ns = names_numbered table i.names.numbers in
+    let even = length-map i.names.numbers (λ (x : NameId). (kept_at table x.0).name) ∙ fits.even in
+    let all = c.give_all.ensures in
+    let left = ap (entries_of ns) all ∙ given_beside ns i.details.items ds even in
+    let given = ap (λ (es : List Entry). each_deprecated es c.as_slice.result.now) (c.with.ensures ∙ ap (λ (s : Stored). entries_in table s) back)
+    ∙ ap (λ (os : List (Option Deprecation)). each_deprecated (entries_of ns i.details.items) os) c.as_slice.ensures in
+    record {
+      order = fits.order;
+      even = fits.even ∙ sym (length_details i.details.items ds) ∙ sym (ap (λ (xs : List Details). length xs) all);
+      kept = subst (λ (es : List Entry). IsKept es c.in-Ok.graph.nodes) (given ∙ sym left) c.in-Ok.ensures.kept;
+    }
+
+pub returns-in-Ok-clause-ok : goal.returns-in-Ok-clause-ok
+returns-in-Ok-clause-ok c =
+    let table = c.args.table.now in
+    let ds = c.args.deprecations in
+    let i = c.self.inside in
+    let ns = names_numbered table i.names.numbers in
+    let even = length-map i.names.numbers (λ (x : NameId). (kept_at table x.0).name) ∙ subst (λ (s : Stored). length s.names.numbers ≡ length s.details) (sym c.self.view_is) c.requires.fits.even in
+    ap (entries_of ns) c.give_all.ensures ∙ given_beside ns i.details.items ds even ∙ ap (λ (s : Stored). each_deprecated (entries_in table s) ds) c.self.view_is

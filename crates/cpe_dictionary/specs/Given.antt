@@ -1,0 +1,39 @@
+-- All entries given their deprecations at once (NIST IR 7697).
+use Rattle.std.specs.Prelude.{◌&&◌, ◌∷◌, Bool, true, ℕ, List, [], length, Option, slice_get, slice_set}
+use Rattle.std.specs.List.{list_all, list_any}
+use Rattle.std.specs.Option.{option_map_or}
+use Rattle.cpe_name.specs.Eleven.{Values}
+use Rattle.cpe_rows.specs.Faults.{is_count}
+use Rattle.cpe_rows.specs.Lawful.{are_different}
+use Rattle.cpe_rows.specs.Names.{is_same}
+use Rattle.cpe_rows.specs.Rows.{is_named}
+use Rattle.cpe_rows.specs.declared.entry.Entry.{Entry}
+use Rattle.cpe_rows.specs.declared.entry.Deprecation.{Deprecation}
+use Rattle.cpe_dictionary.specs.declared.kept.Details.{Details}
+
+-- each entry with the deprecation at its place, or none; its notes stay
+abbrev pub each_deprecated : List Entry → List (Option Deprecation) → List Entry
+each_deprecated [] ds = []
+each_deprecated (e ∷ es) [] = e ∷ es
+each_deprecated (e ∷ es) (d ∷ ds) = record e { deprecation = d } ∷ each_deprecated es ds
+
+-- the same of what stands beside each name
+abbrev pub details_given : List Details → List (Option Deprecation) → List Details
+details_given [] ds = []
+details_given (x ∷ xs) [] = x ∷ xs
+details_given (x ∷ xs) (d ∷ ds) = record x { deprecation = d } ∷ details_given xs ds
+
+-- as many successors as its kind allows, if it is one
+abbrev pub is_counted : Option Deprecation → Bool
+is_counted d = option_map_or (λ x. is_count x.kind (length x.successors)) d true
+
+abbrev pub successors_in : Option Deprecation → List Values
+successors_in d = option_map_or (λ x. x.successors) d []
+
+-- each of these names is that of an entry
+abbrev pub are_entries : List Entry → List Values → Bool
+are_entries es ns = list_all (λ n. list_any (is_named n) es) ns
+
+-- an entry may have it, as far as it is known alone: its successors are as many as its kind allows, entries, and all different
+abbrev pub may_have : List Entry → Option Deprecation → Bool
+may_have es d = is_counted d && (are_entries es (successors_in d) && are_different is_same (successors_in d))

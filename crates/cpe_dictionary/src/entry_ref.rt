@@ -1,0 +1,36 @@
+// An entry that is lent.
+ghost use Rattle.std.specs.Prelude.{◌≡◌, option_map};
+ghost use Rattle.cpe_dictionary.specs.Kept.{entry_from};
+ghost use Rattle.cpe_dictionary.specs.Lent.{entry_lent};
+
+use crate::kept::Details;
+use cpe_name::Wfn;
+use cpe_rows::{Deprecation, Provenance, Text};
+
+/// The parts of an entry that is kept, lent.
+#[derive(Clone, Copy)]
+pub struct EntryRef<'e> {
+    /// Its name.
+    pub name: &'e Wfn,
+    /// What a reader calls it, perhaps nothing.
+    pub title: &'e Text,
+    /// Where it comes from.
+    pub provenance: &'e Provenance,
+    /// That it is deprecated, if it is.
+    pub deprecation: Option<&'e Deprecation>,
+}
+
+/// The parts of the entry of a name and what stands beside it, if there is any.
+pub(crate) fn lent<'e>(name: &'e Wfn, details: Option<&'e Details>) -> Option<EntryRef<'e>>
+    ensures { option_map entry_lent result ≡ option_map (λ d. entry_from (name.now, d.now)) details.entry }
+{
+    match details {
+        Some(details) => Some(EntryRef {
+            name,
+            title: &details.title,
+            provenance: &details.provenance,
+            deprecation: details.deprecation.as_ref(),
+        }),
+        None => None,
+    }
+}

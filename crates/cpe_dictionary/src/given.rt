@@ -1,0 +1,192 @@
+// All entries are given their deprecations at once.
+ghost use Rattle.std.specs.Prelude.{◌≡◌, ◌∷◌, [], ◌++◌, ◌≤◌, IfErr, IfOk, None, OnErr, OnOk, Some, if◌then◌else◌, is_none, length, map, nat_eq, true};
+ghost use Rattle.std.specs.List.{list_all};
+ghost use Rattle.cpe_rows.specs.Faults.{repeated_from};
+ghost use Rattle.cpe_rows.specs.Prelude.{IsDictionary};
+ghost use Rattle.cpe_rows.specs.declared.limits.TheConstants.{MOST_SUCCESSORS};
+ghost use Rattle.cpe_dictionary.specs.Given.{are_entries, details_given, each_deprecated, may_have};
+ghost use Rattle.cpe_dictionary.specs.Kept.{entries_in, FitsTable, IsKept};
+ghost use Rattle.cpe_dictionary.specs.Numbers.{numbers_of};
+ghost use Rattle.cpe_dictionary.specs.Plans.{numbered};
+
+use crate::by_number::{chains_by_number, edits_by_number, entries_are_numbered, faults_by_number};
+use crate::dictionary::Dictionary;
+use crate::kept::Details;
+use crate::store::KeptDictionary;
+use crate::successors::{find_repeated, is_count};
+use cpe_name::Wfn;
+use cpe_rows::{Deprecation, List};
+use cpe_values::Memory;
+use deprecation_graph::DeprecationGraph;
+use filled_graph::{FillFault, fill};
+use name_index::NameTable;
+use std::alloc::Global;
+
+// The numbers of the entries of these names, or none where one is no entry.
+fn entry_numbers(
+    alloc: Global,
+    dictionary: &Dictionary,
+    names: &[Wfn],
+) -> Result<Option<List<u32>>, Memory>
+    ensures { IfOk result (λ o. o ≡ (if are_entries dictionary.now names.now then Some (numbers_of dictionary.now names.now) else None)) }
+{
+    let mut numbers = List::with_room(alloc, names.len())?;
+    for name in names {
+        match dictionary.number_of(name) {
+            Some(number) => numbers.push(number)?,
+            None => return Ok(None),
+        }
+    }
+    Ok(Some(numbers))
+}
+
+// The numbers of the successors of a deprecation, or none where no entry may have it.
+fn successor_numbers(
+    alloc: Global,
+    dictionary: &Dictionary,
+    deprecation: &Deprecation,
+) -> Result<Option<List<u32>>, Memory>
+    ensures { IfOk result (λ o. o ≡ (if may_have dictionary.now (Some deprecation.now) then Some (numbers_of dictionary.now deprecation.now.successors) else None)) }
+{
+    edits_by_number();
+    faults_by_number();
+    let names = deprecation.successors.as_slice();
+    if !is_count(deprecation.kind, names.len()) {
+        return Ok(None);
+    }
+    match entry_numbers(alloc, dictionary, names)? {
+        Some(numbers) => Ok(if_different(numbers)),
+        None => Ok(None),
+    }
+}
+
+// The numbers, unless one of them is repeated.
+fn if_different(numbers: List<u32>) -> Option<List<u32>>
+    requires { length numbers ≤ MOST_SUCCESSORS }
+    ensures { result ≡ (if is_none (repeated_from nat_eq [] 1 numbers) then Some numbers else None) }
+{
+    match find_repeated(numbers.as_slice()) {
+        Some(_) => None,
+        None => Some(numbers),
+    }
+}
+
+// Puts the numbers of the successors of a deprecation last, or that there is none, where an entry may have it, and answers whether
+// it may.
+fn push_numbers(
+    alloc: Global,
+    dictionary: &Dictionary,
+    deprecation: &Option<Deprecation>,
+    all: &mut List<Option<List<u32>>>,
+) -> Result<bool, Memory>
+    ensures may { IfOk result (λ may. may ≡ may_have dictionary.now deprecation.now) }
+    ensures numbers { IfOk result (λ may. may ≡ true → all.new ≡ all.old ++ numbered dictionary.now deprecation.now ∷ []) }
+{
+    match deprecation {
+        Some(deprecation) => match successor_numbers(alloc, dictionary, deprecation)? {
+            Some(numbers) => {
+                all.push(Some(numbers))?;
+                Ok(true)
+            }
+            None => Ok(false),
+        },
+        None => {
+            all.push(None)?;
+            Ok(true)
+        }
+    }
+}
+
+// By place, the numbers of the successors of each deprecation, or none at all where an entry may not have one of them.
+fn number_all(
+    alloc: Global,
+    dictionary: &Dictionary,
+    deprecations: &[Option<Deprecation>],
+) -> Result<Option<List<Option<List<u32>>>>, Memory>
+    ensures { IfOk result (λ o. o ≡ (if list_all (may_have dictionary.now) deprecations.now then Some (map (numbered dictionary.now) deprecations.now) else None)) }
+{
+    let mut all = List::with_room(alloc, deprecations.len())?;
+    for deprecation in deprecations {
+        let may = push_numbers(alloc, dictionary, deprecation, &mut all)?;
+        if !may {
+            return Ok(None);
+        }
+    }
+    Ok(Some(all))
+}
+
+impl Dictionary<'_> {
+    /// The graph of the entries once each has the deprecation at its place, or none.
+    ///
+    /// # Errors
+    /// [`FillFault::Unlawful`] where they would be no lawful dictionary; or that memory ran out.
+    pub(crate) fn graph_given(
+        &self,
+        deprecations: &[Option<Deprecation>],
+    ) -> Result<DeprecationGraph, FillFault>
+        requires { length deprecations.now ≡ length self.now }
+        ensures kept { IfOk result (λ g. IsKept (each_deprecated self.now deprecations.now) g.nodes) }
+        ensures unlawful { IfErr result (λ f. f ≡ FillFault.Unlawful → IsDictionary (each_deprecated self.now deprecations.now) → ⊥) }
+    {
+        cpe_rows::law::names_are_equal();
+        deprecation_graph::law::chains_are_paths();
+        chains_by_number();
+        edits_by_number();
+        entries_are_numbered();
+        faults_by_number();
+        self.lawful();
+        match number_all(self.memory(), self, deprecations) {
+            Ok(Some(numbers)) => match fill(self.memory(), numbers.as_slice()) {
+                Ok(graph) => Ok(graph),
+                Err(fault) => Err(fault),
+            },
+            Ok(None) => Err(FillFault::Unlawful),
+            Err(_) => Err(FillFault::Memory),
+        }
+    }
+}
+
+// Gives what stands beside each name the deprecation at its place, or none.
+fn give_all(all: &mut Vec<Details>, deprecations: List<Option<Deprecation>>)
+    requires { length deprecations ≡ length all.old.items }
+    ensures { all.new.items ≡ details_given all.old.items deprecations }
+{
+    let mut place = 0;
+    for deprecation in deprecations.into_vec() {
+        all[place].deprecation = deprecation;
+        place += 1;
+    }
+}
+
+impl KeptDictionary {
+    /// Gives each entry the deprecation at its place, or none, all at once, in the place of what it had; notes stay. One after the other
+    /// they might be refused for what they lead to in between. It costs the entries and their successors.
+    ///
+    /// # Errors
+    /// [`FillFault::Unlawful`] where they would be no lawful dictionary; or that memory ran out. The dictionary is then as it was.
+    pub fn deprecate_all(
+        &mut self,
+        table: &NameTable,
+        deprecations: List<Option<Deprecation>>,
+    ) -> Result<(), FillFault>
+        requires fits { FitsTable table.now self.old }
+        requires even { length deprecations ≡ length (entries_in table.now self.old) }
+        ensures fits { FitsTable table.now self.new }
+        ensures ok { OnOk result (entries_in table.now self.new ≡ each_deprecated (entries_in table.now self.old) deprecations) }
+        ensures unlawful { IfErr result (λ f. f ≡ FillFault.Unlawful → IsDictionary (each_deprecated (entries_in table.now self.old) deprecations) → ⊥) }
+        ensures err { OnErr result (self.new ≡ self.old) }
+    {
+        let graph = self.with(table).graph_given(deprecations.as_slice());
+        match graph {
+            Ok(graph) => {
+                give_all(&mut self.details, deprecations);
+                self.graph = graph;
+                Ok(())
+            }
+            Err(fault) => {
+                drop(deprecations);
+                Err(fault)
+            }
+        }
+    }
+}

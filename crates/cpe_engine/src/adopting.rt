@@ -1,0 +1,105 @@
+// Entries that are taken over, with their deprecations given all at once.
+ghost use Rattle.std.specs.Prelude.{◌≡◌, ◌+◌, IfErr, IfOk, OnOk, length, map};
+ghost use Rattle.cpe_rows.specs.Prelude.{IsLawful};
+ghost use Rattle.cpe_rows.specs.Weight.{total};
+ghost use Rattle.cpe_weight.specs.Capped.{capped};
+ghost use Rattle.cpe_engine.specs.Adopting.{given_weight, IsBare, with_deprecations};
+ghost use Rattle.cpe_engine.specs.Parts.{AreKept, rows_in};
+
+use crate::engine::Engine;
+use crate::parts::Parts;
+use cpe_rows::{Deprecation, List, MOST_WEIGHT};
+use cpe_weight::with_deprecation;
+use filled_graph::FillFault;
+
+/// Why rows can't be taken over.
+#[derive(Clone, Copy, Debug, PartialEq, Eq)]
+pub enum AdoptFault {
+    /// They are not lawful.
+    Unlawful,
+    /// Memory ran out.
+    Memory,
+}
+
+impl Engine {
+    /// Gives each entry the deprecation at its place, or none, all at once and without notes: so rows are taken over that were lawful
+    /// where they were kept. By one edit after the other they might be refused for what entries lead to in between. It costs the
+    /// entries and their successors, and searches nothing for each.
+    ///
+    /// The engine has nothing but active entries, and there is a deprecation, or none, for each.
+    ///
+    /// # Errors
+    /// [`AdoptFault::Unlawful`] where the rows would not be lawful; or that memory ran out. The engine is let go then.
+    pub fn deprecate_all(
+        self,
+        deprecations: List<Option<Deprecation>>,
+    ) -> Result<Engine, AdoptFault>
+        requires bare { IsBare self }
+        requires even { length deprecations ≡ length self.entries }
+        ensures ok { IfOk result (λ e. e ≡ with_deprecations self deprecations) }
+        ensures unlawful { IfErr result (λ f. f ≡ AdoptFault.Unlawful → IsLawful (with_deprecations self deprecations) → ⊥) }
+    {
+        let Engine { alloc, mut parts } = self;
+        match parts.deprecate_all(deprecations) {
+            Ok(()) => Ok(Engine { alloc, parts }),
+            Err(fault) => Err(let_go(parts, fault)),
+        }
+    }
+}
+
+// Lets the parts of an engine go whose rows can't be taken over.
+fn let_go(parts: Parts, fault: AdoptFault) -> AdoptFault
+    ensures { result ≡ fault }
+{
+    drop(parts);
+    fault
+}
+
+impl Parts {
+    // Gives each entry the deprecation at its place, or none.
+    fn deprecate_all(&mut self, deprecations: List<Option<Deprecation>>) -> Result<(), AdoptFault>
+        requires kept { AreKept self.old }
+        requires bare { IsBare (rows_in self.old) }
+        requires even { length deprecations ≡ length (rows_in self.old).entries }
+        ensures kept { OnOk result (AreKept self.new) }
+        ensures ok { OnOk result (rows_in self.new ≡ with_deprecations (rows_in self.old) deprecations) }
+        ensures unlawful { IfErr result (λ f. f ≡ AdoptFault.Unlawful → IsLawful (with_deprecations (rows_in self.old) deprecations) → ⊥) }
+    {
+        kept_verdicts::law::entries_alone_say_nothing();
+        let weight = with_all(self.weight, deprecations.as_slice());
+        if weight > MOST_WEIGHT {
+            drop(deprecations);
+            return Err(AdoptFault::Unlawful);
+        }
+        match self.registry.deprecate_all(deprecations) {
+            Ok(()) => {
+                self.registry.dictionary().lawful();
+                self.weight = weight;
+                Ok(())
+            }
+            Err(FillFault::Unlawful) => Err(AdoptFault::Unlawful),
+            Err(FillFault::Memory) => Err(AdoptFault::Memory),
+        }
+    }
+}
+
+// The weight with that of each of these deprecations, or the largest number where it would be more.
+fn with_all(weight: u64, deprecations: &[Option<Deprecation>]) -> u64
+    ensures { result ≡ capped (weight + total (map given_weight deprecations.now)) }
+{
+    let mut sum = weight;
+    for deprecation in deprecations {
+        sum = with_given(sum, deprecation);
+    }
+    sum
+}
+
+// The same of one.
+fn with_given(weight: u64, deprecation: &Option<Deprecation>) -> u64
+    ensures { result ≡ capped (weight + given_weight deprecation.now) }
+{
+    match deprecation {
+        Some(deprecation) => with_deprecation(weight, deprecation),
+        None => weight,
+    }
+}
