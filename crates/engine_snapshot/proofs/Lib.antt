@@ -1,0 +1,9 @@
+mod PartLemmas
+mod Taken
+mod RowLemmas
+mod LoopLemmas
+mod EditLemmas
+mod MeantLemmas
+mod TextLemmas
+mod WithinLemmas
+mod WriteLemmas

@@ -1,0 +1,4 @@
+pub mod Plain
+pub mod Begun
+pub mod Meant
+pub mod Within

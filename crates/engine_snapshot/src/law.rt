@@ -1,0 +1,10 @@
+// Laws of snapshots of engines. The function does nothing: its clause is the law.
+ghost use Rattle.engine_snapshot.specs.Within.{SnapsAreWithin};
+
+/// No snapshot of lawful rows has more than 536,870,936 bytes: a reader may refuse what is longer.
+pub fn snapshots_are_within()
+    ensures { SnapsAreWithin }
+{
+    cpe_snapshot::law::states_have_snapshots();
+    cpe_snapshot::law::snapshots_are_short();
+}
