@@ -13,4 +13,5 @@ mod tally;
 pub use drilled::Drilled;
 pub use line::{MOST_LINES, generated};
 pub use run::drill;
+pub use summary::{NumberLine, push_number_lines};
 pub use tables::GeneratedLines;

@@ -9,9 +9,9 @@ use cpe_rows::Counts;
 use cpe_session::Page;
 use std::alloc::AllocError;
 
-// A word, and its number.
+/// A word, and its number.
 #[derive(Clone, Copy)]
-struct Line(&'static [u8], u64);
+pub struct NumberLine(pub &'static [u8], pub u64);
 
 /// Puts the numbers of all that came of so many records after what is gathered.
 ///
@@ -43,26 +43,30 @@ fn push_numbers(
 ) -> Result<(), AllocError>
     ensures { OnOk result (page.new ≡ page.old ++ summary_of count refused found counts.now told) }
 {
-    push_lines(
+    push_number_lines(
         page,
         &[
-            Line(b"drill", count),
-            Line(b"refused", refused),
-            Line(b"entries", counts.entries),
-            Line(b"deprecated", counts.deprecated),
-            Line(b"items", counts.items),
-            Line(b"statements", counts.statements),
-            Line(b"checks", counts.checks),
-            Line(b"found", found),
-            Line(b"TRUE", told.trues),
-            Line(b"FALSE", told.falses),
-            Line(b"ERROR", told.errors),
-            Line(b"UNKNOWN", told.unknowns),
+            NumberLine(b"drill", count),
+            NumberLine(b"refused", refused),
+            NumberLine(b"entries", counts.entries),
+            NumberLine(b"deprecated", counts.deprecated),
+            NumberLine(b"items", counts.items),
+            NumberLine(b"statements", counts.statements),
+            NumberLine(b"checks", counts.checks),
+            NumberLine(b"found", found),
+            NumberLine(b"TRUE", told.trues),
+            NumberLine(b"FALSE", told.falses),
+            NumberLine(b"ERROR", told.errors),
+            NumberLine(b"UNKNOWN", told.unknowns),
         ],
     )
 }
 
-fn push_lines(page: &mut Page, lines: &[Line]) -> Result<(), AllocError>
+/// Puts a line for each word and its number after what is gathered.
+///
+/// # Errors
+/// Only that memory ran out.
+pub fn push_number_lines(page: &mut Page, lines: &[NumberLine]) -> Result<(), AllocError>
     ensures { OnOk result (page.new ≡ page.old ++ flat_map (λ line. number_line line.0.now line.1) lines.now) }
 {
     for line in lines {

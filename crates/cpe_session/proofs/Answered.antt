@@ -6,7 +6,7 @@ use Rattle.cpe_io.specs.Writes.{BeginsWith, AppendsFront}
 use Rattle.cpe_session.specs.declared.status.Status.{Status}
 use Rattle.cpe_session.specs.declared.status.Status.TheVariants as status
 use Rattle.cpe_session.specs.Session.{Session, Stage, next_says, next_writes, after_next, start, after, out_from, next_cost, costs, total_cost}
-use Rattle.cpe_session.specs.Task.{Transcript, speech, spoken}
+use Rattle.cpe_session.specs.Task.{Transcript, Written, Says, speech, spoken}
 use Rattle.cpe_steps.specs.Within.{StepsWithin}
 use Rattle.cpe_session.specs.Pages.{Pours, Finishes, IsBeforeOrAfter}
 use Rattle.cpe_session.specs.Ran.{ReachedBy, StateAt, LeftByPrefix}
@@ -35,8 +35,8 @@ Answered-none held session first steps text number refused none counted none_ref
 
 -- after the last line the text and the status are those of all lines, or a fault is told
 abbrev pub EndTold : Transcript → List ℕ → Status → Type 0
-EndTold all written status.Done = (written ≡ all.text) × (status.Done ≡ all.status)
-EndTold all written status.SomeRefused = (written ≡ all.text) × (status.SomeRefused ≡ all.status)
+EndTold all written status.Done = Says (Written all) [] (record { text = written; status = status.Done })
+EndTold all written status.SomeRefused = Says (Written all) [] (record { text = written; status = status.SomeRefused })
 EndTold all written status.WriteFault = Unit {0}
 EndTold all written status.Memory = Unit {0}
 EndTold all written ending = ⊥
@@ -175,7 +175,7 @@ module _ {State : Type 0} {held0 held : Option (List ℕ)} {session : Session St
     }
 
     module _ {held_now : Option (List ℕ)} {steps_now : ℕ} {whole_ones : List (Option (List ℕ))} (counts : StepsWithin steps steps_now (session.end_cost s.state)) where
-      ended_all : (ending : Status) → ((written : List ℕ) → (written ≡ (spoken (speech session first) all).text) × (ending ≡ (spoken (speech session first) all).status) → EndTold (spoken (speech session first) all) written ending)
+      ended_all : (ending : Status) → ((written : List ℕ) → Says (Written (spoken (speech session first) all)) [] (record { text = written; status = ending }) → EndTold (spoken (speech session first) all) written ending)
           → (s.state ≡ (after session (start first) all).state → StateAt session first s.state all whole_ones ending)
           → Appends held held_now (text ++ session.ends s.state) → status_of s.refused ≡ ending → Ended held0 held_now session first s.state steps0 steps_now all whole_ones ending
       ended_all ending tells left appends is =
@@ -184,7 +184,7 @@ module _ {State : Type 0} {held0 held : Option (List ℕ)} {session : Session St
             written = answered.written ++ end;
             wrote = Appends-trans held0 held held_now answered.written end answered.wrote appends;
             begins = end_begins end (record { rest = []; splits = sym (append-nil end) });
-            told = tells (answered.written ++ end) (sym end_text, sym is ∙ sym end_status);
+            told = tells (answered.written ++ end) (λ i. record { text = sym end_text i; status = (sym is ∙ sym end_status) i });
             reached = record { state = left end_state; later = omega (arith, answered.later, counts.0); within = end_within counts };
           }
 

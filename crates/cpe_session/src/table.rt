@@ -1,4 +1,4 @@
-// Tables: texts of many rows.
+// Texts of many rows, and long ones.
 ghost use Rattle.std.specs.Prelude.{◌≡◌, ◌<◌, ◌++◌, ℕ, List, OnOk};
 ghost use Rattle.cpe_io.specs.Causes.{HasSinkCause};
 ghost use Rattle.cpe_io.specs.Writes.{AppendsFront};
@@ -6,7 +6,7 @@ ghost use Rattle.cpe_session.specs.Pages.{Pours};
 ghost use Rattle.cpe_session.specs.Table.{rows_text};
 
 use crate::page::Page;
-use cpe_io::{Sink, SinkFault};
+use cpe_io::{Sink, SinkFault, write_all};
 use std::alloc::{AllocError, Global};
 
 /// A text of rows, each of which can be written alone.
@@ -60,4 +60,14 @@ fn pour_row<R: Table, K: Sink>(
         return Err(SinkFault::Memory);
     }
     page.flush_if_full(sink)
+}
+
+/// Gives what is gathered, and then a text, to the sink. The text is not copied.
+pub fn pour_text<K: Sink>(page: &mut Page, text: &[u8], sink: &mut K) -> Result<(), SinkFault>
+    ensures ok { OnOk result (Pours (K.held sink.old) (K.held sink.new) page.old page.new text.now) }
+    ensures front { AppendsFront (K.held sink.old) (K.held sink.new) (page.old ++ text.now) }
+    ensures cause { HasSinkCause (K.faults sink.old) (K.faults sink.new) result }
+{
+    page.flush_if_due(false, sink)?;
+    write_all(sink, text)
 }

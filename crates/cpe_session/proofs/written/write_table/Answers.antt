@@ -1,4 +1,4 @@
-use Rattle.std.proofs.Common.{List, ℕ, ◌++◌, refl, sym, ap, ◌∙◌, inl, subst}
+use Rattle.std.proofs.Common.{List, ℕ, ◌++◌, sym, ap, ◌∙◌, subst}
 use Rattle.std.specs.Io.KnownBytes.{Appends}
 use Rattle.std.proofs.KnownBytes.{Appends-trans}
 use Rattle.cpe_io.specs.Writes.{AppendsFront}
@@ -26,7 +26,7 @@ returns-in-Ok-clause-ran g c =
     let rest = subst (λ (t : List ℕ). Appends then now t) c.text.ensures c.in-Ok.ensures.ok in
     let all = Appends-trans held then now pours.front c.pour_table.new.page pours.appends rest in
     let is = sym (ap (λ (l : List ℕ). l ++ text) c.new-page.ensures) ∙ pours.splits in
-    λ left. Ran-written left held now (record { text = text; status = Done }) (inl refl) (subst (λ (t : List ℕ). Appends held now t) (sym is) all)
+    λ left. Ran-written left held now (record { text = text; status = Done }) tt (subst (λ (t : List ℕ). Appends held now t) (sym is) all)
 
 -- the rows were poured, and the write of what was left failed
 pub returns-clause-ran : goal.returns-clause-ran
