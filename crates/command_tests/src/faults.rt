@@ -4,6 +4,7 @@
 mod generated;
 mod names;
 mod records;
+mod snapshots;
 
 use crate::runs::{ended, words_of};
 use cpe_command::Status;

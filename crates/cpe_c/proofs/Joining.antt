@@ -1,8 +1,8 @@
 -- The answers to lines, one after the other.
-use Rattle.std.proofs.Common.{◌≡◌, ℕ, List, [], ◌∷◌, ◌++◌, Option, refl, sym, ap, ◌∙◌, map, append_assoc}
+use Rattle.std.proofs.Common.{◌≡◌, ℕ, List, [], ◌∷◌, ◌++◌, Option, refl, sym, ap, ◌∙◌, subst, map, append_assoc}
 use Rattle.cpe_io.specs.Lines.{line_of, lines}
 use Rattle.cpe_io.proofs.LineLemmas.{pieces-cut}
-use Rattle.cpe_session.specs.Task.{Task, Transcript, transcript}
+use Rattle.cpe_session.specs.Task.{Task, Transcript, Says}
 use Rattle.cpe_c.specs.Joined.{AreLines, IsAnswered, answers, bytes_of}
 use Rattle.cpe_c.specs.Talks.{behind}
 
@@ -25,7 +25,7 @@ joined (both ∷ more) first last is =
     ∙ behind_both both.1 (answers more) (last [])
 
 pub joined_transcript : (job : Task) (first last : List (Option (List ℕ)) → Transcript) (said : List (List ℕ × List ℕ))
-    → ((bytes : List ℕ) → first (lines bytes) ≡ transcript job bytes) → AreLines said → IsAnswered said first last
-    → transcript job (bytes_of said) ≡ behind (answers said) (last [])
-joined_transcript job first last said same are is =
-    sym (same (bytes_of said)) ∙ ap first (lines_of said are) ∙ joined said first last is
+    → ((bytes : List ℕ) → Says job bytes (first (lines bytes))) → AreLines said → IsAnswered said first last
+    → Says job (bytes_of said) (behind (answers said) (last []))
+joined_transcript job first last said says are is =
+    subst (λ (it : Transcript). Says job (bytes_of said) it) (ap first (lines_of said are) ∙ joined said first last is) (says (bytes_of said))

@@ -1,8 +1,8 @@
 -- How a session begins.
-use Rattle.std.specs.Prelude.{◌≡◌, ℕ, List, [], ◌∷◌, Some, None}
+use Rattle.std.specs.Prelude.{◌≡◌, ℕ, Bool, true, false, List, [], ◌∷◌, Some, None}
 use Rattle.std.specs.declared.option.Option.{Option}
 use Rattle.cpe_io.specs.Lines.{lines}
-use Rattle.cpe_session.specs.Task.{transcript}
+use Rattle.cpe_session.specs.Task.{Task, Written, Lines, Whole, Says}
 use Rattle.cpe_rows.specs.Rows.{no_rows}
 use Rattle.cpe_ranges.specs.Rows.{no_rows as no_advice}
 use Rattle.cpe_command.specs.declared.command.Command.{Command}
@@ -19,6 +19,12 @@ abbrev pub words_of : List ℕ → List ℕ → List (List ℕ)
 words_of word [] = word ∷ []
 words_of word (x ∷ xs) = word ∷ (x ∷ xs) ∷ []
 
+-- whether each line is answered by itself
+abbrev pub answers_lines : Task → Bool
+answers_lines (Written all) = false
+answers_lines (Lines speech) = true
+answers_lines (Whole says) = false
+
 -- who speaks before the first line, where a command answers lines
 abbrev pub begins : Option Command → Option Speaking
 begins (Some (command.Name name)) = Some (speaking.Name name)
@@ -26,6 +32,7 @@ begins (Some command.Compare) = Some speaking.Compare
 begins (Some (command.Records record_command)) = Some (speaking.Records record_command no_rows)
 begins (Some command.Convert) = Some speaking.Convert
 begins (Some command.Advise) = Some (speaking.Advise no_advice)
+begins (Some command.Load) = None
 begins (Some command.Cover) = Some (speaking.Cover [])
 begins (Some (command.Make count)) = None
 begins (Some (command.Drill count)) = None
@@ -34,4 +41,4 @@ begins None = None
 -- it is open, and writes for any lines what a run of these words writes for them
 pub record Opens (words : List (List ℕ)) (talk : Talk) : Type 0 where
   pub phase : talk.phase ≡ Open
-  pub says : (bytes : List ℕ) → goes_on talk.speaking talk.progress (lines bytes) ≡ transcript (meaning words).task bytes
+  pub says : (bytes : List ℕ) → Says (meaning words).task bytes (goes_on talk.speaking talk.progress (lines bytes))

@@ -6,7 +6,7 @@ use Rattle.cpe_c.specs.declared.talk.Talk.{Talk}
 use Rattle.cpe_c.specs.declared.told.Told.{Told}
 use Rattle.cpe_c.specs.declared.told.Told.TheVariants.{Done, Memory, NoCommand}
 use Rattle.cpe_c.specs.declared.told.Answer.{Answer}
-use Rattle.cpe_c.specs.Beginning.{Opens, words_of}
+use Rattle.cpe_c.specs.Beginning.{answers_lines, Opens, words_of}
 use Rattle.cpe_c.specs.Told.{Tells}
 
 -- a session is held, and another after the call, and this is so of the two and what is told
@@ -21,10 +21,10 @@ IsKept talk was now (Done number) = (number ≡ 0) × (now ≡ Some talk)
 IsKept talk was now Memory = now ≡ was
 IsKept talk was now told = ⊥
 
--- a session of these words is held now; or what was held is held, and memory ran out, or the words name no command that reads lines
+-- a session of these words is held now; or what was held is held, and memory ran out, or the words name no command that answers lines
 abbrev pub Begins : List ℕ → List ℕ → Option Talk → Option Talk → Told → Type 0
-Begins word second was (Some talk) (Done number) = (number ≡ 0) × ((meaning (words_of word second)).reads ≡ true) × Opens (words_of word second) talk
+Begins word second was (Some talk) (Done number) = (number ≡ 0) × (answers_lines (meaning (words_of word second)).task ≡ true) × Opens (words_of word second) talk
 Begins word second was None (Done number) = ⊥
 Begins word second was now Memory = now ≡ was
-Begins word second was now NoCommand = (now ≡ was) × ((meaning (words_of word second)).reads ≡ false)
+Begins word second was now NoCommand = (now ≡ was) × (answers_lines (meaning (words_of word second)).task ≡ false)
 Begins word second was now told = ⊥

@@ -3,7 +3,7 @@ ghost use Rattle.std.specs.Prelude.{◌≡◌, ◌∷◌, [], true, false, Match
 ghost use Rattle.std.specs.Str.{bytes_eq};
 ghost use Rattle.cpe_command.specs.Command.{are, command_of};
 ghost use Rattle.cpe_command.specs.Meaning.{meaning};
-ghost use Rattle.cpe_c.specs.Beginning.{Opens, begins, words_of};
+ghost use Rattle.cpe_c.specs.Beginning.{answers_lines, begins, Opens, words_of};
 
 use crate::speaking::Speaking;
 use crate::talk::{Phase, Talk};
@@ -14,10 +14,10 @@ use cpe_ranges::Advisories;
 use cpe_session::Progress;
 use std::alloc::Global;
 
-/// A session of the command that the words name, before its first line; or none, where they name no command that reads lines.
+/// A session of the command that the words name, before its first line; or none, where they name no command that answers lines.
 pub(crate) fn begin(alloc: Global, word: &[u8], second: &[u8]) -> Option<Talk>
-    ensures { MatchOption result ((meaning (words_of word.now second.now)).reads ≡ false)
-        (λ talk. ((meaning (words_of word.now second.now)).reads ≡ true) × Opens (words_of word.now second.now) talk) }
+    ensures { MatchOption result (answers_lines (meaning (words_of word.now second.now)).task ≡ false)
+        (λ talk. (answers_lines (meaning (words_of word.now second.now)).task ≡ true) × Opens (words_of word.now second.now) talk) }
 {
     match speaking_of(alloc, word, second) {
         Some(speaking) => Some(Talk {
@@ -56,6 +56,11 @@ fn of_one_word(alloc: Global, word: &[u8]) -> Option<Speaking>
         Some(Speaking::Convert)
     } else if are_equal(word, b"advise") {
         Some(Speaking::Advise(Advisories::new(alloc)))
+    } else if are_equal(word, b"save") {
+        Some(Speaking::Records(RecordCommand::Save, Engine::new(alloc)))
+    } else if are_equal(word, b"load") {
+        // A snapshot has no lines.
+        None
     } else if are_equal(word, b"cover") {
         Some(Speaking::Cover(Names::new(alloc)))
     } else {

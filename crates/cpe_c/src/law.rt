@@ -2,7 +2,8 @@
 ghost use Rattle.std.specs.Prelude.{◌≡◌, [], ℕ, List};
 ghost use Rattle.std.specs.declared.option.Option.{Option};
 ghost use Rattle.cpe_io.specs.Lines.{lines};
-ghost use Rattle.cpe_session.specs.Task.{Task, Transcript, transcript};
+ghost use Rattle.cpe_session.specs.Task.{Says, Transcript};
+ghost use Rattle.cpe_command.specs.Meaning.{meaning};
 ghost use Rattle.cpe_c.specs.Joined.{AreLines, IsAnswered, answers, bytes_of};
 ghost use Rattle.cpe_c.specs.Talks.{behind};
 
@@ -10,7 +11,7 @@ ghost use Rattle.cpe_c.specs.Talks.{behind};
 /// newline: what it says at first is what the run says (`Opens`), each call answers a line of it (`TakesLine`), and at the end what
 /// it says where no line follows is answered (`TakesEnd`).
 pub fn joined_answers()
-    ensures { (job : Task) (first last : List (Option (List ℕ)) → Transcript) (said : List (List ℕ × List ℕ))
-        → ((bytes : List ℕ) → first (lines bytes) ≡ transcript job bytes) → AreLines said → IsAnswered said first last
-        → transcript job (bytes_of said) ≡ behind (answers said) (last []) }
+    ensures { (words : List (List ℕ)) (first last : List (Option (List ℕ)) → Transcript) (said : List (List ℕ × List ℕ))
+        → ((bytes : List ℕ) → Says (meaning words).task bytes (first (lines bytes))) → AreLines said → IsAnswered said first last
+        → Says (meaning words).task (bytes_of said) (behind (answers said) (last [])) }
 {}

@@ -11,7 +11,7 @@ use Rattle.cpe_records.specs.declared.read.Record.{Record}
 use Rattle.cpe_records.specs.declared.read.Record.TheVariants.{Edit, Query}
 use Rattle.cpe_members.specs.declared.member.RecordFault.{RecordFault}
 use Rattle.cpe_command.specs.declared.records.RecordCommand.{RecordCommand}
-use Rattle.cpe_command.specs.declared.records.RecordCommand.TheVariants.{Resolve, Evaluate}
+use Rattle.cpe_command.specs.declared.records.RecordCommand.TheVariants.{Resolve, Evaluate, Save}
 use Rattle.cpe_records.specs.Edited.{stepped, edited, line_edited}
 use Rattle.cpe_drill.specs.Looks.{line_looks}
 use Rattle.cpe_command.specs.Records.{edit_text, by_step, by_record, record_session}
@@ -35,8 +35,9 @@ costs-lines command s None = refl
 costs-lines command s (Some []) = refl
 costs-lines command s (Some (x ∷ xs)) = refl
 
--- two of the commands write nothing of an edit
-pub quiet_edit : (command : RecordCommand) (number : ℕ) (rows : Rows) (e : edit.Edit) → (command ≡ Resolve) ⊎ (command ≡ Evaluate)
+-- but one the commands write nothing of an edit
+pub quiet_edit : (command : RecordCommand) (number : ℕ) (rows : Rows) (e : edit.Edit) → (command ≡ Resolve) ⊎ (command ≡ Evaluate) ⊎ (command ≡ Save)
     → edit_text command number rows e ≡ (λ next. [])
 quiet_edit command number rows e (inl is) = ap (λ (k : RecordCommand). edit_text k number rows e) is
-quiet_edit command number rows e (inr is) = ap (λ (k : RecordCommand). edit_text k number rows e) is
+quiet_edit command number rows e (inr (inl is)) = ap (λ (k : RecordCommand). edit_text k number rows e) is
+quiet_edit command number rows e (inr (inr is)) = ap (λ (k : RecordCommand). edit_text k number rows e) is

@@ -6,7 +6,8 @@ use Rattle.cpe_steps.specs.Within.{StepsWithin}
 use Rattle.cpe_session.specs.declared.status.Status.{Status}
 use Rattle.cpe_session.specs.declared.status.Status.TheVariants.{Done, Usage}
 use Rattle.cpe_session.specs.Table.{rows_text}
-use Rattle.cpe_session.specs.Task.{Task, Written, task}
+use Rattle.cpe_session.specs.Heard.{IsLeft}
+use Rattle.cpe_session.specs.Task.{Task, Written, Whole, task}
 use Rattle.cpe_session.specs.Folding.{IsFolded, summed_by}
 use Rattle.cpe_rows.specs.Rows.{Rows, no_rows}
 use Rattle.cpe_records.specs.Edited.{line_edited}
@@ -19,8 +20,9 @@ use Rattle.cpe_convert.specs.Convert.{convert_session}
 use Rattle.cpe_advise.specs.Records.{advice_session, most_steps}
 use Rattle.cover_lines.specs.Lines.{cover_session, most_steps as most_cover_steps}
 use Rattle.cpe_command.specs.declared.command.Command.{Command}
-use Rattle.cpe_command.specs.declared.command.Command.TheVariants.{Name, Compare, Records, Convert, Advise, Cover, Make, Drill}
+use Rattle.cpe_command.specs.declared.command.Command.TheVariants.{Name, Compare, Records, Convert, Advise, Load, Cover, Make, Drill}
 use Rattle.cpe_command.specs.Command.{command_of, usage}
+use Rattle.cpe_command.specs.Loading.{load_says, LoadLeaves}
 use Rattle.cpe_command.specs.Names.{name_session}
 use Rattle.cpe_command.specs.Pairs.{pair_session}
 use Rattle.cpe_command.specs.Records.{record_session}
@@ -40,9 +42,10 @@ pub record Meaning : Type 1 where
 abbrev pub NoRows : Rows → List ℕ → Status → Type 0
 NoRows rows taken status = rows ≡ no_rows
 
--- A command answers each line, or writes lines that are generated or what they come to. Records leave the rows that the lines of the
--- taken bytes do, one after the other, or the generated ones; and look at kept names as often as the sum over these lines says, each in the
--- rows that the lines before it leave. For words that name no command the usage line is written.
+-- A command answers each line, or the whole input as a snapshot, or writes lines that are generated or what they come to. Records leave the
+-- rows that the lines of the taken bytes do, one after the other, or the generated ones; and look at kept names as often as the sum over these
+-- lines says, each in the rows that the lines before it leave. A snapshot leaves its rows; no look of it is counted. For words that name no
+-- command the usage line is written.
 abbrev pub meaning_of : Option Command → Meaning
 meaning_of (Some (Name command)) = record { reads = true; task = task (name_session command) tt; keeps = NoRows; looks = λ taken. 0 }
 meaning_of (Some Compare) = record { reads = true; task = task pair_session tt; keeps = NoRows; looks = λ taken. 0 }
@@ -54,6 +57,7 @@ meaning_of (Some (Records command)) = record {
 }
 meaning_of (Some Convert) = record { reads = true; task = task convert_session tt; keeps = NoRows; looks = λ taken. 0 }
 meaning_of (Some Advise) = record { reads = true; task = task advice_session no_advice; keeps = NoRows; looks = most_steps }
+meaning_of (Some Load) = record { reads = true; task = Whole load_says; keeps = IsLeft LoadLeaves no_rows; looks = λ taken. 0 }
 meaning_of (Some Cover) = record { reads = true; task = task cover_session []; keeps = NoRows; looks = most_cover_steps }
 meaning_of (Some (Make count)) = record {
   reads = false;

@@ -1,6 +1,6 @@
--- What a line of a record says under `resolve`, `evaluate` and `watch`, what it makes of the rows (NIST IR 7697), and what is written at the
--- end (NIST IR 7698).
-use Rattle.std.specs.Prelude.{ℕ, List, [], false, Ok, Err}
+-- What a line of a record says under `resolve`, `evaluate`, `watch` and `save`, what it makes of the rows (NIST IR 7697), and what is written
+-- at the end (NIST IR 7698).
+use Rattle.std.specs.Prelude.{ℕ, Bool, true, false, List, [], Ok, Err}
 use Rattle.std.specs.declared.result.Result.{Result}
 use Rattle.cpe_session.specs.Session.{Session, Saying}
 use Rattle.cpe_rows.specs.Rows.{Rows}
@@ -8,22 +8,32 @@ use Rattle.cpe_rows.specs.Step.{step}
 use Rattle.cpe_rows.specs.Answers.{answer}
 use Rattle.cpe_rows.specs.Changes.{changes}
 use Rattle.cpe_rows.specs.declared.edit.Edit as edit
+use Rattle.cpe_rows.specs.declared.edit.Query as query
 use Rattle.cpe_rows.specs.declared.fault.EditFault.{EditFault}
 use Rattle.cpe_records.specs.Reading.{record_of}
 use Rattle.cpe_records.specs.declared.read.Record.{Record}
 use Rattle.cpe_records.specs.declared.read.Record.TheVariants.{Edit, Query}
 use Rattle.cpe_members.specs.declared.member.RecordFault.{RecordFault}
 use Rattle.cpe_drill.specs.Looks.{record_looks}
+use Rattle.cpe_snapshot.specs.States.{snapshot}
 use Rattle.cpe_replies.specs.Replies.{reply_text, verdict_table, changes_text}
 use Rattle.cpe_replies.specs.Reasons.{record_fault_text, edit_fault_text}
 use Rattle.cpe_command.specs.declared.records.RecordCommand.{RecordCommand}
-use Rattle.cpe_command.specs.declared.records.RecordCommand.TheVariants.{Resolve, Evaluate, Watch}
+use Rattle.cpe_command.specs.declared.records.RecordCommand.TheVariants.{Resolve, Evaluate, Watch, Save}
 
 -- what an accepted edit, the line of this number, writes where it leaves the next rows: nothing, or under `watch` the verdicts that it changes
 abbrev pub edit_text : RecordCommand → ℕ → Rows → edit.Edit → Rows → List ℕ
 edit_text Resolve number rows e next = []
 edit_text Evaluate number rows e next = []
 edit_text Watch number rows e next = changes_text number next e (changes rows e)
+edit_text Save number rows e next = []
+
+-- what a query writes: its answer, but nothing under `save`
+abbrev pub query_text : RecordCommand → Rows → query.Query → List ℕ
+query_text Resolve rows q = reply_text (answer rows q)
+query_text Evaluate rows q = reply_text (answer rows q)
+query_text Watch rows q = reply_text (answer rows q)
+query_text Save rows q = []
 
 -- an accepted edit writes this text of the rows that it leaves
 abbrev pub by_step : (Rows → List ℕ) → Result Rows EditFault → Saying Rows
@@ -33,7 +43,7 @@ by_step text (Err fault) = Err (edit_fault_text fault)
 -- an edit is applied, and a query is answered
 abbrev pub by_record : RecordCommand → ℕ → Rows → Result Record RecordFault → Saying Rows
 by_record command number rows (Ok (Edit e)) = by_step (edit_text command number rows e) (step rows e)
-by_record command number rows (Ok (Query query)) = Ok (reply_text (answer rows query), rows)
+by_record command number rows (Ok (Query q)) = Ok (query_text command rows q, rows)
 by_record command number rows (Err fault) = Err (record_fault_text fault)
 
 -- what is written at the end of the input
@@ -41,11 +51,19 @@ abbrev pub ending : RecordCommand → Rows → List ℕ
 ending Resolve rows = []
 ending Evaluate rows = verdict_table rows
 ending Watch rows = []
+ending Save rows = snapshot rows
+
+-- whether a refused line writes nothing
+abbrev pub is_quiet : RecordCommand → Bool
+is_quiet Resolve = false
+is_quiet Evaluate = false
+is_quiet Watch = false
+is_quiet Save = true
 
 abbrev pub record_session : RecordCommand → Session Rows
 record_session command = record {
   says = λ rows number text. by_record command number rows (record_of text);
-  quiet = false;
+  quiet = is_quiet command;
   ends = ending command;
   cost = λ rows number text. record_looks rows (record_of text);
   end_cost = λ rows. 0;

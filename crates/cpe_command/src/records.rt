@@ -9,9 +9,10 @@ ghost use Rattle.cpe_rows.specs.Valid.{is_valid_edit, is_valid_query};
 ghost use Rattle.cpe_engine.specs.Looks.{edit_looks, looks};
 ghost use Rattle.cpe_replies.specs.Replies.{reply_text};
 ghost use Rattle.cpe_replies.specs.Reasons.{reason_text};
-ghost use Rattle.cpe_command.specs.Records.{by_step, edit_text, record_session};
+ghost use Rattle.cpe_command.specs.Records.{by_step, edit_text, query_text, record_session};
 
 use crate::changes::say_changes;
+use crate::save::pour_snapshot;
 use crate::verdicts::pour_verdicts;
 use cpe_engine::Engine;
 use cpe_io::{Sink, SinkFault};
@@ -33,6 +34,8 @@ pub enum RecordCommand {
     Evaluate,
     /// The verdicts that an edit changes are written after it, and nothing at the end.
     Watch,
+    /// No line writes anything, and the snapshot of the rows is written at the end.
+    Save,
 }
 
 impl Speaker for RecordCommand {
@@ -43,7 +46,10 @@ impl Speaker for RecordCommand {
     ghost session = { record_session };
 
     fn is_quiet(&self) -> bool {
-        false
+        match self {
+            RecordCommand::Resolve | RecordCommand::Evaluate | RecordCommand::Watch => false,
+            RecordCommand::Save => true,
+        }
     }
 
     fn say<L: Ledger>(
@@ -56,7 +62,7 @@ impl Speaker for RecordCommand {
     ) -> Result<Option<RecordReason>, AllocError> {
         match read_record(alloc, line.text) {
             Ok(Record::Edit(edit)) => self.say_edit(alloc, state, page, line.number, edit, steps),
-            Ok(Record::Query(query)) => say_answer(alloc, state, page, query, steps),
+            Ok(Record::Query(query)) => self.say_query(alloc, state, page, query, steps),
             Err(RecordFault::Memory) => Err(AllocError),
             Err(fault) => Ok(Some(RecordReason::Unread(fault))),
         }
@@ -74,6 +80,7 @@ impl Speaker for RecordCommand {
         match self {
             RecordCommand::Resolve | RecordCommand::Watch => Ok(()),
             RecordCommand::Evaluate => pour_verdicts(alloc, state, page, sink),
+            RecordCommand::Save => pour_snapshot(alloc, state, page, sink),
         }
     }
 }
@@ -96,8 +103,34 @@ impl RecordCommand {
         ensures counts { StepsWithin steps.old steps.new (edit_looks engine.old edit) }
     {
         match self {
-            RecordCommand::Resolve | RecordCommand::Evaluate => make_edit(engine, edit, steps),
+            RecordCommand::Resolve | RecordCommand::Evaluate | RecordCommand::Save => {
+                make_edit(engine, edit, steps)
+            }
             RecordCommand::Watch => say_changes(alloc, engine, page, number, edit, steps),
+        }
+    }
+
+    // Answers a query; where the rows are only saved it is not asked.
+    fn say_query<L: Ledger>(
+        &self,
+        alloc: Global,
+        engine: &Engine,
+        page: &mut Page,
+        query: Query,
+        steps: &mut Steps<L>,
+    ) -> Result<Option<RecordReason>, AllocError>
+        requires { is_valid_query query ≡ true }
+        ensures said { IfOk result (λ refused. (refused ≡ None) × (page.new ≡ page.old ++ query_text self.now engine.now query)) }
+        ensures counts { StepsWithin steps.old steps.new (looks engine.now query) }
+    {
+        match self {
+            RecordCommand::Resolve | RecordCommand::Evaluate | RecordCommand::Watch => {
+                say_answer(alloc, engine, page, query, steps)
+            }
+            RecordCommand::Save => {
+                drop(query);
+                Ok(None)
+            }
         }
     }
 }

@@ -1,0 +1,83 @@
+-- What is said of a snapshot is one thing, and it was written.
+use Rattle.std.proofs.Common.{◌≡◌, ℕ, ◌<◌, ◌≤◌, length, arith, List, [], ◌++◌, Option, Some, refl, sym, ap, ◌∙◌, inl, inr, subst, append_assoc}
+use Rattle.cpe_io.specs.Writes.{AppendsFront}
+use Rattle.cpe_rows.specs.Lawful.{IsLawful}
+use Rattle.cpe_rows.specs.Rows.{Rows}
+use Rattle.cpe_snapshot.specs.States.{most_bytes, Snap, StatesAreClear}
+use Rattle.cpe_session.specs.Heard.{Answers}
+use Rattle.cpe_session.specs.Pages.{Pours}
+use Rattle.cpe_session.specs.Ran.{Ran, Anything}
+use Rattle.cpe_session.specs.Task.{Transcript, Written}
+use Rattle.cpe_session.specs.declared.status.Status.{Status}
+use Rattle.cpe_session.specs.declared.status.Status.TheVariants as ending
+use Rattle.cpe_session.proofs.Pouring.{Pours-put, Pours-trans}
+use Rattle.cpe_session.proofs.Runs.{Answers-written}
+use Rattle.cpe_command.specs.Loading.{IsNoSnapshot, load_says, LoadLeaves, refusal_told, state_told}
+
+-- of a state nothing else is said, since its snapshot is no other's
+told_only : (rows : Rows) (bytes : List ℕ) → StatesAreClear → IsLawful rows → Snap rows bytes
+    → (it : Transcript) → load_says bytes it → it ≡ state_told rows
+told_only rows bytes clear lawful snap it (inl tells) = tells.told ∙ ap state_told (clear tells.rows rows bytes tells.snap snap)
+told_only rows bytes clear lawful snap it (inr none) = absurd (none.0 rows lawful snap)
+
+refused_only : (bytes : List ℕ) → IsNoSnapshot bytes → (it : Transcript) → load_says bytes it → it ≡ refusal_told
+refused_only bytes none it (inl tells) = absurd (none tells.rows tells.lawful tells.snap)
+refused_only bytes none it (inr told) = told.1
+
+done_is_not_usage : ◌≡◌ {A = Status} ending.Done ending.Usage → ⊥
+done_is_not_usage same = cc
+
+done_is_not_refused : ◌≡◌ {A = Status} ending.Done ending.SomeRefused → ⊥
+done_is_not_refused same = cc
+
+refused_is_not_usage : ◌≡◌ {A = Status} ending.SomeRefused ending.Usage → ⊥
+refused_is_not_usage same = cc
+
+module _ {held held_now : Option (List ℕ)} (status : Status) where
+  pub Answers-state : (rows : Rows) (bytes : List ℕ) → StatesAreClear → IsLawful rows → Snap rows bytes
+      → Ran (Some []) (Some []) held held_now (Written (state_told rows)) Anything status → Answers held held_now (load_says bytes) status
+  Answers-state rows bytes clear lawful snap ran =
+      Answers-written {all = state_told rows} {Says_it = load_says bytes} status ran done_is_not_usage
+      (inl (record { rows = rows; lawful = lawful; snap = snap; told = refl })) (told_only rows bytes clear lawful snap)
+
+  pub Answers-refusal : (bytes : List ℕ) → IsNoSnapshot bytes
+      → Ran (Some []) (Some []) held held_now (Written refusal_told) Anything status → Answers held held_now (load_says bytes) status
+  Answers-refusal bytes none ran =
+      Answers-written {all = refusal_told} {Says_it = load_says bytes} status ran refused_is_not_usage (inr (none, refl)) (refused_only bytes none)
+
+-- what is longer than any snapshot is none
+pub too_long : (bytes : List ℕ)
+    → ((rows : Rows) (bytes : List ℕ) → IsLawful rows → Snap rows bytes → length bytes ≤ most_bytes)
+    → most_bytes < length bytes → IsNoSnapshot bytes
+too_long bytes within longer rows lawful snap = absurd (omega (arith, within rows bytes lawful snap, longer))
+
+-- the rows of the snapshot are left
+pub state_left : {held held_now : Option (List ℕ)} (status : Status) (first now : Rows) (bytes : List ℕ) → Snap now bytes
+    → Ran (Some []) (Some []) held held_now (Written (state_told now)) Anything status → LoadLeaves first now bytes status
+state_left ending.Done first now bytes snap ran = snap
+state_left ending.SomeRefused first now bytes snap ran = absurd (done_is_not_refused (sym (ap (λ (it : Transcript). it.status) ran.stands.0)))
+state_left ending.Usage first now bytes snap ran = absurd (done_is_not_usage (sym (ap (λ (it : Transcript). it.status) ran.stands.0)))
+state_left ending.ReadFault first now bytes snap ran = absurd ran.stands
+state_left ending.WriteFault first now bytes snap ran = inr snap
+state_left ending.Memory first now bytes snap ran = inr snap
+state_left ending.Endless first now bytes snap ran = absurd ran.stands.0
+
+-- the first ones are left
+pub first_left : {held held_now : Option (List ℕ)} (status : Status) (first : Rows) (bytes : List ℕ)
+    → Ran (Some []) (Some []) held held_now (Written refusal_told) Anything status → LoadLeaves first first bytes status
+first_left ending.Done first bytes ran = absurd (done_is_not_refused (ap (λ (it : Transcript). it.status) ran.stands.0))
+first_left ending.SomeRefused first bytes ran = refl
+first_left ending.Usage first bytes ran = absurd (refused_is_not_usage (sym (ap (λ (it : Transcript). it.status) ran.stands.0)))
+first_left ending.ReadFault first bytes ran = absurd ran.stands
+first_left ending.WriteFault first bytes ran = inl refl
+first_left ending.Memory first bytes ran = inl refl
+first_left ending.Endless first bytes ran = absurd ran.stands.0
+
+module _ {held held_now : Option (List ℕ)} (page page_then text more : List ℕ) (put : page_then ≡ page ++ text) where
+  -- one text was put, and then another poured
+  pub Pours-put_more : {page_now : List ℕ} → Pours held held_now page_then page_now more → Pours held held_now page page_now (text ++ more)
+  Pours-put_more pours = Pours-trans (Pours-put held page page_then text put) pours
+
+  -- or a prefix of it
+  pub front_put_more : AppendsFront held held_now (page_then ++ more) → AppendsFront held held_now (page ++ (text ++ more))
+  front_put_more = subst (λ (l : List ℕ). AppendsFront held held_now l) (ap (λ (l : List ℕ). l ++ more) put ∙ append_assoc page text more)

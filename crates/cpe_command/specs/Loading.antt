@@ -1,0 +1,58 @@
+-- What is said of a whole input under `load`, and which rows it leaves.
+use Rattle.std.specs.Prelude.{◌≡◌, ◌⊎◌, ℕ, List, [], ◌∷◌, ◌++◌, codes}
+use Rattle.std.specs.List.{flat_map}
+use Rattle.cpe_rows.specs.Counts.{counts_of}
+use Rattle.cpe_rows.specs.Lawful.{IsLawful}
+use Rattle.cpe_rows.specs.Rows.{Rows}
+use Rattle.cpe_rows.specs.declared.counts.Counts.{Counts}
+use Rattle.cpe_snapshot.specs.States.{Snap}
+use Rattle.cpe_session.specs.Task.{Transcript}
+use Rattle.cpe_session.specs.declared.status.Status.{Status}
+use Rattle.cpe_session.specs.declared.status.Status.TheVariants.{Done, SomeRefused, WriteFault, Memory}
+use Rattle.cpe_drill.specs.Summary.{number_line}
+use Rattle.cpe_replies.specs.Replies.{verdict_table}
+
+-- how many rows there are of each kind, a line each
+abbrev pub counts_text : Counts → List ℕ
+counts_text counts =
+    flat_map (λ (line : List ℕ × ℕ). number_line line.0 line.1) (
+    (codes "entries", counts.entries)
+    ∷ (codes "deprecated", counts.deprecated)
+    ∷ (codes "items", counts.items)
+    ∷ (codes "statements", counts.statements)
+    ∷ (codes "checks", counts.checks)
+    ∷ [])
+
+-- then the table of verdicts
+abbrev pub state_text : Rows → List ℕ
+state_text rows = counts_text (counts_of rows) ++ verdict_table rows
+
+abbrev pub state_told : Rows → Transcript
+state_told rows = record { text = state_text rows; status = Done }
+
+abbrev pub refusal_told : Transcript
+refusal_told = record { text = codes "refused snapshot\n"; status = SomeRefused }
+
+-- these bytes are the snapshot of this lawful state, which is told
+pub record TellsState (bytes : List ℕ) (it : Transcript) : Type 0 where
+  pub rows : Rows
+  pub lawful : IsLawful rows
+  pub snap : Snap rows bytes
+  pub told : it ≡ state_told rows
+
+-- they are the snapshot of no lawful state
+abbrev pub IsNoSnapshot : List ℕ → Type 0
+IsNoSnapshot bytes = (rows : Rows) → IsLawful rows → Snap rows bytes → ⊥
+
+-- what is said of these bytes
+abbrev pub load_says : List ℕ → Transcript → Type 0
+load_says bytes it = TellsState bytes it ⊎ (IsNoSnapshot bytes × (it ≡ refusal_told))
+
+-- the rows at each status: those whose snapshot the bytes are; or the first ones where they are none, and where memory ran out or a write failed
+-- either
+abbrev pub LoadLeaves : Rows → Rows → List ℕ → Status → Type 0
+LoadLeaves first now bytes Done = Snap now bytes
+LoadLeaves first now bytes SomeRefused = now ≡ first
+LoadLeaves first now bytes WriteFault = (now ≡ first) ⊎ Snap now bytes
+LoadLeaves first now bytes Memory = (now ≡ first) ⊎ Snap now bytes
+LoadLeaves first now bytes status = ⊥

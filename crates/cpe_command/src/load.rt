@@ -1,0 +1,142 @@
+// A whole input that is read as a snapshot.
+ghost use Rattle.std.specs.Prelude.{◌≡◌, ◌++◌, ◌<◌, ℕ, List, OnOk, IfOk, IfErr};
+ghost use Rattle.std.specs.List.{flat_map};
+ghost use Rattle.std.specs.declared.option.Option.{Option};
+ghost use Rattle.cpe_io.specs.Causes.{HasSinkCause};
+ghost use Rattle.cpe_io.specs.Writes.{AppendsFront};
+ghost use Rattle.cpe_session.specs.Pages.{Pours};
+ghost use Rattle.cpe_session.specs.Ran.{Ran, Anything, Counted};
+ghost use Rattle.cpe_session.specs.Task.{Written};
+ghost use Rattle.cpe_snapshot.specs.States.{Snap, most_bytes};
+ghost use Rattle.cpe_drill.specs.Summary.{number_line};
+ghost use Rattle.cpe_command.specs.Loading.{counts_text, IsNoSnapshot, load_says, LoadLeaves, refusal_told, state_text, state_told};
+
+use crate::verdicts::pour_verdicts;
+use cpe_drill::{NumberLine, push_number_lines};
+use cpe_engine::Engine;
+use cpe_io::{Sink, SinkFault, write_all};
+use cpe_rows::Counts;
+use cpe_session::{Listener, Page, Status, write_text};
+use cpe_snapshot::LoadFault;
+use cpe_steps::Steps;
+use engine_snapshot::read_snapshot;
+use std::alloc::{AllocError, Global};
+use std::marker::Brand;
+use std::sync::ledger::{Blank, Ledger};
+
+/// The most bytes that a snapshot has.
+const MOST_BYTES: usize = 536_870_936;
+
+/// What is written for an input that is no snapshot.
+const REFUSAL: &[u8] = b"refused snapshot\n";
+
+/// The input is a snapshot, whose state is kept and told.
+#[derive(Clone, Copy, Debug, PartialEq, Eq)]
+pub(crate) struct Load;
+
+impl Listener for Load {
+    type State = Engine;
+
+    ghost says = { λ load. load_says };
+
+    ghost leaves = { λ load. LoadLeaves };
+
+    ghost longest = { λ load. most_bytes };
+
+    fn most(&self) -> usize {
+        MOST_BYTES
+    }
+
+    fn say<K: Sink>(
+        &self,
+        alloc: Global,
+        state: &mut Engine,
+        input: &[u8],
+        sink: &mut K,
+    ) -> Status {
+        cpe_snapshot::law::states_have_snapshots();
+        match load_counted::<Brand>(alloc, input, Blank::new(1)) {
+            Ok(engine) => {
+                engine.lawful();
+                *state = engine;
+                write_state(alloc, state, sink)
+            }
+            Err(LoadFault::NotSnapshot) => refuse(sink),
+            Err(LoadFault::Memory) => Status::Memory,
+        }
+    }
+
+    fn say_too_long<K: Sink>(&self, alloc: Global, state: &mut Engine, sink: &mut K) -> Status {
+        let _ = alloc;
+        let _ = state;
+        engine_snapshot::law::snapshots_are_within();
+        refuse(sink)
+    }
+}
+
+// Steps are counted in a ledger of its own: no bound on those of a load is said.
+fn load_counted<L: Ledger>(alloc: Global, bytes: &[u8], blank: Blank) -> Result<Engine, LoadFault>
+    requires name { blank.name ≡ L.name }
+    requires parts { blank.parts ≡ L.parts }
+    requires some { 0 < blank.parts }
+    ensures loaded { IfOk result (λ e. Snap e bytes.now) }
+    ensures refused { IfErr result (λ f. f ≡ LoadFault.NotSnapshot → IsNoSnapshot bytes.now) }
+{
+    let mut steps = Steps::<L>::new(blank);
+    read_snapshot(alloc, bytes, &mut steps)
+}
+
+fn refuse<K: Sink>(sink: &mut K) -> Status
+    ensures ran { (left : Option (List ℕ)) → Ran left left (K.held sink.old) (K.held sink.new) (Written refusal_told) Anything result }
+    ensures sink { Counted Status.WriteFault (K.faults sink.old) (K.faults sink.new) result }
+{
+    write_text(sink, REFUSAL, Status::SomeRefused)
+}
+
+// Writes what is told of the rows.
+fn write_state<K: Sink>(alloc: Global, engine: &Engine, sink: &mut K) -> Status
+    ensures ran { (left : Option (List ℕ)) → Ran left left (K.held sink.old) (K.held sink.new) (Written (state_told engine.now)) Anything result }
+    ensures sink { Counted Status.WriteFault (K.faults sink.old) (K.faults sink.new) result }
+{
+    let mut page = Page::new(alloc);
+    if let Err(fault) = pour_state(alloc, engine, &mut page, sink) {
+        return Status::from(fault);
+    }
+    match write_all(sink, page.text()) {
+        Ok(()) => Status::Done,
+        Err(fault) => Status::from(fault),
+    }
+}
+
+// Puts what is told of the rows after what is gathered, and gives full pages to the sink on the way.
+fn pour_state<K: Sink>(
+    alloc: Global,
+    engine: &Engine,
+    page: &mut Page,
+    sink: &mut K,
+) -> Result<(), SinkFault>
+    ensures ok { OnOk result (Pours (K.held sink.old) (K.held sink.new) page.old page.new (state_text engine.now)) }
+    ensures front { AppendsFront (K.held sink.old) (K.held sink.new) (page.old ++ state_text engine.now) }
+    ensures cause { HasSinkCause (K.faults sink.old) (K.faults sink.new) result }
+{
+    match push_counts(page, &engine.counts()) {
+        Ok(()) => pour_verdicts(alloc, engine, page, sink),
+        Err(_) => Err(SinkFault::Memory),
+    }
+}
+
+// How many rows there are of each kind.
+fn push_counts(page: &mut Page, counts: &Counts) -> Result<(), AllocError>
+    ensures { OnOk result (page.new ≡ page.old ++ counts_text counts.now) }
+{
+    push_number_lines(
+        page,
+        &[
+            NumberLine(b"entries", counts.entries),
+            NumberLine(b"deprecated", counts.deprecated),
+            NumberLine(b"items", counts.items),
+            NumberLine(b"statements", counts.statements),
+            NumberLine(b"checks", counts.checks),
+        ],
+    )
+}

@@ -1,0 +1,32 @@
+// The snapshot of the rows.
+ghost use Rattle.std.specs.Prelude.{◌++◌, OnOk};
+ghost use Rattle.cpe_io.specs.Causes.{HasSinkCause};
+ghost use Rattle.cpe_io.specs.Writes.{AppendsFront};
+ghost use Rattle.cpe_session.specs.Pages.{Pours};
+ghost use Rattle.cpe_snapshot.specs.States.{snapshot};
+
+use cpe_engine::Engine;
+use cpe_io::{Sink, SinkFault};
+use cpe_session::{Page, pour_text};
+use engine_snapshot::write_snapshot;
+use std::alloc::Global;
+
+/// Gives what is gathered, and then the snapshot of the rows, to the sink.
+///
+/// # Errors
+/// A failed write, or that memory ran out. A prefix of both may be written then.
+pub(crate) fn pour_snapshot<K: Sink>(
+    alloc: Global,
+    engine: &Engine,
+    page: &mut Page,
+    sink: &mut K,
+) -> Result<(), SinkFault>
+    ensures ok { OnOk result (Pours (K.held sink.old) (K.held sink.new) page.old page.new (snapshot engine.now)) }
+    ensures front { AppendsFront (K.held sink.old) (K.held sink.new) (page.old ++ snapshot engine.now) }
+    ensures cause { HasSinkCause (K.faults sink.old) (K.faults sink.new) result }
+{
+    match write_snapshot(alloc, engine) {
+        Ok(bytes) => pour_text(page, &bytes, sink),
+        Err(_) => Err(SinkFault::Memory),
+    }
+}
