@@ -1,0 +1,70 @@
+-- A logical test, and what is given of its children, one after the other.
+use Rattle.std.proofs.Common.{◌≡◌, ℕ, suc, ◌+◌, ◌<◌, ◌≤◌, List, [], ◌∷◌, Bool, true, false, ◌&&◌, Option, Some, None, map, drop, get_or, length, slice_get, refl, ap, sym, ◌∙◌, arith}
+use Rattle.std.specs.Borrow.{Bor}
+use Rattle.std.specs.Option.{option_copied, option_map_or}
+use Rattle.std.proofs.lemmas.List.{drop_all}
+use Rattle.std.proofs.lemmas.Option.{slice_get-get_or, slice_get_within}
+use Rattle.cpe_rows.specs.Rows.{Rows}
+use Rattle.cpe_rows.specs.declared.statement.Mode.{Mode}
+use Rattle.cpe_rows.specs.declared.truth.Truth.{Truth}
+use Rattle.cpe_rows.specs.declared.test.Operator.{Operator}
+use Rattle.cpe_rows.specs.declared.test.Test.{Test}
+use Rattle.cpe_rows.specs.declared.test.Test as test
+use Rattle.cpe_rows.specs.declared.test.Test.TheOpen.{Test-F}
+use Rattle.cpe_rows.specs.declared.test.Test.TheFolds.{fold-roll-Test}
+use Rattle.cpe_rows.specs.declared.test.Test.TheVariants as tests
+use Rattle.cpe_explain.specs.Tested.{all_pass, is_settled, logic_passes, test_passes, test_passes_step}
+use Rattle.cpe_explain.specs.declared.proof.Why.{Why, out-Why}
+use Rattle.cpe_explain.specs.declared.proof.Why as why
+use Rattle.cpe_explain.specs.declared.proof.Why.TheVariants as whys
+use Rattle.cpe_explain.proofs.Loops.{drop_at}
+
+module _ (rows : Rows) (mode : Mode) where
+  abbrev p : Test → Why → Bool
+  p = test_passes rows mode
+
+  logic_level : (operator : Operator) (negate : Bool) (of : List Test) (truth : Truth) (ws : List (Option Why))
+      → p (test.Logic operator negate of) (why.Logic truth ws) ≡ (all_pass (map p of) ws && is_settled operator negate truth ws)
+  logic_level operator negate of truth ws =
+      ap (λ (f : Why → Bool). f (why.Logic truth ws)) (ap p (sym (tests.rolls-Logic operator negate of)) ∙ fold-roll-Test (Why
+      → Bool) (test_passes_step rows mode) (Test-F.Logic operator negate of))
+      ∙ ap (logic_passes (map p of) operator negate) (whys.outs-Logic truth ws)
+
+  -- what is said of a test is what is said of its children, and of the truth
+  pub at_logic : (t : Test) (given : Option (Bor Why)) (w : Bor Why) (operator : Operator) (negate : Bool) (of : List Test) (truth : Truth)
+      (ws : List (Option Why))
+      → t ≡ test.Logic operator negate of → given ≡ Some w → w.now ≡ why.Logic truth ws
+      → option_map_or (p t) (option_copied given) true ≡ (all_pass (map p of) ws && is_settled operator negate truth ws)
+  at_logic t given w operator negate of truth ws e f h =
+      ap (λ (o : Option (Bor Why)). option_map_or (p t) (option_copied o) true) f
+      ∙ ((λ i. p (e i) (h i)) ∙ logic_level operator negate of truth ws)
+
+module _ (q : Test → Why → Bool) where
+  pub not_as_many : (xs : List Test) (ws : List (Option Why)) → (length xs ≡ length ws → ⊥) → all_pass (map q xs) ws ≡ false
+  not_as_many [] [] h = absurd (h refl)
+  not_as_many [] (w ∷ ws) h = refl
+  not_as_many (x ∷ xs) [] h = refl
+  not_as_many (x ∷ xs) (w ∷ ws) h =
+      ap (λ b. option_map_or (q x) w true && b) (not_as_many xs ws (λ e. h (ap suc e))) ∙ and_no (option_map_or (q x) w true) where
+        and_no : (b : Bool) → (b && false) ≡ false
+        and_no true = refl
+        and_no false = refl
+
+  -- one more child
+  pub child_step : (xs : List Test) (ws : List (Option Why)) (i k : ℕ) (x : Test) (passed : Bool) → slice_get xs i ≡ Some x → k ≡ i
+      → length xs ≡ length ws
+      → passed ≡ option_map_or (q x) (option_map_or (λ (w : Option Why). w) (slice_get ws k) None) true
+      → all_pass (map q (drop i xs)) (drop k ws) ≡ (passed && all_pass (map q (drop (i + 1) xs)) (drop (k + 1) ws))
+  child_step xs ws i k x passed at same many said =
+      let within : i < length xs = slice_get_within xs i x at in
+      let o = get_or ws k None in
+      let given : slice_get ws k ≡ Some o = slice_get-get_or ws k None (omega arith) in
+      let here : passed ≡ option_map_or (q x) o true = said ∙ ap (λ (w : Option (Option Why)). option_map_or (q x) (option_map_or (λ
+      (v : Option Why). v) w None) true) given in
+      (λ j. all_pass (map q (drop_at xs i x at j)) (drop_at ws k o given j))
+      ∙ ap (λ b. b && all_pass (map q (drop (i + 1) xs)) (drop (k + 1) ws)) (sym here)
+
+  -- after the last child
+  pub all_done : (xs : List Test) (ws : List (Option Why)) (i k : ℕ) → k ≡ i → length xs ≡ length ws → length xs ≤ i
+      → all_pass (map q (drop i xs)) (drop k ws) ≡ true
+  all_done xs ws i k same many past = λ j. all_pass (map q (drop_all i xs past j)) (drop_all k ws (let h : length ws ≤ k = omega arith in h) j)

@@ -1,0 +1,12 @@
+use Rattle.std.proofs.Common.{◌≡◌, map, drop}
+use Rattle.cpe_explain.specs.Tested.{all_pass, test_passes}
+use Rattle.cpe_explain.proofs.check.+passes.Given as goal
+
+abbrev pub invariant-loop-child : goal.invariant-loop-child
+invariant-loop-child g l = record {
+  place : l.k ≡ l.child-index;
+  left :
+      all_pass (map (test_passes (g.R.PlainRows.rows l.ground.followed.rows.now) l.ground.followed.mode) (drop l.child-index l.child-items))
+      (drop l.k l.given)
+      ≡ all_pass (map (test_passes (g.R.PlainRows.rows l.ground.followed.rows.now) l.ground.followed.mode) l.child-items) l.given;
+}

@@ -1,0 +1,10 @@
+use Rattle.std.proofs.Common.{◌∙◌}
+use Rattle.cpe_explain.specs.Tested.{last_covers}
+use Rattle.cpe_explain.proofs.Loops.{last_is}
+use Rattle.cpe_explain.proofs.trace.last_covers.Goals as goal
+
+pub returns : goal.returns
+returns c =
+    let fact = c.in-Some.ensures.value ∙ last_is c.args.fact.now in
+    let one = c.in-Some-last.ensures.value ∙ last_is c.args.item.now in
+    c.covers.ensures ∙ λ i. last_covers (fact i) (one i)

@@ -1,0 +1,37 @@
+-- Traces: from a name to one of its ends.
+use Rattle.std.specs.Prelude.{◌≡◌, ◌⊎◌, List, [], ◌∷◌, true, false, Some, None}
+use Rattle.std.specs.List.{last_or}
+use Rattle.cpe_name.specs.Eleven.{Values}
+use Rattle.cpe_rows.specs.Rows.{Rows, is_entry}
+use Rattle.cpe_rows.specs.Chains.{successors_of, is_active}
+use Rattle.cpe_rows.specs.Reach.{Among}
+use Rattle.cpe_rows.specs.declared.entry.Entry.{Entry}
+use Rattle.cpe_rows.specs.declared.statement.Mode.{Mode}
+use Rattle.cpe_rows.specs.declared.statement.Mode.TheVariants.{Plain, Follow}
+
+-- an active entry has this name
+abbrev pub IsActive : List Entry → Values → Type 0
+IsActive entries n = (e : Entry) × Among entries e × (e.name ≡ n) × (is_active e ≡ true)
+
+-- an entry has the first name, and the second is one of its successors
+abbrev pub Precedes : List Entry → Values → Values → Type 0
+Precedes entries n m = (e : Entry) × Among entries e × (e.name ≡ n) × Among (successors_of e) m
+
+-- the names of a path of entries, each a successor of the one before, to an active one
+abbrev pub IsPath : List Entry → List Values → Type 0
+IsPath entries [] = ⊥
+IsPath entries (n ∷ []) = IsActive entries n
+IsPath entries (n ∷ m ∷ names) = Precedes entries n m × IsPath entries (m ∷ names)
+
+abbrev pub BeginsWith : Values → List Values → Type 0
+BeginsWith n [] = ⊥
+BeginsWith n (m ∷ names) = m ≡ n
+
+abbrev pub EndsWith : Values → List Values → Type 0
+EndsWith n names = last_or None names ≡ Some n
+
+-- in mode plain the name alone; in mode follow a path from the name to an active entry, or the name alone where it is no entry
+abbrev pub IsTrace : Rows → Mode → Values → List Values → Type 0
+IsTrace rows Plain n names = names ≡ n ∷ []
+IsTrace rows Follow n names =
+    (BeginsWith n names × IsPath rows.entries names) ⊎ ((names ≡ n ∷ []) × (is_entry rows n ≡ false))
