@@ -10,4 +10,4 @@ from cpe_recipes import said
 
 if __name__ == "__main__":
     name = sys.argv[1]
-    said.main(importlib.import_module(f"cpe_recipes.{name}").run, f"{name}.sh", sys.argv[2:])
+    said.main(importlib.import_module(f"cpe_recipes.{name.replace('-', '_')}").run, f"{name}.sh", sys.argv[2:])

@@ -68,19 +68,25 @@ def run(words: list[str]) -> int:
         raise Fatal(f"usage: {USAGE}")
     said, output = Said(), Output()
     verdicts = read_verdicts(given.files[0] if given.files else None)
-    about = _about(given, said)
+    about = about_of(given, said)
     output.lines(table_of(verdicts, about))
     output.end()
+    tell_left_out(verdicts, about, said)
+    return said.status()
+
+
+def tell_left_out(verdicts: Verdicts, about: About, said: Said) -> None:
+    """What the verdicts know nothing of."""
     about.suppressed.tell_unused(said)
     if verdicts.refused:
         said.left_out("the records", f"{counted(verdicts.refused, 'line')} refused")
     for machine in verdicts.machines:
         if not machine.has_items:
             said.left_out(machine.name or "", "no items")
-    return said.status()
 
 
-def _about(given: Words, said: Said) -> About:
+def about_of(given: Words, said: Said) -> About:
+    """What the options tell of advisories."""
     details = {}
     for record in json_lines(given.many("--details")):
         if not isinstance(record, dict) or not isinstance(record.get("id"), str):

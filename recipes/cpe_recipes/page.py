@@ -1,4 +1,4 @@
-"""The page of a scan, piece by piece. All that comes from the data is escaped, and what can't be printed stands there by its
+"""The page of a scan or of a fleet, piece by piece. All that comes from the data is escaped, and what can't be printed stands there by its
 number; so it can't leave its place. The page itself forbids its reader to load anything, or to run another script than its own."""
 from __future__ import annotations
 
@@ -218,7 +218,8 @@ def _counts(machine: Machine, is_cut_short: bool) -> Iterator[str]:
     if not machine.counts:
         yield "all FALSE"
     yield from (f"{machine.counts[group]:,} {group}" for group in GROUPS if machine.counts[group])
-    yield _many(machine.items, "item", "items")
+    if machine.items is not None:
+        yield _many(machine.items, "item", "items")
     for number, what in (
         (machine.unlisted, "not in the dictionary"),
         (machine.removed, "under a removed name"),

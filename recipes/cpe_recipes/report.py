@@ -1,6 +1,6 @@
-"""One page to look at, of what `scan.py --json` wrote.
+"""One page to look at, of what `scan.py --json` wrote, or a fleet, or `cpe evaluate`.
 
-    python3 report.py [--title TEXT] [FILE] > page.html
+    python3 report.py [--title TEXT] [--details FILE] [--suppress FILE] [--records FILE] [--ranges FILE] [--decided FILE] [FILE] > page.html
 
 It is one file of HTML without outside parts: it opens from a disk, on a telephone too, in light and in dark, and loads nothing.
 What was left out stands at its top, then how many rows there are of each verdict, then the advisories by their scores, each with
@@ -9,6 +9,7 @@ looks at texts, machines and verdicts; without scripts it is all that is missing
 `page.html#q=openssl&machine=web-1&truth=UNKNOWN`.
 
 - --title: what stands above the page, such as whose machines these are and the day.
+- the others: those of `affected.sh`, for verdicts of a fleet or of `cpe evaluate`. What `scan.py` wrote has all that they tell.
 
 The status is 1 where something was left out or a machine has no items, which is said too, and 2 where the table isn't whole:
 then nothing was written, but for what went into a full disk.
@@ -18,13 +19,16 @@ from __future__ import annotations
 from collections.abc import Iterable, Sequence
 from pathlib import Path
 
+from . import affected
+from .feeds import FeedFault, name_of, read_feed
 from .page import Parts, page
 from .progress import Progress
 from .said import Fatal, Said, why, write_all
-from .scanned import NO_ITEMS, Scanned, read_scanned
-from .words import ONE, read_words
+from .scanned import ACCEPTED, NO_ITEMS, Advisory, Machine, Row, Scanned, in_order, scanned_of
+from .verdicts import Verdicts, verdicts_of
+from .words import ONE, Words, read_words
 
-USAGE = "report.py [--title TEXT] [FILE]"
+USAGE = "report.py [--title TEXT] [--details FILE] [--suppress FILE] [--records FILE] [--ranges FILE] [--decided FILE] [FILE]"
 TITLE = "Advisories by machine"
 # Of lines that are alike, and of bytes that are written at once.
 _MOST_ALIKE = 20
@@ -33,18 +37,80 @@ _RECIPES = Path(__file__).resolve().parent.parent
 
 
 def run(words: Sequence[str]) -> int:
-    read = read_words(words, {"--title": ONE}, USAGE)
+    read = read_words(words, {"--title": ONE, **affected.OPTIONS}, USAGE)
     if len(read.files) > 1:
         raise Fatal(f"usage: {USAGE}")
     parts = Parts(read.one("--title") or TITLE, _part("report.css"), _part("report.js"))
     with Progress() as progress:
         progress.step("reading the table")
-        scanned = read_scanned(read.files[0] if read.files else None)
+        scanned = _scanned(read)
     write(page(scanned, parts))
     said = Said(most_alike=_MOST_ALIKE)
     _tell(scanned, said)
     said.tell_others()
     return said.status()
+
+
+def _scanned(read: Words) -> Scanned:
+    """What the page shows, of the file that is given or of standard input."""
+    path = read.files[0] if read.files else None
+    feed = name_of(path)
+    try:
+        data = read_feed(path)
+    except FeedFault as fault:
+        raise Fatal(f"{feed}: {fault}") from fault
+    if not data.lstrip().startswith(b"{"):
+        return _of_fleet(verdicts_of(data, feed), read)
+    given = next((option for option in affected.OPTIONS if read.many(option)), None)
+    if given:
+        raise Fatal(f"{given} is for verdicts of a fleet: {feed} has all that it tells")
+    return scanned_of(data, feed)
+
+
+class _Gathered(Said):
+    """What is left out, which is told when the page is written."""
+
+    def __init__(self) -> None:
+        super().__init__()
+        self.noted: list[tuple[str, str]] = []
+
+    def left_out(self, id: str, reason: str) -> None:
+        self.noted.append((id, reason))
+
+
+def _of_fleet(verdicts: Verdicts, read: Words) -> Scanned:
+    """The verdicts of a fleet, or of one inventory, as a page shows them."""
+    gathered = _Gathered()
+    about = affected.about_of(read, gathered)
+    advisories: dict[str, Advisory] = {}
+    machines = []
+    for found in verdicts.machines:
+        machine = Machine(found.name or "this inventory", None, found.has_items)
+        for id, truth in found.shown.items():
+            if truth != "FALSE":
+                _note(advisories.setdefault(id, _advisory(id, about)), machine, found.name, truth, about)
+        machines.append(machine)
+    affected.tell_left_out(verdicts, about, gathered)
+    asked = max((found.statements.count for found in verdicts.machines), default=0)
+    return in_order(asked, advisories.values(), machines, gathered.noted)
+
+
+def _advisory(id: str, about: affected.About) -> Advisory:
+    detail = about.details.get(id, {})
+    texts = [detail.get(key) if isinstance(detail.get(key), str) else "" for key in ("title", "severity", "published", "url")]
+    score = about.score(id)
+    return Advisory(id, texts[0], None if score < 0 else score, *texts[1:])
+
+
+def _note(advisory: Advisory, machine: Machine, name: str | None, truth: str, about: affected.About) -> None:
+    """A row of a machine on which the advisory isn't FALSE."""
+    reasons = about.hanging.on(advisory.id, name) if truth == "UNKNOWN" else []
+    accepted = about.accepted_for(advisory.id, truth, name)
+    if accepted is not None:
+        reasons = [f"{truth}: {accepted}", *reasons]
+    group = truth if accepted is None else ACCEPTED
+    advisory.rows[group].append(Row(machine.name, tuple(reasons)))
+    machine.note(group, advisory.score)
 
 
 def write(pieces: Iterable[str], descriptor: int = 1) -> None:

@@ -1,4 +1,4 @@
-"""What `scan.py --json` wrote, as a page shows it: each advisory with its rows, and each machine with its counts.
+"""What `scan.py --json` or a fleet wrote, as a page shows it: each advisory with its rows, and each machine with its counts.
 
 A row is a machine and an advisory that isn't FALSE there. Parts that people look at, such as titles, may be missing; where a
 member is missing that says what a verdict is, or what was left out, there is no result, and the first such place is told.
@@ -6,7 +6,7 @@ member is missing that says what a verdict is, or what was left out, there is no
 from __future__ import annotations
 
 from collections import Counter
-from collections.abc import Iterator
+from collections.abc import Iterable, Iterator
 from dataclasses import dataclass, field
 
 from .feeds import FeedFault, Json, name_of, read_feed, values_of
@@ -55,10 +55,11 @@ class Advisory:
 
 @dataclass
 class Machine:
-    """A machine, how many rows of each group it has, and the highest score of those that aren't accepted."""
+    """A machine, how many items it has where that is known, how many rows of each group, and the highest score of those that aren't
+    accepted."""
 
     name: str
-    items: int
+    items: int | None
     has_verdicts: bool
     counts: Counter[str] = field(default_factory=Counter)
     highest: float | None = None
@@ -101,11 +102,26 @@ class Scanned:
         return [machine for machine in self.machines if not machine.has_verdicts]
 
 
+def in_order(asked: int, advisories: Iterable[Advisory], machines: Iterable[Machine], left_out: list[tuple[str, str]]) -> Scanned:
+    """What a page shows of these, what is worst first."""
+    shown = [one for one in advisories if any(one.rows.values())]
+    return Scanned(asked, sorted(shown, key=Advisory.order), sorted(machines, key=Machine.order), left_out)
+
+
 def read_scanned(path: str | None) -> Scanned:
-    """The result at this path, of standard input where there is none. Fatal where it is none."""
+    """The result of scan.py at this path, of standard input where there is none. Fatal where it is none."""
     feed = name_of(path)
     try:
-        values = list(values_of(read_feed(path)))
+        data = read_feed(path)
+    except FeedFault as fault:
+        raise Fatal(f"{feed}: {fault}") from fault
+    return scanned_of(data, feed)
+
+
+def scanned_of(data: bytes, feed: str) -> Scanned:
+    """The result of scan.py, of a feed of this name. Fatal where it is none."""
+    try:
+        values = list(values_of(data))
     except FeedFault as fault:
         raise Fatal(f"{feed}: {fault}") from fault
     if len(values) != 1:
@@ -132,8 +148,7 @@ class _Reader:
             machines[machine.name] = machine
         if len(self._advisories) > asked:
             raise self._fault("the table", f"has {len(self._advisories)} advisories, where {asked} were asked for")
-        shown = [one for one in self._advisories.values() if any(one.rows.values())]
-        return Scanned(asked, sorted(shown, key=Advisory.order), sorted(machines.values(), key=Machine.order), left_out)
+        return in_order(asked, self._advisories.values(), machines.values(), left_out)
 
     def _machine(self, row: Json, where: str) -> Machine:
         name = self._needed(row, "name", str, where)

@@ -75,11 +75,16 @@ def read_verdicts(path: str | None) -> Verdicts:
         data = read_feed(path)
         if data.startswith(b"{"):
             return _scan(list(values_of(data)))
-        lines = data.decode(errors="backslashreplace").split("\n")
     except FeedFault as fault:
         raise Fatal(f"{feed}: {fault}") from fault
     except FormFault as fault:
         raise Fatal(f"{feed}: it isn't what scan.py writes") from fault
+    return verdicts_of(data, feed)
+
+
+def verdicts_of(data: bytes, feed: str) -> Verdicts:
+    """The verdicts of a table or of a fleet, of a feed of this name. Fatal where they aren't whole."""
+    lines = data.decode(errors="backslashreplace").split("\n")
     try:
         if lines.pop():
             raise ValueError("its last line has no end")

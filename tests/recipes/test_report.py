@@ -81,6 +81,48 @@ class Rows(ReportCase):
         self.assertEqual((sum(map(len, written)), max(map(len, written)) < 70_000), (1_000_000, True))
 
 
+class Fleets(RecipeCase):
+    """Pages of what a fleet or `cpe evaluate` wrote."""
+
+    def report(self, data, *words):
+        run = subprocess.run([sys.executable, str(RECIPES / "report.py"), *words], input=data.encode(), capture_output=True)
+        return run.returncode, run.stdout.decode(), run.stderr.decode().splitlines()
+
+    def test_a_fleet_with_all_that_is_known(self):
+        details = self.file("details", [{"id": "A", "title": "An <old> title", "score": 9.8, "url": "https://a.example/"}, {"id": "C", "score": 5}])
+        check = {"system": "NVD", "href": "cpeMatch", "id": "R"}
+        records = self.file("records", [{"do": "statement", "id": "B", "test": {"op": "OR", "of": [{"check": check}]}}])
+        accepted = self.file("accepted", "C n no way in\n")
+        lines = "".join(f"{name} {id} {truth}\n" for name, truths in (("m", "TRUE FALSE FALSE"), ("n", "FALSE UNKNOWN TRUE")) for id, truth in zip("ABC", truths.split()))
+        options = ("--details", details, "--records", records, "--suppress", accepted, "--title", "A fleet")
+        status, text, said = self.report(f"{lines}machines 2\n", *options)
+        self.assertEqual((status, said), (0, []))
+        found = [(row["truth"], row["cells"]) for row in Page(text).rows]
+        self.assertEqual(found, [("TRUE", ["m"]), ("UNKNOWN", ["n", "NVD cpeMatch R"]), ("ACCEPTED", ["n", "TRUE: no way in"])])
+        self.assertIn("2 machines, 3 advisories asked for.", text)
+        self.assertIn("An &lt;old&gt; title", text)
+        self.assertIn("<a>n</a><small>1 UNKNOWN, 1 ACCEPTED</small>", text)
+        self.assertEqual(dict(re.findall(r'<li class="(\w+)"><b>(\d+)</b>', text))["FALSE"], "3")
+
+    def test_a_machine_without_items_and_refused_lines(self):
+        status, text, said = self.report("m A TRUE\nbare no items\nmachines 2\n")
+        self.assertEqual((status, said), (1, ["left out bare: no items"]))
+        self.assertIn("no items, so no verdict is known of the machine", text)
+        status, text, said = self.report("refused 3 name name 5\nverdicts 1\nverdict A ERROR\n")
+        self.assertEqual((status, said), (1, ["left out the records: 1 line refused"]))
+        self.assertEqual(Page(text).rows, [{"truth": "ERROR", "cells": ["this inventory"], "is_shown": True}])
+
+    def test_what_is_not_whole_makes_no_page(self):
+        for data in ("m A TRUE\n", "m A TRUE\nmachines 2\n", "verdicts 2\nverdict A TRUE\n", ""):
+            status, text, said = self.report(data)
+            self.assertEqual((status, text, len(said)), (2, "", 1))
+
+    def test_what_scan_wrote_has_all_that_the_options_tell(self):
+        status, text, said = self.report(json.dumps(table(machine("m"))), "--details", self.file("details", ""))
+        self.assertEqual((status, text), (2, ""))
+        self.assertEqual(said, ["report.py: --details is for verdicts of a fleet: standard input has all that it tells"])
+
+
 class LeftOut(ReportCase):
     def test_what_was_left_out_stands_at_the_top_and_is_said(self):
         bare = {"name": "bare", "items": 0}
