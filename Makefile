@@ -74,7 +74,7 @@ test: need_rt
 limits: build
 	sh tests/limits.sh build/cpe
 	@if command -v python3 > /dev/null; then \
-	for it in 'tests/refused-memory.py build/cpe' 'bench/memory.py build/cpe --most 3' 'bench/deprecations.py build/cpe' \
+	for it in 'tests/snapshots.py build/cpe --all' 'tests/refused-memory.py build/cpe' 'bench/memory.py build/cpe --most 3' 'bench/deprecations.py build/cpe' \
 		'bench/drops.py build/cpe'; do \
 		echo "python3 $$it"; python3 $$it || exit 1; \
 	done; \

@@ -3,7 +3,7 @@
 # The status is 0 where no check failed.
 . "$(dirname "$0")/checks.sh"
 
-usage='usage: cpe bind fs|bind uri|unbind|compare|resolve|evaluate|watch|make N|drill N|convert|advise|cover'
+usage='usage: cpe bind fs|bind uri|unbind|compare|resolve|evaluate|watch|make N|drill N|convert|advise|save|load|cover'
 
 # bounds WHAT: whether the address space can be bounded here, as the check of this name needs.
 bounds() {
@@ -197,8 +197,9 @@ answers_table() {
         }
         /^## / { is_table = $0 == "## The words" }
         is_table && /^\| `/ {
-            row = room "/row." (10 + count++)
             split($0, cell, " \\| ")
+            if (cell[3] !~ /^(`|nothing$)/) next
+            row = room "/row." (10 + count++)
             sub(/^\| /, "", cell[1])
             lines(cell[1], row)
             lines(cell[3], row ".given")
@@ -1181,6 +1182,75 @@ checks_of_advise() {
     fails_on_closed_streams examples/advise.jsonl advise
 }
 
+# loads WHAT INPUT OUTPUT STATUS: what load writes of the snapshot that save writes on these lines, the status being that of save.
+loads() {
+    limited "$program" save < "$2" > "$room/snapshot" 2> "$room/error"
+    status=$?
+    limited "$program" load < "$room/snapshot" > "$room/out" 2>> "$room/error"
+    loaded=$?
+    if [ "$loaded" = 0 ]; then judge "$1" "$status" "$4" "$3"; else fail "$1" "load ends with status $loaded"; fi
+}
+
+# The rows that are saved have the table of evaluate, and what counts them is the first five lines.
+loads_vectors() {
+    for vectors in tests/vectors/evaluate/*.in; do
+        name=$(basename "$vectors" .in)
+        limited "$program" save < "$vectors" > "$room/snapshot" 2> "$room/error"
+        limited "$program" load < "$room/snapshot" > "$room/told" 2>> "$room/error"
+        status=$?
+        sed 1,5d "$room/told" > "$room/out"
+        sed -n '/^verdicts /,$p' "${vectors%.in}.out" > "$room/table"
+        judge "the table of saved rows: $name" "$status" 0 "$room/table"
+    done
+}
+
+# Each prefix of the snapshot of an item, and what is longer, is refused; in single bytes it is read as at once.
+refuses_cut_snapshots() {
+    needs 'snapshots that are cut' dd head || return
+    count=0
+    while [ "$count" -lt 57 ]; do
+        head -c "$count" "$room/item.snapshot" > "$room/cut"
+        answers "the first $count bytes of a snapshot" "$room/cut" "$room/no_snapshot" 1 load
+        count=$((count + 7))
+    done
+    head -c 56 "$room/item.snapshot" > "$room/cut"
+    answers 'a snapshot without its last byte' "$room/cut" "$room/no_snapshot" 1 load
+    { cat "$room/item.snapshot"; printf '\0'; } > "$room/longer"
+    answers 'a snapshot and a byte more' "$room/longer" "$room/no_snapshot" 1 load
+    dd bs=1 < "$room/item.snapshot" 2> /dev/null | limited "$program" load > "$room/out" 2> "$room/error"
+    judge 'a snapshot that comes in single bytes' $? 0 "$room/item.told"
+}
+
+checks_of_snapshots() {
+    printf 'CPESNAP1\0\0\0\0\0\0\0\0\0\0\0\0\0\0\0\0' > "$room/empty.snapshot"
+    printf 'entries 0\ndeprecated 0\nitems 0\nstatements 0\nchecks 0\nverdicts 0\n' > "$room/empty.told"
+    printf '{"do":"item","name":"cpe:/a"}\n{"do":"items","name":"cpe:/a"}\n{"do":"item"}\n' > "$room/item.jsonl"
+    printf 'CPESNAP1\0\0\0\0\0\0\0\001\0\0\0\0\0\0\0\0\0\0\0\035cpe:2.3:a:*:*:*:*:*:*:*:*:*:*' > "$room/item.snapshot"
+    printf 'entries 0\ndeprecated 0\nitems 1\nstatements 0\nchecks 0\nverdicts 0\n' > "$room/item.told"
+    printf 'refused snapshot\n' > "$room/no_snapshot"
+    answers 'the snapshot of no rows' /dev/null "$room/empty.snapshot" 0 save
+    answers 'no rows, from their snapshot' "$room/empty.snapshot" "$room/empty.told" 0 load
+    answers 'the snapshot of an item; a question and a refused line write nothing' "$room/item.jsonl" "$room/item.snapshot" 1 save
+    loads 'an item, from its snapshot' "$room/item.jsonl" "$room/item.told" 1
+    refuses_cut_snapshots
+    {
+        printf 'entries 12\ndeprecated 1\nitems 5\nstatements 3\nchecks 0\n'
+        sed -n '/^verdicts /,$p' tests/vectors/evaluate/dictionary-and-advisories.out
+    } > "$room/inventory.told"
+    loads 'a dictionary and advisories, from their snapshot' tests/vectors/evaluate/dictionary-and-advisories.in "$room/inventory.told" 1
+    loads_vectors
+    answers 'an empty input: load' /dev/null "$room/no_snapshot" 1 load
+    answers 'records are no snapshot' examples/inventory.jsonl "$room/no_snapshot" 1 load
+    answers 'a word too many: save' examples/inventory.jsonl "$room/usage.out" 2 save all
+    answers 'a word too many: load' "$room/item.snapshot" "$room/usage.out" 2 load all
+    answers 'a read that fails ends with status 3: save' . /dev/null 3 save
+    answers 'a read that fails ends with status 3: load' . /dev/null 3 load
+    fails_on_a_full_device examples/inventory.jsonl save
+    fails_on_a_full_device "$room/item.snapshot" load
+    fails_on_closed_streams examples/inventory.jsonl save
+    fails_on_closed_streams "$room/item.snapshot" load
+}
+
 # covered lines|answers COUNT: so many products of five versions each; some of them in any version, and some with a pattern that one
 # of the versions matches; names in other letter case, and refused lines between them.
 covered() {
@@ -1412,6 +1482,7 @@ checks_of_evaluate
 checks_of_watch
 checks_of_convert
 checks_of_advise
+checks_of_snapshots
 checks_of_cover
 checks_of_generated
 

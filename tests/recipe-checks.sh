@@ -272,6 +272,16 @@ goes_over_a_fleet() {
     fi
 }
 
+# What is nearly a snapshot is refused, or is another one; tests/snapshots.py tells which.
+reads_snapshots() {
+    what='snapshots, and bytes that are nearly one'
+    needs "$what" python3 || return
+    limited python3 -B tests/snapshots.py "$program" > "$room/tried" 2> "$room/error"
+    status=$?
+    grep '^FAILED' "$room/tried" > "$room/out"
+    judge "$what" "$status" 0 /dev/null
+}
+
 # (what is shown of more machines needs what was made above it)
 answers_readme() {
     what="the sessions of the recipes' README"
@@ -300,4 +310,5 @@ lists_items
 goes_over_lines
 checks_fleet
 goes_over_a_fleet
+reads_snapshots
 end_of_checks 'recipe checks'
