@@ -5,3 +5,4 @@ pub mod Tables
 pub mod ValueLaws
 pub mod NameLaws
 pub mod NearLaws
+pub mod MaybeLaws

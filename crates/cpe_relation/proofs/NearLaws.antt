@@ -63,7 +63,7 @@ shorter (d ∷ t) (c ∷ b) lt = ap (λ (x : Bool). eqb (to_ascii_lowercase d) (
 -- ---- what covers is near
 
 begins_by : (trail : Edge) (b t : List ℕ) → Matches (parts edge.None b trail) t → begins_with t b ≡ true
-begins_by trail b t m = (begins-Decides t b).1 (m.after, m.split ∙ ap (λ (x : List ℕ). x ++ lower b ++ m.after) m.lead)
+begins_by trail b t m = (begins-Decides t b).1 (m.behind, m.split ∙ ap (λ (x : List ℕ). x ++ lower b ++ m.behind) m.lead)
 
 ends_by : (lead : Edge) (b t : List ℕ) → Matches (parts lead b edge.None) t → ends_with t b ≡ true
 ends_by lead b t m = (ends-Decides t b).1 (m.before, m.split ∙ ap (λ (x : List ℕ). m.before ++ lower b ++ x) m.trail ∙ append-nil (m.before ++ lower b))

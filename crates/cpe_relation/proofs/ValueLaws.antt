@@ -17,6 +17,7 @@ use Rattle.cpe_relation.specs.Matching.{lower, Allows, Matches}
 use Rattle.cpe_relation.specs.MatchTests.{matches, same_lower}
 use Rattle.cpe_relation.specs.Table.{to_plain, relation}
 use Rattle.cpe_relation.specs.NameRelation.{is_above}
+use Rattle.cpe_relation.specs.Maybe.{is_undefined}
 use Rattle.cpe_relation.specs.Laws.{converse}
 use Rattle.cpe_relation.proofs.Splits.{agree, matches-Decides, same_lower-Decides}
 
@@ -45,7 +46,7 @@ above_is s t = above_cond (has_special s) (matches s t) (same_lower s.body t)
 
 -- another text that is the same in lower case
 matches_other : (p : Parts) (t u : List ℕ) → lower t ≡ lower u → Matches p t → Matches p u
-matches_other p t u e m = record { before = m.before; after = m.after; split = sym e ∙ m.split; lead = m.lead; trail = m.trail }
+matches_other p t u e m = record { before = m.before; behind = m.behind; split = sym e ∙ m.split; lead = m.lead; trail = m.trail }
 
 above_other_by : (x : Bool) (s : Parts) (t u : List ℕ) → lower t ≡ lower u → cond x (matches s t) (same_lower s.body t) ≡ true → cond x (matches s u) (same_lower s.body u) ≡ true
 above_other_by true s t u e h = (matches-Decides s u).1 (matches_other s t u e ((matches-Decides s t).0 h))
@@ -114,10 +115,10 @@ matches_lower : (p : Parts) (t : List ℕ) → matches (lower_parts p) (lower t)
 matches_lower p t = agree (matches (lower_parts p) (lower t)) (matches p t)
     (λ h.
     let m = (matches-Decides (lower_parts p) (lower t)).0 h in
-    (matches-Decides p t).1 (record { before = m.before; after = m.after; split = sym (lower_again t) ∙ m.split ∙ ap (λ (b : List ℕ). m.before ++ b ++ m.after) (lower_again p.body); lead = m.lead; trail = m.trail }))
+    (matches-Decides p t).1 (record { before = m.before; behind = m.behind; split = sym (lower_again t) ∙ m.split ∙ ap (λ (b : List ℕ). m.before ++ b ++ m.behind) (lower_again p.body); lead = m.lead; trail = m.trail }))
     (λ h.
     let m = (matches-Decides p t).0 h in
-    (matches-Decides (lower_parts p) (lower t)).1 (record { before = m.before; after = m.after; split = lower_again t ∙ m.split ∙ ap (λ (b : List ℕ). m.before ++ b ++ m.after) (sym (lower_again p.body)); lead = m.lead; trail = m.trail }))
+    (matches-Decides (lower_parts p) (lower t)).1 (record { before = m.before; behind = m.behind; split = lower_again t ∙ m.split ∙ ap (λ (b : List ℕ). m.before ++ b ++ m.behind) (sym (lower_again p.body)); lead = m.lead; trail = m.trail }))
 
 same_lower_lower : (a b : List ℕ) → same_lower (lower a) (lower b) ≡ same_lower a b
 same_lower_lower a b = ap (λ (x : List ℕ). pointwise nat_eq x (lower (lower b))) (lower_again a) ∙ ap (λ (x : List ℕ). pointwise nat_eq (lower a) x) (lower_again b)
@@ -174,16 +175,9 @@ nothing_allowed edge.Star = tt
 nothing_allowed (edge.Marks n) = omega arith
 
 pub own_body : (p : Parts) → matches p p.body ≡ true
-own_body p = (matches-Decides p p.body).1 (record { before = []; after = []; split = sym (append-nil (lower p.body)); lead = nothing_allowed p.lead; trail = nothing_allowed p.trail })
+own_body p = (matches-Decides p p.body).1 (record { before = []; behind = []; split = sym (append-nil (lower p.body)); lead = nothing_allowed p.lead; trail = nothing_allowed p.trail })
 
 -- ---- what is not compared
-
-abbrev is_undefined : Relation → Bool
-is_undefined Disjoint = false
-is_undefined Equal = false
-is_undefined Subset = false
-is_undefined Superset = false
-is_undefined Undefined = true
 
 undefined_alone : (r : Relation) → is_undefined r ≡ true → r ≡ Undefined
 undefined_alone Disjoint h = absurd cc
@@ -202,7 +196,7 @@ plain_defined true false e = refl
 plain_defined false m true = refl
 plain_defined false m false = refl
 
-undefined_is : (a b : Value) → is_undefined (relation a b) ≡ has_specials b
+pub undefined_is : (a b : Value) → is_undefined (relation a b) ≡ has_specials b
 undefined_is value.Any value.Any = refl
 undefined_is value.Any value.Na = refl
 undefined_is value.Any (value.Text t) = undefined_unless (has_special t) Superset refl

@@ -7,3 +7,4 @@ pub mod Laws
 pub mod Attributes
 pub mod Order
 pub mod Near
+pub mod Maybe

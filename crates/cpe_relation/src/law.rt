@@ -1,10 +1,11 @@
 // Laws of the relations. These functions do nothing: their clauses are the laws.
-ghost use Rattle.std.specs.Prelude.{◌≡◌, ◌↔◌, ◌⊎◌, ℕ, List, IsTrue};
+ghost use Rattle.std.specs.Prelude.{◌≡◌, ◌↔◌, ◌⊎◌, ℕ, List, Bool, true, false, IsTrue};
 ghost use Rattle.cpe_values.specs.declared.value.Value.{Value};
 ghost use Rattle.cpe_values.specs.Parts.{Parts};
 ghost use Rattle.cpe_values.specs.Lower.{has_specials};
 ghost use Rattle.cpe_name.specs.Eleven.{Values};
 ghost use Rattle.cpe_name.specs.Lower.{lower_name};
+ghost use Rattle.cpe_name.specs.Wildcards.{name_has_specials};
 ghost use Rattle.cpe_relation.specs.Matching.{Matches};
 ghost use Rattle.cpe_relation.specs.MatchTests.{matches};
 ghost use Rattle.cpe_relation.specs.Table.{relation};
@@ -12,6 +13,7 @@ ghost use Rattle.cpe_relation.specs.Related.{Related};
 ghost use Rattle.cpe_relation.specs.NameRelation.{relations, name_relation, covers};
 ghost use Rattle.cpe_relation.specs.Laws.{converse, is_plain_name};
 ghost use Rattle.cpe_relation.specs.Near.{near};
+ghost use Rattle.cpe_relation.specs.Maybe.{maybe, meets};
 
 use crate::Relation;
 
@@ -44,4 +46,15 @@ pub fn relation_laws()
     ensures converse { (a b : Values) → IsTrue (is_plain_name a) → IsTrue (is_plain_name b) → name_relation b a ≡ converse (name_relation a b) }
     // A pattern matches its own body.
     ensures body { (p : Parts) → IsTrue (matches p p.body) }
+{}
+
+/// When a name may cover another. It never does so where it covers it: what a name covers has no special, and what it may
+/// cover has one. The products meet in both cases. A name also may cover what may be covered by a name that it covers.
+pub fn maybe_laws()
+    ensures apart { (a b : Values) → IsTrue (covers a b) → IsTrue (maybe a b) → ⊥ }
+    ensures whole { (a b : Values) → IsTrue (covers a b) → name_has_specials b ≡ false }
+    ensures part { (a b : Values) → IsTrue (maybe a b) → name_has_specials b ≡ true }
+    ensures meet { (a b : Values) → IsTrue (covers a b) ⊎ IsTrue (maybe a b) → IsTrue (meets a.product b.product) }
+    ensures lower { (a b : Values) → maybe (lower_name a) (lower_name b) ≡ maybe a b }
+    ensures through { (a b c : Values) → IsTrue (covers a b) → IsTrue (maybe b c) → IsTrue (maybe a c) }
 {}

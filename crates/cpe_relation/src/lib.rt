@@ -17,7 +17,11 @@
 //! [`near`] compares products alone, and more coarsely: a name covers no name to whose product its own is not near, and which
 //! products are near is found by the prefixes and the ends of their texts.
 //!
-//! Some laws are stated as functions that do nothing: [`one_relation`], [`cover_laws`] and [`relation_laws`].
+//! A target whose attributes are known only in part has specials. No name covers it, but [`maybe`] tells whether a name may
+//! cover it: no attribute speaks against it, and one is UNDEFINED.
+//!
+//! Some laws are stated as functions that do nothing: [`one_relation`](law::one_relation), [`cover_laws`](law::cover_laws),
+//! [`relation_laws`](law::relation_laws) and [`maybe_laws`](law::maybe_laws).
 //! What does not hold:
 //! - `8.*` against itself is UNDEFINED, as each attribute is whose target has a special; so [`covers`] is not reflexive
 //!   where there are specials.
@@ -31,6 +35,7 @@ mod matching;
 mod names;
 mod nearness;
 mod order;
+mod partly;
 mod relation;
 mod seen;
 mod table;
@@ -38,5 +43,6 @@ mod table;
 pub use names::{compare_lent, compare_names, covers};
 pub use nearness::near;
 pub use order::{covers_in_order, deciding_order};
+pub use partly::maybe;
 pub use relation::{Relation, Relations, relation_of_names};
 pub use table::{compare_borrowed, compare_values};

@@ -1,0 +1,33 @@
+-- Whether a name may cover a target that is known only in part, by the relations of the attributes (NIST IR 7696, 6).
+use Rattle.std.specs.Prelude.{Bool, true, false, ◌&&◌, ◌||◌}
+use Rattle.std.specs.List.{list_all, list_any}
+use Rattle.cpe_values.specs.declared.value.Value.{Value}
+use Rattle.cpe_values.specs.Lower.{has_specials}
+use Rattle.cpe_name.specs.Eleven.{Values}
+use Rattle.cpe_relation.specs.declared.relation.Relation.{Relation}
+use Rattle.cpe_relation.specs.declared.relation.Relation.TheVariants.{Disjoint, Equal, Subset, Superset, Undefined}
+use Rattle.cpe_relation.specs.NameRelation.{relations}
+use Rattle.cpe_relation.specs.Near.{near}
+
+abbrev pub is_undefined : Relation → Bool
+is_undefined Disjoint = false
+is_undefined Equal = false
+is_undefined Subset = false
+is_undefined Superset = false
+is_undefined Undefined = true
+
+-- SUPERSET, EQUAL or UNDEFINED
+abbrev pub may_be_above : Relation → Bool
+may_be_above Disjoint = false
+may_be_above Equal = true
+may_be_above Subset = false
+may_be_above Superset = true
+may_be_above Undefined = true
+
+-- each attribute is SUPERSET, EQUAL or UNDEFINED, and one at least is UNDEFINED
+unfoldable pub maybe : Values → Values → Bool
+maybe a b = list_all may_be_above (relations a b) && list_any is_undefined (relations a b)
+
+-- a source product and a target product: the target has a special, or the source is near to it
+abbrev pub meets : Value → Value → Bool
+meets p t = has_specials t || near p t

@@ -1,0 +1,5 @@
+pub mod Orders
+pub mod WalkCounts
+pub mod Sides
+pub mod Told
+pub mod Kept

@@ -1,0 +1,107 @@
+// How many targets a name covers, and how many it may cover.
+ghost use Rattle.std.specs.Prelude.{◌≡◌, ℕ, ◌+◌, ◌<◌, ◌≤◌, ◌&&◌, cond, length, count_by, nat_lt};
+ghost use Rattle.cpe_name.specs.Lower.{IsLower};
+ghost use Rattle.cpe_relation.specs.NameRelation.{covers};
+ghost use Rattle.cpe_relation.specs.Maybe.{maybe};
+ghost use Rattle.product_orders.specs.declared.products.Side.TheVariants as side;
+ghost use Rattle.name_index.specs.Table.{kept_at};
+ghost use Rattle.name_index.specs.Index.{ids, Fits, is_near};
+ghost use Rattle.target_index.specs.Targets.{is_loose, covered_count, maybe_count};
+ghost use Rattle.target_index.specs.Parts.{pairs_of};
+
+use crate::parts::Loose;
+use cpe_name::Wfn;
+use cpe_relation::{covers, maybe};
+use cpe_steps::Steps;
+use name_index::{NameId, NameIndex, NameTable, Side};
+use std::sync::ledger::Ledger;
+
+/// How many targets a name covers, and how many it may cover.
+#[derive(Clone, Copy)]
+pub struct Counts {
+    /// How many it covers.
+    pub covered: u32,
+    /// How many it may cover.
+    pub maybe: u32,
+}
+
+// Whether a name covers a target.
+fn is_covering(name: &Wfn, target: &Wfn) -> bool
+    ensures { result ≡ covers name.now target.now }
+{
+    covers(name, target)
+}
+
+// Whether a name may cover a target.
+fn may_cover(name: &Wfn, target: &Wfn) -> bool
+    ensures { result ≡ maybe name.now target.now }
+{
+    maybe(name, target)
+}
+
+// The same, where it is asked.
+fn may_cover_where(asked: bool, name: &Wfn, target: &Wfn) -> bool
+    ensures { result ≡ (asked && maybe name.now target.now) }
+{
+    asked && may_cover(name, target)
+}
+
+fn one_more(number: u32, counts: bool) -> u32
+    requires { number < 4294967295 }
+    ensures { result ≡ number + cond counts 1 0 }
+{
+    if counts {
+        return number + 1;
+    }
+    number
+}
+
+// Among those whose product has no special. Whether the name may cover them is asked only where some are open.
+pub(crate) fn count_plain<L: Ledger>(
+    index: &NameIndex,
+    table: &NameTable,
+    name: &Wfn,
+    some_open: bool,
+    steps: &mut Steps<L>,
+) -> Counts
+    requires fits { Fits index.now.held table.now }
+    requires lower { IsLower name.now }
+    requires few { length index.now.held < 4294967296 }
+    requires plain { count_by (λ (x : ℕ × ℕ). is_loose table.now x.0) index.now.held ≡ 0 }
+    ensures covered { result.covered ≡ covered_count table.now name.now index.now.held }
+    ensures maybe { result.maybe ≡ count_by (λ (x : ℕ × ℕ). some_open && maybe name.now (kept_at table.now x.0).name) index.now.held }
+    ensures steps { steps.new ≡ steps.old + count_by (is_near table.now side.Source name.now.product) (ids index.now.held) }
+{
+    cpe_relation::law::maybe_laws();
+    let mut covered = 0;
+    let mut maybes = 0;
+    for target in index.near(table, name, Side::Source) {
+        let other = table.look(target, steps);
+        covered = one_more(covered, is_covering(name, other));
+        maybes = one_more(maybes, may_cover_where(some_open, name, other));
+    }
+    Counts {
+        covered,
+        maybe: maybes,
+    }
+}
+
+// How many of those whose product has a special the name may cover.
+pub(crate) fn count_loose<L: Ledger>(
+    loose: &[Loose],
+    table: &NameTable,
+    name: &Wfn,
+    steps: &mut Steps<L>,
+) -> u32
+    requires fits { Fits (pairs_of loose.now) table.now }
+    requires few { length loose.now < 4294967296 }
+    ensures maybe { result ≡ maybe_count table.now name.now (pairs_of loose.now) }
+    ensures steps { steps.new ≡ steps.old + length loose.now }
+{
+    let mut maybes = 0;
+    for one in loose {
+        let other = table.look(NameId(one.id), steps);
+        maybes = one_more(maybes, may_cover(name, other));
+    }
+    maybes
+}

@@ -1,0 +1,117 @@
+//! The numbers of targets by product, some of which are known only in part.
+//!
+//! A target is open where its name has a special. No name covers it, but a name may. A [`TargetIndex`] holds targets of both kinds.
+//! Those whose product has no special lie in an index by product; those whose product has one stand in a list, since each product
+//! meets them, and whoever asks goes over all of these.
+#![tactic(auto)]
+
+ghost use Rattle.std.specs.Prelude.{◌≡◌, ℕ, ◌+◌, ◌<◌, ◌≤◌, ◌∷◌, length, Some, OnOk, count_by};
+ghost use Rattle.cpe_name.specs.Lower.{IsLower};
+ghost use Rattle.cpe_steps.specs.Within.{StepsWithin};
+ghost use Rattle.product_orders.specs.Elements.{SameElements};
+ghost use Rattle.name_index.specs.Table.{Names, Kept, find_kept, IsLive, kept_at};
+ghost use Rattle.name_index.specs.Index.{ids, times_held};
+ghost use Rattle.target_index.specs.Targets.{AreNone, FitsTargets, SameTargets, held, is_met, covered_count, maybe_count};
+
+mod counting;
+mod parts;
+
+pub use counting::Counts;
+use cpe_name::Wfn;
+use cpe_steps::Steps;
+use cpe_values::Memory;
+use name_index::{NameId, NameTable};
+use parts::Parts;
+use std::alloc::Global;
+use std::marker::Model;
+use std::sync::ledger::Ledger;
+
+/// A set of the numbers of targets, each with the number of its product.
+#[derive(Drop)]
+pub struct TargetIndex {
+    parts: Parts,
+}
+
+impl Model for TargetIndex {
+    ghost use Rattle.target_index.specs.Targets.{Targets};
+    ghost use Rattle.target_index.specs.Parts.{ArePartsOf, targets_of};
+
+    ghost Value = { Targets };
+
+    ghost view = { λ a. targets_of a.parts };
+
+    ghost invariant = { λ a. ArePartsOf a.parts };
+}
+
+impl TargetIndex {
+    /// An index that holds nothing. It takes no memory.
+    pub fn new(alloc: Global) -> TargetIndex
+        ensures none { AreNone result }
+        ensures fits { (names : Names) → FitsTargets result names }
+    {
+        TargetIndex {
+            parts: Parts::new(alloc),
+        }
+    }
+
+    /// Makes room for `n` numbers more. Afterwards `wide` is above the product number of each live name.
+    ///
+    /// # Errors
+    /// That memory ran out; the same is then held.
+    pub fn reserve(&mut self, table: &NameTable, n: u32) -> Result<(), Memory>
+        ensures same { SameTargets self.old self.new }
+        ensures spare { OnOk result (n ≤ self.new.spare) }
+        ensures wide { OnOk result ((id : ℕ) (k : Kept) → find_kept table.now id ≡ Some k → k.product < self.new.wide) }
+    {
+        self.parts.reserve(table, n)
+    }
+
+    /// Holds a number, which was not held. It takes no memory.
+    pub fn add(&mut self, table: &NameTable, id: NameId)
+        requires live { IsLive table.now id.0 }
+        requires fits { FitsTargets self.old table.now }
+        requires fresh { times_held (held self.old) id.0 ≡ 0 }
+        requires room { 1 ≤ self.old.spare }
+        requires product { (kept_at table.now id.0).product < self.old.wide }
+        requires few { length (held self.old) < 4294967295 }
+        ensures added { SameElements ((id.0, (kept_at table.now id.0).product) ∷ held self.old) (held self.new) }
+        ensures fits { FitsTargets self.new table.now }
+        ensures spare { self.new.spare + 1 ≡ self.old.spare }
+        ensures wide { self.new.wide ≡ self.old.wide }
+    {
+        self.parts.add(table, id);
+    }
+
+    /// Lets a number go, which was held. It takes no memory.
+    pub fn drop_name(&mut self, table: &NameTable, id: NameId)
+        requires held { 1 ≤ times_held (held self.old) id.0 }
+        requires live { IsLive table.now id.0 }
+        requires fits { FitsTargets self.old table.now }
+        ensures dropped { SameElements (held self.old) ((id.0, (kept_at table.now id.0).product) ∷ held self.new) }
+        ensures fits { FitsTargets self.new table.now }
+        ensures spare { self.new.spare ≡ self.old.spare }
+        ensures wide { self.new.wide ≡ self.old.wide }
+    {
+        self.parts.drop_name(table, id);
+    }
+
+    /// What is so of every index: no number is held twice. It does nothing, and tells a proof so.
+    pub fn lawful(&self)
+        ensures { (id : ℕ) → times_held (held self.now) id ≤ 1 }
+    {
+        let _parts = &self.parts;
+    }
+
+    /// How many targets a name covers, and how many it may cover. It looks once at each whose product the name's meets, and at no
+    /// other, and takes no memory.
+    pub fn count<L: Ledger>(&self, table: &NameTable, name: &Wfn, steps: &mut Steps<L>) -> Counts
+        requires fits { FitsTargets self.now table.now }
+        requires lower { IsLower name.now }
+        requires few { length (held self.now) < 4294967296 }
+        ensures covered { result.covered ≡ covered_count table.now name.now (held self.now) }
+        ensures maybe { result.maybe ≡ maybe_count table.now name.now (held self.now) }
+        ensures steps { StepsWithin steps.old steps.new (count_by (is_met table.now name.now.product) (ids (held self.now))) }
+    {
+        self.parts.count(table, name, steps)
+    }
+}
