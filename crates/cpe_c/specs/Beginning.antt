@@ -2,7 +2,7 @@
 use Rattle.std.specs.Prelude.{◌≡◌, ℕ, Bool, true, false, List, [], ◌∷◌, Some, None}
 use Rattle.std.specs.declared.option.Option.{Option}
 use Rattle.cpe_io.specs.Lines.{lines}
-use Rattle.cpe_session.specs.Task.{Task, Written, Lines, Whole, Says}
+use Rattle.cpe_session.specs.Task.{Task, Fixed, Lines, Whole, Says}
 use Rattle.cpe_rows.specs.Rows.{no_rows}
 use Rattle.cpe_ranges.specs.Rows.{no_rows as no_advice}
 use Rattle.cpe_command.specs.declared.command.Command.{Command}
@@ -21,7 +21,7 @@ words_of word (x ∷ xs) = word ∷ (x ∷ xs) ∷ []
 
 -- whether each line is answered by itself
 abbrev pub answers_lines : Task → Bool
-answers_lines (Written all) = false
+answers_lines (Fixed all) = false
 answers_lines (Lines speech) = true
 answers_lines (Whole says) = false
 

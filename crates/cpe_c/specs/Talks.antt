@@ -1,7 +1,7 @@
 -- What a session still says whose lines are given one by one.
 use Rattle.std.specs.Prelude.{ℕ, List, ◌++◌}
 use Rattle.std.specs.declared.option.Option.{Option}
-use Rattle.cpe_session.specs.Session.{Session, Stage, after, out_from}
+use Rattle.cpe_session.specs.Session.{Session, Stage, stage_after, out_from}
 use Rattle.cpe_session.specs.Statuses.{status_of}
 use Rattle.cpe_session.specs.Task.{Transcript}
 use Rattle.cpe_session.specs.Pages.{stage_of}
@@ -18,8 +18,8 @@ use Rattle.cpe_c.specs.declared.speaking.Speaking.TheVariants.{Name, Compare, Re
 -- what is written for these lines and at their end, from a stage on, and the status
 abbrev pub spoken_from : {State : Type 0} → Session State → Stage State → List (Option (List ℕ)) → Transcript
 spoken_from session s ls = record {
-  text = out_from session s ls ++ session.ends (after session s ls).state;
-  status = status_of (after session s ls).refused;
+  text = out_from session s ls ++ session.ends (stage_after session s ls).state;
+  status = status_of (stage_after session s ls).refused;
 }
 
 -- the same of who speaks, who has come so far

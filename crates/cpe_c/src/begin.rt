@@ -54,6 +54,10 @@ fn of_one_word(alloc: Global, word: &[u8]) -> Option<Speaking>
         Some(Speaking::Records(RecordCommand::Watch, Engine::new(alloc)))
     } else if are_equal(word, b"convert") {
         Some(Speaking::Convert)
+    } else if are_equal(word, b"explain") {
+        Some(Speaking::Records(RecordCommand::Explain, Engine::new(alloc)))
+    } else if are_equal(word, b"check") {
+        Some(Speaking::Records(RecordCommand::Check, Engine::new(alloc)))
     } else if are_equal(word, b"advise") {
         Some(Speaking::Advise(Advisories::new(alloc)))
     } else if are_equal(word, b"save") {

@@ -13,24 +13,24 @@ use std::ptr::null_mut;
 /// What C keeps of a session: the pointer to it, or none.
 #[repr(C)]
 #[derive(Drop)]
-pub struct Kept {
+pub struct KeptTalk {
     at: *mut u8,
     alloc: Global,
     pub(crate) ghost value: { Option Talk } by { kept_coded },
 }
 
-impl Model for Kept {
+impl Model for KeptTalk {
     ghost use Rattle.cpe_c.specs.Keeping.{kept_owns};
 
     ghost also_owns = { λ k. kept_owns k.alloc k.at k.value };
 }
 
-impl Kept {
+impl KeptTalk {
     /// Keeps what the box has.
-    pub(crate) fn of(whole: Box<Talk>) -> Kept
+    pub(crate) fn of(whole: Box<Talk>) -> KeptTalk
         ensures { result.value ≡ Some whole.value }
     {
-        Kept::of_parts(Parts::of(whole))
+        KeptTalk::of_parts(Parts::of(whole))
     }
 
     /// The box again.
@@ -42,20 +42,20 @@ impl Kept {
     }
 
     /// Keeps nothing.
-    pub(crate) fn none(alloc: Global) -> Kept
+    pub(crate) fn none(alloc: Global) -> KeptTalk
         ensures { result.value ≡ None }
     {
-        Kept {
+        KeptTalk {
             at: null_mut(),
             alloc,
         }
     }
 
-    fn of_parts(parts: Parts<Talk, Global>) -> Kept
+    fn of_parts(parts: Parts<Talk, Global>) -> KeptTalk
         ensures { result.value ≡ Some parts.value }
     {
         let Parts { at, alloc } = parts;
-        Kept {
+        KeptTalk {
             at: at as *mut u8,
             alloc,
         }
@@ -65,7 +65,7 @@ impl Kept {
         requires { IsSome self.value }
         ensures { Some result.value ≡ self.value }
     {
-        let Kept { at, alloc } = self;
+        let KeptTalk { at, alloc } = self;
         Parts {
             at: at as *mut Talk,
             alloc,

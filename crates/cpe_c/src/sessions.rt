@@ -5,7 +5,7 @@ ghost use Rattle.cpe_c.specs.Talk.{Repeats, TakesEnd, TakesLine};
 ghost use Rattle.cpe_c.specs.Told.{Tells};
 
 use crate::begin::begin;
-use crate::kept::Kept;
+use crate::kept::KeptTalk;
 use crate::talk::{Talk, end, repeat, say};
 use crate::told::{Answer, Told};
 use cpe_steps::Steps;
@@ -18,14 +18,19 @@ use std::sync::ledger::{Blank, Ledger};
 /// a run of this command does. Where it doesn't begin, `kept` stays as it was. It keeps none before, since a session that it kept
 /// would not be let go.
 #[unsafe(no_mangle)]
-pub extern "C" fn cpe_c_begin(alloc: Global, word: &[u8], second: &[u8], kept: &mut Kept) -> Answer
+pub extern "C" fn cpe_c_begin(
+    alloc: Global,
+    word: &[u8],
+    second: &[u8],
+    kept: &mut KeptTalk,
+) -> Answer
     requires { kept.old.value ≡ None }
     ensures { Tells (Begins word.now second.now kept.old.value kept.new.value) result }
 {
     keep_begun(alloc, word, second, kept).in_c()
 }
 
-fn keep_begun(alloc: Global, word: &[u8], second: &[u8], kept: &mut Kept) -> Told
+fn keep_begun(alloc: Global, word: &[u8], second: &[u8], kept: &mut KeptTalk) -> Told
     ensures { Begins word.now second.now kept.old.value kept.new.value result }
 {
     match begin(alloc, word, second) {
@@ -34,12 +39,12 @@ fn keep_begun(alloc: Global, word: &[u8], second: &[u8], kept: &mut Kept) -> Tol
     }
 }
 
-fn keep(alloc: Global, talk: Talk, kept: &mut Kept) -> Told
+fn keep(alloc: Global, talk: Talk, kept: &mut KeptTalk) -> Told
     ensures { IsKept talk kept.old.value kept.new.value result }
 {
     match Box::new(alloc, talk) {
         Ok(whole) => {
-            *kept = Kept::of(whole);
+            *kept = KeptTalk::of(whole);
             Told::Done(0)
         }
         Err(_) => Told::Memory,
@@ -50,13 +55,18 @@ fn keep(alloc: Global, talk: Talk, kept: &mut Kept) -> Told
 /// is written there, and their number is told; [`cpe_c_again`] gives them. A text with a newline is no line, and a session that ended, or in
 /// which memory ran out, takes none: both are told, and change nothing.
 #[unsafe(no_mangle)]
-pub extern "C" fn cpe_c_line(alloc: Global, kept: &mut Kept, piece: &[u8], out: &mut [u8]) -> Answer
+pub extern "C" fn cpe_c_line(
+    alloc: Global,
+    kept: &mut KeptTalk,
+    piece: &[u8],
+    out: &mut [u8],
+) -> Answer
     requires { IsSome kept.old.value }
     ensures { Moves kept.old.value kept.new.value (λ old new. TakesLine old new piece.now out.old out.new) result }
 {
-    let mut whole = replace(kept, Kept::none(alloc)).into_box();
+    let mut whole = replace(kept, KeptTalk::none(alloc)).into_box();
     let told = say_counted::<Brand>(alloc, &mut whole, piece, out, Blank::new(1));
-    *kept = Kept::of(whole);
+    *kept = KeptTalk::of(whole);
     told.in_c()
 }
 
@@ -82,16 +92,16 @@ fn say_counted<L: Ledger>(
 #[unsafe(no_mangle)]
 pub extern "C" fn cpe_c_end(
     alloc: Global,
-    kept: &mut Kept,
+    kept: &mut KeptTalk,
     out: &mut [u8],
     status: &mut u8,
 ) -> Answer
     requires { IsSome kept.old.value }
     ensures { Moves kept.old.value kept.new.value (λ old new. TakesEnd old new out.old out.new status.old status.new) result }
 {
-    let mut whole = replace(kept, Kept::none(alloc)).into_box();
+    let mut whole = replace(kept, KeptTalk::none(alloc)).into_box();
     let told = end_counted::<Brand>(alloc, &mut whole, out, status, Blank::new(1));
-    *kept = Kept::of(whole);
+    *kept = KeptTalk::of(whole);
     told.in_c()
 }
 
@@ -113,23 +123,23 @@ fn end_counted<L: Ledger>(
 
 /// Gives the last answer again.
 #[unsafe(no_mangle)]
-pub extern "C" fn cpe_c_again(alloc: Global, kept: &mut Kept, out: &mut [u8]) -> Answer
+pub extern "C" fn cpe_c_again(alloc: Global, kept: &mut KeptTalk, out: &mut [u8]) -> Answer
     requires { IsSome kept.old.value }
     ensures { Moves kept.old.value kept.new.value (λ old new. Repeats old new out.old out.new) result }
 {
-    let whole = replace(kept, Kept::none(alloc)).into_box();
+    let whole = replace(kept, KeptTalk::none(alloc)).into_box();
     let told = repeat(&whole, out);
-    *kept = Kept::of(whole);
+    *kept = KeptTalk::of(whole);
     told.in_c()
 }
 
 /// Lets a session go.
 #[unsafe(no_mangle)]
-pub extern "C" fn cpe_c_close(alloc: Global, kept: &mut Kept)
+pub extern "C" fn cpe_c_close(alloc: Global, kept: &mut KeptTalk)
     requires { IsSome kept.old.value }
     ensures { kept.new.value ≡ None }
 {
-    let_go(replace(kept, Kept::none(alloc)).into_box());
+    let_go(replace(kept, KeptTalk::none(alloc)).into_box());
 }
 
 // By one call: in place each field would split the proof.

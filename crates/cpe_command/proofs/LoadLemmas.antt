@@ -7,7 +7,7 @@ use Rattle.cpe_snapshot.specs.States.{most_bytes, Snap, StatesAreClear}
 use Rattle.cpe_session.specs.Heard.{Answers}
 use Rattle.cpe_session.specs.Pages.{Pours}
 use Rattle.cpe_session.specs.Ran.{Ran, Anything}
-use Rattle.cpe_session.specs.Task.{Transcript, Written}
+use Rattle.cpe_session.specs.Task.{Transcript, Fixed}
 use Rattle.cpe_session.specs.declared.status.Status.{Status}
 use Rattle.cpe_session.specs.declared.status.Status.TheVariants as ending
 use Rattle.cpe_session.proofs.Pouring.{Pours-put, Pours-trans}
@@ -35,13 +35,13 @@ refused_is_not_usage same = cc
 
 module _ {held held_now : Option (List ℕ)} (status : Status) where
   pub Answers-state : (rows : Rows) (bytes : List ℕ) → StatesAreClear → IsLawful rows → Snap rows bytes
-      → Ran (Some []) (Some []) held held_now (Written (state_told rows)) Anything status → Answers held held_now (load_says bytes) status
+      → Ran (Some []) (Some []) held held_now (Fixed (state_told rows)) Anything status → Answers held held_now (load_says bytes) status
   Answers-state rows bytes clear lawful snap ran =
       Answers-written {all = state_told rows} {Says_it = load_says bytes} status ran done_is_not_usage
       (inl (record { rows = rows; lawful = lawful; snap = snap; told = refl })) (told_only rows bytes clear lawful snap)
 
   pub Answers-refusal : (bytes : List ℕ) → IsNoSnapshot bytes
-      → Ran (Some []) (Some []) held held_now (Written refusal_told) Anything status → Answers held held_now (load_says bytes) status
+      → Ran (Some []) (Some []) held held_now (Fixed refusal_told) Anything status → Answers held held_now (load_says bytes) status
   Answers-refusal bytes none ran =
       Answers-written {all = refusal_told} {Says_it = load_says bytes} status ran refused_is_not_usage (inr (none, refl)) (refused_only bytes none)
 
@@ -53,7 +53,7 @@ too_long bytes within longer rows lawful snap = absurd (omega (arith, within row
 
 -- the rows of the snapshot are left
 pub state_left : {held held_now : Option (List ℕ)} (status : Status) (first now : Rows) (bytes : List ℕ) → Snap now bytes
-    → Ran (Some []) (Some []) held held_now (Written (state_told now)) Anything status → LoadLeaves first now bytes status
+    → Ran (Some []) (Some []) held held_now (Fixed (state_told now)) Anything status → LoadLeaves first now bytes status
 state_left ending.Done first now bytes snap ran = snap
 state_left ending.SomeRefused first now bytes snap ran = absurd (done_is_not_refused (sym (ap (λ (it : Transcript). it.status) ran.stands.0)))
 state_left ending.Usage first now bytes snap ran = absurd (done_is_not_usage (sym (ap (λ (it : Transcript). it.status) ran.stands.0)))
@@ -64,7 +64,7 @@ state_left ending.Endless first now bytes snap ran = absurd ran.stands.0
 
 -- the first ones are left
 pub first_left : {held held_now : Option (List ℕ)} (status : Status) (first : Rows) (bytes : List ℕ)
-    → Ran (Some []) (Some []) held held_now (Written refusal_told) Anything status → LoadLeaves first first bytes status
+    → Ran (Some []) (Some []) held held_now (Fixed refusal_told) Anything status → LoadLeaves first first bytes status
 first_left ending.Done first bytes ran = absurd (done_is_not_refused (ap (λ (it : Transcript). it.status) ran.stands.0))
 first_left ending.SomeRefused first bytes ran = refl
 first_left ending.Usage first bytes ran = absurd (refused_is_not_usage (sym (ap (λ (it : Transcript). it.status) ran.stands.0)))

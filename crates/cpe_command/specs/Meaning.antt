@@ -7,7 +7,7 @@ use Rattle.cpe_session.specs.declared.status.Status.{Status}
 use Rattle.cpe_session.specs.declared.status.Status.TheVariants.{Done, Usage}
 use Rattle.cpe_session.specs.Table.{rows_text}
 use Rattle.cpe_session.specs.Heard.{IsLeft}
-use Rattle.cpe_session.specs.Task.{Task, Written, Whole, task}
+use Rattle.cpe_session.specs.Task.{Task, Fixed, Whole, task}
 use Rattle.cpe_session.specs.Folding.{IsFolded, summed_by}
 use Rattle.cpe_rows.specs.Rows.{Rows, no_rows}
 use Rattle.cpe_records.specs.Edited.{line_edited}
@@ -61,23 +61,23 @@ meaning_of (Some Load) = record { reads = true; task = Whole load_says; keeps = 
 meaning_of (Some Cover) = record { reads = true; task = task cover_session []; keeps = NoRows; looks = most_cover_steps }
 meaning_of (Some (Make count)) = record {
   reads = false;
-  task = Written (record { text = rows_text generated_line count; status = Done });
+  task = Fixed (record { text = rows_text generated_line count; status = Done });
   keeps = NoRows;
   looks = λ taken. 0;
 }
 meaning_of (Some (Drill count)) = record {
   reads = false;
-  task = Written (drill_transcript count);
+  task = Fixed (drill_transcript count);
   keeps = λ rows taken status. LeavesRows count rows status;
   looks = λ taken. summed record_looks count;
 }
-meaning_of None = record { reads = false; task = Written (record { text = usage; status = Usage }); keeps = NoRows; looks = λ taken. 0 }
+meaning_of None = record { reads = false; task = Fixed (record { text = usage; status = Usage }); keeps = NoRows; looks = λ taken. 0 }
 
 -- what the words mean
 abbrev pub meaning : List (List ℕ) → Meaning
 meaning words = meaning_of (command_of words)
 
 -- what a run leaves beside what it writes: the rows that the engine keeps, and a count of steps that rose by no more than the looks
-pub record Leaves (meant : Meaning) (rows : Rows) (steps steps_now : ℕ) (taken : List ℕ) (status : Status) : Type 0 where
+pub record RunLeaves (meant : Meaning) (rows : Rows) (steps steps_now : ℕ) (taken : List ℕ) (status : Status) : Type 0 where
   pub keeps : meant.keeps rows taken status
   pub within : StepsWithin steps steps_now (meant.looks taken)

@@ -7,7 +7,7 @@ ghost use Rattle.cpe_session.specs.Pages.{IsBeforeOrAfter, IsSaid};
 ghost use Rattle.cpe_rows.specs.Step.{step};
 ghost use Rattle.cpe_rows.specs.Valid.{is_valid_edit};
 ghost use Rattle.cpe_engine.specs.Looks.{edit_looks};
-ghost use Rattle.cpe_replies.specs.Replies.{change_line, changed_id, dropped_id, id_at};
+ghost use Rattle.cpe_replies.specs.Replies.{change_line, changed_id, dropped_id, statement_id};
 ghost use Rattle.cpe_replies.specs.Reasons.{reason_text};
 ghost use Rattle.cpe_command.specs.Records.{by_step, edit_text};
 
@@ -107,7 +107,7 @@ fn changed_id<'t>(engine: &'t Engine, dropped: &'t Option<Text>, change: &Change
     ensures { result.now ≡ changed_id engine.now.statements dropped.now change.now }
 {
     if change.after.is_some() {
-        return id_at(engine, change.place as usize);
+        return statement_id(engine, change.place as usize);
     }
     match dropped {
         Some(id) => id.as_str(),
@@ -116,8 +116,8 @@ fn changed_id<'t>(engine: &'t Engine, dropped: &'t Option<Text>, change: &Change
 }
 
 // The id of the statement at a place from 0.
-fn id_at(engine: &Engine, place: usize) -> &str
-    ensures { result.now ≡ id_at engine.now.statements place }
+fn statement_id(engine: &Engine, place: usize) -> &str
+    ensures { result.now ≡ statement_id engine.now.statements place }
 {
     match engine.statement_at(place) {
         Some((statement, _)) => statement.id.as_str(),

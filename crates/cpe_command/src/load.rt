@@ -6,7 +6,7 @@ ghost use Rattle.cpe_io.specs.Causes.{HasSinkCause};
 ghost use Rattle.cpe_io.specs.Writes.{AppendsFront};
 ghost use Rattle.cpe_session.specs.Pages.{Pours};
 ghost use Rattle.cpe_session.specs.Ran.{Ran, Anything, Counted};
-ghost use Rattle.cpe_session.specs.Task.{Written};
+ghost use Rattle.cpe_session.specs.Task.{Fixed};
 ghost use Rattle.cpe_snapshot.specs.States.{Snap, most_bytes};
 ghost use Rattle.cpe_drill.specs.Summary.{number_line};
 ghost use Rattle.cpe_command.specs.Loading.{counts_text, IsNoSnapshot, load_says, LoadLeaves, refusal_told, state_text, state_told};
@@ -87,7 +87,7 @@ fn load_counted<L: Ledger>(alloc: Global, bytes: &[u8], blank: Blank) -> Result<
 }
 
 fn refuse<K: Sink>(sink: &mut K) -> Status
-    ensures ran { (left : Option (List ℕ)) → Ran left left (K.held sink.old) (K.held sink.new) (Written refusal_told) Anything result }
+    ensures ran { (left : Option (List ℕ)) → Ran left left (K.held sink.old) (K.held sink.new) (Fixed refusal_told) Anything result }
     ensures sink { Counted Status.WriteFault (K.faults sink.old) (K.faults sink.new) result }
 {
     write_text(sink, REFUSAL, Status::SomeRefused)
@@ -95,7 +95,7 @@ fn refuse<K: Sink>(sink: &mut K) -> Status
 
 // Writes what is told of the rows.
 fn write_state<K: Sink>(alloc: Global, engine: &Engine, sink: &mut K) -> Status
-    ensures ran { (left : Option (List ℕ)) → Ran left left (K.held sink.old) (K.held sink.new) (Written (state_told engine.now)) Anything result }
+    ensures ran { (left : Option (List ℕ)) → Ran left left (K.held sink.old) (K.held sink.new) (Fixed (state_told engine.now)) Anything result }
     ensures sink { Counted Status.WriteFault (K.faults sink.old) (K.faults sink.new) result }
 {
     let mut page = Page::new(alloc);

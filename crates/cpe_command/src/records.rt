@@ -9,12 +9,17 @@ ghost use Rattle.cpe_rows.specs.Valid.{is_valid_edit, is_valid_query};
 ghost use Rattle.cpe_engine.specs.Looks.{edit_looks, looks};
 ghost use Rattle.cpe_replies.specs.Replies.{reply_text};
 ghost use Rattle.cpe_replies.specs.Reasons.{reason_text};
-ghost use Rattle.cpe_command.specs.Records.{by_step, edit_text, query_text, record_session};
+ghost use Rattle.cpe_records.specs.Reading.{record_of};
+ghost use Rattle.cpe_drill.specs.Looks.{record_looks};
+ghost use Rattle.proof_lines.specs.Gives.{Gives};
+ghost use Rattle.cpe_command.specs.Records.{by_record, by_step, edit_text, proof_in, query_text, record_session};
 
 use crate::changes::say_changes;
+use crate::proofs::{pour_certificates, say_checked};
 use crate::save::pour_snapshot;
 use crate::verdicts::pour_verdicts;
 use cpe_engine::Engine;
+use cpe_explain::Proof;
 use cpe_io::{Sink, SinkFault};
 use cpe_members::RecordFault;
 use cpe_records::{Record, read_record};
@@ -22,6 +27,7 @@ use cpe_replies::{RecordReason, push_reply};
 use cpe_rows::{Edit, EditFault, Query};
 use cpe_session::{Line, Page, Speaker};
 use cpe_steps::Steps;
+use proof_lines::{ProofFault, read_proof};
 use std::alloc::{AllocError, Global};
 use std::sync::ledger::Ledger;
 
@@ -34,6 +40,10 @@ pub enum RecordCommand {
     Evaluate,
     /// The verdicts that an edit changes are written after it, and nothing at the end.
     Watch,
+    /// The certificates of the verdicts are written there, one of each statement.
+    Explain,
+    /// A line may be a certificate, too, and it is told whether it holds. Nothing is written at the end.
+    Check,
     /// No line writes anything, and the snapshot of the rows is written at the end.
     Save,
 }
@@ -47,7 +57,11 @@ impl Speaker for RecordCommand {
 
     fn is_quiet(&self) -> bool {
         match self {
-            RecordCommand::Resolve | RecordCommand::Evaluate | RecordCommand::Watch => false,
+            RecordCommand::Resolve
+            | RecordCommand::Evaluate
+            | RecordCommand::Watch
+            | RecordCommand::Explain
+            | RecordCommand::Check => false,
             RecordCommand::Save => true,
         }
     }
@@ -60,11 +74,11 @@ impl Speaker for RecordCommand {
         line: &Line<'_>,
         steps: &mut Steps<L>,
     ) -> Result<Option<RecordReason>, AllocError> {
-        match read_record(alloc, line.text) {
-            Ok(Record::Edit(edit)) => self.say_edit(alloc, state, page, line.number, edit, steps),
-            Ok(Record::Query(query)) => self.say_query(alloc, state, page, query, steps),
-            Err(RecordFault::Memory) => Err(AllocError),
-            Err(fault) => Ok(Some(RecordReason::Unread(fault))),
+        match self.proof_in(alloc, line.text) {
+            Ok(Some(proof)) => say_checked(alloc, state, page, proof),
+            Ok(None) => self.say_record(alloc, state, page, line, steps),
+            Err(ProofFault::Memory) => Err(AllocError),
+            Err(fault) => Ok(Some(RecordReason::Unproved(fault))),
         }
     }
 
@@ -78,14 +92,51 @@ impl Speaker for RecordCommand {
     ) -> Result<(), SinkFault> {
         let _ = steps;
         match self {
-            RecordCommand::Resolve | RecordCommand::Watch => Ok(()),
+            RecordCommand::Resolve | RecordCommand::Watch | RecordCommand::Check => Ok(()),
             RecordCommand::Evaluate => pour_verdicts(alloc, state, page, sink),
+            RecordCommand::Explain => pour_certificates(alloc, state, page, sink),
             RecordCommand::Save => pour_snapshot(alloc, state, page, sink),
         }
     }
 }
 
 impl RecordCommand {
+    // The certificate of a line, where the command takes any.
+    fn proof_in(&self, alloc: Global, text: &[u8]) -> Result<Option<Proof>, ProofFault>
+        ensures { Gives result (proof_in self.now text.now) }
+    {
+        match self {
+            RecordCommand::Check => read_proof(alloc, text),
+            RecordCommand::Resolve
+            | RecordCommand::Evaluate
+            | RecordCommand::Watch
+            | RecordCommand::Explain
+            | RecordCommand::Save => Ok(None),
+        }
+    }
+
+    // Applies or answers the record of a line, or tells why it is none.
+    fn say_record<L: Ledger>(
+        &self,
+        alloc: Global,
+        state: &mut Engine,
+        page: &mut Page,
+        line: &Line<'_>,
+        steps: &mut Steps<L>,
+    ) -> Result<Option<RecordReason>, AllocError>
+        ensures said { IfOk result (λ refused. IsSaid (by_record self.now line.now.number state.old (record_of line.now.text.now))
+            state.old state.new page.old page.new (option_map reason_text refused)) }
+        ensures err { OnErr result (IsBeforeOrAfter (by_record self.now line.now.number state.old (record_of line.now.text.now)) state.old state.new) }
+        ensures counts { StepsWithin steps.old steps.new (record_looks state.old (record_of line.now.text.now)) }
+    {
+        match read_record(alloc, line.text) {
+            Ok(Record::Edit(edit)) => self.say_edit(alloc, state, page, line.number, edit, steps),
+            Ok(Record::Query(query)) => self.say_query(alloc, state, page, query, steps),
+            Err(RecordFault::Memory) => Err(AllocError),
+            Err(fault) => Ok(Some(RecordReason::Unread(fault))),
+        }
+    }
+
     // Applies an edit, and writes what the command tells of it; or tells why it can't be applied.
     fn say_edit<L: Ledger>(
         &self,
@@ -103,9 +154,11 @@ impl RecordCommand {
         ensures counts { StepsWithin steps.old steps.new (edit_looks engine.old edit) }
     {
         match self {
-            RecordCommand::Resolve | RecordCommand::Evaluate | RecordCommand::Save => {
-                make_edit(engine, edit, steps)
-            }
+            RecordCommand::Resolve
+            | RecordCommand::Evaluate
+            | RecordCommand::Explain
+            | RecordCommand::Check
+            | RecordCommand::Save => make_edit(engine, edit, steps),
             RecordCommand::Watch => say_changes(alloc, engine, page, number, edit, steps),
         }
     }
@@ -124,9 +177,11 @@ impl RecordCommand {
         ensures counts { StepsWithin steps.old steps.new (looks engine.now query) }
     {
         match self {
-            RecordCommand::Resolve | RecordCommand::Evaluate | RecordCommand::Watch => {
-                say_answer(alloc, engine, page, query, steps)
-            }
+            RecordCommand::Resolve
+            | RecordCommand::Evaluate
+            | RecordCommand::Watch
+            | RecordCommand::Explain
+            | RecordCommand::Check => say_answer(alloc, engine, page, query, steps),
             RecordCommand::Save => {
                 drop(query);
                 Ok(None)

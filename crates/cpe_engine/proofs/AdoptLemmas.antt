@@ -1,5 +1,5 @@
 -- Rows whose entries were given their deprecations at once: what they weigh, that they are lawful, and what stands.
-use Rattle.std.proofs.Common.{◌≡◌, ◌↔◌, ◌≤◌, ◌<◌, ◌+◌, ℕ, Bool, true, false, nat_lt, IsTrue, List, [], ◌∷◌, ◌++◌, length, map, refl, sym, ap, subst, ◌∙◌, inl, inr, arith, Option, Some, None}
+use Rattle.std.proofs.Common.{◌≡◌, ◌↔◌, ◌≤◌, ◌<◌, ◌+◌, ℕ, true, false, nat_lt, List, [], ◌∷◌, ◌++◌, length, map, refl, sym, ap, subst, ◌∙◌, inl, inr, arith, Option, None}
 use Rattle.std.specs.Prelude.{All}
 use Rattle.std.specs.List.{AllByRecursion, flat_map, list_all, list_any}
 use Rattle.std.proofs.Math.Nat.{min-eq_left}
@@ -9,9 +9,9 @@ use Rattle.cpe_name.specs.Eleven.{Values}
 use Rattle.cpe_name.specs.Names.{IsName}
 use Rattle.cpe_rows.specs.Chains.{successors_of}
 use Rattle.cpe_rows.specs.FactNames.{fact_names}
-use Rattle.cpe_rows.specs.Formed.{AreFormed, IsFormedEntry}
+use Rattle.cpe_rows.specs.Formed.{IsFormedEntry}
 use Rattle.cpe_rows.specs.Lawful.{has_successors, IsDictionary, IsLawful}
-use Rattle.cpe_rows.specs.Limits.{AreWithin, exceeds, limited, most}
+use Rattle.cpe_rows.specs.Limits.{exceeds, limited, most}
 use Rattle.cpe_rows.specs.Names.{is_same}
 use Rattle.cpe_rows.specs.Rows.{is_named, Rows}
 use Rattle.cpe_rows.specs.Weight.{check_weight, entry_weight, name_weight, statement_weight, total, weight}

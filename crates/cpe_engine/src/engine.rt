@@ -7,16 +7,16 @@ ghost use Rattle.cpe_rows.specs.Counts.{counts_of};
 ghost use Rattle.cpe_rows.specs.Names.{is_lower};
 ghost use Rattle.cpe_rows.specs.Valid.{is_valid_query};
 ghost use Rattle.cpe_rows.specs.Weight.{weight};
-ghost use Rattle.cpe_dictionary.specs.Lent.{entry_lent};
+ghost use Rattle.cpe_rows.specs.Lent.{entry_lent};
 ghost use Rattle.cpe_steps.specs.Within.{StepsWithin};
 ghost use Rattle.cpe_engine.specs.Looks.{edit_looks, looks};
 
 use crate::parts::Parts;
-use cpe_dictionary::EntryRef;
 use cpe_inventory::ItemSlots;
 use cpe_name::Wfn;
 use cpe_rows::{
-    Changed, CheckKey, Counts, Edit, EditFault, List, Query, Reply, Statement, Text, Truth,
+    Changed, CheckKey, Counts, Edit, EditFault, EntryRef, List, Query, Reply, Statement, Text,
+    Truth,
 };
 use cpe_steps::Steps;
 use cpe_values::Memory;

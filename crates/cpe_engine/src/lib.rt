@@ -13,6 +13,7 @@ mod checks;
 mod edits;
 mod engine;
 mod entries;
+mod explained;
 mod holds;
 mod items;
 mod made;

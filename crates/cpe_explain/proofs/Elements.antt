@@ -49,7 +49,7 @@ pub any_map : {A B : Type 0} (f : A → B) (p : B → Bool) (xs : List A) → li
 any_map f p [] = refl
 any_map f p (x ∷ xs) = ap (λ b. p (f x) || b) (any_map f p xs)
 
-first_map : {A B : Type 0} (p : B → Bool) (f : A → B) (xs : List A) → position_or_len p (map f xs) ≡ position_or_len (λ x. p (f x)) xs
+pub first_map : {A B : Type 0} (p : B → Bool) (f : A → B) (xs : List A) → position_or_len p (map f xs) ≡ position_or_len (λ x. p (f x)) xs
 first_map p f [] = refl
 first_map p f (x ∷ xs) = let rest = first_map p f xs in λ i. cond (not (p (f x))) (1 + rest i) 0
 

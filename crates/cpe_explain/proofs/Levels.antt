@@ -35,7 +35,7 @@ either b c p q = (
   λ x. elim x [ inl k ↦ or_left b c (p.1 k) | inr k ↦ or_right b c (q.1 k) ],
 )
 
-truth_tells : (t u : Truth) → Tells (same_truth t u) (t ≡ u)
+pub truth_tells : (t u : Truth) → Tells (same_truth t u) (t ≡ u)
 truth_tells t u = search rules
 
 all_tells : {X : Type 0} (good : X → Why → Type 0) (passes : X → Why → Bool) → ((x : X) (w : Why) → Tells (passes x w) (good x w))

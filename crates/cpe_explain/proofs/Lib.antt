@@ -13,3 +13,10 @@ pub mod Loops
 pub mod Places
 pub mod Given
 pub mod Children
+pub mod Firsts
+pub mod FirstFits
+pub mod Ways
+pub mod Chosen
+pub mod MadeGood
+pub mod WaySteps
+pub mod Counted

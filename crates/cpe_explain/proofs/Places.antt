@@ -1,5 +1,5 @@
--- Entries that are seen by their places, and found by their names.
-use Rattle.std.proofs.Common.{◌≡◌, ℕ, zero, suc, ◌+◌, ◌≤◌, List, [], ◌∷◌, ◌++◌, Bool, true, false, not, ◌||◌, Option, Some, None, map, option_map, find, fold, take, drop, slice_get, position, length, cond, ltb, if◌then◌else◌, refl, ap, sym, ◌∙◌}
+-- Entries at their places, and found by their names.
+use Rattle.std.proofs.Common.{◌≡◌, ℕ, zero, suc, ◌+◌, ◌≤◌, List, [], ◌∷◌, ◌++◌, Bool, true, false, not, ◌||◌, Option, Some, None, map, find, fold, take, drop, slice_get, position, length, cond, ltb, if◌then◌else◌, refl, ap, sym, ◌∙◌}
 use Rattle.std.specs.List.{list_any, position_or_len}
 use Rattle.std.specs.Option.{option_map_or}
 use Rattle.std.proofs.lemmas.Bool.{and_parts, not-true, ltb-false}
@@ -16,22 +16,10 @@ use Rattle.cpe_rows.specs.declared.statement.Mode.TheVariants.{Plain, Follow}
 use Rattle.cpe_rows.proofs.Lists.{not_element}
 use Rattle.cpe_rows.proofs.NameTests.{not_same}
 use Rattle.cpe_rows.proofs.ChangedEntries.{AreNamed}
-use Rattle.cpe_explain.specs.Seen.{seen_entry, lent_entry, with_name}
+use Rattle.cpe_explain.specs.Seen.{with_name}
 use Rattle.cpe_explain.specs.Leading.{followed, deprecation_of}
-use Rattle.cpe_explain.specs.declared.rows.EntryRef.{EntryRef}
 use Rattle.cpe_explain.proofs.Elements.{same_some, stands, position_map}
 use Rattle.cpe_explain.proofs.Loops.{drop_at, drop_past, take_at, take_past}
-
--- ---- an entry that is lent
-
-pub seen_some : (o : Option Entry) (r : EntryRef) → Some (lent_entry r) ≡ option_map seen_entry o
-    → (e : Entry) × (o ≡ Some e) × (lent_entry r ≡ seen_entry e)
-seen_some None r h = absurd (let w : ⊥ = cc in w)
-seen_some (Some e) r h = (e, refl, same_some (lent_entry r) (seen_entry e) h)
-
-pub seen_none : (o : Option Entry) → None ≡ option_map seen_entry o → o ≡ None
-seen_none None h = refl
-seen_none (Some e) h = absurd (let w : ⊥ = cc in w)
 
 -- ---- names at their entries' places
 
@@ -71,13 +59,13 @@ all_items names all items k past h = sym (ap (fold with_name names) (drop_past i
 -- ---- the entry of a name
 
 module _ {A : Type 0} (p : A → Bool) (xs : List A) where
-  place_found : (k : ℕ) → position p xs ≡ Some k → find p xs ≡ slice_get xs k
+  pub place_found : (k : ℕ) → position p xs ≡ Some k → find p xs ≡ slice_get xs k
   place_found k h = find_at p xs ∙ ap (slice_get xs) (go (ltb (position_or_len p xs) (length xs)) h) where
     go : (b : Bool) → cond b (Some (position_or_len p xs)) None ≡ Some k → position_or_len p xs ≡ k
     go true e = same_some (position_or_len p xs) k e
     go false e = absurd (let w : ⊥ = cc in w)
 
-  none_found : position p xs ≡ None → find p xs ≡ None
+  pub none_found : position p xs ≡ None → find p xs ≡ None
   none_found h = find_at p xs ∙ slice_get_past xs (position_or_len p xs) (go (ltb (position_or_len p xs) (length xs)) refl h) where
     go : (b : Bool) → ltb (position_or_len p xs) (length xs) ≡ b → cond b (Some (position_or_len p xs)) None ≡ None → length xs ≤ position_or_len p xs
     go true e f = absurd (let w : ⊥ = cc in w)

@@ -56,7 +56,7 @@ check-right rows key (Why-F.Plain truth) g = g
 
 -- ---- logical tests
 
-decided : (operator : Operator) (ts : List Truth) → Among ts (deciding operator) → joined operator ts ≡ deciding operator
+pub decided : (operator : Operator) (ts : List Truth) → Among ts (deciding operator) → joined operator ts ≡ deciding operator
 decided And ts m = λ i. if element_passes (same_truth False) ts False m refl i then False else first_of (Error ∷ Unknown ∷ []) True ts
 decided Or ts m = λ i. if element_passes (same_truth True) ts True m refl i then True else first_of (Error ∷ Unknown ∷ []) False ts
 

@@ -49,7 +49,7 @@ module _ (es : List Entry) where
         let e = unmoved n absent before a c.1 in
         absurd (subst (λ xs. Among xs m) (next_absent es n absent) (subst (λ x. Among (next_of es x) m) (sym e) c.0))
 
-    comes_end : (n m : Values) (before : List Values) → Comes (n ∷ []) before m → is_end es m ≡ true → Among (ends es n) m
+    pub comes_end : (n m : Values) (before : List Values) → Comes (n ∷ []) before m → is_end es m ≡ true → Among (ends es n) m
     comes_end n m before c h = go (list_any (is_named n) es) refl where
       go : (b : Bool) → list_any (is_named n) es ≡ b
           → Among (if b then map (λ (e : Entry). e.name) (filter is_active (chain es n)) else (n ∷ [])) m
@@ -75,10 +75,10 @@ module _ (es : List Entry) where
     unmapped (x ∷ xs) m (inl e) = (x, inl refl, e)
     unmapped (x ∷ xs) m (inr k) = let rest = unmapped xs m k in (rest.0, inr rest.1, rest.2)
 
-    abbrev ComesLast : List Values → Values → Type 0
+    abbrev pub ComesLast : List Values → Values → Type 0
     ComesLast starts m = (before : List Values) × Comes starts before m × (is_end es m ≡ true)
 
-    end_comes : (n m : Values) → Among (ends es n) m → ComesLast (n ∷ []) m
+    pub end_comes : (n m : Values) → Among (ends es n) m → ComesLast (n ∷ []) m
     end_comes n m k = go (list_any (is_named n) es) refl k where
       go : (b : Bool) → list_any (is_named n) es ≡ b
           → Among (if b then map (λ (e : Entry). e.name) (filter is_active (chain es n)) else (n ∷ [])) m → ComesLast (n ∷ []) m

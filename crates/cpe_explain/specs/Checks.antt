@@ -1,10 +1,12 @@
--- What is promised of certificates: the law, and what the test of one says.
+-- What is promised of certificates: the laws, and what the test of one says.
 use Rattle.std.specs.Prelude.{◌≡◌, find, Option, Some, None}
 use Rattle.cpe_rows.specs.Rows.{Rows, has_id}
+use Rattle.cpe_rows.specs.Lawful.{IsLawful}
 use Rattle.cpe_rows.specs.Verdict.{verdict}
 use Rattle.cpe_rows.specs.declared.statement.Statement.{Statement}
 use Rattle.cpe_explain.specs.Certificates.{given_truth}
 use Rattle.cpe_explain.specs.Good.{Good}
+use Rattle.cpe_explain.specs.Choices.{certificate}
 use Rattle.cpe_explain.specs.declared.proof.Checked.{Checked}
 use Rattle.cpe_explain.specs.declared.proof.Checked.TheVariants.{Holds, Fails, Absent}
 use Rattle.cpe_explain.specs.declared.proof.Proof.{Proof}
@@ -13,6 +15,14 @@ use Rattle.cpe_explain.specs.declared.proof.Why.{Why}
 -- the truth of a good certificate is the verdict, in all rows
 abbrev pub GoodProofsAreRight : Type 0
 GoodProofsAreRight = (rows : Rows) (s : Statement) (w : Why) → Good rows s w → given_truth w ≡ verdict rows s
+
+-- the truth of the certificate that is made of a statement is the verdict, in all rows
+abbrev pub CertificatesGiveVerdicts : Type 0
+CertificatesGiveVerdicts = (rows : Rows) (s : Statement) → given_truth (certificate rows s).why ≡ verdict rows s
+
+-- and in lawful rows it is good
+abbrev pub CertificatesAreGood : Type 0
+CertificatesAreGood = (rows : Rows) → IsLawful rows → (s : Statement) → Good rows s (certificate rows s).why
 
 -- what is said of a certificate of a statement, where there is one
 abbrev pub IsSaid : Rows → Why → Option Statement → Checked → Type 0

@@ -2,6 +2,8 @@ pub mod Certificates
 pub mod Seen
 pub mod Traces
 pub mod Good
+pub mod Choices
+pub mod Lent
 pub mod Checks
 pub mod Leading
 pub mod Ground

@@ -59,7 +59,7 @@ impl<'a, R: PlainRows> Ground<'a, R> {
 
 // ---- logical tests
 
-fn is_truth(truth: Truth, other: Truth) -> bool
+pub(crate) fn is_truth(truth: Truth, other: Truth) -> bool
     ensures { result ≡ same_truth truth other }
 {
     truth == other
@@ -87,7 +87,7 @@ fn join(operator: Operator, truth: Truth, why: &Option<Why>) -> Truth
     }
 }
 
-fn join_all(operator: Operator, given: &[Option<Why>]) -> Truth
+pub(crate) fn join_all(operator: Operator, given: &[Option<Why>]) -> Truth
     ensures { result ≡ joined operator (given_truths given.now) }
 {
     let mut truth = neutral(operator);
@@ -97,7 +97,7 @@ fn join_all(operator: Operator, given: &[Option<Why>]) -> Truth
     truth
 }
 
-fn negate_if(negate: bool, truth: Truth) -> Truth
+pub(crate) fn negate_if(negate: bool, truth: Truth) -> Truth
     ensures { result ≡ negated negate truth }
 {
     if negate { not_of(truth) } else { truth }
@@ -116,7 +116,7 @@ fn is_of_all(operator: Operator, negate: bool, truth: Truth, given: &[Option<Why
 }
 
 // The truth of a child that settles a logical test.
-fn deciding(operator: Operator) -> Truth
+pub(crate) fn deciding(operator: Operator) -> Truth
     ensures { result ≡ deciding operator }
 {
     match operator {

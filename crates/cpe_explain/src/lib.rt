@@ -6,15 +6,19 @@
 //! that the truth of a good one is the verdict.
 #![tactic(auto)]
 
+mod certificate;
 mod check;
 mod ends;
+mod fits;
 mod found;
 pub mod law;
 mod name_set;
+mod paths;
 mod proof;
 mod rows;
 mod trace;
 
+pub use certificate::explain;
 pub use check::check_proof;
 pub use proof::{Checked, Proof, Why};
-pub use rows::{EntryRef, PlainRows};
+pub use rows::{ExplainedRows, PlainRows};

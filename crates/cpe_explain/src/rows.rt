@@ -1,19 +1,14 @@
 // Rows that are read one at a time.
-ghost use Rattle.std.specs.Prelude.{◌≡◌, option_copied, option_map, slice_get};
-ghost use Rattle.cpe_rows.specs.Prelude.{IsLawful, Rows};
-ghost use Rattle.cpe_explain.specs.Seen.{seen_entry, lent_entry};
+ghost use Rattle.std.specs.Prelude.{◌≡◌, find, IfOk, length, map, option_copied, option_map, slice_get};
+ghost use Rattle.cpe_rows.specs.Prelude.{check_truth, ends, IsLawful, Rows};
+ghost use Rattle.cpe_rows.specs.Lent.{entry_lent};
+ghost use Rattle.cpe_rows.specs.Verdict.{fact_truth, is_followed};
+ghost use Rattle.cpe_explain.specs.Leading.{followed, next_of};
 
 use cpe_name::Wfn;
-use cpe_rows::{CheckKey, Deprecation, Statement, Truth};
-
-/// What certificates ask of an entry of the dictionary.
-#[derive(Clone, Copy)]
-pub struct EntryRef<'a> {
-    /// Its name.
-    pub name: &'a Wfn,
-    /// That it is deprecated, if it is.
-    pub deprecation: Option<&'a Deprecation>,
-}
+use cpe_rows::{CheckKey, EntryRef, Mode, Statement, Truth};
+use cpe_values::Memory;
+use std::alloc::Global;
 
 /// The rows of a dictionary and of an inventory, each by its place from 0. Contracts see them as the plain state, which is lawful.
 pub trait PlainRows {
@@ -25,7 +20,7 @@ pub trait PlainRows {
 
     /// The entry at a place. There is none exactly where the place is the number of entries or more.
     fn entry(&self, k: usize) -> Option<EntryRef<'_>>
-        ensures { option_map lent_entry result ≡ option_map seen_entry (slice_get (rows self.now).entries k) };
+        ensures { option_map entry_lent result ≡ slice_get (rows self.now).entries k };
 
     /// The item at a place. There is none exactly where the place is the number of items or more.
     fn item(&self, k: usize) -> Option<&Wfn>
@@ -39,4 +34,40 @@ pub trait PlainRows {
     /// or more.
     fn check(&self, k: usize) -> Option<(&CheckKey, Truth)>
         ensures { option_map (λ row. (row.0.now, row.1)) result ≡ slice_get (rows self.now).checks k };
+}
+
+/// Rows of which certificates are made: they tell what is kept beside them, or found by an index.
+pub trait ExplainedRows: PlainRows {
+    /// The truth of a fact reference.
+    ///
+    /// # Errors
+    /// Only that memory ran out.
+    fn find_fact(&self, alloc: Global, mode: Mode, name: &Wfn) -> Result<Truth, Memory>
+        ensures { IfOk result (λ truth. truth ≡ fact_truth (Self.rows self.now) mode name.now) };
+
+    /// The first item by which a fact reference is TRUE, if there is one: some end of the name covers some end of the item.
+    ///
+    /// # Errors
+    /// Only that memory ran out.
+    fn first_item(&self, alloc: Global, mode: Mode, name: &Wfn) -> Result<Option<&Wfn>, Memory>
+        ensures { IfOk result (λ item. option_copied item ≡ find (is_followed (followed (Self.rows self.now) mode) name.now) (Self.rows self.now).items) };
+
+    /// What is kept for a check, or UNKNOWN.
+    fn result_of(&self, key: &CheckKey) -> Truth
+        ensures { result ≡ check_truth (Self.rows self.now) key.now };
+
+    /// How many entries there are.
+    fn entries_len(&self) -> usize
+        ensures { result ≡ length (Self.rows self.now).entries };
+
+    /// The names that stand in the place of a deprecated entry's; none stands in that of another name.
+    fn successors(&self, name: &Wfn) -> &[Wfn]
+        ensures { result.now ≡ next_of (Self.rows self.now).entries name.now };
+
+    /// The ends of a name, in the order of their entries.
+    ///
+    /// # Errors
+    /// Only that memory ran out.
+    fn ends<'a>(&'a self, alloc: Global, name: &'a Wfn) -> Result<Vec<&'a Wfn>, Memory>
+        ensures { IfOk result (λ names. map (λ n. n.now) names.items ≡ ends (Self.rows self.now).entries name.now) };
 }

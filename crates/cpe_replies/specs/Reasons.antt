@@ -11,9 +11,11 @@ use Rattle.cpe_members.specs.declared.member.NameSpot.{NameSpot}
 use Rattle.cpe_members.specs.declared.member.NameSpot.TheVariants.{Name, Successor, Fact}
 use Rattle.cpe_members.specs.declared.member.RecordFault.{RecordFault}
 use Rattle.cpe_members.specs.declared.member.RecordFault.TheVariants as unread
+use Rattle.proof_lines.specs.declared.fault.ProofFault.{ProofFault}
+use Rattle.proof_lines.specs.declared.fault.ProofFault.TheVariants as proof
 use Rattle.cpe_replies.specs.Replies.{name_text}
 use Rattle.cpe_replies.specs.declared.reason.RecordReason.{RecordReason}
-use Rattle.cpe_replies.specs.declared.reason.RecordReason.TheVariants.{Unread, Refused}
+use Rattle.cpe_replies.specs.declared.reason.RecordReason.TheVariants.{Unread, Refused, Unproved}
 
 -- which name of the record
 abbrev pub spot_text : NameSpot → List ℕ
@@ -52,6 +54,12 @@ edit_fault_text (edit.TooWide name) = codes "too-wide " ++ name_text name
 edit_fault_text (edit.Full which) = codes "full " ++ which_word which
 edit_fault_text edit.Memory = []
 
+abbrev pub proof_fault_text : ProofFault → List ℕ
+proof_fault_text proof.Id = codes "member id"
+proof_fault_text proof.Why = codes "member why"
+proof_fault_text proof.Memory = []
+
 abbrev pub reason_text : RecordReason → List ℕ
 reason_text (Unread fault) = record_fault_text fault
 reason_text (Refused fault) = edit_fault_text fault
+reason_text (Unproved fault) = proof_fault_text fault

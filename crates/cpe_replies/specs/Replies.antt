@@ -86,8 +86,8 @@ change_line number id c =
     codes "changed " ++ decimal number ++ codes " " ++ id ++ codes " " ++ truth_or_none c.before ++ codes " " ++ truth_or_none c.after ++ codes "\n"
 
 -- the id of the statement at a place; no id where there is none
-abbrev pub id_at : List Statement → ℕ → List ℕ
-id_at statements place = option_map_or (λ s. s.id) (slice_get statements place) []
+abbrev pub statement_id : List Statement → ℕ → List ℕ
+statement_id statements place = option_map_or (λ s. s.id) (slice_get statements place) []
 
 -- the id of the statement that an edit drops, if it drops one
 abbrev pub dropped_id : Edit → Option (List ℕ)
@@ -96,7 +96,7 @@ dropped_id e = None
 
 -- the id of a changed statement: of the one at its place, where it still has a verdict, or else of the one that was dropped
 abbrev pub changed_id : List Statement → Option (List ℕ) → Changed → List ℕ
-changed_id statements dropped c = option_map_or (λ after. id_at statements c.place) c.after (option_map_or (λ id. id) dropped [])
+changed_id statements dropped c = option_map_or (λ after. statement_id statements c.place) c.after (option_map_or (λ id. id) dropped [])
 
 -- what an accepted edit, the line of this number, writes of these changes, by the rows that it leaves
 abbrev pub changes_text : ℕ → Rows → Edit → List Changed → List ℕ

@@ -2,13 +2,14 @@
 ghost use Rattle.std.specs.Prelude.{◌≡◌, ◌++◌, OnOk, codes};
 ghost use Rattle.std.specs.Fmt.{decimal};
 ghost use Rattle.cpe_replies.specs.Replies.{name_text};
-ghost use Rattle.cpe_replies.specs.Reasons.{spot_text, record_fault_text, which_word, edit_fault_text, reason_text};
+ghost use Rattle.cpe_replies.specs.Reasons.{spot_text, record_fault_text, which_word, edit_fault_text, proof_fault_text, reason_text};
 
 use crate::row::push_name;
 use cpe_members::{Member, NameSpot, RecordFault, attribute_word};
 use cpe_name::{Attribute, Wfn};
 use cpe_rows::{EditFault, Which};
 use cpe_session::{Page, Reason};
+use proof_lines::ProofFault;
 use std::alloc::{AllocError, Global};
 
 /// Why the line of a record is refused.
@@ -18,6 +19,8 @@ pub enum RecordReason {
     Unread(RecordFault),
     /// Its edit can't be applied to the rows.
     Refused(EditFault),
+    /// It speaks of a certificate, and is not of the form of one.
+    Unproved(ProofFault),
 }
 
 impl Reason for RecordReason {
@@ -27,6 +30,7 @@ impl Reason for RecordReason {
         match self {
             RecordReason::Unread(fault) => push_record_fault(page, fault),
             RecordReason::Refused(fault) => push_edit_fault(alloc, page, fault),
+            RecordReason::Unproved(fault) => push_proof_fault(page, *fault),
         }
     }
 }
@@ -134,4 +138,14 @@ fn push_full(page: &mut Page, which: Which) -> Result<(), AllocError>
 {
     page.push(b"full ")?;
     page.push(which_word(which))
+}
+
+fn push_proof_fault(page: &mut Page, fault: ProofFault) -> Result<(), AllocError>
+    ensures { OnOk result (page.new ≡ page.old ++ proof_fault_text fault) }
+{
+    match fault {
+        ProofFault::Id => page.push(b"member id"),
+        ProofFault::Why => page.push(b"member why"),
+        ProofFault::Memory => Ok(()),
+    }
 }

@@ -1,4 +1,4 @@
-use Rattle.std.proofs.Common.{[], List, ◌+◌, map, refl, sym, ap, subst, ◌∙◌}
+use Rattle.std.proofs.Common.{[], List, ◌+◌, map, refl, ap, subst, ◌∙◌}
 use Rattle.std.specs.Prelude.{Option}
 use Rattle.cpe_rows.specs.Lawful.{IsDictionary}
 use Rattle.cpe_rows.specs.Weight.{total}

@@ -1,0 +1,103 @@
+#!/usr/bin/env python3
+"""Measures `cpe explain` beside `cpe evaluate`, which keeps the same rows and writes a table, and `cpe check` beside `cpe explain`; and how
+what they do at the end, and for each certificate, grows with items that are near no fact.
+
+Prints a table, and says of each target whether it is met. README.md beside this file says how to read it.
+"""
+import argparse
+import os
+import pathlib
+import subprocess
+import sys
+
+sys.dont_write_bytecode = True
+import make_lines
+import run
+
+# The targets: of the time of `evaluate`, of the time that making takes beside reading the records, and of the growth.
+MOST_OF_EVALUATE, MOST_OF_MAKING, MOST_GROWTH = 3.0, 3.0, 1.3
+STATEMENTS = 1000
+FEW, MANY = 10_000, 100_000
+NEAR = 5
+PROOF = b'{"do":"proof",'
+
+
+def fs(product, version=b"*"):
+    return make_lines.PREFIX + b"a:v:%s:%s" % (product, version) + b":*" * 7
+
+
+def near_lines(far):
+    """Statements of three facts, each with a few items near it, and so many items that are near none."""
+    for number in range(far):
+        yield make_lines.record(b"item", fs(b"far%d" % number, b"1"))
+    for number in range(STATEMENTS):
+        for version in range(NEAR):
+            yield make_lines.record(b"item", fs(b"near%d" % number, b"%d" % version))
+    for number in range(STATEMENTS):
+        facts = b",".join(b'{"fact":%s}' % make_lines.spelled(fs(b"near%d" % ((number + step) % STATEMENTS))) for step in range(3))
+        yield b'{"do":"statement","id":"s%d","test":{"op":"AND","of":[%s]}}' % (number, facts)
+
+
+def file_of(name, lines):
+    run.BUILD.mkdir(parents=True, exist_ok=True)
+    path = run.BUILD / name
+    path.write_bytes(b"".join(line + b"\n" for line in lines))
+    return path
+
+
+def with_proofs(program, path):
+    """The same records, and after them the certificates of their statements."""
+    with open(path, "rb") as source:
+        written = subprocess.run([program, "explain"], stdin=source, stdout=subprocess.PIPE, check=False).stdout
+    proofs = [line for line in written.split(b"\n") if line.startswith(PROOF)]
+    return file_of(f"{path.stem}-proofs.txt", [*path.read_bytes().rstrip(b"\n").split(b"\n"), *proofs])
+
+
+def measured(program, path, rounds):
+    """What evaluate, making and checking take in seconds: the first as a whole, the others beside reading the records."""
+    best = run.best_times({word: [program, word] for word in ("resolve", "evaluate", "explain")}, path, rounds)
+    check = run.best_times({"check": [program, "check"]}, with_proofs(program, path), rounds)["check"]
+    found = best["evaluate"], best["explain"], best["explain"] - best["resolve"], check - best["resolve"]
+    print(f"{path.name:<28}{best['resolve']:>9.3f}{found[0]:>10.3f}{found[1]:>9.3f}{check:>9.3f}"
+          f"{found[2] / STATEMENTS * 1e6:>12.1f}{found[3] / STATEMENTS * 1e6:>12.1f}", flush=True)
+    return found
+
+
+def said():
+    parser = argparse.ArgumentParser(description=__doc__)
+    parser.add_argument("program", nargs="?", default=run.TOP / "build" / "cpe", type=pathlib.Path, help="the program cpe (build/cpe)")
+    parser.add_argument("--rounds", type=int, default=5, help="runs of each word on each input (5)")
+    given = parser.parse_args()
+    if not os.access(given.program, os.X_OK) or not given.program.is_file():
+        parser.error(f"{given.program} is no program: run make build first")
+    if given.rounds < 1:
+        parser.error("it takes at least one round")
+    return given
+
+
+def main():
+    given = said()
+    program = given.program.resolve()
+    if not run.knows([program, "explain"]):
+        print("the program has no command cpe explain: nothing is measured")
+        return
+    print(f"load before: {os.getloadavg()[0]:.1f} on {os.cpu_count()} processors")
+    print(f"\nseconds, best of {given.rounds}, output to /dev/null; behind them microseconds a certificate, beside reading the records")
+    print(f"{'input':<28}{'resolve':>9}{'evaluate':>10}{'explain':>9}{'check':>9}{'making':>12}{'checking':>12}")
+    table, whole, making, checking = measured(program, run.made("evaluated", STATEMENTS), given.rounds)
+    few = measured(program, file_of(f"near-{FEW}.txt", near_lines(FEW)), given.rounds)
+    many = measured(program, file_of(f"near-{MANY}.txt", near_lines(MANY)), given.rounds)
+    targets = [
+        ("certificates: of the time of cpe evaluate", MOST_OF_EVALUATE, whole / table),
+        ("checking: of the time of making", MOST_OF_MAKING, checking / making),
+        (f"making: growth from {FEW:,} to {MANY:,} items", MOST_GROWTH, many[2] / few[2]),
+        (f"checking: growth from {FEW:,} to {MANY:,} items", MOST_GROWTH, many[3] / few[3]),
+    ]
+    print(f"\n{'target':<58}{'bound':>9}{'measured':>10}")
+    for name, bound, figure in targets:
+        print(f"{name:<58}{bound:>9}{figure:>10.2f}  {'met' if figure <= bound else 'MISSED'}")
+    print(f"\nload behind: {os.getloadavg()[0]:.1f}")
+
+
+if __name__ == "__main__":
+    main()

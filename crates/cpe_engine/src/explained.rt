@@ -1,0 +1,370 @@
+// An engine as rows of which certificates are made, and by which they are tested.
+ghost use Rattle.std.specs.Prelude.{◌≡◌, ◌∷◌, [], IfOk, IfSome, None, Some, find, length, map, slice_get, true};
+ghost use Rattle.std.specs.List.{filter_map, list_any};
+ghost use Rattle.std.specs.Option.{option_copied, option_map_or};
+ghost use Rattle.cpe_relation.specs.NameRelation.{covers};
+ghost use Rattle.cpe_rows.specs.Chains.{successors_of};
+ghost use Rattle.cpe_rows.specs.Names.{is_same};
+ghost use Rattle.cpe_rows.specs.Prelude.{ends, Rows};
+ghost use Rattle.cpe_rows.specs.Truth.{same_truth};
+ghost use Rattle.cpe_rows.specs.Verdict.{fact_truth, is_followed, truth};
+ghost use Rattle.cpe_rows.specs.declared.truth.Truth.TheVariants.{False};
+ghost use Rattle.name_index.specs.Table.{IsLive, Names};
+ghost use Rattle.numbered_names.specs.Shown.{name_at, names_at};
+ghost use Rattle.cpe_registry.specs.Registered.{AreLive, name_in};
+ghost use Rattle.kept_verdicts.specs.Kept.{Stands};
+ghost use Rattle.cpe_explain.specs.Leading.{followed};
+
+use crate::engine::Engine;
+use cpe_explain::{ExplainedRows, PlainRows};
+use cpe_inventory::ItemSlots;
+use cpe_name::Wfn;
+use cpe_registry::Registry;
+use cpe_relation::covers;
+use cpe_rows::{CheckKey, Deprecation, EntryRef, Mode, Statement, Truth};
+use cpe_values::Memory;
+use kept_verdicts::KeptVerdicts;
+use name_index::NameId;
+use std::alloc::Global;
+
+// ---- items by their slots
+
+// The item at a place, where some slots may be empty.
+fn nth_item<'s>(slots: &'s ItemSlots<'_>, k: usize) -> Option<&'s Wfn>
+    ensures { option_copied result ≡ slice_get (filter_map (λ slot. slot) slots.now) k }
+{
+    let mut left = k;
+    for slot in 0..slots.len() {
+        if let Some(item) = slots.at(slot) {
+            if left == 0 {
+                return Some(item);
+            }
+            left -= 1;
+        }
+    }
+    None
+}
+
+// The same, where it is known how many items there are: where no slot is empty it is found in one step.
+fn item_of<'s>(slots: &'s ItemSlots<'_>, count: usize, k: usize) -> Option<&'s Wfn>
+    requires { count ≡ length (filter_map (λ slot. slot) slots.now) }
+    ensures { option_copied result ≡ slice_get (filter_map (λ slot. slot) slots.now) k }
+{
+    if slots.len() == count {
+        return slots.at(k);
+    }
+    nth_item(slots, k)
+}
+
+// The first item that a name covers.
+fn first_covered<'s>(slots: &'s ItemSlots<'_>, name: &Wfn) -> Option<&'s Wfn>
+    ensures { option_copied result ≡ find (covers name.now) (filter_map (λ slot. slot) slots.now) }
+{
+    for slot in 0..slots.len() {
+        if let Some(item) = slots.at(slot) {
+            if covers(name, item) {
+                return Some(item);
+            }
+        }
+    }
+    None
+}
+
+// ---- where names lead
+
+fn alone<'a>(alloc: Global, name: &'a Wfn) -> Result<Vec<&'a Wfn>, Memory>
+    ensures { IfOk result (λ names. map (λ n. n.now) names.items ≡ name.now ∷ []) }
+{
+    let mut names = Vec::with_capacity(alloc, 1)?;
+    names.push(name)?;
+    Ok(names)
+}
+
+fn names_of<'a>(
+    registry: &'a Registry,
+    alloc: Global,
+    ids: &[NameId],
+) -> Result<Vec<&'a Wfn>, Memory>
+    requires { AreLive registry.now.table ids.now }
+    ensures { IfOk result (λ names. map (λ n. n.now) names.items ≡ names_at registry.now.table ids.now) }
+{
+    let mut names = Vec::with_capacity(alloc, ids.len())?;
+    for id in ids {
+        names.push(registry.name(*id))?;
+    }
+    Ok(names)
+}
+
+fn numbered_ends<'a>(
+    registry: &'a Registry,
+    alloc: Global,
+    id: NameId,
+) -> Result<Vec<&'a Wfn>, Memory>
+    requires { IsLive registry.now.table id.0 }
+    ensures { IfOk result (λ names. map (λ n. n.now) names.items ≡ ends registry.now.entries (name_in registry.now.table id)) }
+{
+    let ids = registry.ends_of(alloc, id)?;
+    names_of(registry, alloc, &ids)
+}
+
+// The ends of a name, in the order of their entries.
+fn ends_of<'a>(registry: &'a Registry, alloc: Global, name: &'a Wfn) -> Result<Vec<&'a Wfn>, Memory>
+    ensures { IfOk result (λ names. map (λ n. n.now) names.items ≡ ends registry.now.entries name.now) }
+{
+    cpe_rows::law::absent_names_stand_alone();
+    match registry.find(name) {
+        Some(id) => numbered_ends(registry, alloc, id),
+        None => alone(alloc, name),
+    }
+}
+
+fn covers_one(name: &Wfn, others: &[&Wfn]) -> bool
+    ensures { result ≡ list_any (λ other. covers name.now other.now) others.now }
+{
+    others.iter().any(|other| covers(name, *other))
+}
+
+fn one_covers(names: &[&Wfn], others: &[&Wfn]) -> bool
+    ensures { result ≡ list_any (λ name. list_any (λ other. covers name.now other.now) others.now) names.now }
+{
+    names.iter().any(|name| covers_one(*name, others))
+}
+
+// Whether one of these covers an end of an item.
+fn is_met(
+    registry: &Registry,
+    alloc: Global,
+    fact_ends: &[&Wfn],
+    item: &Wfn,
+) -> Result<bool, Memory>
+    ensures { IfOk result (λ met. met ≡ list_any (λ name. list_any (covers name) (ends registry.now.entries item.now)) (map (λ n. n.now) fact_ends.now)) }
+{
+    let item_ends = ends_of(registry, alloc, item)?;
+    Ok(one_covers(fact_ends, &item_ends))
+}
+
+// The first item of which some end of the name covers an end.
+fn first_followed<'s>(
+    registry: &Registry,
+    alloc: Global,
+    slots: &'s ItemSlots<'_>,
+    name: &Wfn,
+) -> Result<Option<&'s Wfn>, Memory>
+    ensures { IfOk result (λ item. option_copied item ≡ find (is_followed registry.now.entries name.now) (filter_map (λ slot. slot) slots.now)) }
+{
+    let fact_ends = ends_of(registry, alloc, name)?;
+    for slot in 0..slots.len() {
+        if let Some(item) = slots.at(slot) {
+            if is_met(registry, alloc, &fact_ends, item)? {
+                return Ok(Some(item));
+            }
+        }
+    }
+    Ok(None)
+}
+
+// ---- truths that are kept
+
+fn numbered_truth(verdicts: &KeptVerdicts, id: NameId, mode: Mode) -> Option<Truth>
+    ensures { (names : Names) (rows : Rows) → Stands names verdicts.now rows → IfSome result (λ truth. truth ≡ fact_truth rows mode (name_at names id)) }
+{
+    if verdicts.users_of(id, mode) == 0 {
+        return None;
+    }
+    Some(verdicts.truth_of(id, mode))
+}
+
+// The truth of a fact reference, where a statement of the mode has it.
+fn kept_truth(registry: &Registry, verdicts: &KeptVerdicts, mode: Mode, name: &Wfn) -> Option<Truth>
+    ensures { (rows : Rows) → Stands registry.now.table verdicts.now rows → IfSome result (λ truth. truth ≡ fact_truth rows mode name.now) }
+{
+    match registry.find(name) {
+        Some(id) => numbered_truth(verdicts, id, mode),
+        None => None,
+    }
+}
+
+fn truth_of(is_met: bool) -> Truth
+    ensures { result ≡ truth is_met }
+{
+    if is_met { Truth::True } else { Truth::False }
+}
+
+// ---- the engine
+
+impl Engine {
+    // A name of an item, as the table keeps it.
+    fn kept_name(&self, name: &Wfn) -> Option<&Wfn>
+        requires { list_any (is_same name.now) self.now.items ≡ true }
+        ensures { option_copied result ≡ Some name.now }
+    {
+        match self.parts.registry.find(name) {
+            Some(id) => Some(self.parts.registry.name(id)),
+            None => None,
+        }
+    }
+
+    // The item that was found, if one was.
+    fn kept_item(&self, found: Option<&Wfn>) -> Option<&Wfn>
+        requires { IfSome (option_copied found) (λ name. list_any (is_same name) self.now.items ≡ true) }
+        ensures { option_copied result ≡ option_copied found.entry }
+    {
+        match found {
+            Some(name) => self.kept_name(name),
+            None => None,
+        }
+    }
+
+    /// The item at a place from 0. There is none exactly where the place is the number of items or more. It takes no memory. Where no
+    /// slot is empty it is found in one step, and else it goes over the slots before it.
+    pub fn item_at(&self, k: usize) -> Option<&Wfn>
+        ensures { option_copied result ≡ slice_get self.now.items k }
+    {
+        let slots = self.item_slots();
+        self.kept_item(item_of(&slots, self.items_len(), k))
+    }
+
+    // The first item that a name covers.
+    fn first_plain(&self, name: &Wfn) -> Option<&Wfn>
+        ensures { option_copied result ≡ find (covers name.now) self.now.items }
+    {
+        let slots = self.item_slots();
+        self.kept_item(first_covered(&slots, name))
+    }
+
+    // The first item to an end of which a name leads.
+    fn first_by_ends(&self, alloc: Global, name: &Wfn) -> Result<Option<&Wfn>, Memory>
+        ensures { IfOk result (λ item. option_copied item ≡ find (is_followed self.now.entries name.now) self.now.items) }
+    {
+        let slots = self.item_slots();
+        let found = first_followed(&self.parts.registry, alloc, &slots, name)?;
+        Ok(self.kept_item(found))
+    }
+}
+
+impl Engine {
+    // The truth that is kept of a fact reference, if one is.
+    fn told_truth(&self, mode: Mode, name: &Wfn) -> Option<Truth>
+        ensures { IfSome result (λ truth. truth ≡ fact_truth self.now mode name.now) }
+    {
+        kept_truth(&self.parts.registry, &self.parts.verdicts, mode, name)
+    }
+
+    // Whether it is kept that a fact reference is FALSE: then no item makes it TRUE.
+    fn is_kept_false(&self, mode: Mode, name: &Wfn) -> bool
+        ensures { result ≡ true → find (is_followed (followed self.now mode) name.now) self.now.items ≡ None }
+    {
+        match self.told_truth(mode, name) {
+            Some(truth) => is_false(truth),
+            None => false,
+        }
+    }
+
+    // The first item by which a fact reference is TRUE.
+    fn sought_item(&self, alloc: Global, mode: Mode, name: &Wfn) -> Result<Option<&Wfn>, Memory>
+        ensures { IfOk result (λ item. option_copied item ≡ find (is_followed (followed self.now mode) name.now) self.now.items) }
+    {
+        match mode {
+            Mode::Plain => Ok(self.first_plain(name)),
+            Mode::Follow => self.first_by_ends(alloc, name),
+        }
+    }
+
+    // The truth of a fact reference, by whether an item makes it TRUE.
+    fn sought_truth(&self, alloc: Global, mode: Mode, name: &Wfn) -> Result<Truth, Memory>
+        ensures { IfOk result (λ truth. truth ≡ fact_truth self.now mode name.now) }
+    {
+        let item = self.sought_item(alloc, mode, name)?;
+        Ok(truth_of(item.is_some()))
+    }
+}
+
+fn is_false(truth: Truth) -> bool
+    ensures { result ≡ same_truth truth False }
+{
+    truth == Truth::False
+}
+
+fn successors_of(deprecation: Option<&Deprecation>) -> &[Wfn]
+    ensures { result.now ≡ option_map_or (λ d. d.successors) (option_copied deprecation.entry) [] }
+{
+    match deprecation {
+        Some(deprecation) => deprecation.successors.as_slice(),
+        None => &[],
+    }
+}
+
+// The successors of the entry at a place.
+fn successors_at(engine: &Engine, place: usize) -> &[Wfn]
+    ensures { result.now ≡ option_map_or successors_of (slice_get engine.now.entries place) [] }
+{
+    match engine.entry_at(place) {
+        Some(entry) => successors_of(entry.deprecation),
+        None => &[],
+    }
+}
+
+impl PlainRows for Engine {
+    ghost rows = { λ engine. engine };
+
+    fn lawful(&self) {
+        Engine::lawful(self);
+    }
+
+    fn entry(&self, k: usize) -> Option<EntryRef<'_>> {
+        self.entry_at(k)
+    }
+
+    fn item(&self, k: usize) -> Option<&Wfn> {
+        self.item_at(k)
+    }
+
+    fn statement(&self, k: usize) -> Option<&Statement> {
+        match self.statement_at(k) {
+            Some((statement, _)) => Some(statement),
+            None => None,
+        }
+    }
+
+    fn check(&self, k: usize) -> Option<(&CheckKey, Truth)> {
+        self.check_at(k)
+    }
+}
+
+impl ExplainedRows for Engine {
+    fn find_fact(&self, alloc: Global, mode: Mode, name: &Wfn) -> Result<Truth, Memory> {
+        match self.told_truth(mode, name) {
+            Some(truth) => Ok(truth),
+            None => self.sought_truth(alloc, mode, name),
+        }
+    }
+
+    fn first_item(&self, alloc: Global, mode: Mode, name: &Wfn) -> Result<Option<&Wfn>, Memory> {
+        if self.is_kept_false(mode, name) {
+            return Ok(None);
+        }
+        self.sought_item(alloc, mode, name)
+    }
+
+    fn result_of(&self, key: &CheckKey) -> Truth {
+        match self.parts.verdicts.check(key) {
+            Some(truth) => truth,
+            None => Truth::Unknown,
+        }
+    }
+
+    fn entries_len(&self) -> usize {
+        Engine::entries_len(self)
+    }
+
+    fn successors(&self, name: &Wfn) -> &[Wfn] {
+        match self.place_of(name) {
+            Some(place) => successors_at(self, place as usize),
+            None => &[],
+        }
+    }
+
+    fn ends<'a>(&'a self, alloc: Global, name: &'a Wfn) -> Result<Vec<&'a Wfn>, Memory> {
+        ends_of(&self.parts.registry, alloc, name)
+    }
+}

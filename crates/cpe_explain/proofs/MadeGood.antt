@@ -1,0 +1,214 @@
+-- The certificate that is made of a statement gives the verdict, and is good.
+use Rattle.std.proofs.Common.{◌≡◌, List, [], ◌∷◌, ◌++◌, Bool, Option, Some, None, map, filter, flat_map, is_some, slice_get, refl, ap, sym, ◌∙◌, subst, inl, inr}
+use Rattle.cpe_name.specs.Eleven.{Values}
+use Rattle.cpe_relation.specs.NameRelation.{covers}
+use Rattle.cpe_rows.specs.Reach.{Among}
+use Rattle.cpe_rows.specs.Rows.{Rows}
+use Rattle.cpe_rows.specs.Chains.{ends}
+use Rattle.cpe_rows.specs.Lawful.{IsLawful}
+use Rattle.cpe_rows.specs.Evaluation.{joined, negated, test_truth, test_truth_step}
+use Rattle.cpe_rows.specs.Verdict.{truth, fact_truth, check_truth}
+use Rattle.cpe_rows.specs.declared.entry.Entry.{Entry}
+use Rattle.cpe_rows.specs.declared.truth.Truth.{Truth}
+use Rattle.cpe_rows.specs.declared.truth.Truth.TheVariants.{True, False}
+use Rattle.cpe_rows.specs.declared.statement.Mode.{Mode}
+use Rattle.cpe_rows.specs.declared.test.CheckKey.{CheckKey}
+use Rattle.cpe_rows.specs.declared.test.Operator.{Operator}
+use Rattle.cpe_rows.specs.declared.test.Test.{Test, roll-Test}
+use Rattle.cpe_rows.specs.declared.test.Test as test
+use Rattle.cpe_rows.specs.declared.test.Test.TheOpen.{Test-F}
+use Rattle.cpe_rows.specs.declared.test.Test.TheFolds.{fold-roll-Test, ind-Test, map-Test}
+use Rattle.cpe_rows.specs.declared.test.Test.TheVariants as tests
+use Rattle.cpe_rows.proofs.Paths.{was_kept}
+use Rattle.cpe_explain.specs.Certificates.{truth_in, given_truth}
+use Rattle.cpe_explain.specs.Choices.{Fit, fits_at, fits, trace_to, pair_of, fact_why, why_step, why_of, chosen}
+use Rattle.cpe_explain.specs.Good.{GoodLogic, Fits, GoodFact, GoodCheck, good_step, GoodFor}
+use Rattle.cpe_explain.specs.Checks.{CertificatesGiveVerdicts, CertificatesAreGood}
+use Rattle.cpe_explain.specs.Leading.{followed}
+use Rattle.cpe_explain.specs.declared.proof.Why.{Why, out-Why}
+use Rattle.cpe_explain.specs.declared.proof.Why as why
+use Rattle.cpe_explain.specs.declared.proof.Why.TheOpen.{Why-F}
+use Rattle.cpe_explain.specs.declared.proof.Why.TheVariants as whys
+use Rattle.cpe_explain.proofs.Elements.{stands}
+use Rattle.cpe_explain.proofs.Facts.{fact_is}
+use Rattle.cpe_explain.proofs.FirstFits.{some_fit_is}
+use Rattle.cpe_explain.proofs.GoodLevels.{good-level, logic-map}
+use Rattle.cpe_explain.proofs.Chosen.{chosen_good}
+use Rattle.cpe_explain.proofs.Ways.{good_trace}
+
+-- ---- levels of what is made
+
+pub why-logic : (rows : Rows) (mode : Mode) (operator : Operator) (negate : Bool) (of : List Test)
+    → why_of rows mode (test.Logic operator negate of)
+    ≡ why.Logic (negated negate (joined operator (map given_truth (map (why_of rows mode) of)))) (chosen operator (map (why_of rows mode) of))
+why-logic rows mode operator negate of =
+    ap (why_of rows mode) (sym (tests.rolls-Logic operator negate of)) ∙ fold-roll-Test Why (why_step rows mode) (Test-F.Logic operator negate of)
+
+pub why-fact : (rows : Rows) (mode : Mode) (name : Values) → why_of rows mode (test.Fact name) ≡ fact_why rows mode name
+why-fact rows mode name =
+    ap (why_of rows mode) (sym (tests.rolls-Fact name)) ∙ fold-roll-Test Why (why_step rows mode) (Test-F.Fact name)
+
+pub why-check : (rows : Rows) (mode : Mode) (key : CheckKey) → why_of rows mode (test.Check key) ≡ why.Plain (check_truth rows key)
+why-check rows mode key =
+    ap (why_of rows mode) (sym (tests.rolls-Check key)) ∙ fold-roll-Test Why (why_step rows mode) (Test-F.Check key)
+
+given-logic : (t : Truth) (of : List (Option Why)) → given_truth (why.Logic t of) ≡ t
+given-logic t of = ap truth_in (whys.outs-Logic t of)
+
+given-pair : (t : Truth) (fact one : List Values) → given_truth (why.Pair t fact one) ≡ t
+given-pair t fact one = ap truth_in (whys.outs-Pair t fact one)
+
+given-plain : (t : Truth) → given_truth (why.Plain t) ≡ t
+given-plain t = ap truth_in (whys.outs-Plain t)
+
+-- ---- elements
+
+among_map : {A B : Type 0} (f : A → B) (xs : List A) (y : B) → Among (map f xs) y → (x : A) × Among xs x × (f x ≡ y)
+among_map f [] y m = absurd m
+among_map f (x ∷ xs) y (inl e) = (x, inl refl, e)
+among_map f (x ∷ xs) y (inr m) = let rest = among_map f xs y m in (rest.0, inr rest.1, rest.2)
+
+among_all : {A B : Type 0} (f : A → List B) (xs : List A) (y : B) → Among (flat_map f xs) y → (x : A) × Among xs x × Among (f x) y
+among_all f [] y m = absurd m
+among_all {A} {B} f (x ∷ xs) y m = go (f x) (λ k. k) m (among_all f xs y) where
+  go : (ys : List B) → (Among ys y → Among (f x) y) → Among (ys ++ flat_map f xs) y
+      → (Among (flat_map f xs) y → (a : A) × Among xs a × Among (f a) y) → (a : A) × Among (x ∷ xs) a × Among (f a) y
+  go [] here k later = let rest = later k in (rest.0, inr rest.1, rest.2)
+  go (z ∷ zs) here (inl e) later = (x, inl refl, here (inl e))
+  go (z ∷ zs) here (inr k) later = go zs (λ h. here (inr h)) k later
+
+module _ (rows : Rows) (mode : Mode) where
+  abbrev es : List Entry
+  es = followed rows mode
+
+  abbrev first_fit : Values → Option Fit
+  first_fit name = slice_get (fits es rows.items name) 0
+
+  -- ---- the truth
+
+  pair-given : (name : Values) (o : Option Fit) → given_truth (pair_of es name o) ≡ truth (is_some o)
+  pair-given name None = given-plain False
+  pair-given name (Some fit) = given-pair True (trace_to es fit.fact_end name) (trace_to es fit.item_end fit.item)
+
+  fact-given : (name : Values) → given_truth (fact_why rows mode name) ≡ fact_truth rows mode name
+  fact-given name = pair-given name (first_fit name) ∙ (ap truth (some_fit_is es name rows.items) ∙ sym (fact_is rows mode name))
+
+  abbrev found : Test → Truth
+  found = test_truth (fact_truth rows mode) (check_truth rows)
+
+  abbrev Gives : Test → Type 0
+  Gives t = given_truth (why_of rows mode t) ≡ found t
+
+  abbrev Shown : Type 0
+  Shown = (t : Test) × Gives t
+
+  abbrev seen : Shown → Test
+  seen e = e.0
+
+  together : (xs : List Shown) → map given_truth (map (why_of rows mode) (map seen xs)) ≡ map found (map seen xs)
+  together [] = refl
+  together (e ∷ xs) = λ i. e.1 i ∷ together xs i
+
+  why-level : (y : Test-F Test) → why_of rows mode (roll-Test y) ≡ why_step rows mode (map-Test Test Why (why_of rows mode) y)
+  why-level y = fold-roll-Test Why (why_step rows mode) y
+
+  truth-level : (y : Test-F Test) → test_truth_step (fact_truth rows mode) (check_truth rows) (map-Test Test Truth found y) ≡ found (roll-Test y)
+  truth-level y = sym (fold-roll-Test Truth (test_truth_step (fact_truth rows mode) (check_truth rows)) y)
+
+  rolled : (y : Test-F Shown) → Gives (roll-Test (map-Test Shown Test seen y))
+  rolled (Test-F.Logic operator negate xs) =
+      ap given_truth (why-level (Test-F.Logic operator negate (map seen xs)))
+      ∙ (given-logic (negated negate (joined operator (map given_truth (map (why_of rows mode) (map seen xs))))) (chosen operator (map
+      (why_of rows mode) (map seen xs)))
+      ∙ (ap (λ ts. negated negate (joined operator ts)) (together xs)
+      ∙ truth-level (Test-F.Logic operator negate (map seen xs))))
+  rolled (Test-F.Fact name) = ap given_truth (why-level (Test-F.Fact name)) ∙ (fact-given name ∙ truth-level (Test-F.Fact name))
+  rolled (Test-F.Check key) =
+      ap given_truth (why-level (Test-F.Check key)) ∙ (given-plain (check_truth rows key) ∙ truth-level (Test-F.Check key))
+
+  pub gives : (t : Test) → Gives t
+  gives = ind-Test Gives (λ x y is. subst (λ z. Gives (roll-Test z)) is (rolled y))
+
+  -- ---- that it is good
+
+  module _ (lawful : IsLawful rows) where
+    fit_shown : (name : Values) (fit : Fit) → Among (fits es rows.items name) fit
+        → Fits rows mode name (trace_to es fit.fact_end name) (trace_to es fit.item_end fit.item)
+    fit_shown name fit m =
+        let one = among_all (λ i. flat_map (fits_at (ends es name) i) (ends es i)) rows.items fit m in
+        let two = among_all (fits_at (ends es name) one.0) (ends es one.0) fit one.2 in
+        let three = among_map (λ (f : Values). record { item = one.0; item_end = two.0; fact_end = f }) (filter (λ f. covers f two.0) (ends es name))
+        fit two.2 in
+        let kept = was_kept (λ f. covers f two.0) (ends es name) three.0 three.1 in
+        subst (λ (x : Fit). Fits rows mode name (trace_to es x.fact_end name) (trace_to es x.item_end x.item)) three.2
+        (let of_fact = good_trace rows lawful three.0 name mode kept.0 in
+        let of_item = good_trace rows lawful two.0 one.0 mode two.1 in
+        record {
+          start = one.0;
+          fact_end = three.0;
+          item_end = two.0;
+          is_item = one.1;
+          fact_trace = of_fact.0;
+          item_trace = of_item.0;
+          fact_ends = of_fact.1;
+          item_ends = of_item.1;
+          covered = kept.1;
+        })
+
+    fact-good : (name : Values) → GoodFact rows mode name (out-Why (fact_why rows mode name))
+    fact-good name = go (first_fit name) refl where
+      go : (o : Option Fit) → first_fit name ≡ o → GoodFact rows mode name (out-Why (pair_of es name o))
+      go None e =
+          subst (GoodFact rows mode name) (sym (whys.outs-Plain False))
+          (refl, fact_is rows mode name ∙ ap truth (sym (some_fit_is es name rows.items) ∙ ap is_some e))
+      go (Some fit) e =
+          subst (GoodFact rows mode name) (sym (whys.outs-Pair True (trace_to es fit.fact_end name) (trace_to es fit.item_end fit.item)))
+          (fit_shown name fit (stands (fits es rows.items name) 0 fit e))
+
+    abbrev made : Test → Why
+    made = why_of rows mode
+
+    abbrev IsGood : Test → Type 0
+    IsGood t = GoodFor rows mode t (made t)
+
+    abbrev GoodOne : Type 0
+    GoodOne = (t : Test) × IsGood t
+
+    abbrev test_of : GoodOne → Test
+    test_of e = e.0
+
+    made_together : (xs : List GoodOne) → map (λ e. made (test_of e)) xs ≡ map made (map test_of xs)
+    made_together [] = refl
+    made_together (e ∷ xs) = ap (λ ws. made (test_of e) ∷ ws) (made_together xs)
+
+    lifted : (y : Test-F Test) → good_step rows mode Test (λ t. t) (GoodFor rows mode) y (why_step rows mode (map-Test Test Why made y))
+        → IsGood (roll-Test y)
+    lifted y g =
+        subst (GoodFor rows mode (roll-Test y)) (sym (why-level y))
+        (subst (λ (G : Type 0). G) (sym (good-level rows mode y (why_step rows mode (map-Test Test Why made y)))) g)
+
+    logic_good : (operator : Operator) (negate : Bool) (xs : List GoodOne)
+        → GoodLogic (GoodFor rows mode) operator negate (map test_of xs)
+        (out-Why (why.Logic (negated negate (joined operator (map given_truth (map made (map test_of xs))))) (chosen operator (map made (map test_of xs)))))
+    logic_good operator negate xs =
+        let of = chosen_good (λ (e : GoodOne) w. GoodFor rows mode (test_of e) w) (λ e. made (test_of e)) (λ e. e.1) operator negate xs in
+        let at = λ (ws : List Why). Why-F.Logic (negated negate (joined operator (map given_truth ws))) (chosen operator ws) in
+        subst (GoodLogic (GoodFor rows mode) operator negate (map test_of xs))
+        (ap at (made_together xs)
+        ∙ sym (whys.outs-Logic (negated negate (joined operator (map given_truth (map made (map test_of xs))))) (chosen operator (map made (map test_of xs)))))
+        (subst (λ (G : Type 0). G)
+        (logic-map test_of (GoodFor rows mode) operator negate xs (at (map (λ e. made (test_of e)) xs))) of)
+
+    good_rolled : (y : Test-F GoodOne) → IsGood (roll-Test (map-Test GoodOne Test test_of y))
+    good_rolled (Test-F.Logic operator negate xs) = lifted (Test-F.Logic operator negate (map test_of xs)) (logic_good operator negate xs)
+    good_rolled (Test-F.Fact name) = lifted (Test-F.Fact name) (fact-good name)
+    good_rolled (Test-F.Check key) = lifted (Test-F.Check key) (subst (GoodCheck rows key) (sym (whys.outs-Plain (check_truth rows key))) refl)
+
+    pub good : (t : Test) → IsGood t
+    good = ind-Test IsGood (λ x y is. subst (λ z. IsGood (roll-Test z)) is (good_rolled y))
+
+pub verdicts_given : CertificatesGiveVerdicts
+verdicts_given rows s = gives rows s.mode s.test
+
+pub certificates_good : CertificatesAreGood
+certificates_good rows lawful s = good rows s.mode lawful s.test

@@ -1,0 +1,26 @@
+-- Certificates, and what is said of them, as lines.
+use Rattle.std.specs.Prelude.{ℕ, List, ◌++◌, codes}
+use Rattle.std.specs.List.{flat_map}
+use Rattle.cpe_rows.specs.Rows.{Rows}
+use Rattle.cpe_rows.specs.declared.statement.Statement.{Statement}
+use Rattle.cpe_explain.specs.Choices.{certificate}
+use Rattle.cpe_explain.specs.declared.proof.Checked.{Checked}
+use Rattle.cpe_explain.specs.declared.proof.Checked.TheVariants.{Holds, Fails, Absent}
+use Rattle.proof_lines.specs.Written.{proof_text}
+
+-- the certificate of a statement
+abbrev pub certificate_line : Rows → Statement → List ℕ
+certificate_line rows s = proof_text (certificate rows s) ++ codes "\n"
+
+-- those of all statements, in order
+abbrev pub certificate_lines : Rows → List ℕ
+certificate_lines rows = flat_map (certificate_line rows) rows.statements
+
+abbrev pub checked_word : Checked → List ℕ
+checked_word Holds = codes "holds"
+checked_word Fails = codes "fails"
+checked_word Absent = codes "absent"
+
+-- what is said of the certificate of this id
+abbrev pub checked_line : List ℕ → Checked → List ℕ
+checked_line id checked = codes "proof " ++ id ++ codes " " ++ checked_word checked ++ codes "\n"

@@ -1,0 +1,47 @@
+// Certificates, and what is said of them, as lines.
+ghost use Rattle.std.specs.Prelude.{◌≡◌, ◌++◌, OnOk, codes};
+ghost use Rattle.proof_lines.specs.Written.{proof_text};
+ghost use Rattle.cpe_replies.specs.Proofs.{checked_word, checked_line};
+
+use cpe_explain::{Checked, Proof};
+use cpe_session::Page;
+use proof_lines::write_proof;
+use std::alloc::{AllocError, Global};
+
+/// Puts the line of a certificate after what is gathered.
+///
+/// # Errors
+/// Only that memory ran out. A part of the line may be put then.
+pub fn push_proof(alloc: Global, page: &mut Page, proof: &Proof) -> Result<(), AllocError>
+    ensures { OnOk result (page.new ≡ page.old ++ (proof_text proof.now ++ codes "\n")) }
+{
+    let Ok(text) = write_proof(alloc, proof) else {
+        return Err(AllocError);
+    };
+    page.push(&text)?;
+    page.push(b"\n")
+}
+
+fn checked_word(checked: Checked) -> &'static [u8]
+    ensures { result.now ≡ checked_word checked }
+{
+    match checked {
+        Checked::Holds => b"holds",
+        Checked::Fails => b"fails",
+        Checked::Absent => b"absent",
+    }
+}
+
+/// Puts what is said of the certificate of this id after what is gathered.
+///
+/// # Errors
+/// Only that memory ran out. A part of the line may be put then.
+pub fn push_checked(page: &mut Page, id: &str, checked: Checked) -> Result<(), AllocError>
+    ensures { OnOk result (page.new ≡ page.old ++ checked_line id.now checked) }
+{
+    page.push(b"proof ")?;
+    page.push(id.as_bytes())?;
+    page.push(b" ")?;
+    page.push(checked_word(checked))?;
+    page.push(b"\n")
+}

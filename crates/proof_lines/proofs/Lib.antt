@@ -1,0 +1,12 @@
+pub mod Mapped
+pub mod Arrays
+pub mod Givens
+pub mod Pieces
+pub mod Levels
+pub mod Names
+pub mod Forms
+pub mod NamesRead
+pub mod WhysRead
+pub mod ProofsRead
+pub mod NoRecords
+pub mod GoodForms

@@ -1,0 +1,53 @@
+-- The names of certificates.
+use Rattle.std.proofs.Common.{◌≡◌, ◌<◌, ◌+◌, ℕ, List, [], ◌∷◌, ◌++◌, Option, Some, None, option_map, map, length, take, refl, ap, sym, ◌∙◌}
+use Rattle.std.proofs.lemmas.List.{append-nil, take_more}
+use Rattle.std.proofs.lemmas.List.Concat.{flat_map-append}
+use Rattle.std.proofs.lemmas.List.Elements.{All-append, All-same, All-nil, All-cons, All-head, All-tail}
+use Rattle.std.specs.List.{flat_map, All}
+use Rattle.std.specs.Option.{option_map_or}
+use Rattle.std.specs.Prelude.{slice_index_or, unwrap_or}
+use Rattle.cpe_name.specs.Eleven.{Values}
+use Rattle.cpe_rows.specs.declared.truth.Truth.{Truth}
+use Rattle.cpe_explain.specs.declared.proof.Why.{Why, Logic, Pair, Plain}
+use Rattle.cpe_explain.specs.declared.proof.Why.TheOpen.{Why-F}
+use Rattle.cpe_explain.specs.declared.proof.Why.TheVariants.{rolls-Logic, rolls-Pair, rolls-Plain}
+use Rattle.cpe_explain.specs.declared.proof.Why.TheFolds.{fold-roll-Why}
+use Rattle.proof_lines.specs.Whole.{names, names_step}
+use Rattle.proof_lines.proofs.Mapped.{mapped}
+
+-- of what is given
+abbrev pub names_at : Option Why → List Values
+names_at w = option_map_or names w []
+
+abbrev pub given_names : Option (List Values) → List Values
+given_names ns = unwrap_or ns []
+
+each_given : (of : List (Option Why)) → flat_map given_names (map (option_map names) of) ≡ flat_map names_at of
+each_given [] = refl
+each_given (None ∷ of) = each_given of
+each_given (Some w ∷ of) = ap (λ ns. names w ++ ns) (each_given of)
+
+pub names-logic : (truth : Truth) (of : List (Option Why)) → names (Logic truth of) ≡ flat_map names_at of
+names-logic truth of = ap names (sym (rolls-Logic truth of)) ∙ fold-roll-Why (List Values) names_step (Why-F.Logic truth of) ∙ ap names_step (mapped names truth of) ∙ each_given of
+
+pub names-pair : (truth : Truth) (fact item : List Values) → names (Pair truth fact item) ≡ fact ++ item
+names-pair truth fact item = ap names (sym (rolls-Pair truth fact item)) ∙ fold-roll-Why (List Values) names_step (Why-F.Pair truth fact item)
+
+pub names-plain : (truth : Truth) → names (Plain truth) ≡ []
+names-plain truth = ap names (sym (rolls-Plain truth)) ∙ fold-roll-Why (List Values) names_step (Why-F.Plain truth)
+
+-- what holds of the names of the first that are given, and of those of the next, holds of all these
+pub all_with_next : (P : Values → Type 0) (of : List (Option Why)) (i : ℕ) (d : Option Why) → i < length of → All P (flat_map names_at (take i of))
+    → All P (names_at (slice_index_or of i d)) → All P (flat_map names_at (take (i + 1) of))
+all_with_next P of i d lt all one =
+    let so_far = flat_map names_at (take i of) in
+    let next = slice_index_or of i d in
+    All-same P (flat_map names_at (take (i + 1) of)) (so_far ++ names_at next)
+    (ap (flat_map names_at) (take_more of i d lt) ∙ flat_map-append names_at (take i of) (next ∷ []) ∙ ap (λ ns. so_far ++ ns) (append-nil (names_at next)))
+    (All-append P so_far (names_at next) all one)
+
+pub all_parts : {A : Type 0} (P : A → Type 0) (xs ys : List A) → All P (xs ++ ys) → All P xs × All P ys
+all_parts P [] ys h = (All-nil P, h)
+all_parts P (x ∷ xs) ys h =
+    let rest = all_parts P xs ys (All-tail P x (xs ++ ys) h) in
+    (All-cons P x xs (All-head P x (xs ++ ys) h) rest.0, rest.1)

@@ -1,0 +1,54 @@
+use Rattle.std.proofs.Common.{◌≡◌, ◌<◌, map, length, get_or, not, codes, sym, ap, ◌∙◌, subst, arith, rules, take_all}
+use Rattle.std.proofs.Math.ListN.{get_or-map}
+use Rattle.std.specs.Prelude.{Ok}
+use Rattle.std.proofs.lemmas.List.{length-map}
+use Rattle.serde_json.specs.Data.{depth}
+use Rattle.serde_json.specs.View.{view}
+use Rattle.cpe_members.specs.FirstFault.{all_from}
+use Rattle.cpe_members.proofs.AllFrom.{all_from-more, all_from_fails}
+use Rattle.cpe_members.proofs.Depths.{below_depth}
+use Rattle.proof_lines.specs.Gives.{Fails, Gives, is_out_of_memory}
+use Rattle.proof_lines.specs.Reading.{given_of, logic_in, there}
+use Rattle.proof_lines.proofs.Givens.{has_of, none_there, all_there, child_fails}
+use Rattle.proof_lines.proofs.why.+given_of.Goals as goal
+
+pub returns-in_default : goal.returns-in_default
+returns-in_default t c =
+    let d = view c.args.source.now in
+    let has_it = has_of (λ v. view v.now) d c.get.result c.get.ensures (c.is_none.ensures ∙ ap not c.if-is_none.false) in
+    none_there d (sym c.is_null.ensures ∙ c.if-is_null.false) has_it c.in_default.ensures
+
+pub given_of-requires : goal.given_of-requires
+given_of-requires t c =
+    let i = c.loop-item.item-index in
+    let items = c.in-Some.items.now in
+    let here : i < length (map view items) = omega (arith, length-map items view, c.loop-item-test.true) in
+    let falls : depth (get_or (map view items) i (view c.item-item.result)) < depth (view c.args.source.now) =
+    below_depth (codes "of") (view c.args.source.now) (map view items) i (view c.item-item.result) here c.in-Some.ensures in
+    let same : get_or (map view items) i (view c.item-item.result) ≡ view c.item-item.result = get_or-map view items i c.item-item.result ∙ ap view (sym c.item-item.is) in
+    let smaller : depth (view c.item-item.result) < depth (view c.args.source.now) = subst (λ d. depth d < depth (view c.args.source.now)) same falls in
+    search (rules, smaller)
+
+pub returns-in-Err : goal.returns-in-Err
+returns-in-Err t c =
+    let d = view c.args.source.now in
+    let has_it = has_of (λ v. view v.now) d c.get.result c.get.ensures (c.is_none.ensures ∙ ap not c.if-is_none.false) in
+    let fails = all_from_fails view (λ k. given_of) 1 c.loop-item.item-index c.in-Some.items.now c.item-item.result c.loop-item-test.true
+    is_out_of_memory c.loop-item.of c.in-Err.fault c.loop-item.invariant (subst (λ v. Fails c.in-Err.fault (given_of (view v))) c.item-item.is c.in-Err.ensures) in
+    child_fails d (sym c.is_null.ensures ∙ c.if-is_null.false) has_it (map view c.in-Some.items.now) c.in-Some.ensures c.in-Err.fault fails
+
+pub loop-item-preserved : goal.loop-item-preserved
+loop-item-preserved t c =
+    let read = all_from-more view (λ k. given_of) 1 c.loop-item.item-index c.in-Some.items.now c.item-item.result c.loop-item-test.true
+    c.loop-item.of c.in-Ok.given c.loop-item.invariant (ap (λ v. given_of (view v)) (sym c.item-item.is) ∙ c.in-Ok.ensures) in
+    cc (read, c.in_ok-push-in-Ok.ensures.ok)
+
+pub returns : goal.returns
+returns t c =
+    let d = view c.args.source.now in
+    let items = c.in-Some.items.now in
+    let has_it = has_of (λ v. view v.now) d c.get.result c.get.ensures (c.is_none.ensures ∙ ap not c.if-is_none.false) in
+    let all : all_from (λ k. given_of) 1 (map view items) ≡ Ok c.loop-item.of =
+    ap (λ vs. all_from (λ k. given_of) 1 (map view vs)) (sym (take_all c.loop-item.item-index items c.loop-item-test.false)) ∙ c.loop-item.invariant in
+    let is = all_there d (sym c.is_null.ensures ∙ c.if-is_null.false) has_it (map view items) c.in-Some.ensures ∙ ap (λ r. there (logic_in d r)) all in
+    subst (Gives c.logic_of.result) (sym is) c.logic_of.ensures

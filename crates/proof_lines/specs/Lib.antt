@@ -1,0 +1,6 @@
+pub mod Gives
+pub mod Levels
+pub mod Written
+pub mod Reading
+pub mod Whole
+pub mod Puts

@@ -1,0 +1,36 @@
+// What certificates have by the types of their parts. These functions do nothing: their clauses are facts of every certificate.
+ghost use Rattle.std.specs.Prelude.{All};
+ghost use Rattle.cpe_name.specs.Names.{IsName};
+ghost use Rattle.proof_lines.specs.Whole.{HasNames};
+
+use cpe_explain::Why;
+use cpe_name::Wfn;
+
+fn are_names(names: &[Wfn])
+    ensures { All IsName names.now }
+{
+    for name in names {
+        name.lawful();
+    }
+}
+
+/// The names of a certificate are well-formed (NIST IR 7695, 5).
+pub(crate) fn formed(why: &Why)
+    ensures { HasNames why.now }
+{
+    match why {
+        Why::Logic { of, .. } => {
+            for given in of.as_slice() {
+                let Some(child) = given else {
+                    continue;
+                };
+                formed(child);
+            }
+        }
+        Why::Pair { fact, item, .. } => {
+            are_names(fact.as_slice());
+            are_names(item.as_slice());
+        }
+        Why::Plain(_) => {}
+    }
+}
