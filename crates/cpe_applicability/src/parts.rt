@@ -88,7 +88,7 @@ impl Parts {
     }
 
     // The truth that is kept for a number in a mode.
-    fn truth(&self, id: u32, mode: Mode) -> Truth
+    pub(crate) fn truth(&self, id: u32, mode: Mode) -> Truth
         ensures { result ≡ truth_at (state_in self.now) mode id }
     {
         match mode {

@@ -77,13 +77,13 @@ module _ (es left : List Entry) (items : List Values) (n : Values) (same : (x : 
   followed f h = let parts = or_parts (leads_to es f n) (list_any (λ g. list_any (covers g) touched) (ends es f)) h in all_followed f parts.0 parts.1
 
 -- other entries, in which names that don't lead to n have the same ends
-pub record Leaves (rows : Rows) (n : Values) (next : Rows) : Type 0 where
+pub record KeepsOtherEnds (rows : Rows) (n : Values) (next : Rows) : Type 0 where
   pub entries : List Entry
   pub left : next ≡ record rows { entries = entries }
   pub same : (x : Values) → leads_to rows.entries x n ≡ false → ends entries x ≡ ends rows.entries x
 
 module _ (rows : Rows) (m n : Values) (e : m ≡ n) where
-  leaves_changed : (f : Entry → Entry) → ((a : Entry) → (f a).name ≡ a.name) → Leaves rows n (record rows { entries = changed f m rows.entries })
+  leaves_changed : (f : Entry → Entry) → ((a : Entry) → (f a).name ≡ a.name) → KeepsOtherEnds rows n (record rows { entries = changed f m rows.entries })
   leaves_changed f keeps = record {
     entries = changed f m rows.entries;
     left = refl;
@@ -96,7 +96,7 @@ none = None
 no_name : {n : Values} {P : Type 0} → none ≡ Some n → P
 no_name h = let wrong : ⊥ = cc in absurd wrong
 
-pub leaves : (rows : Rows) (e : Edit) (n : Values) → deprecation_changed e ≡ Some n → Leaves rows n (after rows e)
+pub leaves : (rows : Rows) (e : Edit) (n : Values) → deprecation_changed e ≡ Some n → KeepsOtherEnds rows n (after rows e)
 leaves rows (edit.Deprecate m d date comment) n h = leaves_changed rows m n (same_Some m n h) (deprecated (Some d) note.Deprecation date comment) (λ a. refl)
 leaves rows (edit.Amend m d date comment) n h = leaves_changed rows m n (same_Some m n h) (deprecated (Some d) note.DeprecationModification date comment) (λ a. refl)
 leaves rows (edit.Restore m date comment) n h = leaves_changed rows m n (same_Some m n h) (deprecated None note.DeprecationModification date comment) (λ a. refl)

@@ -18,8 +18,8 @@ use Rattle.cpe_rows.specs.declared.entry.Note.{Note}
 use Rattle.cpe_rows.specs.declared.fault.EditFault.{EditFault}
 use Rattle.cpe_rows.specs.declared.fault.Which.TheVariants as limit
 use Rattle.deprecation_graph.specs.Chains.{ends_of}
-use Rattle.deprecation_graph.specs.Faults.{first_fault, change_fault, cycle_in, is_wide, wide_in}
-use Rattle.deprecation_graph.specs.Graph.{IsChange, Node, active_in, chain_in, ends_in, next_in, successors, changed as changed_nodes}
+use Rattle.deprecation_graph.specs.Faults.{first_fault, change_fault, cycle_in, is_wide_node, wide_in}
+use Rattle.deprecation_graph.specs.Graph.{IsChange, Node, active_in, chain_in, ends_in, next_in, successors, changed_nodes}
 use Rattle.deprecation_graph.specs.declared.fault.GraphFault.TheVariants as graph
 use Rattle.cpe_dictionary.specs.Answers.{ChainsOfNodes, EndsOfNodes}
 use Rattle.cpe_dictionary.specs.Faults.{AreDifferent, WritesByNumber}
@@ -92,7 +92,7 @@ pub wide_within : (es : List Entry) (nodes : List Node) (k j : ℕ) (next : Opti
 wide_within es nodes k j next same h =
     let wide = changed_nodes nodes k next in
     let found = only_wide (cycle_in nodes k (successors next)) (wide_in wide) j h in
-    let within : j < 0 + length wide = found_within (is_wide wide) 0 (length wide) j found in
+    let within : j < 0 + length wide = found_within (is_wide_node wide) 0 (length wide) j found in
     let count : length wide ≡ length es = length_set nodes k _ ∙ ap length same ∙ length-map es (node_of_entry es) in
     omega arith
 

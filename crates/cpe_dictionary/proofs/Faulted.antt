@@ -16,7 +16,7 @@ use Rattle.cpe_rows.specs.declared.limits.TheConstants.{MOST_ENDS}
 use Rattle.cpe_rows.specs.declared.entry.Entry.{Entry}
 use Rattle.deprecation_graph.specs.Graph.{next_in, active_in}
 use Rattle.deprecation_graph.specs.Chains.{reaches, ends_of}
-use Rattle.deprecation_graph.specs.Faults.{is_wide as is_wide_in}
+use Rattle.deprecation_graph.specs.Faults.{is_wide_node}
 use Rattle.cpe_dictionary.specs.Numbers.{PathsByNumber, WidthsByNumber, NodesAreNumbered, NodesAreMarked, numbers_of, node_of_entry, nodes_of_entries}
 use Rattle.cpe_dictionary.specs.Faults.{AreEntries, RepeatsByNumber, DifferentByNumber, CyclesByNumber, WidthByNumber}
 use Rattle.cpe_dictionary.proofs.Numbering.{both}
@@ -134,10 +134,10 @@ pub width_law : WidthsByNumber → NodesAreNumbered → NodesAreMarked → Width
 width_law widths numbered marked entries different =
     let nodes = nodes_of_entries entries in
     let count : length nodes ≡ length entries = length-map entries (node_of_entry entries) in
-    find_at (is_wide entries) (is_wide_in nodes) entries entries 0 (λ i. ap (slice_get entries) (sym (zero-add i))) (λ i x here.
+    find_at (is_wide entries) (is_wide_node nodes) entries entries 0 (λ i. ap (slice_get entries) (sym (zero-add i))) (λ i x here.
     ap (nat_lt MOST_ENDS) (
     widths entries (next_in nodes) (active_in nodes) i x (numbered entries different) (marked entries) here
     ∙ ap (λ (c : ℕ). length (ends_of (next_in nodes) (active_in nodes) c i)) (sym count)
     )
-    ∙ ap (is_wide_in nodes) (sym (zero-add i)))
-    ∙ ap (λ (c : ℕ). option_and_then (slice_get entries) (find (is_wide_in nodes) (range_with_len 0 c))) (sym count)
+    ∙ ap (is_wide_node nodes) (sym (zero-add i)))
+    ∙ ap (λ (c : ℕ). option_and_then (slice_get entries) (find (is_wide_node nodes) (range_with_len 0 c))) (sym count)

@@ -1,5 +1,5 @@
 -- The graph of entries that are given their deprecations at once, and the numbers of successors of which it is made.
-use Rattle.std.proofs.Common.{◌≡◌, ◌↔◌, ℕ, ◌+◌, ◌≤◌, Bool, true, false, not, if◌then◌else◌, is_none, ◌&&◌, IsTrue, List, [], ◌∷◌, length, map, nat_eq, refl, sym, ap, subst, ◌∙◌, arith, Option, Some, None}
+use Rattle.std.proofs.Common.{◌≡◌, ◌↔◌, ℕ, ◌+◌, ◌≤◌, Bool, true, false, not, if◌then◌else◌, is_none, ◌&&◌, IsTrue, List, [], ◌∷◌, length, map, refl, sym, ap, subst, ◌∙◌, arith, Option, Some, None}
 use Rattle.std.specs.List.{All, AllByRecursion, list_all, list_any}
 use Rattle.std.proofs.lemmas.List.Elements.{All-cons, All-nil}
 use Rattle.std.proofs.lemmas.Bool.{and_parts, not-true, or_from, or_parts}
@@ -17,7 +17,7 @@ use Rattle.deprecation_graph.specs.Graph.{IsLawful, Node}
 use Rattle.deprecation_graph.specs.Laws.{ChainsArePaths}
 use Rattle.filled_graph.specs.Filled.{AreAllowed, IsBrief, nodes_of_lists}
 use Rattle.cpe_dictionary.specs.Faults.{DifferentByNumber, NamesHaveNumbers, RepeatsByNumber}
-use Rattle.cpe_dictionary.specs.Given.{are_entries, each_deprecated, is_counted, may_have, successors_in}
+use Rattle.cpe_dictionary.specs.Given.{are_entries, each_deprecated, may_have}
 use Rattle.cpe_dictionary.specs.Kept.{IsKept}
 use Rattle.cpe_dictionary.specs.Numbers.{nodes_of_entries, NodesAreMarked, NodesAreNumbered, numbers_of, PathsByNumber, WidthsByNumber}
 use Rattle.cpe_dictionary.specs.Plans.{numbered}

@@ -1,5 +1,5 @@
 -- A dictionary is lawful where its nodes are a lawful graph, and the other way round.
-use Rattle.std.proofs.Common.{◌≡◌, ◌↔◌, ℕ, zero, suc, ◌<◌, ◌≤◌, Bool, true, false, is_none, IsTrue, List, [], ◌∷◌, length, nat_lt, refl, sym, ap, subst, ◌∙◌, inl, inr, arith, Option, Some, None, slice_get}
+use Rattle.std.proofs.Common.{◌≡◌, ◌↔◌, ℕ, zero, suc, ◌<◌, ◌≤◌, Bool, true, false, is_none, IsTrue, List, [], ◌∷◌, length, refl, sym, ap, subst, ◌∙◌, inl, inr, arith, Option, Some, None, slice_get}
 use Rattle.std.specs.List.{Contains, list_all, list_any}
 use Rattle.std.specs.Option.{option_map, option_map_or}
 use Rattle.std.proofs.lemmas.Bool.{and_parts, false_from_ne_true, le-ltb, ltb-false, or_cases, or_from, or_left, or_parts, or_right, true≢false}
@@ -16,10 +16,10 @@ use Rattle.cpe_rows.specs.declared.entry.Deprecation.{Deprecation}
 use Rattle.cpe_rows.specs.declared.entry.Entry.{Entry}
 use Rattle.cpe_rows.specs.declared.limits.TheConstants.{MOST_ENDS}
 use Rattle.cpe_rows.proofs.Lists.{each_element, no_element}
-use Rattle.deprecation_graph.specs.Chains.{ends_of, reaches}
+use Rattle.deprecation_graph.specs.Chains.{ends_of}
 use Rattle.deprecation_graph.specs.Graph.{active_in, active_or_not, ends_in, IsLawful, next_in, next_or_none, Node}
 use Rattle.deprecation_graph.specs.Laws.{ChainsArePaths}
-use Rattle.deprecation_graph.specs.Paths.{HasEdge, IsAcyclic, IsClosed, Leads}
+use Rattle.deprecation_graph.specs.Paths.{IsAcyclic, IsClosed, Leads}
 use Rattle.deprecation_graph.specs.declared.limits.TheConstants.{MOST_NODES}
 use Rattle.cpe_dictionary.specs.Faults.{AreDifferent}
 use Rattle.cpe_dictionary.specs.Numbers.{AreNumbered, node_of_entry, nodes_of_entries, NodesAreMarked, NodesAreNumbered, numbers_of, PathsByNumber, WidthsByNumber}

@@ -13,7 +13,7 @@ use Rattle.cpe_rows.specs.Rows.{is_named}
 use Rattle.cpe_rows.specs.declared.entry.Entry.{Entry}
 use Rattle.cpe_rows.specs.declared.entry.Deprecation.{Deprecation}
 use Rattle.cpe_rows.specs.declared.entry.Note.{Note}
-use Rattle.deprecation_graph.specs.Graph.{Node, changed, ends_in}
+use Rattle.deprecation_graph.specs.Graph.{Node, changed_nodes, ends_in}
 use Rattle.cpe_dictionary.specs.Edits.{NamesStayDifferent}
 use Rattle.cpe_dictionary.specs.Faults.{AreDifferent}
 use Rattle.cpe_dictionary.specs.Numbers.{entries_at, node_of_entry, nodes_of_entries, ChangesByNumber, EndsByNumber, NodesAreMarked, NodesAreNumbered}
@@ -73,15 +73,15 @@ module _ (changes : ChangesByNumber) (differ : NamesStayDifferent) (by_number : 
       let is : left ≡ next = by.written ∙ written_set es k d note at.0 at.1 in
       let place : position (is_named n) next ≡ position (is_named n) es =
       position_from-zero (is_named n) next ∙ place_set d note (is_same n) 0 es k at.0 at.1 ∙ sym (position_from-zero (is_named n) es) in
-      let nodes : nodes_of_entries next ≡ changed (nodes_of_entries es) k p.next =
-      nodes_rewritten es k d note at.0 at.1 changes ∙ ap (changed (nodes_of_entries es) k) (sym by.next) in
+      let nodes : nodes_of_entries next ≡ changed_nodes (nodes_of_entries es) k p.next =
+      nodes_rewritten es k d note at.0 at.1 changes ∙ ap (changed_nodes (nodes_of_entries es) k) (sym by.next) in
       by_place es next p n k place nodes (names_set d note es k at.0 at.1) (differ es k at.0 (rewritten d note at.0) at.1 refl different) (position (is_named n) es) refl
       ∙ ap (λ (xs : List Entry). ends xs n) (sym is)
     where
-      by_place : (es next : List Entry) (p : Plan) (n : Values) (k : ℕ) → position (is_named n) next ≡ position (is_named n) es → nodes_of_entries next ≡ changed (nodes_of_entries es) p.number p.next
+      by_place : (es next : List Entry) (p : Plan) (n : Values) (k : ℕ) → position (is_named n) next ≡ position (is_named n) es → nodes_of_entries next ≡ changed_nodes (nodes_of_entries es) p.number p.next
           → ((ks : List ℕ) → names_at next ks ≡ names_at es ks) → AreDifferent next → (o : Option ℕ) → position (is_named n) es ≡ o → option_map_or (ends_at es p) o (n ∷ []) ≡ ends next n
       by_place es next p n k place nodes names different None at = sym (alone next n (place ∙ at))
       by_place es next p n k place nodes names different (Some j) at =
-          sym (names (ends_in (changed (nodes_of_entries es) p.number p.next) j))
+          sym (names (ends_in (changed_nodes (nodes_of_entries es) p.number p.next) j))
           ∙ ap (λ (ns : List Node). names_at next (ends_in ns j)) (sym nodes)
           ∙ ends_named next n j (place ∙ at) different by_number are_numbered are_marked

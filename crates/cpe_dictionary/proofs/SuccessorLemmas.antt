@@ -13,7 +13,7 @@ use Rattle.cpe_rows.specs.declared.entry.Deprecation.{Deprecation}
 use Rattle.cpe_rows.specs.declared.entry.Note.{Note}
 use Rattle.cpe_rows.specs.declared.fault.EditFault.{EditFault}
 use Rattle.cpe_rows.specs.declared.fault.EditFault.TheVariants as fault
-use Rattle.deprecation_graph.specs.Graph.{IsChange, changed as changed_nodes}
+use Rattle.deprecation_graph.specs.Graph.{IsChange, changed_nodes}
 use Rattle.deprecation_graph.specs.Faults.{cycle_in, wide_in, first_fault, change_fault}
 use Rattle.cpe_dictionary.specs.Numbers.{numbers_of, nodes_of_entries}
 use Rattle.cpe_dictionary.specs.Faults.{AreDifferent, AreEntries, WritesByNumber, CyclesByNumber, RepeatsByNumber}

@@ -15,7 +15,7 @@ use Rattle.cpe_rows.specs.declared.entry.Deprecation.{Deprecation}
 use Rattle.cpe_rows.specs.declared.entry.Note.{Note}
 use Rattle.cpe_rows.specs.declared.fault.EditFault.{EditFault}
 use Rattle.cpe_rows.specs.declared.fault.EditFault.TheVariants as fault
-use Rattle.deprecation_graph.specs.Graph.{node_of, changed as changed_nodes}
+use Rattle.deprecation_graph.specs.Graph.{node_of, changed_nodes}
 use Rattle.deprecation_graph.specs.Faults.{wide_in}
 use Rattle.cpe_dictionary.specs.Numbers.{node_of_entry, nodes_of_entries, ChangesByNumber}
 use Rattle.cpe_dictionary.specs.Edits.{WidthAfterByNumber}

@@ -8,7 +8,7 @@ use Rattle.cpe_rows.specs.Faults.{place_of, repeated_from, is_count, too_wide}
 use Rattle.cpe_rows.specs.declared.entry.Entry.{Entry}
 use Rattle.cpe_rows.specs.declared.entry.Deprecation.{Deprecation}
 use Rattle.cpe_rows.specs.declared.fault.EditFault.TheVariants as fault
-use Rattle.deprecation_graph.specs.Graph.{IsChange, changed, node_of}
+use Rattle.deprecation_graph.specs.Graph.{IsChange, changed_nodes, node_of}
 use Rattle.deprecation_graph.specs.Faults.{wide_in}
 use Rattle.cpe_dictionary.specs.Numbers.{numbers_of, node_of_entry, nodes_of_entries}
 use Rattle.cpe_dictionary.specs.Faults.{AreDifferent, AreEntries}
@@ -36,4 +36,4 @@ WidthAfterByNumber =
     (rows : Rows) (k : ℕ) (e x : Entry) (to : Option (List ℕ)) → AreDifferent rows.entries → slice_get rows.entries k ≡ Some e
     → x.name ≡ e.name → node_of_entry rows.entries x ≡ node_of to
     → too_wide (record rows { entries = slice_set rows.entries k x })
-    ≡ option_map (λ y. fault.TooWide y.name) (option_and_then (slice_get rows.entries) (wide_in (changed (nodes_of_entries rows.entries) k to)))
+    ≡ option_map (λ y. fault.TooWide y.name) (option_and_then (slice_get rows.entries) (wide_in (changed_nodes (nodes_of_entries rows.entries) k to)))

@@ -1,5 +1,5 @@
 -- All entries given their deprecations at once (NIST IR 7697).
-use Rattle.std.specs.Prelude.{◌&&◌, ◌∷◌, Bool, true, ℕ, List, [], length, Option, slice_get, slice_set}
+use Rattle.std.specs.Prelude.{◌&&◌, ◌∷◌, Bool, true, List, [], length, Option}
 use Rattle.std.specs.List.{list_all, list_any}
 use Rattle.std.specs.Option.{option_map_or}
 use Rattle.cpe_name.specs.Eleven.{Values}

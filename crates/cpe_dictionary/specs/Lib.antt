@@ -7,4 +7,3 @@ pub mod Causes
 pub mod Plans
 pub mod Sources
 pub mod Given
-pub mod Lent

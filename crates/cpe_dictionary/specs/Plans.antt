@@ -11,7 +11,7 @@ use Rattle.cpe_rows.specs.declared.entry.Entry.{Entry}
 use Rattle.cpe_rows.specs.declared.entry.Deprecation.{Deprecation}
 use Rattle.cpe_rows.specs.declared.entry.Note.{Note}
 use Rattle.deprecation_graph.specs.Faults.{change_fault}
-use Rattle.deprecation_graph.specs.Graph.{IsChange, changed, ends_in}
+use Rattle.deprecation_graph.specs.Graph.{IsChange, changed_nodes, ends_in}
 use Rattle.cpe_dictionary.specs.Faults.{AreDifferent, AreEntries}
 use Rattle.cpe_dictionary.specs.Numbers.{nodes_of_entries, numbers_of}
 use Rattle.cpe_dictionary.specs.Kept.{names_at, rewritten, written}
@@ -49,7 +49,7 @@ pub record AreLeftBy (es : List Entry) (p : Plan) (left : List Entry) : Type 0 w
 
 -- the ends that the entry of a number would have
 abbrev pub ends_at : List Entry → Plan → ℕ → List Values
-ends_at es p k = names_at es (ends_in (changed (nodes_of_entries es) p.number p.next) k)
+ends_at es p k = names_at es (ends_in (changed_nodes (nodes_of_entries es) p.number p.next) k)
 
 -- The ends of a name as the planned change would leave them, or as they are where none is planned; that they are those of the
 -- entries that the change leaves is the law `plans_lead`.

@@ -1,7 +1,7 @@
 // Where deprecations lead: the ends of names, as they are and as a planned change would leave them.
 ghost use Rattle.std.specs.Prelude.{◌≡◌, IfOk, Some, position};
 ghost use Rattle.cpe_rows.specs.Prelude.{ends, is_named};
-ghost use Rattle.deprecation_graph.specs.Graph.{changed, ends_in};
+ghost use Rattle.deprecation_graph.specs.Graph.{changed_nodes, ends_in};
 ghost use Rattle.cpe_dictionary.specs.Kept.{names_at};
 ghost use Rattle.cpe_dictionary.specs.Numbers.{nodes_of_entries};
 ghost use Rattle.cpe_dictionary.specs.Plans.{IsAllowed, ends_by};
@@ -45,7 +45,7 @@ impl Dictionary<'_> {
     ) -> Result<Vec<u32>, Memory>
         requires number { position (is_named name.now) self.now ≡ Some number }
         requires plan { IsAllowed self.now plan.now.number plan.now.next }
-        ensures numbers { IfOk result (λ ks. ks.items ≡ ends_in (changed (nodes_of_entries self.now) plan.now.number plan.now.next) number) }
+        ensures numbers { IfOk result (λ ks. ks.items ≡ ends_in (changed_nodes (nodes_of_entries self.now) plan.now.number plan.now.next) number) }
         ensures names { IfOk result (λ ks. names_at self.now ks.items ≡ ends_by self.now (Some plan.now) name.now) }
     {
         match self

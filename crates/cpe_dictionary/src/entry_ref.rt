@@ -1,24 +1,11 @@
 // An entry that is lent.
 ghost use Rattle.std.specs.Prelude.{◌≡◌, option_map};
+ghost use Rattle.cpe_rows.specs.Lent.{entry_lent};
 ghost use Rattle.cpe_dictionary.specs.Kept.{entry_from};
-ghost use Rattle.cpe_dictionary.specs.Lent.{entry_lent};
 
 use crate::kept::Details;
 use cpe_name::Wfn;
-use cpe_rows::{Deprecation, Provenance, Text};
-
-/// The parts of an entry that is kept, lent.
-#[derive(Clone, Copy)]
-pub struct EntryRef<'e> {
-    /// Its name.
-    pub name: &'e Wfn,
-    /// What a reader calls it, perhaps nothing.
-    pub title: &'e Text,
-    /// Where it comes from.
-    pub provenance: &'e Provenance,
-    /// That it is deprecated, if it is.
-    pub deprecation: Option<&'e Deprecation>,
-}
+use cpe_rows::EntryRef;
 
 /// The parts of the entry of a name and what stands beside it, if there is any.
 pub(crate) fn lent<'e>(name: &'e Wfn, details: Option<&'e Details>) -> Option<EntryRef<'e>>

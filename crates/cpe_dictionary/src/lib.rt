@@ -34,7 +34,6 @@ pub use by_number::{
     entries_are_numbered, faults_by_number,
 };
 pub use dictionary::Dictionary;
-pub use entry_ref::EntryRef;
 pub use plans::Plan;
 pub use sources::Sources;
 pub use store::KeptDictionary;

@@ -2,12 +2,12 @@
 use Rattle.std.proofs.Common.{◌≡◌, ℕ, ◌+◌, ◌≤◌, zero, suc, Bool, false, ◌||◌, List, [], ◌∷◌, ◌++◌, length, Option, Some, refl, sym, ap, ◌∙◌, arith}
 use Rattle.cpe_session.specs.declared.status.Status.{Status}
 use Rattle.cpe_session.specs.declared.status.Status.TheVariants.{Done, SomeRefused, Usage, ReadFault, WriteFault, Memory, Endless}
-use Rattle.cpe_session.specs.Session.{Stage, line_says, state_of, next_writes, after_next, after, out_from, start, text_cost, costs, total_cost}
+use Rattle.cpe_session.specs.Session.{Stage, line_says, state_after, next_writes, after_next, stage_after, out_from, start, text_cost, costs, total_cost}
 use Rattle.cpe_session.specs.Table.{made_lines}
 use Rattle.cpe_session.specs.Task.{Transcript, speech, spoken}
 use Rattle.cpe_session.specs.Statuses.{status_of}
 use Rattle.cpe_session.specs.Ran.{LeftByPrefix, ReachedBy}
-use Rattle.cpe_session.proofs.SessionLemmas.{prefix_made, after-append, out_from-append, folded-append, costs-append}
+use Rattle.cpe_session.proofs.SessionLemmas.{prefix_made, stage_after-append, out_from-append, folded-append, costs-append}
 use Rattle.cpe_rows.specs.Rows.{Rows, no_rows}
 use Rattle.cpe_records.specs.Edited.{line_edited}
 use Rattle.cpe_drill.specs.declared.drilled.Drilled.{Drilled}
@@ -35,7 +35,7 @@ with_text d text = record {
 }
 
 module _ (count : ℕ) where
-  changes : (d : Drilled) (number : ℕ) (text : List ℕ) → state_of d (line_says (drill_session count) d number (Some text)) ≡ with_text d text
+  changes : (d : Drilled) (number : ℕ) (text : List ℕ) → state_after d (line_says (drill_session count) d number (Some text)) ≡ with_text d text
   changes d number [] =
       let refused : d.refused ≡ d.refused + 0 = omega arith in
       let found : d.found ≡ d.found + 0 = omega arith in
@@ -52,10 +52,10 @@ module _ (count : ℕ) where
   writes_nothing s (x ∷ xs) = refl
 
   abbrev behind : ℕ → Stage Drilled
-  behind n = after (drill_session count) (start undrilled) (made_lines generated n)
+  behind n = stage_after (drill_session count) (start undrilled) (made_lines generated n)
 
   behind_more : (n : ℕ) → behind (suc n) ≡ after_next (drill_session count) (behind n) (Some (generated n))
-  behind_more n = after-append (drill_session count) (start undrilled) (made_lines generated n) (Some (generated n) ∷ [])
+  behind_more n = stage_after-append (drill_session count) (start undrilled) (made_lines generated n) (Some (generated n) ∷ [])
 
   outcome_more : (n : ℕ) → with_text (outcome n) (generated n) ≡ outcome (suc n)
   unfolding summed
@@ -125,7 +125,7 @@ prefix-leaves n now left =
       k,
       first.0,
       ap (λ (d : Drilled). d.engine) (
-          left.state ∙ ap (λ (ls : List (Option (List ℕ))). (after (drill_session n) (start undrilled) ls).state) first.1 ∙ comes_to n k
+          left.state ∙ ap (λ (ls : List (Option (List ℕ))). (stage_after (drill_session n) (start undrilled) ls).state) first.1 ∙ comes_to n k
           ),
     )
 

@@ -5,45 +5,45 @@ use Rattle.std.specs.List.{flat_map}
 use Rattle.std.specs.Fmt.{decimal}
 
 -- texts one after the other
-abbrev pub joined : List (List ℕ) → List ℕ
-joined = flat_map (λ text. text)
+abbrev pub concatenated : List (List ℕ) → List ℕ
+concatenated = flat_map (λ text. text)
 
 -- the records of a product, by the texts of the numbers of its vendor, itself, and the check that its statement asks for
 
 unfoldable pub entry_record : (vendor product version : List ℕ) → List ℕ
-entry_record vendor product version = joined (
+entry_record vendor product version = concatenated (
     codes "{\"do\":\"entry\",\"name\":\"cpe:2.3:a:v" ∷ vendor ∷ codes ":p" ∷ product ∷ codes ":" ∷ version ∷ codes ":*:*:*:*:*:*:*\",\"title\":\"p"
     ∷ product ∷ codes " " ∷ version ∷ codes "\"}" ∷ [])
 
 unfoldable pub item_record : (vendor product : List ℕ) → List ℕ
-item_record vendor product = joined (codes "{\"do\":\"item\",\"name\":\"cpe:2.3:a:v" ∷ vendor ∷ codes ":p" ∷ product ∷ codes ":1.0:*:*:*:*:*:*:*\"}" ∷ [])
+item_record vendor product = concatenated (codes "{\"do\":\"item\",\"name\":\"cpe:2.3:a:v" ∷ vendor ∷ codes ":p" ∷ product ∷ codes ":1.0:*:*:*:*:*:*:*\"}" ∷ [])
 
 -- either the second version is installed, by its own name or another's that leads to it, or the check says so
 unfoldable pub statement_record : (vendor product check : List ℕ) → List ℕ
-statement_record vendor product check = joined (
+statement_record vendor product check = concatenated (
     codes "{\"do\":\"statement\",\"id\":\"s" ∷ product ∷ codes "\",\"mode\":\"follow\",\"test\":{\"op\":\"OR\",\"of\":[{\"fact\":\"cpe:2.3:a:v"
     ∷ vendor ∷ codes ":p" ∷ product ∷ codes ":2.*:*:*:*:*:*:*:*\"},{\"check\":{\"system\":\"s\",\"href\":\"h\",\"id\":\"c" ∷ check ∷ codes "\"}}]}}" ∷ [])
 
 unfoldable pub check_record : (check word : List ℕ) → List ℕ
-check_record check word = joined (
+check_record check word = concatenated (
     codes "{\"do\":\"check\",\"system\":\"s\",\"href\":\"h\",\"id\":\"c" ∷ check ∷ codes "\",\"result\":\"" ∷ word ∷ codes "\"}" ∷ [])
 
 unfoldable pub deprecation_record : (vendor product : List ℕ) → List ℕ
-deprecation_record vendor product = joined (
+deprecation_record vendor product = concatenated (
     codes "{\"do\":\"deprecate\",\"name\":\"cpe:2.3:a:v" ∷ vendor ∷ codes ":p" ∷ product
     ∷ codes ":1.0:*:*:*:*:*:*:*\",\"kind\":\"NAME_CORRECTION\",\"successors\":[\"cpe:2.3:a:v" ∷ vendor ∷ codes ":p" ∷ product
     ∷ codes ":2.0:*:*:*:*:*:*:*\"],\"date\":\"2024-01-01\"}" ∷ [])
 
 -- which entries of the vendor have a product whose name begins like this one's
 unfoldable pub search_record : (vendor product : List ℕ) → List ℕ
-search_record vendor product = joined (
+search_record vendor product = concatenated (
     codes "{\"do\":\"search\",\"name\":\"cpe:2.3:a:v" ∷ vendor ∷ codes ":p" ∷ product ∷ codes "*:*:*:*:*:*:*:*:*\"}" ∷ [])
 
 unfoldable pub verdict_record : (product : List ℕ) → List ℕ
-verdict_record product = joined (codes "{\"do\":\"verdict\",\"id\":\"s" ∷ product ∷ codes "\"}" ∷ [])
+verdict_record product = concatenated (codes "{\"do\":\"verdict\",\"id\":\"s" ∷ product ∷ codes "\"}" ∷ [])
 
 unfoldable pub restore_record : (vendor product : List ℕ) → List ℕ
-restore_record vendor product = joined (
+restore_record vendor product = concatenated (
     codes "{\"do\":\"restore\",\"name\":\"cpe:2.3:a:v" ∷ vendor ∷ codes ":p" ∷ product ∷ codes ":1.0:*:*:*:*:*:*:*\",\"date\":\"2024-01-02\"}" ∷ [])
 
 -- the four results in turn

@@ -3,7 +3,7 @@ ghost use Rattle.std.specs.Prelude.{◌≡◌, ◌⊎◌, ℕ, List};
 ghost use Rattle.std.specs.declared.option.Option.{Option};
 ghost use Rattle.cpe_io.specs.Causes.{Rose};
 ghost use Rattle.cpe_session.specs.Ran.{Ran, Counted};
-ghost use Rattle.cpe_session.specs.Task.{Written};
+ghost use Rattle.cpe_session.specs.Task.{Fixed};
 ghost use Rattle.cpe_rows.specs.Rows.{no_rows};
 ghost use Rattle.cpe_steps.specs.Within.{StepsWithin};
 ghost use Rattle.cpe_drill.specs.Looks.{record_looks};
@@ -78,7 +78,7 @@ pub fn drill<K: Sink, L: Ledger>(
     steps: &mut Steps<L>,
 ) -> Status
     requires { engine.old ≡ no_rows }
-    ensures ran { (left : Option (List ℕ)) → Ran left left (K.held sink.old) (K.held sink.new) (Written (drill_transcript count))
+    ensures ran { (left : Option (List ℕ)) → Ran left left (K.held sink.old) (K.held sink.new) (Fixed (drill_transcript count))
         (λ taken status. LeavesRows count engine.new status) result }
     ensures steps { StepsWithin steps.old steps.new (summed record_looks count) }
     ensures sink { Counted Status.WriteFault (K.faults sink.old) (K.faults sink.new) result }
@@ -105,7 +105,7 @@ fn drill_records<K: Sink, L: Ledger>(
     steps: &mut Steps<L>,
 ) -> Status
     requires { drilled.old ≡ undrilled }
-    ensures ran { (left : Option (List ℕ)) → Ran left left (K.held sink.old) (K.held sink.new) (Written (drill_transcript count))
+    ensures ran { (left : Option (List ℕ)) → Ran left left (K.held sink.old) (K.held sink.new) (Fixed (drill_transcript count))
         (λ taken status. LeavesRows count drilled.new.engine status) result }
     ensures steps { StepsWithin steps.old steps.new (summed record_looks count) }
     ensures sink { Counted Status.WriteFault (K.faults sink.old) (K.faults sink.new) result }

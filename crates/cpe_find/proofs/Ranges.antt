@@ -24,7 +24,7 @@ to_stands text body k fits reads =
     let o : OccursAt t b k = record { fits = omega arith; reads = λ j l. get_or-lower text (k + j) ∙ reads j (omega arith) ∙ sym (get_or-lower body j) } in
     record {
       before = take k t;
-      after = drop (k + length b) t;
+      behind = drop (k + length b) t;
       split = sym (take-append-drop k t) ∙ ap (λ (r : List ℕ). take k t ++ r) (OccursAt-split t b k o) ∙ sym (append_assoc (take k t) b (drop (k + length b) t));
       at = length-take-le k t (omega arith);
     }
@@ -33,8 +33,8 @@ pub stands_fits : (text body : List ℕ) (k : ℕ) → StandsAt text body k → 
 stands_fits text body k s =
     let b = map to_ascii_lowercase body in
     let at = s.at in
-    let len : length text ≡ length (s.before ++ b ++ s.after) = sym (length-map text to_ascii_lowercase) ∙ ap length s.split in
-    omega (arith, len, length-append (s.before ++ b) s.after, length-append s.before b, length-map body to_ascii_lowercase)
+    let len : length text ≡ length (s.before ++ b ++ s.behind) = sym (length-map text to_ascii_lowercase) ∙ ap length s.split in
+    omega (arith, len, length-append (s.before ++ b) s.behind, length-append s.before b, length-map body to_ascii_lowercase)
 
 pub stands_reads : (text body : List ℕ) (k : ℕ) → StandsAt text body k → (j : ℕ) → j < length body → folded text (k + j) ≡ folded body j
 stands_reads text body k s j l =
@@ -42,10 +42,10 @@ stands_reads text body k s j l =
     let len_b : length b ≡ length body = length-map body to_ascii_lowercase in
     let place : k + j ≡ length s.before + j = ap (λ (i : ℕ). i + j) (sym s.at) in
     sym (get_or-lower text (k + j))
-    ∙ ap (λ (xs : List ℕ). get_or xs (k + j) 0) (s.split ∙ append_assoc s.before b s.after)
-    ∙ ap (λ (i : ℕ). get_or (s.before ++ (b ++ s.after)) i 0) place
-    ∙ get_or-append-add s.before (b ++ s.after) j 0
-    ∙ get_or_append_left b s.after 0 j (omega arith)
+    ∙ ap (λ (xs : List ℕ). get_or xs (k + j) 0) (s.split ∙ append_assoc s.before b s.behind)
+    ∙ ap (λ (i : ℕ). get_or (s.before ++ (b ++ s.behind)) i 0) place
+    ∙ get_or-append-add s.before (b ++ s.behind) j 0
+    ∙ get_or_append_left b s.behind 0 j (omega arith)
     ∙ get_or-lower body j
 
 pub to_within : (text body : List ℕ) (low high n : ℕ) → n ≡ high + length body → n ≤ length text → (r : Option ℕ)

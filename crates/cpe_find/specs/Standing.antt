@@ -5,8 +5,8 @@ use Rattle.std.specs.Str.{str_to_ascii_lowercase}
 -- the text is so many bytes, then the body, then more
 pub record StandsAt (text body : List ℕ) (place : ℕ) : Type 0 where
   pub before : List ℕ
-  pub after : List ℕ
-  pub split : str_to_ascii_lowercase text ≡ before ++ str_to_ascii_lowercase body ++ after
+  pub behind : List ℕ
+  pub split : str_to_ascii_lowercase text ≡ before ++ str_to_ascii_lowercase body ++ behind
   pub at : length before ≡ place
 
 -- so it is at one of the places from low to high

@@ -8,3 +8,4 @@ pub mod Lent
 pub mod Bounds
 pub mod AnyTail
 pub mod Components
+pub mod BareLengths

@@ -16,7 +16,7 @@ use Rattle.cpe_grammar.proofs.Results.{went_on, ok_is, ok≢err}
 use Rattle.cpe_grammar.proofs.Places.{not_taken, within_text, place_of}
 use Rattle.cpe_fs.specs.Grammar.{component, fs_text, Fs, IsFs}
 use Rattle.cpe_fs.specs.Scanning.{is_colon, part_end, language_end, text_end, component_end, field_end, fields_end, whole_end}
-use Rattle.cpe_fs.specs.Spans.{IsSpan, AreComponents, Leaves, behind_field, between, component_at, components_at}
+use Rattle.cpe_fs.specs.Spans.{IsSpan, AreComponents, LeavesRest, behind_field, between, component_at, components_at}
 use Rattle.cpe_name.proofs.Items.{between_is}
 use Rattle.cpe_name.proofs.WholeTexts.{any_suits}
 use Rattle.cpe_name.specs.Spans.{texts, total_length}
@@ -232,7 +232,7 @@ whole_taken s h =
     ∙ ap (λ (x : Result (List ℕ) ℕ). x >>= ending) (fields_taken attributes vs [] (suit_values w h.1.0) tt)
 
 -- where it stops is the place
-pub leaves : (s : List ℕ) (left : ℕ) → whole_end s ≡ Err left → Leaves s left
+pub leaves : (s : List ℕ) (left : ℕ) → whole_end s ≡ Err left → LeavesRest s left
 leaves s left e = record {
   within = within_text IsFs whole_end whole_scans whole_taken s left e;
   at = record {
@@ -278,12 +278,12 @@ components_of w s fs =
 -- ---- where the code stops
 
 -- within the prefix
-pub start_leaves : (s : List ℕ) (left : ℕ) → literal prefix s ≡ Err left → Leaves s left
+pub start_leaves : (s : List ℕ) (left : ℕ) → literal prefix s ≡ Err left → LeavesRest s left
 unfolding whole_end
 start_leaves s left e = leaves s left (rw e refl)
 
 -- within the fields
-pub fields_leave : (s fields : List ℕ) (left : ℕ) → literal prefix s ≡ Ok fields → fields_end attributes fields ≡ Err left → Leaves s left
+pub fields_leave : (s fields : List ℕ) (left : ℕ) → literal prefix s ≡ Ok fields → fields_end attributes fields ≡ Err left → LeavesRest s left
 unfolding whole_end
 fields_leave s fields left start e = leaves s left (rw start (ap (λ (x : Result (List ℕ) ℕ). x >>= ending) e))
 
@@ -292,6 +292,6 @@ no_ending [] more = absurd cc
 no_ending (c ∷ r) more = refl
 
 -- after the last field
-pub end_leaves : (s fields rest : List ℕ) → literal prefix s ≡ Ok fields → fields_end attributes fields ≡ Ok rest → eqb (length rest) 0 ≡ false → Leaves s (length rest)
+pub end_leaves : (s fields rest : List ℕ) → literal prefix s ≡ Ok fields → fields_end attributes fields ≡ Ok rest → eqb (length rest) 0 ≡ false → LeavesRest s (length rest)
 unfolding whole_end
 end_leaves s fields rest start taken more = leaves s (length rest) (rw start (ap (λ (x : Result (List ℕ) ℕ). x >>= ending) taken ∙ no_ending rest more))

@@ -30,7 +30,7 @@ pub record AreComponents (text : List ℕ) (c : Written) : Type 0 where
   pub within : total_length (texts c) ≤ length text
 
 -- no name has this text, and it leaves the grammar with so many bytes left
-pub record Leaves (text : List ℕ) (left : ℕ) : Type 0 where
+pub record LeavesRest (text : List ℕ) (left : ℕ) : Type 0 where
   pub within : left ≤ length text
   pub at : LeavesAt text (length text - left)
 

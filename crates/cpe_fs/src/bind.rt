@@ -1,13 +1,15 @@
 // From names to formatted strings (NIST IR 7695, 6.2.2).
-ghost use Rattle.std.specs.Prelude.{◌≡◌, ◌++◌, ◌∷◌, ◌+◌, ◌^◌, ◌<◌, length, IfOk, OnOk};
+ghost use Rattle.std.specs.Prelude.{◌≡◌, ◌++◌, ◌∷◌, ◌+◌, ◌*◌, ◌^◌, ◌<◌, ◌≤◌, drop, length, true, IfOk, OnOk};
 ghost use Rattle.std.specs.List.{flat_map};
 ghost use Rattle.cpe_values.specs.Spelling.{edge_text, character};
 ghost use Rattle.cpe_values.specs.declared.spelling.Style.TheVariants as style;
-ghost use Rattle.cpe_name.specs.Names.{value_of};
+ghost use Rattle.cpe_values.specs.declared.value.Value.TheVariants.{Any};
+ghost use Rattle.cpe_name.specs.Names.{attributes, value_of};
 ghost use Rattle.cpe_fs.specs.Grammar.{component, fs_text};
+ghost use Rattle.cpe_fs.specs.Scanning.{any_tail};
 
 use cpe_name::{ATTRIBUTES, Attribute, Wfn};
-use cpe_values::{Edge, Memory, Style, Value, is_bare_byte, push_spelling};
+use cpe_values::{Edge, Memory, Style, Value, is_bare_byte, push_spelling, skip_bare};
 use std::alloc::Global;
 
 pub(crate) fn push_component(out: &mut Vec<u8>, value: &Value) -> Result<(), Memory>
@@ -32,6 +34,55 @@ fn push_fields(out: &mut Vec<u8>, name: &Wfn, which: &[Attribute]) -> Result<(),
     Ok(())
 }
 
+// What comes up to the version, and what after it.
+const START: [Attribute; 4] = [
+    Attribute::Part,
+    Attribute::Vendor,
+    Attribute::Product,
+    Attribute::Version,
+];
+
+const TAIL: [Attribute; 7] = [
+    Attribute::Update,
+    Attribute::Edition,
+    Attribute::Language,
+    Attribute::SwEdition,
+    Attribute::TargetSw,
+    Attribute::TargetHw,
+    Attribute::Other,
+];
+
+fn is_any(value: &Value) -> bool
+    ensures { result ≡ true → value.now ≡ Any }
+{
+    matches!(value, Value::Any)
+}
+
+// Whether each value after the version is ANY, as in most names.
+#[tactic(auto, using(crate::proofs::AnyTail::tail_written))]
+fn is_any_tail(name: &Wfn) -> bool
+    ensures { result ≡ true → flat_map (λ a. 58 ∷ component (value_of name.now a)) (drop 4 attributes) ≡ any_tail }
+{
+    is_any(name.get(Attribute::Update))
+        && is_any(name.get(Attribute::Edition))
+        && is_any(name.get(Attribute::Language))
+        && is_any(name.get(Attribute::SwEdition))
+        && is_any(name.get(Attribute::TargetSw))
+        && is_any(name.get(Attribute::TargetHw))
+        && is_any(name.get(Attribute::Other))
+}
+
+// What comes after the version. Seven times ANY is put at once.
+fn push_tail(out: &mut Vec<u8>, name: &Wfn) -> Result<(), Memory>
+    ensures { OnOk result (out.new.items ≡ out.old.items ++ flat_map (λ a. 58 ∷ component (value_of name.now a)) (drop 4 attributes)) }
+{
+    if is_any_tail(name) {
+        out.extend_from_slice(b":*:*:*:*:*:*:*")?;
+        return Ok(());
+    }
+    push_fields(out, name, &TAIL)
+}
+
 /// The formatted string of a name (NIST IR 7695, 6.2.2). Each name has exactly one, and letter case is kept.
 ///
 /// # Errors
@@ -51,7 +102,8 @@ pub fn append_fs(buffer: Vec<u8>, name: &Wfn) -> Result<Vec<u8>, Memory>
 {
     let mut out = buffer;
     out.extend_from_slice(b"cpe:2.3")?;
-    push_fields(&mut out, name, &ATTRIBUTES)?;
+    push_fields(&mut out, name, &START)?;
+    push_tail(&mut out, name)?;
     Ok(out)
 }
 
@@ -66,9 +118,9 @@ fn edge_len(edge: Edge) -> u64
     }
 }
 
-fn body_len(body: &[u8]) -> u128
+fn characters_len(body: &[u8]) -> u128
     ensures value { result ≡ length (flat_map (character style.Formatted) body.now) }
-    ensures small { result < 2 ^ 65 }
+    ensures small { result ≤ 2 * length body.now }
 {
     let mut len = 0u128;
     for byte in body {
@@ -79,6 +131,17 @@ fn body_len(body: &[u8]) -> u128
         };
     }
     len
+}
+
+// Most bodies have bare characters alone: these take a byte each.
+#[tactic(auto, using(crate::proofs::BareLengths::bare_lengths))]
+fn body_len(body: &[u8]) -> u128
+    ensures value { result ≡ length (flat_map (character style.Formatted) body.now) }
+    ensures small { result < 2 ^ 65 }
+{
+    let rest = skip_bare(body);
+    let bare = body.len().saturating_sub(rest.len());
+    bare as u128 + characters_len(rest)
 }
 
 fn component_len(value: &Value) -> u128

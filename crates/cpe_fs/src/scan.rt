@@ -7,7 +7,7 @@ ghost use Rattle.cpe_grammar.specs.Scanners.{Scanner, Tells, one};
 ghost use Rattle.cpe_name.specs.Names.{attributes};
 ghost use Rattle.cpe_name.specs.Spans.{texts};
 ghost use Rattle.cpe_fs.specs.Scanning.{is_hyphen, led_end, text_end, part_end, language_end, field_end, fields_end, any_tail};
-ghost use Rattle.cpe_fs.specs.Spans.{AreComponents, Leaves, behind_field, component_at, components_at, any_components};
+ghost use Rattle.cpe_fs.specs.Spans.{AreComponents, LeavesRest, behind_field, component_at, components_at, any_components};
 
 use cpe_grammar::{front_of, scan_byte, scan_literal};
 use cpe_name::{Hyphen, Written, scan_language_tag};
@@ -201,7 +201,7 @@ fn scan_fields(bytes: &[u8]) -> Result<(Written, &[u8]), usize>
 #[tactic(auto, using(crate::proofs::Whole::start_leaves, crate::proofs::Whole::fields_leave))]
 pub(crate) fn scan_fs(text: &[u8]) -> Result<Written, usize>
     ensures found { IfOk result (AreComponents text.now) }
-    ensures refused { IfErr result (Leaves text.now) }
+    ensures refused { IfErr result (LeavesRest text.now) }
 {
     let rest = scan_literal(b"cpe:2.3", text)?;
     let (components, behind) = scan_fields(rest)?;

@@ -15,7 +15,7 @@ use cpe_values::{is_digit_byte, is_letter_byte};
 // A shorter text is told apart first: where the bytes are constants, each then takes one test.
 #[inline(always)]
 #[tactic(auto, using(crate::proofs::Items::after_short), unfolding(crate::specs::Scanning::after_at))]
-fn after<'a>(expected: &[u8], bytes: &'a [u8]) -> Option<&'a [u8]>
+fn rest_behind<'a>(expected: &[u8], bytes: &'a [u8]) -> Option<&'a [u8]>
     ensures { option_map (λ r. r.now) result ≡ after_at expected.now bytes.now }
 {
     if bytes.len() < expected.len() {
@@ -44,7 +44,7 @@ fn behind_value(bytes: &[u8]) -> Option<&[u8]>
 fn behind_likely_value(bytes: &[u8]) -> Option<&[u8]>
     ensures { option_map (λ r. r.now) result ≡ left_behind (value_end bytes.now) }
 {
-    match after(b"ANY", bytes) {
+    match rest_behind(b"ANY", bytes) {
         Some(rest) => Some(rest),
         None => behind_value(bytes),
     }
@@ -149,17 +149,17 @@ fn after_key(which: Attribute, bytes: &[u8]) -> Option<&[u8]>
     ensures { option_map (λ r. r.now) result ≡ after_at (key_text which) bytes.now }
 {
     match which {
-        Attribute::Part => after(b"part=", bytes),
-        Attribute::Vendor => after(b"vendor=", bytes),
-        Attribute::Product => after(b"product=", bytes),
-        Attribute::Version => after(b"version=", bytes),
-        Attribute::Update => after(b"update=", bytes),
-        Attribute::Edition => after(b"edition=", bytes),
-        Attribute::Language => after(b"language=", bytes),
-        Attribute::SwEdition => after(b"sw_edition=", bytes),
-        Attribute::TargetSw => after(b"target_sw=", bytes),
-        Attribute::TargetHw => after(b"target_hw=", bytes),
-        Attribute::Other => after(b"other=", bytes),
+        Attribute::Part => rest_behind(b"part=", bytes),
+        Attribute::Vendor => rest_behind(b"vendor=", bytes),
+        Attribute::Product => rest_behind(b"product=", bytes),
+        Attribute::Version => rest_behind(b"version=", bytes),
+        Attribute::Update => rest_behind(b"update=", bytes),
+        Attribute::Edition => rest_behind(b"edition=", bytes),
+        Attribute::Language => rest_behind(b"language=", bytes),
+        Attribute::SwEdition => rest_behind(b"sw_edition=", bytes),
+        Attribute::TargetSw => rest_behind(b"target_sw=", bytes),
+        Attribute::TargetHw => rest_behind(b"target_hw=", bytes),
+        Attribute::Other => rest_behind(b"other=", bytes),
     }
 }
 
@@ -306,7 +306,7 @@ fn scan_list_or_end(bytes: &[u8]) -> Option<Written>
 fn scan_all(text: &[u8]) -> Option<Written>
     ensures { Finds texts result (all_at text.now) }
 {
-    let Some(rest) = after(b"wfn:[", text) else {
+    let Some(rest) = rest_behind(b"wfn:[", text) else {
         return None;
     };
     scan_list_or_end(rest)

@@ -380,7 +380,7 @@ pub fn written_is_read()
 /// Puts the written form of a record, as [`write_record`] gives it, after what a buffer holds.
 ///
 /// # Errors
-/// Want of memory alone; the buffer is then dropped.
+/// Out of memory alone; the buffer is then dropped.
 #[tactic(auto, unfolding(crate::specs::WrittenRecord::record_text))]
 pub fn append_record(alloc: Global, buffer: Vec<u8>, what: &Record) -> Result<Vec<u8>, Memory>
     ensures text { IfOk result (λ v. v.items ≡ buffer.items ++ record_text what.now) }
@@ -398,7 +398,7 @@ pub fn append_record(alloc: Global, buffer: Vec<u8>, what: &Record) -> Result<Ve
 /// member of its kind, also where it is what an absent one would be. A name is an object of its attributes that are not ANY.
 ///
 /// # Errors
-/// Want of memory alone.
+/// Out of memory alone.
 pub fn write_record(alloc: Global, what: &Record) -> Result<Vec<u8>, Memory>
     ensures text { IfOk result (λ v. v.items ≡ record_text what.now) }
     // A valid record is read again as it is.

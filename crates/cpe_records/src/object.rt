@@ -93,15 +93,15 @@ pub(crate) fn put_around_name(
     writer: &mut Writer,
     before: &[Token<'_>],
     name: &Wfn,
-    after: &[Token<'_>],
+    behind: &[Token<'_>],
 ) -> Result<(), Memory>
     requires before { AllByRecursion (λ t. IsPrintable (token_of t)) before.now }
-    requires after { AllByRecursion (λ t. IsPrintable (token_of t)) after.now }
-    ensures { Puts result writer.old writer.new (map token_of before.now ++ (json_tokens (name_object name.now) ++ map token_of after.now)) }
+    requires behind { AllByRecursion (λ t. IsPrintable (token_of t)) behind.now }
+    ensures { Puts result writer.old writer.new (map token_of before.now ++ (json_tokens (name_object name.now) ++ map token_of behind.now)) }
 {
     put(writer, before)?;
     put_name_object(alloc, writer, name)?;
-    put(writer, after)?;
+    put(writer, behind)?;
     Ok(())
 }
 

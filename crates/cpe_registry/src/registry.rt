@@ -8,14 +8,14 @@ ghost use Rattle.cpe_rows.specs.Prelude.{is_named, IsDictionary, most, without_f
 ghost use Rattle.cpe_rows.specs.declared.fault.Which.TheVariants as limit;
 ghost use Rattle.name_index.specs.Table.{AreNames, HasName, Holds, IsLive, kept_at, Releases};
 ghost use Rattle.cpe_dictionary.specs.Kept.{new_entry, rewritten, written};
-ghost use Rattle.cpe_dictionary.specs.Lent.{entry_lent};
+ghost use Rattle.cpe_rows.specs.Lent.{entry_lent};
 ghost use Rattle.cpe_dictionary.specs.Plans.{IsAllowed, numbered};
 ghost use Rattle.cpe_registry.specs.Registered.{AreHeld, name_in};
 
-use cpe_dictionary::{Dictionary, EntryRef, KeptDictionary, Plan};
+use cpe_dictionary::{Dictionary, KeptDictionary, Plan};
 use cpe_inventory::{ItemSlots, Items};
 use cpe_name::Wfn;
-use cpe_rows::{Deprecation, Note, Provenance, Text};
+use cpe_rows::{Deprecation, EntryRef, Note, Provenance, Text};
 use cpe_values::Memory;
 use name_index::{NameId, NameTable};
 use names_in_order::ChangingNames;

@@ -3,6 +3,7 @@ pub mod Names
 pub mod Date
 pub mod Filling
 pub mod Formed
+pub mod Lent
 pub mod Truth
 pub mod Evaluation
 pub mod Negation

@@ -11,6 +11,7 @@ mod counts;
 mod date;
 mod edit;
 mod entry;
+mod entry_ref;
 mod facts;
 mod fault;
 mod formed;
@@ -30,6 +31,7 @@ pub use counts::Counts;
 pub use date::Date;
 pub use edit::{Edit, Query, is_id};
 pub use entry::{Deprecation, Entry, Kind, Note, NoteKind, Provenance, copy_of_deprecation};
+pub use entry_ref::EntryRef;
 pub use facts::{Facts, FindFacts, evaluate, find_truth};
 pub use fault::{EditFault, Which};
 pub use limits::{

@@ -5,20 +5,20 @@ use Rattle.std.proofs.KnownBytes.{Appends-nil, Appends-trans}
 use Rattle.cpe_io.specs.Writes.{BeginsWith, AppendsFront}
 use Rattle.cpe_session.specs.declared.status.Status.{Status}
 use Rattle.cpe_session.specs.declared.status.Status.TheVariants as status
-use Rattle.cpe_session.specs.Session.{Session, Stage, next_says, next_writes, after_next, start, after, out_from, next_cost, costs, total_cost}
-use Rattle.cpe_session.specs.Task.{Transcript, Written, Says, speech, spoken}
+use Rattle.cpe_session.specs.Session.{Session, Stage, next_says, next_writes, after_next, start, stage_after, out_from, next_cost, costs, total_cost}
+use Rattle.cpe_session.specs.Task.{Transcript, Fixed, Says, speech, spoken}
 use Rattle.cpe_steps.specs.Within.{StepsWithin}
 use Rattle.cpe_session.specs.Pages.{Pours, Finishes, IsBeforeOrAfter}
 use Rattle.cpe_session.specs.Ran.{ReachedBy, StateAt, LeftByPrefix}
 use Rattle.cpe_session.specs.Statuses.{status_of}
-use Rattle.cpe_session.proofs.SessionLemmas.{after-append, out_from-append, costs-append, number-after}
+use Rattle.cpe_session.proofs.SessionLemmas.{stage_after-append, out_from-append, costs-append, number-after}
 
 -- These lines were answered, and this was written. What is gathered follows it.
 pub record Answered {State : Type 0} (held0 held : Option (List ℕ)) (session : Session State) (first : State) (steps0 steps : ℕ) (seen : List (Option (List ℕ))) (text : List ℕ) (s : Stage State) : Type 0 where
   pub written : List ℕ
   pub wrote : Appends held0 held written
   pub so_far : written ++ text ≡ out_from session (start first) seen
-  pub stage : s ≡ after session (start first) seen
+  pub stage : s ≡ stage_after session (start first) seen
   pub later : steps0 ≤ steps
   pub spent : steps ≤ steps0 + costs session (start first) seen
 
@@ -35,8 +35,8 @@ Answered-none held session first steps text number refused none counted none_ref
 
 -- after the last line the text and the status are those of all lines, or a fault is told
 abbrev pub EndTold : Transcript → List ℕ → Status → Type 0
-EndTold all written status.Done = Says (Written all) [] (record { text = written; status = status.Done })
-EndTold all written status.SomeRefused = Says (Written all) [] (record { text = written; status = status.SomeRefused })
+EndTold all written status.Done = Says (Fixed all) [] (record { text = written; status = status.Done })
+EndTold all written status.SomeRefused = Says (Fixed all) [] (record { text = written; status = status.SomeRefused })
 EndTold all written status.WriteFault = Unit {0}
 EndTold all written status.Memory = Unit {0}
 EndTold all written ending = ⊥
@@ -67,7 +67,7 @@ module _ {State : Type 0} {held0 held : Option (List ℕ)} {session : Session St
     answered = seen ++ line ∷ [];
     later = later;
     splits = splits;
-    state = behind ∙ ap (λ (t : Stage State). (after_next session t line).state) answered.stage ∙ ap (λ (t : Stage State). t.state) (sym (after-append session (start first) seen (line ∷ [])));
+    state = behind ∙ ap (λ (t : Stage State). (after_next session t line).state) answered.stage ∙ ap (λ (t : Stage State). t.state) (sym (stage_after-append session (start first) seen (line ∷ [])));
   }
 
   -- a flush writes a prefix of what is gathered
@@ -95,9 +95,9 @@ module _ {State : Type 0} {held0 held : Option (List ℕ)} {session : Session St
     so_far = ap (λ (l : List ℕ). answered.written ++ l) text_is ∙ sym (append_assoc answered.written text (next_writes session s line))
         ∙ ap (λ (l : List ℕ). l ++ next_writes session s line) answered.so_far
         ∙ ap (λ (t : Stage State). out_from session (start first) seen ++ next_writes session t line) answered.stage
-        ∙ ap (λ (l : List ℕ). out_from session (start first) seen ++ l) (sym (append-nil (next_writes session (after session (start first) seen) line)))
+        ∙ ap (λ (l : List ℕ). out_from session (start first) seen ++ l) (sym (append-nil (next_writes session (stage_after session (start first) seen) line)))
         ∙ sym (out_from-append session (start first) seen (line ∷ []));
-    stage = s_is ∙ ap (λ (t : Stage State). after_next session t line) answered.stage ∙ sym (after-append session (start first) seen (line ∷ []));
+    stage = s_is ∙ ap (λ (t : Stage State). after_next session t line) answered.stage ∙ sym (stage_after-append session (start first) seen (line ∷ []));
     later = omega (arith, answered.later, counts.0);
     spent = spent_more line counts.1;
   }
@@ -106,16 +106,16 @@ module _ {State : Type 0} {held0 held : Option (List ℕ)} {session : Session St
   module _ (all later : List (Option (List ℕ))) (splits : all ≡ seen ++ later) where
     -- what is still to be written
     rest : List ℕ
-    rest = out_from session s later ++ session.ends (after session (start first) all).state
+    rest = out_from session s later ++ session.ends (stage_after session (start first) all).state
 
     goes_on : (spoken (speech session first) all).text ≡ answered.written ++ (text ++ rest)
     unfolding rest
     goes_on =
-        let end = session.ends (after session (start first) all).state in
+        let end = session.ends (stage_after session (start first) all).state in
         ap (λ (l : List ℕ). l ++ end) (
         ap (out_from session (start first)) splits
         ∙ out_from-append session (start first) seen later
-        ∙ ap (λ (l : List ℕ). l ++ out_from session (after session (start first) seen) later) (sym answered.so_far)
+        ∙ ap (λ (l : List ℕ). l ++ out_from session (stage_after session (start first) seen) later) (sym answered.so_far)
         ∙ ap (λ (t : Stage State). (answered.written ++ text) ++ out_from session t later) (sym answered.stage)
         )
         ∙ append_assoc (answered.written ++ text) (out_from session s later) end
@@ -149,16 +149,16 @@ module _ {State : Type 0} {held0 held : Option (List ℕ)} {session : Session St
   module _ (all : List (Option (List ℕ))) (same : all ≡ seen) where
     end_text : (spoken (speech session first) all).text ≡ answered.written ++ (text ++ session.ends s.state)
     end_text =
-        ap (λ (ls : List (Option (List ℕ))). out_from session (start first) ls ++ session.ends (after session (start first) ls).state) same
+        ap (λ (ls : List (Option (List ℕ))). out_from session (start first) ls ++ session.ends (stage_after session (start first) ls).state) same
         ∙ ap (λ (t : Stage State). out_from session (start first) seen ++ session.ends t.state) (sym answered.stage)
         ∙ ap (λ (l : List ℕ). l ++ session.ends s.state) (sym answered.so_far)
         ∙ append_assoc answered.written text (session.ends s.state)
 
     end_status : (spoken (speech session first) all).status ≡ status_of s.refused
-    end_status = ap (λ (ls : List (Option (List ℕ))). status_of (after session (start first) ls).refused) same ∙ ap (λ (t : Stage State). status_of t.refused) (sym answered.stage)
+    end_status = ap (λ (ls : List (Option (List ℕ))). status_of (stage_after session (start first) ls).refused) same ∙ ap (λ (t : Stage State). status_of t.refused) (sym answered.stage)
 
-    end_state : s.state ≡ (after session (start first) all).state
-    end_state = ap (λ (t : Stage State). t.state) answered.stage ∙ ap (λ (ls : List (Option (List ℕ))). (after session (start first) ls).state) (sym same)
+    end_state : s.state ≡ (stage_after session (start first) all).state
+    end_state = ap (λ (t : Stage State). t.state) answered.stage ∙ ap (λ (ls : List (Option (List ℕ))). (stage_after session (start first) ls).state) (sym same)
 
     left_by_all : LeftByPrefix session first s.state all
     left_by_all = record { answered = all; later = []; splits = sym (append-nil all); state = end_state }
@@ -175,8 +175,8 @@ module _ {State : Type 0} {held0 held : Option (List ℕ)} {session : Session St
     }
 
     module _ {held_now : Option (List ℕ)} {steps_now : ℕ} {whole_ones : List (Option (List ℕ))} (counts : StepsWithin steps steps_now (session.end_cost s.state)) where
-      ended_all : (ending : Status) → ((written : List ℕ) → Says (Written (spoken (speech session first) all)) [] (record { text = written; status = ending }) → EndTold (spoken (speech session first) all) written ending)
-          → (s.state ≡ (after session (start first) all).state → StateAt session first s.state all whole_ones ending)
+      ended_all : (ending : Status) → ((written : List ℕ) → Says (Fixed (spoken (speech session first) all)) [] (record { text = written; status = ending }) → EndTold (spoken (speech session first) all) written ending)
+          → (s.state ≡ (stage_after session (start first) all).state → StateAt session first s.state all whole_ones ending)
           → Appends held held_now (text ++ session.ends s.state) → status_of s.refused ≡ ending → Ended held0 held_now session first s.state steps0 steps_now all whole_ones ending
       ended_all ending tells left appends is =
           let end = text ++ session.ends s.state in

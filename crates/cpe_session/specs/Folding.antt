@@ -2,13 +2,13 @@
 use Rattle.std.specs.Prelude.{◌≡◌, ℕ, ◌+◌, List, [], ◌∷◌, ◌++◌}
 use Rattle.std.specs.declared.option.Option.{Option}
 use Rattle.cpe_io.specs.Lines.{lines, whole}
-use Rattle.cpe_session.specs.Session.{Session, Stage, state_of, line_says, next_cost}
+use Rattle.cpe_session.specs.Session.{Session, Stage, state_after, line_says, next_cost}
 use Rattle.cpe_session.specs.declared.status.Status.{Status}
 use Rattle.cpe_session.specs.declared.status.Status.TheVariants.{Done, SomeRefused, Usage, ReadFault, WriteFault, Memory, Endless}
 
 -- each line changes the state by this function, whatever its number
 abbrev pub ChangesBy : {State : Type 0} → Session State → (State → Option (List ℕ) → State) → Type 0
-ChangesBy {State = State} session change = (state : State) (number : ℕ) (line : Option (List ℕ)) → state_of state (line_says session state number line) ≡ change state line
+ChangesBy {State = State} session change = (state : State) (number : ℕ) (line : Option (List ℕ)) → state_after state (line_says session state number line) ≡ change state line
 
 -- the state after these lines, where each changes it by this function
 abbrev pub folded : {State : Type 0} → (State → Option (List ℕ) → State) → State → List (Option (List ℕ)) → State

@@ -1,14 +1,14 @@
 mod PartLemmas
-mod Loop
+pub mod Loop
 mod TestLemmas
-mod Readers
-mod PartReaders
-mod RowReaders
+pub mod Readers
+pub mod PartReaders
+pub mod RowReaders
 mod TestReaders
-mod RowsReader
+pub mod RowsReader
 mod WriteLemmas
-mod StateLemmas
+pub mod StateLemmas
 mod SmallCases
 mod ToldLemmas
 mod ShortLemmas
-mod NameLemmas
+pub mod NameLemmas

@@ -1,6 +1,5 @@
 -- Names of places, one after the other.
-use Rattle.std.proofs.Common.{◌≡◌, refl, sym, ◌∙◌, ap, subst, ℕ, zero, suc, ◌+◌, ◌<◌, ◌≤◌, List, [], ◌∷◌, ◌++◌, length, take, get_or, Option, Some, None, slice_get, arith}
-use Rattle.std.specs.Option.{option_map}
+use Rattle.std.proofs.Common.{◌≡◌, refl, sym, ◌∙◌, subst, ℕ, zero, suc, ◌+◌, ◌<◌, ◌≤◌, List, [], ◌∷◌, ◌++◌, length, take, get_or, Option, Some, None, arith}
 use Rattle.std.proofs.lemmas.List.{take_more}
 use Rattle.cpe_name.specs.Eleven.{Values}
 use Rattle.cpe_snapshot.specs.declared.rows.PlacedEntry.{PlacedEntry}

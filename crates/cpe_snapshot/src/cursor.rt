@@ -7,7 +7,7 @@ use std::marker::Model;
 
 /// The bytes that are left to be read. Contracts see it as these.
 #[derive(Drop)]
-pub(crate) struct Cursor<'a> {
+pub struct Cursor<'a> {
     left: &'a [u8],
 }
 
@@ -21,14 +21,14 @@ impl<'a> Model for Cursor<'a> {
 
 impl<'a> Cursor<'a> {
     /// All of these bytes.
-    pub(crate) fn new(bytes: &'a [u8]) -> Cursor<'a>
+    pub fn new(bytes: &'a [u8]) -> Cursor<'a>
         ensures { result ≡ bytes.now }
     {
         Cursor { left: bytes }
     }
 
     /// Whether nothing is left.
-    pub(crate) fn is_done(&self) -> bool
+    pub fn is_done(&self) -> bool
         ensures { result ≡ (length self.now == 0) }
     {
         self.left.is_empty()
@@ -60,8 +60,11 @@ impl<'a> Cursor<'a> {
     }
 
     /// The number that the next four bytes say.
+    ///
+    /// # Errors
+    /// `NotSnapshot` where there are fewer.
     #[tactic(auto, unfolding(crate::specs::Reading::number_at))]
-    pub(crate) fn number(&mut self) -> Result<u32, LoadFault>
+    pub fn number(&mut self) -> Result<u32, LoadFault>
         ensures { Found result self.new (number_at self.old) }
     {
         let bytes = self.bytes(4)?;

@@ -12,8 +12,10 @@ mod rows;
 mod test;
 mod write;
 
+pub use cursor::Cursor;
 pub use fault::LoadFault;
-pub use load::read_rows;
+pub use load::{Head, read_head, read_rows};
 pub use names::names_at;
+pub use parts::{Part, many};
 pub use rows::{KeptResult, PlacedDeprecation, PlacedEntry, PlacedRows};
 pub use write::{push_entry, push_head, push_name, push_result, push_statement};

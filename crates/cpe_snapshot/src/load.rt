@@ -13,11 +13,15 @@ use std::alloc::Global;
 
 /// How many rows of each kind there are.
 #[derive(Clone, Copy)]
-pub(crate) struct Head {
-    entries: u32,
-    items: u32,
-    statements: u32,
-    results: u32,
+pub struct Head {
+    /// Entries.
+    pub entries: u32,
+    /// Items.
+    pub items: u32,
+    /// Statements.
+    pub statements: u32,
+    /// Results of checks.
+    pub results: u32,
 }
 
 #[tactic(auto, unfolding(crate::specs::Reading::mark_at))]
@@ -59,8 +63,12 @@ fn is_few(head: Head) -> bool
         && head.results as usize <= MOST_CHECKS
 }
 
+/// What stands before the rows: the mark, and how many rows of each kind there are, none of them more than there may be.
+///
+/// # Errors
+/// `NotSnapshot` where that doesn't stand there.
 #[tactic(auto, unfolding(crate::specs::Reading::head_at))]
-fn read_head(cursor: &mut Cursor<'_>) -> Result<Head, LoadFault>
+pub fn read_head(cursor: &mut Cursor<'_>) -> Result<Head, LoadFault>
     ensures { Found result cursor.new (head_at cursor.old) }
 {
     let head = numbers(cursor)?;

@@ -13,11 +13,14 @@ use cpe_rows::{List, Text, is_lower};
 use std::alloc::Global;
 
 /// A part of rows that is read from bytes.
-pub(crate) trait Part: Drop {
+pub trait Part: Drop {
     /// What reading says.
     ghost read: { List ℕ → Option (Self × List ℕ) };
 
     /// The part that stands next.
+    ///
+    /// # Errors
+    /// `NotSnapshot` where none does, or memory runs out.
     fn take(alloc: Global, cursor: &mut Cursor<'_>) -> Result<Self, LoadFault>
         ensures { Took result cursor.new (read cursor.old) };
 }
@@ -91,7 +94,10 @@ pub(crate) fn name(alloc: Global, cursor: &mut Cursor<'_>) -> Result<Wfn, LoadFa
 }
 
 /// So many parts. The list grows while its parts are there, so that a number takes no memory.
-pub(crate) fn many<P: Part>(
+///
+/// # Errors
+/// `NotSnapshot` where so many don't stand there, or memory runs out.
+pub fn many<P: Part>(
     alloc: Global,
     cursor: &mut Cursor<'_>,
     count: u32,
@@ -101,7 +107,7 @@ pub(crate) fn many<P: Part>(
     let mut parts = List::new(alloc);
     for _ in 0..count {
         let part = P::take(alloc, cursor)?;
-        parts.push(part)?;
+        parts.push_close(part)?;
     }
     Ok(parts)
 }

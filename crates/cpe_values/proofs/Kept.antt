@@ -1,5 +1,5 @@
 -- What stands there is kept where more is put after it.
-use Rattle.std.proofs.Common.{◌≡◌, ℕ, List, [], ◌∷◌, ◌++◌, length, take, refl, ap, ◌∙◌}
+use Rattle.std.proofs.Common.{◌≡◌, ℕ, List, [], ◌∷◌, ◌++◌, length, take, refl, ap, ◌∙◌, append_assoc}
 use Rattle.std.proofs.Math.Seq.{take-append_seam}
 
 pub kept_append : (a b t : List ℕ) → b ≡ a ++ t → take (length a) b ≡ a
@@ -14,5 +14,9 @@ kept_along (x ∷ a) (y ∷ b) (z ∷ c) h k =
     let whole : take (length b) c ≡ b = cc in
     let head : z ≡ x = cc in
     ap (λ (d : ℕ). d ∷ take (length a) c) head ∙ ap (λ (u : List ℕ). x ∷ u) (kept_along a b c front whole)
+
+-- one part put after the other
+pub put_both : (x y z start tail whole : List ℕ) → y ≡ x ++ start → z ≡ y ++ tail → start ++ tail ≡ whole → z ≡ x ++ whole
+put_both x y z start tail whole first second all = second ∙ ap (λ (u : List ℕ). u ++ tail) first ∙ append_assoc x start tail ∙ ap (λ (u : List ℕ). x ++ u) all
 
 pub ruleset keeping = (kept_append, kept_along)

@@ -6,3 +6,4 @@ pub mod SkippingLemmas
 pub mod LaneLemmas
 pub mod Unspelled
 pub mod Kept
+pub mod BareBodies

@@ -1,10 +1,11 @@
 // How texts are spelled, character by character.
-ghost use Rattle.std.specs.Prelude.{◌≡◌, OnOk, replicate, ◌++◌, take, length};
+ghost use Rattle.std.specs.Prelude.{◌≡◌, OnOk, replicate, ◌++◌, ◌-◌, take, length};
 ghost use Rattle.std.specs.List.{flat_map};
 ghost use Rattle.cpe_values.specs.Parts.{is_character};
+ghost use Rattle.cpe_values.specs.Skipping.{skip_while};
 ghost use Rattle.cpe_values.specs.Spelling.{is_bare, character, edge_text, spelling, is_letter, is_digit};
 
-use crate::{Edge, Memory, Pattern};
+use crate::{Edge, Memory, Pattern, skip_bare, skip_word};
 
 /// Where a text is spelled.
 #[derive(Clone, Copy, Debug, PartialEq, Eq)]
@@ -103,7 +104,7 @@ fn push_character(out: &mut Vec<u8>, style: Style, byte: u8) -> Result<(), Memor
 }
 
 #[tactic(auto, using(crate::proofs::Kept::keeping))]
-fn push_body(out: &mut Vec<u8>, style: Style, body: &[u8]) -> Result<(), Memory>
+fn push_characters(out: &mut Vec<u8>, style: Style, body: &[u8]) -> Result<(), Memory>
     ensures spelled { OnOk result (out.new.items ≡ out.old.items ++ flat_map (character style) body.now) }
     ensures kept { take (length out.old.items) out.new.items ≡ out.old.items }
 {
@@ -111,6 +112,43 @@ fn push_body(out: &mut Vec<u8>, style: Style, body: &[u8]) -> Result<(), Memory>
         push_character(out, style, *byte)?;
     }
     Ok(())
+}
+
+// What is left after the characters that stand bare.
+fn behind_bare(style: Style, body: &[u8]) -> &[u8]
+    ensures { result.now ≡ skip_while (is_bare style) body.now }
+{
+    match style {
+        Style::Wfn => skip_word(body),
+        Style::Formatted => skip_bare(body),
+    }
+}
+
+// The bytes before what is left.
+fn before<'a>(all: &'a [u8], rest: &[u8]) -> &'a [u8]
+    ensures { result.now ≡ take (length all.now - length rest.now) all.now }
+{
+    &all[..all.len().saturating_sub(rest.len())]
+}
+
+// Puts bytes as they are.
+#[tactic(auto, using(crate::proofs::Kept::keeping))]
+fn push_bytes(out: &mut Vec<u8>, bytes: &[u8]) -> Result<(), Memory>
+    ensures put { OnOk result (out.new.items ≡ out.old.items ++ bytes.now) }
+    ensures kept { take (length out.old.items) out.new.items ≡ out.old.items }
+{
+    out.extend_from_slice(bytes)?;
+    Ok(())
+}
+
+// Most bodies have bare characters alone: these are put at once.
+fn push_body(out: &mut Vec<u8>, style: Style, body: &[u8]) -> Result<(), Memory>
+    ensures spelled { OnOk result (out.new.items ≡ out.old.items ++ flat_map (character style) body.now) }
+    ensures kept { take (length out.old.items) out.new.items ≡ out.old.items }
+{
+    let rest = behind_bare(style, body);
+    push_bytes(out, before(body, rest))?;
+    push_characters(out, style, rest)
 }
 
 /// Puts the spelling of a text after what `out` holds: its lead, its body character by character, and its trail.

@@ -6,13 +6,13 @@ use Rattle.std.proofs.lemmas.List.{length-set}
 use Rattle.std.proofs.lemmas.List.Elements.{Contains-append_cases}
 use Rattle.std.proofs.lemmas.List.Sums.{sum_by-cons}
 use Rattle.deprecation_graph.specs.declared.limits.TheConstants.{MOST_ENDS}
-use Rattle.deprecation_graph.specs.declared.kept.Kept.{Kept}
+use Rattle.deprecation_graph.specs.declared.kept.KeptGraph.{KeptGraph}
 use Rattle.deprecation_graph.specs.declared.groups.Member.{Member}
 use Rattle.deprecation_graph.specs.Paths.{HasEdge, Leads}
 use Rattle.deprecation_graph.specs.Chains.{reaches}
-use Rattle.deprecation_graph.specs.Faults.{is_wide, wide_in}
+use Rattle.deprecation_graph.specs.Faults.{is_wide_node, wide_in}
 use Rattle.deprecation_graph.specs.Searches.{with_one}
-use Rattle.deprecation_graph.specs.Graph.{next_in, active_in, ends_in, successors, node_of, changed, NamesNodes}
+use Rattle.deprecation_graph.specs.Graph.{next_in, active_in, ends_in, successors, node_of, changed_nodes, NamesNodes}
 use Rattle.deprecation_graph.specs.Groups.{total, counts, active_of, AreMembers, IsHead, count_in, count_at, IsName, AreNames, AreSmall}
 use Rattle.deprecation_graph.specs.Kept.{nodes_in, IsKept}
 use Rattle.deprecation_graph.proofs.Rising.{is_in, is_in-Contains, Contains-cases, Contains-rest, Contains-range, Contains-filter_range, length-le_rising}
@@ -121,7 +121,7 @@ differ x y e same = let t : false ≡ true = sym (ap not (eq-eqb x y same)) ∙ 
 
 -- ---- paths, and ends after the change
 
-module _ (kept : Kept) (ok : IsKept kept) where
+module _ (kept : KeptGraph) (ok : IsKept kept) where
   same_group : {x y : ℕ} → HasEdge (next_in (nodes_in kept)) x y → ok.groups.group x ≡ ok.groups.group y
   same_group {x} {y} edge = ok.groups.joined x y (subst (λ (next : ℕ → List ℕ). HasEdge next x y) (same_steps kept None ok.next) edge)
 
@@ -138,13 +138,13 @@ module _ (kept : Kept) (ok : IsKept kept) where
     among y h = small.all kept.active.items ok.groups.group ok.groups.members y h
 
     -- so does one after the change that comes from a source, in one of the groups
-    led_among : {x y : ℕ} → Contains small.names (ok.groups.group x) → Leads (next_in (changed (nodes_in kept) a to)) x y → Contains small.names (ok.groups.group y)
+    led_among : {x y : ℕ} → Contains small.names (ok.groups.group x) → Leads (next_in (changed_nodes (nodes_in kept) a to)) x y → Contains small.names (ok.groups.group y)
     led_among {x} {y} here l = Leads-forth (λ z. Contains small.names (ok.groups.group z)) (λ u v edge within. elim (cases_eq u a) [
-      | inl same ↦ among v (inr (edge_is_successor (nodes_in kept) a to ok.lawful change v (subst (λ (z : ℕ). HasEdge (next_in (changed (nodes_in kept) a to)) z v) same edge)))
+      | inl same ↦ among v (inr (edge_is_successor (nodes_in kept) a to ok.lawful change v (subst (λ (z : ℕ). HasEdge (next_in (changed_nodes (nodes_in kept) a to)) z v) same edge)))
       | inr ne ↦ subst (Contains small.names) (same_group (subst (λ (ys : List ℕ). Contains ys v) (next_in-other (nodes_in kept) a to u ne) edge)) within
     ]) l here
 
-    few_ends : (x : ℕ) → x < length (nodes_in kept) → Leads (next_in (nodes_in kept)) x a → length (ends_in (changed (nodes_in kept) a to) x) ≤ MOST_ENDS
+    few_ends : (x : ℕ) → x < length (nodes_in kept) → Leads (next_in (nodes_in kept)) x a → length (ends_in (changed_nodes (nodes_in kept) a to) x) ≤ MOST_ENDS
     few_ends x lt source =
         let p = is_among ok.groups.group kept.active.items small.names in
         let n = length kept.active.items in
@@ -153,7 +153,7 @@ module _ (kept : Kept) (ok : IsKept kept) where
           arith,
           small.few,
           all,
-          length-le_rising (ends_in (changed (nodes_in kept) a to) x) (a ∷ filter p (range_with_len 0 n)) (ends_rising (next_in (changed (nodes_in kept) a to)) (active_in (changed (nodes_in kept) a to)) (length (changed (nodes_in kept) a to)) x) (λ y c. elim (cases_eq y a) [
+          length-le_rising (ends_in (changed_nodes (nodes_in kept) a to) x) (a ∷ filter p (range_with_len 0 n)) (ends_rising (next_in (changed_nodes (nodes_in kept) a to)) (active_in (changed_nodes (nodes_in kept) a to)) (length (changed_nodes (nodes_in kept) a to)) x) (λ y c. elim (cases_eq y a) [
             | inl same ↦ (0, omega arith, sym same)
             | inr ne ↦
                 let h = (Contains-ends_after (nodes_in kept) a to ok.lawful change x y lt).0 c in
@@ -164,11 +164,11 @@ module _ (kept : Kept) (ok : IsKept kept) where
           ]),
         )
 
-    pub enclosed : wide_in (changed (nodes_in kept) a to) ≡ None
-    enclosed = find-None (is_wide (changed (nodes_in kept) a to)) (range_with_len 0 (length (changed (nodes_in kept) a to))) (λ x c.
-        let lt : x < length (nodes_in kept) = omega (arith, (Contains-range (length (changed (nodes_in kept) a to)) x).0 c, length-set (nodes_in kept) a (node_of to)) in
-        le-ltb MOST_ENDS (length (ends_in (changed (nodes_in kept) a to) x)) (narrow x lt (cases_Bool (reaches (next_in (nodes_in kept)) (length (nodes_in kept)) x a))))
+    pub enclosed : wide_in (changed_nodes (nodes_in kept) a to) ≡ None
+    enclosed = find-None (is_wide_node (changed_nodes (nodes_in kept) a to)) (range_with_len 0 (length (changed_nodes (nodes_in kept) a to))) (λ x c.
+        let lt : x < length (nodes_in kept) = omega (arith, (Contains-range (length (changed_nodes (nodes_in kept) a to)) x).0 c, length-set (nodes_in kept) a (node_of to)) in
+        le-ltb MOST_ENDS (length (ends_in (changed_nodes (nodes_in kept) a to) x)) (narrow x lt (cases_Bool (reaches (next_in (nodes_in kept)) (length (nodes_in kept)) x a))))
       where
-        narrow : (x : ℕ) → x < length (nodes_in kept) → (reaches (next_in (nodes_in kept)) (length (nodes_in kept)) x a ≡ true) ⊎ (reaches (next_in (nodes_in kept)) (length (nodes_in kept)) x a ≡ false) → length (ends_in (changed (nodes_in kept) a to) x) ≤ MOST_ENDS
+        narrow : (x : ℕ) → x < length (nodes_in kept) → (reaches (next_in (nodes_in kept)) (length (nodes_in kept)) x a ≡ true) ⊎ (reaches (next_in (nodes_in kept)) (length (nodes_in kept)) x a ≡ false) → length (ends_in (changed_nodes (nodes_in kept) a to) x) ≤ MOST_ENDS
         narrow x lt (inl source) = few_ends x lt (reaches-leads (next_in (nodes_in kept)) (length (nodes_in kept)) x a source)
         narrow x lt (inr away) = omega (arith, ok.lawful.narrow x lt, ap length (same_ends (nodes_in kept) a to ok.lawful change x lt (λ l. both_ways (reaches (next_in (nodes_in kept)) (length (nodes_in kept)) x a) away (leads-reaches (next_in (nodes_in kept)) (length (nodes_in kept)) x a ok.lawful.closed lt l))))

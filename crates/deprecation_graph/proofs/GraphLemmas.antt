@@ -9,8 +9,8 @@ use Rattle.std.proofs.lemmas.List.Elements.{Contains-append_left, Contains-appen
 use Rattle.deprecation_graph.specs.declared.limits.TheConstants.{MOST_ENDS, MOST_SUCCESSORS, MOST_NODES}
 use Rattle.deprecation_graph.specs.Paths.{HasEdge, IsPathFrom, last_from, Leads, IsClosed, IsAcyclic}
 use Rattle.deprecation_graph.specs.Chains.{reaches, chain_of}
-use Rattle.deprecation_graph.specs.Graph.{Node, next_or_none, active_or_not, next_in, active_in, ends_in, successors, node_of, changed, NamesNodes, IsLawful}
-use Rattle.deprecation_graph.specs.Faults.{cycle_in, is_wide, wide_in, first_fault, change_fault}
+use Rattle.deprecation_graph.specs.Graph.{Node, next_or_none, active_or_not, next_in, active_in, ends_in, successors, node_of, changed_nodes, NamesNodes, IsLawful}
+use Rattle.deprecation_graph.specs.Faults.{cycle_in, is_wide_node, wide_in, first_fault, change_fault}
 use Rattle.deprecation_graph.proofs.Rising.{Contains-cases, Contains-rest, Contains-filter, Contains-range, length-le_rising, length-filter_one, same_rising}
 use Rattle.deprecation_graph.proofs.PathLemmas.{Leads-self, Leads-trans, Leads-last, Leads-below}
 use Rattle.deprecation_graph.proofs.ChainLemmas.{reaches-leads, leads-reaches, Contains-chain, Contains-ends, ends_rising}
@@ -40,20 +40,20 @@ pub slice_get-push_last : (nodes : List Node) (n : Node) → slice_get (nodes ++
 slice_get-push_last [] n = refl
 slice_get-push_last (x ∷ xs) n = slice_get-push_last xs n
 
-pub next_in-changed : (nodes : List Node) (a : ℕ) (to : Option (List ℕ)) → a < length nodes → next_in (changed nodes a to) a ≡ successors to
+pub next_in-changed : (nodes : List Node) (a : ℕ) (to : Option (List ℕ)) → a < length nodes → next_in (changed_nodes nodes a to) a ≡ successors to
 next_in-changed nodes a to lt = ap next_or_none (slice_get-set_same nodes a (node_of to) lt) ∙ next_of to
   where
     next_of : (o : Option (List ℕ)) → next_or_none (Some (node_of o)) ≡ successors o
     next_of None = refl
     next_of (Some ys) = refl
 
-pub next_in-other : (nodes : List Node) (a : ℕ) (to : Option (List ℕ)) (b : ℕ) → b ≢ a → next_in (changed nodes a to) b ≡ next_in nodes b
+pub next_in-other : (nodes : List Node) (a : ℕ) (to : Option (List ℕ)) (b : ℕ) → b ≢ a → next_in (changed_nodes nodes a to) b ≡ next_in nodes b
 next_in-other nodes a to b ne = ap next_or_none (slice_get-set_other nodes a b (node_of to) ne)
 
-active_in-changed : (nodes : List Node) (a : ℕ) (to : Option (List ℕ)) → a < length nodes → active_in (changed nodes a to) a ≡ (node_of to).active
+active_in-changed : (nodes : List Node) (a : ℕ) (to : Option (List ℕ)) → a < length nodes → active_in (changed_nodes nodes a to) a ≡ (node_of to).active
 active_in-changed nodes a to lt = ap active_or_not (slice_get-set_same nodes a (node_of to) lt)
 
-pub active_in-other : (nodes : List Node) (a : ℕ) (to : Option (List ℕ)) (b : ℕ) → b ≢ a → active_in (changed nodes a to) b ≡ active_in nodes b
+pub active_in-other : (nodes : List Node) (a : ℕ) (to : Option (List ℕ)) (b : ℕ) → b ≢ a → active_in (changed_nodes nodes a to) b ≡ active_in nodes b
 active_in-other nodes a to b ne = ap active_or_not (slice_get-set_other nodes a b (node_of to) ne)
 
 -- ---- tests that find nothing
@@ -89,13 +89,13 @@ first_fault-none None None e = (refl, refl)
 
 module _ (nodes : List Node) (a : ℕ) (to : Option (List ℕ)) (ok : IsLawful nodes) (change : NamesNodes nodes a to) where
   -- counted before the change, as the search does
-  pub closed_after : IsClosed (next_in (changed nodes a to)) (length nodes)
+  pub closed_after : IsClosed (next_in (changed_nodes nodes a to)) (length nodes)
   closed_after x y lt edge = elim (cases_eq x a) [
-    | inl e ↦ change.next y (subst (λ (ys : List ℕ). Contains ys y) (ap (next_in (changed nodes a to)) e ∙ next_in-changed nodes a to change.node) edge)
+    | inl e ↦ change.next y (subst (λ (ys : List ℕ). Contains ys y) (ap (next_in (changed_nodes nodes a to)) e ∙ next_in-changed nodes a to change.node) edge)
     | inr ne ↦ ok.closed x y lt (subst (λ (ys : List ℕ). Contains ys y) (next_in-other nodes a to x ne) edge)
   ]
 
-  pub edge_is_successor : (y : ℕ) → HasEdge (next_in (changed nodes a to)) a y → Contains (successors to) y
+  pub edge_is_successor : (y : ℕ) → HasEdge (next_in (changed_nodes nodes a to)) a y → Contains (successors to) y
   edge_is_successor y edge = subst (λ (ys : List ℕ). Contains ys y) (next_in-changed nodes a to change.node) edge
 
   -- no new successor leads to the node
@@ -103,9 +103,9 @@ module _ (nodes : List Node) (a : ℕ) (to : Option (List ℕ)) (ok : IsLawful n
   away_from_node none y c l =
       both_ways (reaches (next_in nodes) (length nodes) y a) (position_from-none_at (λ b. reaches (next_in nodes) (length nodes) b a) 1 (successors to) y none c) (leads-reaches (next_in nodes) (length nodes) y a ok.closed (change.next y c) l)
 
-  bare_after : (x : ℕ) → active_in (changed nodes a to) x ≡ true → next_in (changed nodes a to) x ≡ []
+  bare_after : (x : ℕ) → active_in (changed_nodes nodes a to) x ≡ true → next_in (changed_nodes nodes a to) x ≡ []
   bare_after x e = elim (cases_eq x a) [
-    | inl same ↦ ap (next_in (changed nodes a to)) same ∙ next_in-changed nodes a to change.node ∙ none to (sym (active_in-changed nodes a to change.node) ∙ ap (active_in (changed nodes a to)) (sym same) ∙ e)
+    | inl same ↦ ap (next_in (changed_nodes nodes a to)) same ∙ next_in-changed nodes a to change.node ∙ none to (sym (active_in-changed nodes a to change.node) ∙ ap (active_in (changed_nodes nodes a to)) (sym same) ∙ e)
     | inr ne ↦ next_in-other nodes a to x ne ∙ ok.bare x (sym (active_in-other nodes a to x ne) ∙ e)
   ]
     where
@@ -114,107 +114,107 @@ module _ (nodes : List Node) (a : ℕ) (to : Option (List ℕ)) (ok : IsLawful n
       none (Some ys) h = absurd cc
 
   -- what `check` allows leaves a lawful graph
-  pub lawful_after : change_fault nodes a to ≡ None → IsLawful (changed nodes a to)
+  pub lawful_after : change_fault nodes a to ≡ None → IsLawful (changed_nodes nodes a to)
   lawful_after allowed =
-      let none = first_fault-none (cycle_in nodes a (successors to)) (wide_in (changed nodes a to)) allowed in
+      let none = first_fault-none (cycle_in nodes a (successors to)) (wide_in (changed_nodes nodes a to)) allowed in
       let same = length-set nodes a (node_of to) in
       record {
         few = omega (arith, same, ok.few);
-        closed = subst (IsClosed (next_in (changed nodes a to))) (sym same) closed_after;
+        closed = subst (IsClosed (next_in (changed_nodes nodes a to))) (sym same) closed_after;
         bare = bare_after;
-        acyclic = acyclic_after (next_in nodes) (next_in (changed nodes a to)) a (next_in-other nodes a to) ok.acyclic (λ y edge. away_from_node none.0 y (edge_is_successor y edge));
-        narrow = λ x lt. ltb-false MOST_ENDS (length (ends_in (changed nodes a to) x)) (find-none_at (is_wide (changed nodes a to)) (range_with_len 0 (length (changed nodes a to))) x none.1 ((Contains-range (length (changed nodes a to)) x).1 lt));
+        acyclic = acyclic_after (next_in nodes) (next_in (changed_nodes nodes a to)) a (next_in-other nodes a to) ok.acyclic (λ y edge. away_from_node none.0 y (edge_is_successor y edge));
+        narrow = λ x lt. ltb-false MOST_ENDS (length (ends_in (changed_nodes nodes a to) x)) (find-none_at (is_wide_node (changed_nodes nodes a to)) (range_with_len 0 (length (changed_nodes nodes a to))) x none.1 ((Contains-range (length (changed_nodes nodes a to)) x).1 lt));
       }
 
-  pub Contains-ends_after : (x y : ℕ) → x < length nodes → Contains (ends_in (changed nodes a to) x) y ↔ (Leads (next_in (changed nodes a to)) x y × (active_in (changed nodes a to) y ≡ true))
+  pub Contains-ends_after : (x y : ℕ) → x < length nodes → Contains (ends_in (changed_nodes nodes a to) x) y ↔ (Leads (next_in (changed_nodes nodes a to)) x y × (active_in (changed_nodes nodes a to) y ≡ true))
   Contains-ends_after x y lt =
       let same = length-set nodes a (node_of to) in
-      Contains-ends (next_in (changed nodes a to)) (active_in (changed nodes a to)) (length (changed nodes a to)) x (subst (IsClosed (next_in (changed nodes a to))) (sym same) closed_after) (omega (arith, same)) y
+      Contains-ends (next_in (changed_nodes nodes a to)) (active_in (changed_nodes nodes a to)) (length (changed_nodes nodes a to)) x (subst (IsClosed (next_in (changed_nodes nodes a to))) (sym same) closed_after) (omega (arith, same)) y
 
   Contains-ends_before : (x y : ℕ) → x < length nodes → Contains (ends_in nodes x) y ↔ (Leads (next_in nodes) x y × (active_in nodes y ≡ true))
   Contains-ends_before x y lt = Contains-ends (next_in nodes) (active_in nodes) (length nodes) x ok.closed lt y
 
   -- who didn't lead to the node has the ends that it had
-  pub same_ends : (x : ℕ) → x < length nodes → (Leads (next_in nodes) x a → ⊥) → ends_in (changed nodes a to) x ≡ ends_in nodes x
-  same_ends x lt away = same_rising (ends_in (changed nodes a to) x) (ends_in nodes x) (ends_rising (next_in (changed nodes a to)) (active_in (changed nodes a to)) (length (changed nodes a to)) x) (ends_rising (next_in nodes) (active_in nodes) (length nodes) x) (λ y. (
+  pub same_ends : (x : ℕ) → x < length nodes → (Leads (next_in nodes) x a → ⊥) → ends_in (changed_nodes nodes a to) x ≡ ends_in nodes x
+  same_ends x lt away = same_rising (ends_in (changed_nodes nodes a to) x) (ends_in nodes x) (ends_rising (next_in (changed_nodes nodes a to)) (active_in (changed_nodes nodes a to)) (length (changed_nodes nodes a to)) x) (ends_rising (next_in nodes) (active_in nodes) (length nodes) x) (λ y. (
     λ c. let h = (Contains-ends_after x y lt).0 c in let l = (alike y).1 h.0 in (Contains-ends_before x y lt).1 (l, sym (active_in-other nodes a to y (other y l)) ∙ h.1),
     λ c. let h = (Contains-ends_before x y lt).0 c in (Contains-ends_after x y lt).1 ((alike y).0 h.0, active_in-other nodes a to y (other y h.0) ∙ h.1),
   ))
     where
-      alike : (y : ℕ) → Leads (next_in nodes) x y ↔ Leads (next_in (changed nodes a to)) x y
-      alike y = others_alike (next_in nodes) (next_in (changed nodes a to)) a (next_in-other nodes a to) x y away
+      alike : (y : ℕ) → Leads (next_in nodes) x y ↔ Leads (next_in (changed_nodes nodes a to)) x y
+      alike y = others_alike (next_in nodes) (next_in (changed_nodes nodes a to)) a (next_in-other nodes a to) x y away
 
       other : (y : ℕ) → Leads (next_in nodes) x y → y ≢ a
       other y l e = away (subst (Leads (next_in nodes) x) e l)
 
   -- where an active node gets one end at most, each of its sources loses it for that one
-  fewer_ends : active_in nodes a ≡ true → length (ends_in (changed nodes a to) a) ≤ 1 → (x : ℕ) → x < length nodes → Leads (next_in nodes) x a → length (ends_in (changed nodes a to) x) ≤ length (ends_in nodes x)
+  fewer_ends : active_in nodes a ≡ true → length (ends_in (changed_nodes nodes a to) a) ≤ 1 → (x : ℕ) → x < length nodes → Leads (next_in nodes) x a → length (ends_in (changed_nodes nodes a to) x) ≤ length (ends_in nodes x)
   fewer_ends was few x lt source =
       let lost = length-filter_one a (ends_in nodes x) ((Contains-ends_before x a lt).1 (source, was)) in
-      omega (arith, lost, few, length-append (ends_in (changed nodes a to) a) (filter other (ends_in nodes x)), length-le_rising (ends_in (changed nodes a to) x) (ends_in (changed nodes a to) a ++ filter other (ends_in nodes x)) (ends_rising (next_in (changed nodes a to)) (active_in (changed nodes a to)) (length (changed nodes a to)) x) among)
+      omega (arith, lost, few, length-append (ends_in (changed_nodes nodes a to) a) (filter other (ends_in nodes x)), length-le_rising (ends_in (changed_nodes nodes a to) x) (ends_in (changed_nodes nodes a to) a ++ filter other (ends_in nodes x)) (ends_rising (next_in (changed_nodes nodes a to)) (active_in (changed_nodes nodes a to)) (length (changed_nodes nodes a to)) x) among)
     where
       other : ℕ → Bool
       other y = not (eqb y a)
 
-      among : (y : ℕ) → Contains (ends_in (changed nodes a to) x) y → Contains (ends_in (changed nodes a to) a ++ filter (λ z. not (eqb z a)) (ends_in nodes x)) y
+      among : (y : ℕ) → Contains (ends_in (changed_nodes nodes a to) x) y → Contains (ends_in (changed_nodes nodes a to) a ++ filter (λ z. not (eqb z a)) (ends_in nodes x)) y
       among y c = go ((Contains-ends_after x y lt).0 c)
         where
-          new : Leads (next_in (changed nodes a to)) a y → active_in (changed nodes a to) y ≡ true → Contains (ends_in (changed nodes a to) a ++ filter (λ z. not (eqb z a)) (ends_in nodes x)) y
-          new l e = Contains-append_left (ends_in (changed nodes a to) a) (filter (λ z. not (eqb z a)) (ends_in nodes x)) y ((Contains-ends_after a y change.node).1 (l, e))
+          new : Leads (next_in (changed_nodes nodes a to)) a y → active_in (changed_nodes nodes a to) y ≡ true → Contains (ends_in (changed_nodes nodes a to) a ++ filter (λ z. not (eqb z a)) (ends_in nodes x)) y
+          new l e = Contains-append_left (ends_in (changed_nodes nodes a to) a) (filter (λ z. not (eqb z a)) (ends_in nodes x)) y ((Contains-ends_after a y change.node).1 (l, e))
 
-          go : Leads (next_in (changed nodes a to)) x y × (active_in (changed nodes a to) y ≡ true) → Contains (ends_in (changed nodes a to) a ++ filter (λ z. not (eqb z a)) (ends_in nodes x)) y
-          go h = elim (old_or_through (next_in nodes) (next_in (changed nodes a to)) a (next_in-other nodes a to) x y h.0) [
+          go : Leads (next_in (changed_nodes nodes a to)) x y × (active_in (changed_nodes nodes a to) y ≡ true) → Contains (ends_in (changed_nodes nodes a to) a ++ filter (λ z. not (eqb z a)) (ends_in nodes x)) y
+          go h = elim (old_or_through (next_in nodes) (next_in (changed_nodes nodes a to)) a (next_in-other nodes a to) x y h.0) [
             | inr k ↦ new k.1 h.1
             | inl l ↦ elim (cases_eq y a) [
-              | inl same ↦ new (subst (Leads (next_in (changed nodes a to)) a) (sym same) (Leads-self a)) h.1
-              | inr ne ↦ Contains-append_right (ends_in (changed nodes a to) a) (filter (λ z. not (eqb z a)) (ends_in nodes x)) y
+              | inl same ↦ new (subst (Leads (next_in (changed_nodes nodes a to)) a) (sym same) (Leads-self a)) h.1
+              | inr ne ↦ Contains-append_right (ends_in (changed_nodes nodes a to) a) (filter (λ z. not (eqb z a)) (ends_in nodes x)) y
                   ((Contains-filter (λ z. not (eqb z a)) y (ends_in nodes x)).1 ((Contains-ends_before x y lt).1 (l, sym (active_in-other nodes a to y ne) ∙ h.1), not_from_false (eqb y a) (ne_eqb y a ne)))
             ]
           ]
 
   -- a change of an active node to one end at most makes no node too wide
-  pub narrow_change : active_in nodes a ≡ true → length (ends_in (changed nodes a to) a) ≤ 1 → wide_in (changed nodes a to) ≡ None
-  narrow_change was few = find-None (is_wide (changed nodes a to)) (range_with_len 0 (length (changed nodes a to))) (λ x c.
-      let lt : x < length nodes = omega (arith, (Contains-range (length (changed nodes a to)) x).0 c, length-set nodes a (node_of to)) in
-      le-ltb MOST_ENDS (length (ends_in (changed nodes a to) x)) (narrow x lt (cases_Bool (reaches (next_in nodes) (length nodes) x a))))
+  pub narrow_change : active_in nodes a ≡ true → length (ends_in (changed_nodes nodes a to) a) ≤ 1 → wide_in (changed_nodes nodes a to) ≡ None
+  narrow_change was few = find-None (is_wide_node (changed_nodes nodes a to)) (range_with_len 0 (length (changed_nodes nodes a to))) (λ x c.
+      let lt : x < length nodes = omega (arith, (Contains-range (length (changed_nodes nodes a to)) x).0 c, length-set nodes a (node_of to)) in
+      le-ltb MOST_ENDS (length (ends_in (changed_nodes nodes a to) x)) (narrow x lt (cases_Bool (reaches (next_in nodes) (length nodes) x a))))
     where
-      narrow : (x : ℕ) → x < length nodes → (reaches (next_in nodes) (length nodes) x a ≡ true) ⊎ (reaches (next_in nodes) (length nodes) x a ≡ false) → length (ends_in (changed nodes a to) x) ≤ MOST_ENDS
+      narrow : (x : ℕ) → x < length nodes → (reaches (next_in nodes) (length nodes) x a ≡ true) ⊎ (reaches (next_in nodes) (length nodes) x a ≡ false) → length (ends_in (changed_nodes nodes a to) x) ≤ MOST_ENDS
       narrow x lt (inl source) = omega (arith, ok.narrow x lt, fewer_ends was few x lt (reaches-leads (next_in nodes) (length nodes) x a source))
       narrow x lt (inr away) = omega (arith, ok.narrow x lt, ap length (same_ends x lt (λ l. both_ways (reaches (next_in nodes) (length nodes) x a) away (leads-reaches (next_in nodes) (length nodes) x a ok.closed lt l))))
 
   -- a source ends at what each node that leads to it ends at
-  pub fewer_than_above : (x y : ℕ) → x < length nodes → y < length nodes → Leads (next_in nodes) x y → Leads (next_in nodes) y a → length (ends_in (changed nodes a to) y) ≤ length (ends_in (changed nodes a to) x)
-  fewer_than_above x y ltx lty l source = length-le_rising (ends_in (changed nodes a to) y) (ends_in (changed nodes a to) x) (ends_rising (next_in (changed nodes a to)) (active_in (changed nodes a to)) (length (changed nodes a to)) y) (λ z c.
+  pub fewer_than_above : (x y : ℕ) → x < length nodes → y < length nodes → Leads (next_in nodes) x y → Leads (next_in nodes) y a → length (ends_in (changed_nodes nodes a to) y) ≤ length (ends_in (changed_nodes nodes a to) x)
+  fewer_than_above x y ltx lty l source = length-le_rising (ends_in (changed_nodes nodes a to) y) (ends_in (changed_nodes nodes a to) x) (ends_rising (next_in (changed_nodes nodes a to)) (active_in (changed_nodes nodes a to)) (length (changed_nodes nodes a to)) y) (λ z c.
       let h = (Contains-ends_after y z lty).0 c in
-      (Contains-ends_after x z ltx).1 (Leads-trans (still_leads (next_in nodes) (next_in (changed nodes a to)) a (next_in-other nodes a to) ok.acyclic x y source l) h.0, h.1))
+      (Contains-ends_after x z ltx).1 (Leads-trans (still_leads (next_in nodes) (next_in (changed_nodes nodes a to)) a (next_in-other nodes a to) ok.acyclic x y source l) h.0, h.1))
 
   -- ---- the ends of the changed node
 
   -- a path from it has no step, or leads on from a new successor
-  new_path : (y : ℕ) → Leads (next_in (changed nodes a to)) a y → (a ≡ y) ⊎ ((b : ℕ) × Contains (successors to) b × Leads (next_in (changed nodes a to)) b y)
+  new_path : (y : ℕ) → Leads (next_in (changed_nodes nodes a to)) a y → (a ≡ y) ⊎ ((b : ℕ) × Contains (successors to) b × Leads (next_in (changed_nodes nodes a to)) b y)
   new_path y l = go l.path l.steps l.ends
     where
-      go : (p : List ℕ) → IsPathFrom (next_in (changed nodes a to)) a p → last_from a p ≡ y → (a ≡ y) ⊎ ((b : ℕ) × Contains (successors to) b × Leads (next_in (changed nodes a to)) b y)
+      go : (p : List ℕ) → IsPathFrom (next_in (changed_nodes nodes a to)) a p → last_from a p ≡ y → (a ≡ y) ⊎ ((b : ℕ) × Contains (successors to) b × Leads (next_in (changed_nodes nodes a to)) b y)
       go [] s e = inl e
       go (b ∷ p) s e = inr (b, edge_is_successor b s.0, record { path = p; steps = s.1; ends = e })
 
-  few_among : (xs : List ℕ) → length xs ≤ MOST_ENDS → ((y : ℕ) → Leads (next_in (changed nodes a to)) a y → active_in (changed nodes a to) y ≡ true → Contains xs y) → length (ends_in (changed nodes a to) a) ≤ MOST_ENDS
+  few_among : (xs : List ℕ) → length xs ≤ MOST_ENDS → ((y : ℕ) → Leads (next_in (changed_nodes nodes a to)) a y → active_in (changed_nodes nodes a to) y ≡ true → Contains xs y) → length (ends_in (changed_nodes nodes a to) a) ≤ MOST_ENDS
   few_among xs few among = omega (
     arith,
     few,
-    length-le_rising (ends_in (changed nodes a to) a) xs (ends_rising (next_in (changed nodes a to)) (active_in (changed nodes a to)) (length (changed nodes a to)) a) (λ y c.
+    length-le_rising (ends_in (changed_nodes nodes a to) a) xs (ends_rising (next_in (changed_nodes nodes a to)) (active_in (changed_nodes nodes a to)) (length (changed_nodes nodes a to)) a) (λ y c.
         let h = (Contains-ends_after a y change.node).0 c in among y h.0 h.1),
   )
 
   -- with one successor its ends are the ends of that one
-  pub one_is_narrow : cycle_in nodes a (successors to) ≡ None → length (successors to) ≤ 1 → length (ends_in (changed nodes a to) a) ≤ MOST_ENDS
+  pub one_is_narrow : cycle_in nodes a (successors to) ≡ None → length (successors to) ≤ 1 → length (ends_in (changed_nodes nodes a to) a) ≤ MOST_ENDS
   one_is_narrow none few = go (successors to) refl few
     where
       inactive : (o : Option (List ℕ)) (b : ℕ) → successors o ≡ b ∷ [] → (node_of o).active ≡ false
       inactive None b e = absurd cc
       inactive (Some ys) b e = refl
 
-      go : (ys : List ℕ) → successors to ≡ ys → length ys ≤ 1 → length (ends_in (changed nodes a to) a) ≤ MOST_ENDS
+      go : (ys : List ℕ) → successors to ≡ ys → length ys ≤ 1 → length (ends_in (changed_nodes nodes a to) a) ≤ MOST_ENDS
       go [] e few' = few_among (a ∷ []) (omega arith) (λ y l _. elim (new_path y l) [
         | inl same ↦ (0, omega arith, same)
         | inr h ↦ absurd (omega (arith, h.1.1, ap length e))
@@ -223,22 +223,22 @@ module _ (nodes : List Node) (a : ℕ) (to : Option (List ℕ)) (ok : IsLawful n
       go (b ∷ []) e few' =
           let here : Contains (successors to) b = subst (λ (xs : List ℕ). Contains xs b) (sym e) (0, omega arith, refl) in
           let below = change.next b here in
-          few_among (ends_in (changed nodes a to) b) (omega (arith, ok.narrow b below, ap length (same_ends b below (away_from_node none b here)))) (λ y l h. elim (new_path y l) [
-            | inl same ↦ absurd (both_ways (active_in (changed nodes a to) a) (active_in-changed nodes a to change.node ∙ inactive to b e) (ap (active_in (changed nodes a to)) same ∙ h))
-            | inr k ↦ (Contains-ends_after b y below).1 (subst (λ (x : ℕ). Leads (next_in (changed nodes a to)) x y) (only k.0 (subst (λ (xs : List ℕ). Contains xs k.0) e k.1)) k.2, h)
+          few_among (ends_in (changed_nodes nodes a to) b) (omega (arith, ok.narrow b below, ap length (same_ends b below (away_from_node none b here)))) (λ y l h. elim (new_path y l) [
+            | inl same ↦ absurd (both_ways (active_in (changed_nodes nodes a to) a) (active_in-changed nodes a to change.node ∙ inactive to b e) (ap (active_in (changed_nodes nodes a to)) same ∙ h))
+            | inr k ↦ (Contains-ends_after b y below).1 (subst (λ (x : ℕ). Leads (next_in (changed_nodes nodes a to)) x y) (only k.0 (subst (λ (xs : List ℕ). Contains xs k.0) e k.1)) k.2, h)
           ])
         where
           only : (x : ℕ) → Contains (b ∷ []) x → x ≡ b
           only x d = elim (Contains-cases x b [] d) [ inl same ↦ same | inr f ↦ absurd (omega (arith, f.1)) ]
 
   -- active successors are its ends
-  pub active_are_narrow : cycle_in nodes a (successors to) ≡ None → length (successors to) ≤ MOST_SUCCESSORS → ((y : ℕ) → Contains (successors to) y → active_in nodes y ≡ true) → length (ends_in (changed nodes a to) a) ≤ MOST_ENDS
+  pub active_are_narrow : cycle_in nodes a (successors to) ≡ None → length (successors to) ≤ MOST_SUCCESSORS → ((y : ℕ) → Contains (successors to) y → active_in nodes y ≡ true) → length (ends_in (changed_nodes nodes a to) a) ≤ MOST_ENDS
   active_are_narrow none few all = few_among (a ∷ successors to) (omega (arith, few)) (λ y l _. elim (new_path y l) [
     | inl same ↦ (0, omega arith, same)
     | inr h ↦ Contains-rest y a (successors to) (subst (Contains (successors to)) (Leads-last (bare h.0 h.1) h.2) h.1)
   ])
     where
-      bare : (b : ℕ) → Contains (successors to) b → (y : ℕ) → HasEdge (next_in (changed nodes a to)) b y → ⊥
+      bare : (b : ℕ) → Contains (successors to) b → (y : ℕ) → HasEdge (next_in (changed_nodes nodes a to)) b y → ⊥
       bare b c y edge =
           let away : b ≢ a = λ e. away_from_node none b c (subst (Leads (next_in nodes) b) e (Leads-self b)) in
           omega (arith, edge.1, ap length (next_in-other nodes a to b away ∙ ok.bare b (all b c)))

@@ -4,7 +4,7 @@ use Rattle.std.specs.List.{Contains}
 use Rattle.std.specs.List.Sorted.{IsStrictlyIncreasing}
 use Rattle.std.proofs.lemmas.List.{length-set, length_push}
 use Rattle.deprecation_graph.specs.Paths.{Leads, IsClosed}
-use Rattle.deprecation_graph.specs.Graph.{Node, active_or_not, next_in, active_in, chain_in, ends_in, sources_in, node_of, changed, NamesNodes, IsLawful}
+use Rattle.deprecation_graph.specs.Graph.{Node, active_or_not, next_in, active_in, chain_in, ends_in, sources_in, node_of, changed_nodes, NamesNodes, IsLawful}
 use Rattle.deprecation_graph.specs.Laws.{IsUntouched, ChangesAreLocal, SourcesStay, AdditionsAreLocal, AdditionsAreAlone}
 use Rattle.deprecation_graph.proofs.Rising.{same_rising, Contains-cases}
 use Rattle.deprecation_graph.proofs.PathLemmas.{Leads-below, Leads-self}
@@ -13,32 +13,32 @@ use Rattle.deprecation_graph.proofs.ChangeLemmas.{others_alike, source_before}
 use Rattle.deprecation_graph.proofs.GraphLemmas.{next_in-other, closed_after, same_ends, same_next, closed_push, slice_get-push_other, slice_get-push_last, leads_alone}
 
 module _ (nodes : List Node) (a : ℕ) (to : Option (List ℕ)) (ok : IsLawful nodes) (change : NamesNodes nodes a to) where
-  closed_now : IsClosed (next_in (changed nodes a to)) (length (changed nodes a to))
-  closed_now = subst (IsClosed (next_in (changed nodes a to))) (sym (length-set nodes a (node_of to))) (closed_after nodes a to ok change)
+  closed_now : IsClosed (next_in (changed_nodes nodes a to)) (length (changed_nodes nodes a to))
+  closed_now = subst (IsClosed (next_in (changed_nodes nodes a to))) (sym (length-set nodes a (node_of to))) (closed_after nodes a to ok change)
 
-  same_chain : (x : ℕ) → x < length nodes → (Leads (next_in nodes) x a → ⊥) → chain_in (changed nodes a to) x ≡ chain_in nodes x
-  same_chain x lt away = same_rising (chain_in (changed nodes a to) x) (chain_in nodes x) (chain_rising (next_in (changed nodes a to)) (length (changed nodes a to)) x) (chain_rising (next_in nodes) (length nodes) x) (λ y.
-      let alike = others_alike (next_in nodes) (next_in (changed nodes a to)) a (next_in-other nodes a to) x y away in
-      let new = Contains-chain (next_in (changed nodes a to)) (length (changed nodes a to)) x closed_now (omega (arith, length-set nodes a (node_of to))) y in
+  same_chain : (x : ℕ) → x < length nodes → (Leads (next_in nodes) x a → ⊥) → chain_in (changed_nodes nodes a to) x ≡ chain_in nodes x
+  same_chain x lt away = same_rising (chain_in (changed_nodes nodes a to) x) (chain_in nodes x) (chain_rising (next_in (changed_nodes nodes a to)) (length (changed_nodes nodes a to)) x) (chain_rising (next_in nodes) (length nodes) x) (λ y.
+      let alike = others_alike (next_in nodes) (next_in (changed_nodes nodes a to)) a (next_in-other nodes a to) x y away in
+      let new = Contains-chain (next_in (changed_nodes nodes a to)) (length (changed_nodes nodes a to)) x closed_now (omega (arith, length-set nodes a (node_of to))) y in
       let old = Contains-chain (next_in nodes) (length nodes) x ok.closed lt y in
       (λ c. old.1 (alike.1 (new.0 c)), λ c. new.1 (alike.0 (old.0 c))))
 
-  untouched : (x : ℕ) → x < length nodes → (Contains (sources_in nodes a) x → ⊥) → IsUntouched nodes (changed nodes a to) x
+  untouched : (x : ℕ) → x < length nodes → (Contains (sources_in nodes a) x → ⊥) → IsUntouched nodes (changed_nodes nodes a to) x
   untouched x lt away =
       let no_way : Leads (next_in nodes) x a → ⊥ = λ l. away ((Contains-sources (next_in nodes) (length nodes) a ok.closed x).1 (lt, l)) in
       record { chain = same_chain x lt no_way; ends = same_ends nodes a to ok change x lt no_way }
 
   -- the change from the new successors back to the old ones
-  back : (x : ℕ) → x ≢ a → next_in nodes x ≡ next_in (changed nodes a to) x
+  back : (x : ℕ) → x ≢ a → next_in nodes x ≡ next_in (changed_nodes nodes a to) x
   back x ne = sym (next_in-other nodes a to x ne)
 
-  sources_stay : sources_in (changed nodes a to) a ≡ sources_in nodes a
-  sources_stay = same_rising (sources_in (changed nodes a to) a) (sources_in nodes a) (sources_rising (next_in (changed nodes a to)) (length (changed nodes a to)) a) (sources_rising (next_in nodes) (length nodes) a) (λ x.
+  sources_stay : sources_in (changed_nodes nodes a to) a ≡ sources_in nodes a
+  sources_stay = same_rising (sources_in (changed_nodes nodes a to) a) (sources_in nodes a) (sources_rising (next_in (changed_nodes nodes a to)) (length (changed_nodes nodes a to)) a) (sources_rising (next_in nodes) (length nodes) a) (λ x.
       let same = length-set nodes a (node_of to) in
-      let new = Contains-sources (next_in (changed nodes a to)) (length (changed nodes a to)) a closed_now x in
+      let new = Contains-sources (next_in (changed_nodes nodes a to)) (length (changed_nodes nodes a to)) a closed_now x in
       let old = Contains-sources (next_in nodes) (length nodes) a ok.closed x in (
-        λ c. let h = new.0 c in old.1 (omega (arith, h.0, same), source_before (next_in nodes) (next_in (changed nodes a to)) a (next_in-other nodes a to) x h.1),
-        λ c. let h = old.0 c in new.1 (omega (arith, h.0, same), source_before (next_in (changed nodes a to)) (next_in nodes) a back x h.1),
+        λ c. let h = new.0 c in old.1 (omega (arith, h.0, same), source_before (next_in nodes) (next_in (changed_nodes nodes a to)) a (next_in-other nodes a to) x h.1),
+        λ c. let h = old.0 c in new.1 (omega (arith, h.0, same), source_before (next_in (changed_nodes nodes a to)) (next_in nodes) a back x h.1),
       ))
 
 pub changes_are_local_law : ChangesAreLocal

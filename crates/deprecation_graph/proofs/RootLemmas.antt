@@ -5,11 +5,11 @@ use Rattle.std.proofs.lemmas.Bool.{cases_Bool, ne_eqb, not_from_false, ltb-false
 use Rattle.std.proofs.lemmas.List.Sums.{AllPass-from_list_all}
 use Rattle.std.proofs.lemmas.List.Elements.{All-contains}
 use Rattle.deprecation_graph.specs.declared.limits.TheConstants.{MOST_ENDS}
-use Rattle.deprecation_graph.specs.declared.kept.Kept.{Kept}
+use Rattle.deprecation_graph.specs.declared.kept.KeptGraph.{KeptGraph}
 use Rattle.deprecation_graph.specs.Paths.{HasEdge, Leads}
 use Rattle.deprecation_graph.specs.Indexed.{list_of, has_none}
-use Rattle.deprecation_graph.specs.Graph.{Node, next_in, ends_in, sources_in, successors, changed, NamesNodes, IsLawful, IsChange}
-use Rattle.deprecation_graph.specs.Faults.{cycle_in, is_wide, wide_in}
+use Rattle.deprecation_graph.specs.Graph.{Node, next_in, ends_in, sources_in, successors, changed_nodes, NamesNodes, IsLawful, IsChange}
+use Rattle.deprecation_graph.specs.Faults.{cycle_in, is_wide_node, wide_in}
 use Rattle.deprecation_graph.specs.Kept.{nodes_in, AreFew, IsKept}
 use Rattle.deprecation_graph.proofs.Rising.{same_rising, Contains-cases, Contains-filter, length-filter_one, length-le_rising}
 use Rattle.deprecation_graph.proofs.PathLemmas.{Leads-self, Leads-then, Leads-trans, Leads-first}
@@ -30,23 +30,23 @@ sources_root nodes a ok lt none = same_rising (sources_in nodes a) (a ∷ []) (s
     only x c = elim (Contains-cases x a [] c) [ inl same ↦ same | inr d ↦ absurd (omega (arith, d.1)) ]
 
 -- so it alone can get too wide
-pub wide_root : (kept : Kept) (a : ℕ) (to : Option (List ℕ)) → IsKept kept → NamesNodes (nodes_in kept) a to → has_none kept.before.lists a ≡ true → find (is_wide (changed (nodes_in kept) a to)) (a ∷ []) ≡ wide_in (changed (nodes_in kept) a to)
+pub wide_root : (kept : KeptGraph) (a : ℕ) (to : Option (List ℕ)) → IsKept kept → NamesNodes (nodes_in kept) a to → has_none kept.before.lists a ≡ true → find (is_wide_node (changed_nodes (nodes_in kept) a to)) (a ∷ []) ≡ wide_in (changed_nodes (nodes_in kept) a to)
 wide_root kept a to ok change root =
-    ap (find (is_wide (changed (nodes_in kept) a to))) (sym (sources_root (nodes_in kept) a ok.lawful change.node (no_predecessor kept a ok root))) ∙ find_wide_source (nodes_in kept) a to ok.lawful change
+    ap (find (is_wide_node (changed_nodes (nodes_in kept) a to))) (sym (sources_root (nodes_in kept) a ok.lawful change.node (no_predecessor kept a ok root))) ∙ find_wide_source (nodes_in kept) a to ok.lawful change
 
 -- and doesn't where that is seen from its successors
-pub few_root : (kept : Kept) (a : ℕ) (to : Option (List ℕ)) → IsKept kept → IsChange (nodes_in kept) a to → has_none kept.before.lists a ≡ true → cycle_in (nodes_in kept) a (successors to) ≡ None → AreFew kept.active.items (successors to) → wide_in (changed (nodes_in kept) a to) ≡ None
+pub few_root : (kept : KeptGraph) (a : ℕ) (to : Option (List ℕ)) → IsKept kept → IsChange (nodes_in kept) a to → has_none kept.before.lists a ≡ true → cycle_in (nodes_in kept) a (successors to) ≡ None → AreFew kept.active.items (successors to) → wide_in (changed_nodes (nodes_in kept) a to) ≡ None
 few_root kept a to ok change root none few =
-    sym (wide_root kept a to ok change.names root) ∙ ap (λ (b : Bool). cond b (Some a) None) (le-ltb MOST_ENDS (length (ends_in (changed (nodes_in kept) a to) a)) (narrow few))
+    sym (wide_root kept a to ok change.names root) ∙ ap (λ (b : Bool). cond b (Some a) None) (le-ltb MOST_ENDS (length (ends_in (changed_nodes (nodes_in kept) a to) a)) (narrow few))
   where
-    narrow : AreFew kept.active.items (successors to) → length (ends_in (changed (nodes_in kept) a to) a) ≤ MOST_ENDS
+    narrow : AreFew kept.active.items (successors to) → length (ends_in (changed_nodes (nodes_in kept) a to) a) ≤ MOST_ENDS
     narrow (inl one) = one_is_narrow (nodes_in kept) a to ok.lawful change.names none one
     narrow (inr all) = active_are_narrow (nodes_in kept) a to ok.lawful change.names none change.few (λ y c.
         ap (λ (f : ℕ → Bool). f y) (same_marks kept None ok.next) ∙ All-contains (λ x. get_or kept.active.items x false ≡ true) (successors to) y (AllPass-from_list_all (λ x. get_or kept.active.items x false) (successors to) all) c)
 
 -- ---- the roots among the sources
 
-module _ (kept : Kept) (ok : IsKept kept) where
+module _ (kept : KeptGraph) (ok : IsKept kept) where
   predecessor : (a : ℕ) → has_none kept.before.lists a ≡ false → (x : ℕ) × (x < length (nodes_in kept)) × HasEdge (next_in (nodes_in kept)) x a
   predecessor a e = go (list_of kept.before.lists a) refl e
     where
@@ -90,17 +90,17 @@ module _ (kept : Kept) (ok : IsKept kept) where
   ]
 
   -- where no root among the sources is too wide, no source is
-  pub narrow_roots : (a : ℕ) (to : Option (List ℕ)) → NamesNodes (nodes_in kept) a to → find (is_wide (changed (nodes_in kept) a to)) (filter (has_none kept.before.lists) (sources_in (nodes_in kept) a)) ≡ None → wide_in (changed (nodes_in kept) a to) ≡ None
-  narrow_roots a to change none = sym (find_wide_source (nodes_in kept) a to ok.lawful change) ∙ find-None (is_wide (changed (nodes_in kept) a to)) (sources_in (nodes_in kept) a) (λ x c.
+  pub narrow_roots : (a : ℕ) (to : Option (List ℕ)) → NamesNodes (nodes_in kept) a to → find (is_wide_node (changed_nodes (nodes_in kept) a to)) (filter (has_none kept.before.lists) (sources_in (nodes_in kept) a)) ≡ None → wide_in (changed_nodes (nodes_in kept) a to) ≡ None
+  narrow_roots a to change none = sym (find_wide_source (nodes_in kept) a to ok.lawful change) ∙ find-None (is_wide_node (changed_nodes (nodes_in kept) a to)) (sources_in (nodes_in kept) a) (λ x c.
       let h = (Contains-sources (next_in (nodes_in kept)) (length (nodes_in kept)) a ok.lawful.closed x).0 c in
       narrow x h.0 h.1 (root_above (length (sources_in (nodes_in kept) x)) x (omega arith) h.0))
     where
-      narrow : (x : ℕ) → x < length (nodes_in kept) → Leads (next_in (nodes_in kept)) x a → HasRoot x → is_wide (changed (nodes_in kept) a to) x ≡ false
+      narrow : (x : ℕ) → x < length (nodes_in kept) → Leads (next_in (nodes_in kept)) x a → HasRoot x → is_wide_node (changed_nodes (nodes_in kept) a to) x ≡ false
       narrow x lt l r =
           let source = (Contains-sources (next_in (nodes_in kept)) (length (nodes_in kept)) a ok.lawful.closed r.root).1 (r.below, Leads-trans r.leads l) in
           let kept_root = (Contains-filter (has_none kept.before.lists) r.root (sources_in (nodes_in kept) a)).1 (source, r.bare) in
-          let few = ltb-false MOST_ENDS (length (ends_in (changed (nodes_in kept) a to) r.root)) (find-none_at (is_wide (changed (nodes_in kept) a to)) (filter (has_none kept.before.lists) (sources_in (nodes_in kept) a)) r.root none kept_root) in
-          le-ltb MOST_ENDS (length (ends_in (changed (nodes_in kept) a to) x)) (omega (arith, few, fewer_than_above (nodes_in kept) a to ok.lawful change r.root x r.below lt r.leads l))
+          let few = ltb-false MOST_ENDS (length (ends_in (changed_nodes (nodes_in kept) a to) r.root)) (find-none_at (is_wide_node (changed_nodes (nodes_in kept) a to)) (filter (has_none kept.before.lists) (sources_in (nodes_in kept) a)) r.root none kept_root) in
+          le-ltb MOST_ENDS (length (ends_in (changed_nodes (nodes_in kept) a to) x)) (omega (arith, few, fewer_than_above (nodes_in kept) a to ok.lawful change r.root x r.below lt r.leads l))
 
 -- ---- the forms in which a function asks
 

@@ -8,9 +8,9 @@ use Rattle.std.proofs.lemmas.List.Elements.{Contains-get_or}
 use Rattle.std.proofs.lemmas.List.Sums.{sum_by-cons, sum_by-set, sum_by_push}
 use Rattle.std.proofs.lemmas.Option.{slice_get-get_or}
 use Rattle.deprecation_graph.specs.declared.limits.TheConstants.{MOST_NODES, MOST_EDGES}
-use Rattle.deprecation_graph.specs.Graph.{Node, next_or_none, next_in, node_of, successors, changed, edge_count, IsLawful}
+use Rattle.deprecation_graph.specs.Graph.{Node, next_or_none, next_in, node_of, successors, changed_nodes, edge_count, IsLawful}
 use Rattle.deprecation_graph.proofs.GraphLemmas.{lawful_push}
-use Rattle.deprecation_graph.specs.declared.kept.Kept.{Kept}
+use Rattle.deprecation_graph.specs.declared.kept.KeptGraph.{KeptGraph}
 use Rattle.deprecation_graph.specs.Indexed.{list_of, size_of}
 use Rattle.deprecation_graph.specs.Mirror.{times, IsMirror}
 use Rattle.deprecation_graph.specs.Groups.{AreMembers, AreGroups, AreGrouped, Recounts, Joins}
@@ -22,16 +22,16 @@ use Rattle.deprecation_graph.proofs.MirrorLemmas.{mirror_moved, list_of-set, set
 use Rattle.deprecation_graph.proofs.KeptLemmas.{length-nodes_of, push-nodes, set-nodes, same_steps, kept_closed, closed_lists, closed_before}
 use Rattle.deprecation_graph.proofs.CountLemmas.{mirror_size}
 
-pub count_nodes : (kept : Kept) → IsKept kept → length (nodes_in kept) ≡ length kept.active.items
+pub count_nodes : (kept : KeptGraph) → IsKept kept → length (nodes_in kept) ≡ length kept.active.items
 count_nodes kept ok = length-nodes_of kept.active.items kept.next.lists ok.next
 
 -- both sides take as much of a pool
-pub kept_size : (kept : Kept) → IsKept kept → size_of kept.before.lists ≡ size_of kept.next.lists
+pub kept_size : (kept : KeptGraph) → IsKept kept → size_of kept.before.lists ≡ size_of kept.next.lists
 kept_size kept ok =
     let count : length kept.before.lists ≡ length kept.next.lists = ok.before ∙ sym ok.next in
     mirror_size kept.next.lists kept.before.lists ok.mirror count (closed_lists kept None ok (kept_closed kept ok)) (λ b a lt c. omega (arith, count, closed_before kept ok b a (omega (arith, count)) c))
 
-pub node_in : (kept : Kept) (value : List Node) (a : ℕ) → IsKept kept → nodes_in kept ≡ value → a < length value → a < length kept.active.items
+pub node_in : (kept : KeptGraph) (value : List Node) (a : ℕ) → IsKept kept → nodes_in kept ≡ value → a < length value → a < length kept.active.items
 node_in kept value a ok e lt = omega (arith, ap length e, count_nodes kept ok)
 
 pub size_nodes : (marks : List Bool) (lists : List (List ℕ)) → length lists ≡ length marks → size_of lists ≡ length marks + edge_count (nodes_of marks lists)
@@ -82,7 +82,7 @@ groups_recounted ms counted marks a is g group ok recounts =
     let members = recounts group ok in
     record { marks = slice_set marks a is; group = group; members = members; few = omega (arith, g.few, ok.same, members.same, length-set marks a is) }
 
-pub kept_grouped : (kept : Kept) → IsKept kept → AreGrouped kept.groups.items
+pub kept_grouped : (kept : KeptGraph) → IsKept kept → AreGrouped kept.groups.items
 kept_grouped kept ok = record {
   marks = kept.active.items;
   group = ok.groups.group;
@@ -92,7 +92,7 @@ kept_grouped kept ok = record {
 
 -- ---- the same with more room
 
-kept_moved : (old new : Kept) → IsKept old → new.active.items ≡ old.active.items → new.next.lists ≡ old.next.lists → new.before.lists ≡ old.before.lists → new.groups.items ≡ old.groups.items → IsKept new
+kept_moved : (old new : KeptGraph) → IsKept old → new.active.items ≡ old.active.items → new.next.lists ≡ old.next.lists → new.before.lists ≡ old.before.lists → new.groups.items ≡ old.groups.items → IsKept new
 kept_moved old new ok marks next before groups = record {
   next = ap length next ∙ ok.next ∙ sym (ap length marks);
   before = ap length before ∙ ok.before ∙ sym (ap length marks);
@@ -101,13 +101,13 @@ kept_moved old new ok marks next before groups = record {
   lawful = subst IsLawful (sym (same_nodes old new marks next)) ok.lawful;
 }
   where
-    same_nodes : (o n : Kept) → n.active.items ≡ o.active.items → n.next.lists ≡ o.next.lists → nodes_in n ≡ nodes_in o
+    same_nodes : (o n : KeptGraph) → n.active.items ≡ o.active.items → n.next.lists ≡ o.next.lists → nodes_in n ≡ nodes_in o
     same_nodes o n m l = ap (λ (ms : List Bool). nodes_of ms n.next.lists) m ∙ ap (nodes_of o.active.items) l
 
-pub regrown_nodes : (old new : Kept) → Regrows old new → nodes_in new ≡ nodes_in old
+pub regrown_nodes : (old new : KeptGraph) → Regrows old new → nodes_in new ≡ nodes_in old
 regrown_nodes old new r = ap (λ (ms : List Bool). nodes_of ms new.next.lists) r.marks ∙ ap (nodes_of old.active.items) r.next
 
-pub stored_regrown : (old new : Kept) (rn re rn' re' : ℕ) → IsStored old rn re → Regrows old new → HasRoom new rn' re' → length old.active.items + rn' ≤ MOST_NODES → edge_count (nodes_in old) + re' ≤ MOST_EDGES → IsStored new rn' re'
+pub stored_regrown : (old new : KeptGraph) (rn re rn' re' : ℕ) → IsStored old rn re → Regrows old new → HasRoom new rn' re' → length old.active.items + rn' ≤ MOST_NODES → edge_count (nodes_in old) + re' ≤ MOST_EDGES → IsStored new rn' re'
 stored_regrown old new rn re rn' re' s r h few_nodes few_edges =
     let same = ap edge_count (regrown_nodes old new r) in
     record {
@@ -128,7 +128,7 @@ mirror_push : (next before : List (List ℕ)) → IsMirror next before → IsMir
 mirror_push next before m a b = ap (times a) (list_of-push before b) ∙ m a b ∙ sym (ap (times b) (list_of-push next a))
 
 -- what an addition changes
-pub record Adds (old new : Kept) : Type 0 where
+pub record Adds (old new : KeptGraph) : Type 0 where
   pub marks : new.active.items ≡ old.active.items ++ true ∷ []
   pub next : new.next.lists ≡ old.next.lists ++ [] ∷ []
   pub before : new.before.lists ≡ old.before.lists ++ [] ∷ []
@@ -140,10 +140,10 @@ pub record Adds (old new : Kept) : Type 0 where
   pub next_spare : new.next.spare + 1 ≡ old.next.spare
   pub before_spare : new.before.spare + 1 ≡ old.before.spare
 
-pub added_nodes : (old new : Kept) → IsKept old → Adds old new → nodes_in new ≡ nodes_in old ++ node_of None ∷ []
+pub added_nodes : (old new : KeptGraph) → IsKept old → Adds old new → nodes_in new ≡ nodes_in old ++ node_of None ∷ []
 added_nodes old new ok a = ap (λ (ms : List Bool). nodes_of ms new.next.lists) a.marks ∙ ap (nodes_of (old.active.items ++ true ∷ [])) a.next ∙ push-nodes old.active.items old.next.lists true [] ok.next
 
-pub stored_added : (old new : Kept) (rn re : ℕ) → IsStored old rn re → 1 ≤ rn → Adds old new → IsStored new (rn - 1) re
+pub stored_added : (old new : KeptGraph) (rn re : ℕ) → IsStored old rn re → 1 ≤ rn → Adds old new → IsStored new (rn - 1) re
 stored_added old new rn re s room a =
     let count : length new.active.items ≡ length old.active.items + 1 = ap length a.marks ∙ length_push old.active.items true in
     let edges : edge_count (nodes_in new) ≡ edge_count (nodes_in old) = ap edge_count (added_nodes old new s.sound a) ∙ sum_by_push (λ (n : Node). length n.next) (nodes_in old) (node_of None) ∙ omega arith in
@@ -167,7 +167,7 @@ stored_added old new rn re s room a =
 
 -- ---- a node changed
 
-pub list_below : (kept : Kept) (a n : ℕ) → IsKept kept → a < length (nodes_in kept) → n ≡ length kept.active.items → All (λ x. x < n) (list_of kept.next.lists a)
+pub list_below : (kept : KeptGraph) (a n : ℕ) → IsKept kept → a < length (nodes_in kept) → n ≡ length kept.active.items → All (λ x. x < n) (list_of kept.next.lists a)
 list_below kept a n ok lt e = λ k d within.
     let c = Contains-get_or (list_of kept.next.lists a) k d within in
     omega (arith, ok.lawful.closed a (get_or (list_of kept.next.lists a) k d) lt (subst (λ (next : ℕ → List ℕ). Contains (next a) (get_or (list_of kept.next.lists a) k d)) (sym (same_steps kept None ok.next)) c), count_nodes kept ok)
@@ -186,16 +186,16 @@ list_of_change : (to : Option (List ℕ)) → successors to ≡ (node_of to).nex
 list_of_change None = refl
 list_of_change (Some ys) = refl
 
-pub changed_nodes : (kept : Kept) (marks : List Bool) (lists : List (List ℕ)) (a : ℕ) (b : Bool) (ys : List ℕ) (to : Option (List ℕ)) → IsKept kept → marks ≡ slice_set kept.active.items a b → b ≡ is_none to → lists ≡ slice_set kept.next.lists a ys → ys ≡ successors to → nodes_of marks lists ≡ changed (nodes_in kept) a to
-changed_nodes kept marks lists a b ys to ok e f g h =
+pub nodes_changed : (kept : KeptGraph) (marks : List Bool) (lists : List (List ℕ)) (a : ℕ) (b : Bool) (ys : List ℕ) (to : Option (List ℕ)) → IsKept kept → marks ≡ slice_set kept.active.items a b → b ≡ is_none to → lists ≡ slice_set kept.next.lists a ys → ys ≡ successors to → nodes_of marks lists ≡ changed_nodes (nodes_in kept) a to
+nodes_changed kept marks lists a b ys to ok e f g h =
     ap (λ (ms : List Bool). nodes_of ms lists) (e ∙ ap (slice_set kept.active.items a) (f ∙ mark_of to))
     ∙ ap (nodes_of (slice_set kept.active.items a (node_of to).active)) (g ∙ ap (slice_set kept.next.lists a) (h ∙ list_of_change to))
     ∙ sym (set-nodes kept.active.items kept.next.lists a (node_of to) ok.next)
 
-pub stored_changed : (old new : Kept) (rn re : ℕ) (a : ℕ) (to : Option (List ℕ)) (value : List Node) → IsStored old rn re → IsKept new → nodes_in old ≡ value → a < length value → nodes_in new ≡ changed (nodes_in old) a to → KeepsRoom old new (successors to) (next_in (nodes_in old) a) → length (successors to) ≤ re → IsStored new rn (re - length (successors to))
+pub stored_changed : (old new : KeptGraph) (rn re : ℕ) (a : ℕ) (to : Option (List ℕ)) (value : List Node) → IsStored old rn re → IsKept new → nodes_in old ≡ value → a < length value → nodes_in new ≡ changed_nodes (nodes_in old) a to → KeepsRoom old new (successors to) (next_in (nodes_in old) a) → length (successors to) ≤ re → IsStored new rn (re - length (successors to))
 stored_changed old new rn re a to value s ok same lt e k room =
     let edges = sum_by-set (λ (n : Node). length n.next) (nodes_in old) a (node_of to) (node_of None) (omega (arith, ap length same)) in
-    let count : edge_count (nodes_in new) ≡ edge_count (changed (nodes_in old) a to) = ap edge_count e in
+    let count : edge_count (nodes_in new) ≡ edge_count (changed_nodes (nodes_in old) a to) = ap edge_count e in
     let was : length (next_in (nodes_in old) a) ≡ length (get_or (nodes_in old) a (node_of None)).next = ap (λ (n : Option Node). length (next_or_none n)) (slice_get-get_or (nodes_in old) a (node_of None) (omega (arith, ap length same))) in
     let now : length (successors to) ≡ length (node_of to).next = ap length (list_of_change to) in
     record {
@@ -240,7 +240,7 @@ groups_none = record {
   joined = λ a b c. absurd (omega (arith, c.1));
 }
 
-pub stored_none : (kept : Kept) → kept.active.items ≡ [] → kept.next.lists ≡ [] → kept.before.lists ≡ [] → kept.groups.items ≡ [] → IsStored kept 0 0
+pub stored_none : (kept : KeptGraph) → kept.active.items ≡ [] → kept.next.lists ≡ [] → kept.before.lists ≡ [] → kept.groups.items ≡ [] → IsStored kept 0 0
 stored_none kept marks next before groups =
     let none : nodes_in kept ≡ [] = ap (λ (ms : List Bool). nodes_of ms kept.next.lists) marks in
     record {

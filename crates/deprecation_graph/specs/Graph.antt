@@ -58,8 +58,8 @@ node_of None = record { active = true; next = [] }
 node_of (Some next) = record { active = false; next = next }
 
 -- the nodes after a change of one
-abbrev pub changed : List Node → ℕ → Option (List ℕ) → List Node
-changed nodes a to = slice_set nodes a (node_of to)
+abbrev pub changed_nodes : List Node → ℕ → Option (List ℕ) → List Node
+changed_nodes nodes a to = slice_set nodes a (node_of to)
 
 -- the changed number is a node, and so are its successors
 pub record NamesNodes (nodes : List Node) (a : ℕ) (to : Option (List ℕ)) : Type 0 where

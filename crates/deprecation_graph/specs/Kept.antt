@@ -3,10 +3,10 @@ use Rattle.deprecation_graph.specs.declared.limits.TheConstants.{MOST_NODES, MOS
 use Rattle.std.specs.Prelude.{◌≡◌, ◌⊎◌, ℕ, ◌+◌, ◌≤◌, Bool, true, false, is_none, vec_capacity, List, [], ◌∷◌, length, slice_index_or, slice_set, Option, Some, None}
 use Rattle.std.specs.List.{list_all}
 use Rattle.std.specs.Option.{option_copied}
-use Rattle.deprecation_graph.specs.Graph.{Node, successors, changed, edge_count, IsLawful}
+use Rattle.deprecation_graph.specs.Graph.{Node, successors, changed_nodes, edge_count, IsLawful}
 use Rattle.deprecation_graph.specs.Mirror.{IsMirror}
 use Rattle.deprecation_graph.specs.Groups.{AreGroups}
-use Rattle.deprecation_graph.specs.declared.kept.Kept.{Kept}
+use Rattle.deprecation_graph.specs.declared.kept.KeptGraph.{KeptGraph}
 use Rattle.deprecation_graph.specs.declared.kept.Change.{Change}
 
 -- the nodes with these marks and these successors
@@ -15,13 +15,13 @@ nodes_of [] lists = []
 nodes_of (a ∷ marks) [] = []
 nodes_of (a ∷ marks) (xs ∷ lists) = record { active = a; next = xs } ∷ nodes_of marks lists
 
-abbrev pub nodes_in : Kept → List Node
+abbrev pub nodes_in : KeptGraph → List Node
 nodes_in kept = nodes_of kept.active.items kept.next.lists
 
 -- the same after a change, if there is one
-abbrev pub nodes_after : Kept → Option Change → List Node
+abbrev pub nodes_after : KeptGraph → Option Change → List Node
 nodes_after kept None = nodes_in kept
-nodes_after kept (Some c) = changed (nodes_in kept) c.node (option_copied c.next)
+nodes_after kept (Some c) = changed_nodes (nodes_in kept) c.node (option_copied c.next)
 
 abbrev pub lists_after : List (List ℕ) → Option Change → List (List ℕ)
 lists_after lists None = lists
@@ -37,7 +37,7 @@ abbrev pub AreFew : List Bool → List ℕ → Type 0
 AreFew marks nodes = (length nodes ≤ 1) ⊎ (list_all (λ node. slice_index_or marks node false) nodes ≡ true)
 
 -- as many lists as nodes, kept both ways, and groups that no edge leaves
-pub record IsKept (kept : Kept) : Type 0 where
+pub record IsKept (kept : KeptGraph) : Type 0 where
   pub next : length kept.next.lists ≡ length kept.active.items
   pub before : length kept.before.lists ≡ length kept.active.items
   pub mirror : IsMirror kept.next.lists kept.before.lists
@@ -45,7 +45,7 @@ pub record IsKept (kept : Kept) : Type 0 where
   pub lawful : IsLawful (nodes_in kept)
 
 -- what is so of a whole graph: its rooms are there, and its numbers are small
-pub record IsStored (kept : Kept) (room_nodes room_edges : ℕ) : Type 0 where
+pub record IsStored (kept : KeptGraph) (room_nodes room_edges : ℕ) : Type 0 where
   pub sound : IsKept kept
   pub marks : length kept.active.items + room_nodes ≤ vec_capacity kept.active
   pub group_room : length kept.groups.items + room_nodes ≤ vec_capacity kept.groups
@@ -57,7 +57,7 @@ pub record IsStored (kept : Kept) (room_nodes room_edges : ℕ) : Type 0 where
   pub few_edges : edge_count (nodes_in kept) + room_edges ≤ MOST_EDGES
 
 -- the same marks and lists, with no less room
-pub record Regrows (old new : Kept) : Type 0 where
+pub record Regrows (old new : KeptGraph) : Type 0 where
   pub marks : new.active.items ≡ old.active.items
   pub next : new.next.lists ≡ old.next.lists
   pub before : new.before.lists ≡ old.before.lists
@@ -69,7 +69,7 @@ pub record Regrows (old new : Kept) : Type 0 where
   pub next_spare : old.next.spare ≤ new.next.spare
   pub before_spare : old.before.spare ≤ new.before.spare
 
-pub record HasRoom (kept : Kept) (nodes edges : ℕ) : Type 0 where
+pub record HasRoom (kept : KeptGraph) (nodes edges : ℕ) : Type 0 where
   pub capacity : length kept.active.items + nodes ≤ vec_capacity kept.active
   pub group_capacity : length kept.groups.items + nodes ≤ vec_capacity kept.groups
   pub next_room : nodes ≤ kept.next.room
@@ -78,7 +78,7 @@ pub record HasRoom (kept : Kept) (nodes edges : ℕ) : Type 0 where
   pub before_spare : nodes + edges ≤ kept.before.spare
 
 -- what a change of one node's list takes and gives back
-pub record KeepsRoom (old new : Kept) (taken given : List ℕ) : Type 0 where
+pub record KeepsRoom (old new : KeptGraph) (taken given : List ℕ) : Type 0 where
   pub count : length new.active.items ≡ length old.active.items
   pub capacity : vec_capacity new.active ≡ vec_capacity old.active
   pub group_capacity : vec_capacity new.groups ≡ vec_capacity old.groups

@@ -3,7 +3,7 @@ use Rattle.std.specs.Prelude.{◌≡◌, ◌↔◌, ℕ, ◌<◌, ◌++◌, ◌�
 use Rattle.std.specs.List.{Contains}
 use Rattle.deprecation_graph.specs.Paths.{Leads, IsClosed}
 use Rattle.deprecation_graph.specs.Chains.{reaches, chain_of, ends_of, sources_of, IsChain, AreEnds, AreSources}
-use Rattle.deprecation_graph.specs.Graph.{Node, chain_in, ends_in, sources_in, node_of, changed, NamesNodes, IsLawful}
+use Rattle.deprecation_graph.specs.Graph.{Node, chain_in, ends_in, sources_in, node_of, changed_nodes, NamesNodes, IsLawful}
 
 -- over closed numbers the words that compute say what paths say
 pub record ArePaths (next : ℕ → List ℕ) (active : ℕ → Bool) (count a : ℕ) : Type 0 where
@@ -24,13 +24,13 @@ pub record IsUntouched (old new : List Node) (a : ℕ) : Type 0 where
 abbrev pub ChangesAreLocal : Type 0
 ChangesAreLocal =
     (nodes : List Node) (a : ℕ) (to : Option (List ℕ)) → IsLawful nodes → NamesNodes nodes a to
-    → (b : ℕ) → b < length nodes → (Contains (sources_in nodes a) b → ⊥) → IsUntouched nodes (changed nodes a to) b
+    → (b : ℕ) → b < length nodes → (Contains (sources_in nodes a) b → ⊥) → IsUntouched nodes (changed_nodes nodes a to) b
 
 -- the changed node has the sources that it had
 abbrev pub SourcesStay : Type 0
 SourcesStay =
     (nodes : List Node) (a : ℕ) (to : Option (List ℕ)) → IsLawful nodes → NamesNodes nodes a to
-    → sources_in (changed nodes a to) a ≡ sources_in nodes a
+    → sources_in (changed_nodes nodes a to) a ≡ sources_in nodes a
 
 -- a node more touches no other, and is its own chain and end
 abbrev pub AdditionsAreLocal : Type 0

@@ -1,18 +1,18 @@
 // Changes of the nodes as they are kept.
 ghost use Rattle.std.specs.Prelude.{◌≡◌, ◌+◌, ◌≤◌, length, None, OnOk};
 ghost use Rattle.std.specs.Option.{option_copied};
-ghost use Rattle.deprecation_graph.specs.Graph.{next_in, edge_count, changed, successors as successors_of, NamesNodes};
+ghost use Rattle.deprecation_graph.specs.Graph.{next_in, edge_count, changed_nodes, successors as successors_of, NamesNodes};
 ghost use Rattle.deprecation_graph.specs.Faults.{change_fault};
 ghost use Rattle.deprecation_graph.specs.Kept.{nodes_in, IsKept, Regrows, HasRoom, KeepsRoom};
 
 use crate::fault::Memory;
 use crate::groups::{join_all, recount};
-use crate::kept::{Kept, successors};
+use crate::kept::{KeptGraph, successors};
 use crate::limits::{MOST_EDGES, MOST_NODES};
 use crate::mirror::{link_all, unlink_all};
 
 /// Makes room for so many nodes and edges.
-pub(crate) fn reserve_kept(kept: &mut Kept, nodes: usize, edges: usize) -> Result<(), Memory>
+pub(crate) fn reserve_kept(kept: &mut KeptGraph, nodes: usize, edges: usize) -> Result<(), Memory>
     requires sound { IsKept kept.old }
     requires few_nodes { length kept.old.active.items + nodes ≤ MOST_NODES }
     requires few_edges { edge_count (nodes_in kept.old) + edges ≤ MOST_EDGES }
@@ -31,14 +31,14 @@ pub(crate) fn reserve_kept(kept: &mut Kept, nodes: usize, edges: usize) -> Resul
 }
 
 /// Changes a node.
-pub(crate) fn set_kept(kept: &mut Kept, node: u32, next: Option<&[u32]>)
+pub(crate) fn set_kept(kept: &mut KeptGraph, node: u32, next: Option<&[u32]>)
     requires sound { IsKept kept.old }
     requires change { NamesNodes (nodes_in kept.old) node (option_copied next) }
     requires allowed { change_fault (nodes_in kept.old) node (option_copied next) ≡ None }
     requires next_spare { length (successors_of (option_copied next)) ≤ kept.old.next.spare }
     requires before_spare { length (successors_of (option_copied next)) ≤ kept.old.before.spare }
     ensures sound { IsKept kept.new }
-    ensures nodes { nodes_in kept.new ≡ changed (nodes_in kept.old) node (option_copied next.entry) }
+    ensures nodes { nodes_in kept.new ≡ changed_nodes (nodes_in kept.old) node (option_copied next.entry) }
     ensures rooms { KeepsRoom kept.old kept.new (successors_of (option_copied next.entry)) (next_in (nodes_in kept.old) node) }
 {
     let all = successors(next);

@@ -4,20 +4,20 @@ ghost use Rattle.std.specs.List.{All, list_all};
 ghost use Rattle.std.specs.Option.{option_copied};
 ghost use Rattle.deprecation_graph.specs.Paths.{IsClosed};
 ghost use Rattle.deprecation_graph.specs.Chains.{reaches};
-ghost use Rattle.deprecation_graph.specs.Graph.{next_in, chain_in, ends_in, sources_in, successors as successors_of, changed, NamesNodes, IsChange};
-ghost use Rattle.deprecation_graph.specs.Faults.{cycle_in, is_wide, wide_in, change_fault, IsVerdict};
+ghost use Rattle.deprecation_graph.specs.Graph.{next_in, chain_in, ends_in, sources_in, successors as successors_of, changed_nodes, NamesNodes, IsChange};
+ghost use Rattle.deprecation_graph.specs.Faults.{cycle_in, is_wide_node, wide_in, change_fault, IsVerdict};
 ghost use Rattle.deprecation_graph.specs.Indexed.{has_none};
 ghost use Rattle.deprecation_graph.specs.Kept.{marks_after, nodes_in, nodes_after, AreFew, IsKept};
 
 use crate::fault::GraphFault;
 use crate::groups::{are_small, find_group};
-use crate::kept::{Change, Kept, is_active_after, successors};
+use crate::kept::{Change, KeptGraph, is_active_after, successors};
 use crate::limits::{MOST_ENDS, MOST_SUCCESSORS};
 use crate::search::find_all;
 use std::alloc::{AllocError, Global};
 
 // Whether nothing has the second node as a successor, or the first has none.
-fn has_no_step(kept: &Kept, from: u32, to: u32) -> bool
+fn has_no_step(kept: &KeptGraph, from: u32, to: u32) -> bool
     requires kept { IsKept kept.now }
     requires from { from < length kept.now.active.items }
     requires to { to < length kept.now.active.items }
@@ -27,7 +27,7 @@ fn has_no_step(kept: &Kept, from: u32, to: u32) -> bool
 }
 
 // Whether it is seen that the nodes are of different groups.
-fn is_elsewhere(kept: &Kept, from: u32, to: u32) -> bool
+fn is_elsewhere(kept: &KeptGraph, from: u32, to: u32) -> bool
     requires kept { IsKept kept.now }
     requires from { from < length kept.now.active.items }
     requires to { to < length kept.now.active.items }
@@ -43,7 +43,7 @@ fn is_elsewhere(kept: &Kept, from: u32, to: u32) -> bool
 }
 
 // Whether it is seen without a search that no path with a step leads from the first node to the second.
-fn is_apart(kept: &Kept, from: u32, to: u32) -> bool
+fn is_apart(kept: &KeptGraph, from: u32, to: u32) -> bool
     requires kept { IsKept kept.now }
     requires from { from < length kept.now.active.items }
     requires to { to < length kept.now.active.items }
@@ -53,7 +53,12 @@ fn is_apart(kept: &Kept, from: u32, to: u32) -> bool
 }
 
 /// Whether a path leads from the first node to the second.
-pub(crate) fn is_led_to(alloc: Global, kept: &Kept, from: u32, to: u32) -> Result<bool, AllocError>
+pub(crate) fn is_led_to(
+    alloc: Global,
+    kept: &KeptGraph,
+    from: u32,
+    to: u32,
+) -> Result<bool, AllocError>
     requires kept { IsKept kept.now }
     requires from { from < length kept.now.active.items }
     requires to { to < length kept.now.active.items }
@@ -69,7 +74,7 @@ pub(crate) fn is_led_to(alloc: Global, kept: &Kept, from: u32, to: u32) -> Resul
 /// The nodes to which a path leads.
 pub(crate) fn find_chain(
     alloc: Global,
-    kept: &Kept,
+    kept: &KeptGraph,
     change: Option<Change>,
     start: u32,
 ) -> Result<Vec<u32>, AllocError>
@@ -82,7 +87,11 @@ pub(crate) fn find_chain(
 }
 
 /// The nodes from which a path leads to this one: a search along the predecessors.
-pub(crate) fn find_sources(alloc: Global, kept: &Kept, node: u32) -> Result<Vec<u32>, AllocError>
+pub(crate) fn find_sources(
+    alloc: Global,
+    kept: &KeptGraph,
+    node: u32,
+) -> Result<Vec<u32>, AllocError>
     requires kept { IsKept kept.now }
     requires node { node < length kept.now.active.items }
     ensures { IfOk result (λ sources. sources.items ≡ sources_in (nodes_in kept.now) node) }
@@ -112,7 +121,7 @@ fn keep_active(
 /// The ends of a node, after the change if there is one.
 pub(crate) fn find_ends(
     alloc: Global,
-    kept: &Kept,
+    kept: &KeptGraph,
     change: Option<Change>,
     start: u32,
 ) -> Result<Vec<u32>, AllocError>
@@ -128,7 +137,7 @@ pub(crate) fn find_ends(
 // The first of these successors from which a path leads to the node, counted from 1.
 fn find_cycle(
     alloc: Global,
-    kept: &Kept,
+    kept: &KeptGraph,
     node: u32,
     next: &[u32],
 ) -> Result<Option<u32>, AllocError>
@@ -150,10 +159,10 @@ fn find_cycle(
 
 // Whether the change is one of an active node to one end at most. Each source of the node then loses an end for each that
 // it gets, so no node gets too wide, and none need be asked.
-fn is_narrow(alloc: Global, kept: &Kept, change: Change) -> Result<bool, AllocError>
+fn is_narrow(alloc: Global, kept: &KeptGraph, change: Change) -> Result<bool, AllocError>
     requires kept { IsKept kept.now }
     requires change { NamesNodes (nodes_in kept.now) change.node (option_copied change.next) }
-    ensures { IfOk result (λ narrow. narrow ≡ true → wide_in (changed (nodes_in kept.now) change.entry.node (option_copied change.entry.next)) ≡ None) }
+    ensures { IfOk result (λ narrow. narrow ≡ true → wide_in (changed_nodes (nodes_in kept.now) change.entry.node (option_copied change.entry.next)) ≡ None) }
 {
     if !is_active_after(&kept.active, None, change.node) {
         return Ok(false);
@@ -164,10 +173,10 @@ fn is_narrow(alloc: Global, kept: &Kept, change: Change) -> Result<bool, AllocEr
 
 // Whether it is seen from the groups that no node has too many ends after the change: the sources of the node have theirs in its
 // group and in those of its new successors.
-fn is_enclosed(alloc: Global, kept: &Kept, change: Change) -> Result<bool, AllocError>
+fn is_enclosed(alloc: Global, kept: &KeptGraph, change: Change) -> Result<bool, AllocError>
     requires kept { IsKept kept.now }
     requires change { NamesNodes (nodes_in kept.now) change.node (option_copied change.next) }
-    ensures { IfOk result (λ enclosed. enclosed ≡ true → wide_in (changed (nodes_in kept.now) change.entry.node (option_copied change.entry.next)) ≡ None) }
+    ensures { IfOk result (λ enclosed. enclosed ≡ true → wide_in (changed_nodes (nodes_in kept.now) change.entry.node (option_copied change.entry.next)) ≡ None) }
 {
     are_small(alloc, &kept.groups, change.node, successors(change.next))
 }
@@ -175,14 +184,14 @@ fn is_enclosed(alloc: Global, kept: &Kept, change: Change) -> Result<bool, Alloc
 // The first of these nodes that has too many ends after the change.
 fn find_wide_among(
     alloc: Global,
-    kept: &Kept,
+    kept: &KeptGraph,
     change: Change,
     nodes: &[u32],
 ) -> Result<Option<u32>, AllocError>
     requires kept { IsKept kept.now }
     requires change { NamesNodes (nodes_in kept.now) change.node (option_copied change.next) }
     requires nodes { All (λ node. node < length kept.now.active.items) nodes.now }
-    ensures { IfOk result (λ found. found ≡ find (is_wide (changed (nodes_in kept.now) change.entry.node (option_copied change.entry.next))) nodes.now) }
+    ensures { IfOk result (λ found. found ≡ find (is_wide_node (changed_nodes (nodes_in kept.now) change.entry.node (option_copied change.entry.next))) nodes.now) }
 {
     for node in nodes {
         let ends = find_ends(alloc, kept, Some(change), *node)?;
@@ -194,7 +203,7 @@ fn find_wide_among(
 }
 
 // Those of these nodes that are successors of none.
-fn keep_roots(alloc: Global, kept: &Kept, sources: &[u32]) -> Result<Vec<u32>, AllocError>
+fn keep_roots(alloc: Global, kept: &KeptGraph, sources: &[u32]) -> Result<Vec<u32>, AllocError>
     requires { All (λ source. source < length kept.now.before.lists) sources.now }
     ensures { IfOk result (λ roots. roots.items ≡ filter (has_none kept.now.before.lists) sources.now) }
 {
@@ -209,10 +218,14 @@ fn keep_roots(alloc: Global, kept: &Kept, sources: &[u32]) -> Result<Vec<u32>, A
 
 // The least node with too many ends after the change: only the sources of the changed node can have more than before. What a
 // source ends at, each node that leads to it ends at too; so where no source that is a successor of none is too wide, none is.
-fn find_wide_source(alloc: Global, kept: &Kept, change: Change) -> Result<Option<u32>, AllocError>
+fn find_wide_source(
+    alloc: Global,
+    kept: &KeptGraph,
+    change: Change,
+) -> Result<Option<u32>, AllocError>
     requires kept { IsKept kept.now }
     requires change { NamesNodes (nodes_in kept.now) change.node (option_copied change.next) }
-    ensures { IfOk result (λ found. found ≡ wide_in (changed (nodes_in kept.now) change.entry.node (option_copied change.entry.next))) }
+    ensures { IfOk result (λ found. found ≡ wide_in (changed_nodes (nodes_in kept.now) change.entry.node (option_copied change.entry.next))) }
 {
     let sources = find_sources(alloc, kept, change.node)?;
     let roots = keep_roots(alloc, kept, &sources)?;
@@ -237,7 +250,7 @@ fn are_active(active: &[bool], next: &[u32]) -> bool
 
 // Whether it is seen without a search that a node with these successors has few ends: with one it has the ends of that one,
 // and with active ones alone it has these.
-fn are_few(kept: &Kept, next: &[u32]) -> bool
+fn are_few(kept: &KeptGraph, next: &[u32]) -> bool
     requires { All (λ node. node < length kept.now.active.items) next.now }
     ensures { result ≡ true → AreFew kept.now.active.items next.now }
 {
@@ -245,12 +258,16 @@ fn are_few(kept: &Kept, next: &[u32]) -> bool
 }
 
 // The least node with too many ends after the change of a node that is a successor of none: it alone can get so many.
-fn find_wide_root(alloc: Global, kept: &Kept, change: Change) -> Result<Option<u32>, AllocError>
+fn find_wide_root(
+    alloc: Global,
+    kept: &KeptGraph,
+    change: Change,
+) -> Result<Option<u32>, AllocError>
     requires kept { IsKept kept.now }
     requires change { IsChange (nodes_in kept.now) change.node (option_copied change.next) }
     requires root { has_none kept.now.before.lists change.node ≡ true }
     requires acyclic { cycle_in (nodes_in kept.now) change.node (successors_of (option_copied change.next)) ≡ None }
-    ensures { IfOk result (λ found. found ≡ wide_in (changed (nodes_in kept.now) change.entry.node (option_copied change.entry.next))) }
+    ensures { IfOk result (λ found. found ≡ wide_in (changed_nodes (nodes_in kept.now) change.entry.node (option_copied change.entry.next))) }
 {
     if are_few(kept, successors(change.next)) {
         return Ok(None);
@@ -262,11 +279,11 @@ fn find_wide_root(alloc: Global, kept: &Kept, change: Change) -> Result<Option<u
 }
 
 // The least node with too many ends after the change.
-fn find_wide(alloc: Global, kept: &Kept, change: Change) -> Result<Option<u32>, AllocError>
+fn find_wide(alloc: Global, kept: &KeptGraph, change: Change) -> Result<Option<u32>, AllocError>
     requires kept { IsKept kept.now }
     requires change { IsChange (nodes_in kept.now) change.node (option_copied change.next) }
     requires acyclic { cycle_in (nodes_in kept.now) change.node (successors_of (option_copied change.next)) ≡ None }
-    ensures { IfOk result (λ found. found ≡ wide_in (changed (nodes_in kept.now) change.entry.node (option_copied change.entry.next))) }
+    ensures { IfOk result (λ found. found ≡ wide_in (changed_nodes (nodes_in kept.now) change.entry.node (option_copied change.entry.next))) }
 {
     if kept.before.is_empty(change.node as usize) {
         return find_wide_root(alloc, kept, change);
@@ -281,7 +298,11 @@ fn find_wide(alloc: Global, kept: &Kept, change: Change) -> Result<Option<u32>, 
 }
 
 /// The first fault of the change.
-pub(crate) fn check_change(alloc: Global, kept: &Kept, change: Change) -> Result<(), GraphFault>
+pub(crate) fn check_change(
+    alloc: Global,
+    kept: &KeptGraph,
+    change: Change,
+) -> Result<(), GraphFault>
     requires kept { IsKept kept.now }
     requires change { IsChange (nodes_in kept.now) change.node (option_copied change.next) }
     ensures { IsVerdict result (change_fault (nodes_in kept.now) change.entry.node (option_copied change.entry.next)) }

@@ -6,7 +6,7 @@ use crate::changes::{reserve_kept, set_kept};
 use crate::check::{check_change, find_chain, find_ends, find_sources, is_led_to};
 use crate::fault::{GraphFault, Memory};
 use crate::groups::Member;
-use crate::kept::{Change, Kept, successors};
+use crate::kept::{Change, KeptGraph, successors};
 use crate::limits::{MOST_EDGES, MOST_NODES};
 use crate::lists::Lists;
 use std::alloc::Global;
@@ -15,7 +15,7 @@ use std::marker::Model;
 /// Nodes with their successors. Nodes are numbered from 0 in the order in which they were added, and none is ever taken out.
 #[derive(Drop)]
 pub struct DeprecationGraph {
-    kept: Kept,
+    kept: KeptGraph,
     room_nodes: u32,
     room_edges: u32,
 }
@@ -34,7 +34,7 @@ impl Model for DeprecationGraph {
 
 impl DeprecationGraph {
     ghost use Rattle.deprecation_graph.specs.Paths.{Leads};
-    ghost use Rattle.deprecation_graph.specs.Graph.{next_in, chain_in, ends_in, sources_in, edge_count, successors as successors_of, changed as changed_nodes, node_of, NamesNodes, IsChange, IsLawful};
+    ghost use Rattle.deprecation_graph.specs.Graph.{next_in, chain_in, ends_in, sources_in, edge_count, successors as successors_of, changed_nodes, node_of, NamesNodes, IsChange, IsLawful};
     ghost use Rattle.deprecation_graph.specs.Faults.{change_fault, IsVerdict};
     ghost use Rattle.deprecation_graph.specs.Room.{MakesRoom};
 
@@ -43,7 +43,7 @@ impl DeprecationGraph {
         ensures nodes { result.nodes ≡ [] }
     {
         DeprecationGraph {
-            kept: Kept {
+            kept: KeptGraph {
                 active: Vec::new(alloc),
                 next: Lists::new(alloc),
                 before: Lists::new(alloc),

@@ -11,7 +11,7 @@ use std::alloc::AllocError;
 
 /// Whether each node is active, its successors, its predecessors, and its group.
 #[derive(Drop)]
-pub(crate) struct Kept {
+pub(crate) struct KeptGraph {
     pub(crate) active: Vec<bool>,
     pub(crate) next: Lists,
     pub(crate) before: Lists,

@@ -1,11 +1,10 @@
 // What is so of texts by their type: they are UTF-8. These functions do nothing: their clauses are facts of every row.
 ghost use Rattle.std.specs.List.{AllByRecursion};
-ghost use Rattle.cpe_dictionary.specs.Lent.{entry_lent};
+ghost use Rattle.cpe_rows.specs.Lent.{entry_lent};
 ghost use Rattle.cpe_rows.specs.declared.entry.Note.{Note as NoteRow};
 ghost use Rattle.cpe_snapshot.specs.States.{IsString, IsTextEntry, IsTextKey, IsTextStatement, keys_of};
 
-use cpe_dictionary::EntryRef;
-use cpe_rows::{CheckKey, Note, Statement, Test, Text};
+use cpe_rows::{CheckKey, EntryRef, Note, Statement, Test, Text};
 
 fn is_text(text: &Text)
     ensures { IsString text.now }

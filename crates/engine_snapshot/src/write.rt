@@ -3,7 +3,7 @@
 ghost use Rattle.std.specs.Prelude.{◌≡◌, ◌++◌, [], IfOk, IfSome, OnOk, filter_map, get_or, map, slice_get, true, None};
 ghost use Rattle.std.specs.List.{AllByRecursion, flat_map, list_all, list_any};
 ghost use Rattle.std.specs.Option.{option_copied, option_map_or};
-ghost use Rattle.cpe_dictionary.specs.Lent.{entry_lent};
+ghost use Rattle.cpe_rows.specs.Lent.{entry_lent};
 ghost use Rattle.cpe_rows.specs.Lawful.{has_successors};
 ghost use Rattle.cpe_rows.specs.Rows.{is_named};
 ghost use Rattle.cpe_rows.specs.declared.entry.Entry.{Entry as EntryRow};
@@ -14,9 +14,9 @@ ghost use Rattle.cpe_snapshot.specs.Snapshot.{entry_row, result_row, statement_r
 ghost use Rattle.cpe_snapshot.specs.States.{IsTextEntry, IsTextKey, IsTextStatement, place_in, placed_entry, result_of, Snap, snapshot};
 
 use crate::texts::{are_entry_texts, are_key_texts, are_statement_texts};
-use cpe_dictionary::EntryRef;
 use cpe_engine::Engine;
 use cpe_name::Wfn;
+use cpe_rows::EntryRef;
 use cpe_snapshot::{push_entry, push_head, push_name, push_result, push_statement};
 use cpe_values::Memory;
 use std::alloc::Global;

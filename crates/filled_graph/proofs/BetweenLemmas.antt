@@ -8,8 +8,8 @@ use Rattle.std.proofs.lemmas.Option.{slice_get-get_or, same_Some}
 use Rattle.deprecation_graph.specs.declared.limits.TheConstants.{MOST_ENDS}
 use Rattle.deprecation_graph.specs.Paths.{HasEdge, Leads, IsClosed, IsAcyclic}
 use Rattle.deprecation_graph.specs.Chains.{reaches}
-use Rattle.deprecation_graph.specs.Graph.{Node, next_or_none, active_or_not, next_in, active_in, ends_in, successors, node_of, changed, IsLawful}
-use Rattle.deprecation_graph.specs.Faults.{cycle_in, is_wide, wide_in, first_fault, change_fault}
+use Rattle.deprecation_graph.specs.Graph.{Node, next_or_none, active_or_not, next_in, active_in, ends_in, successors, node_of, changed_nodes, IsLawful}
+use Rattle.deprecation_graph.specs.Faults.{cycle_in, is_wide_node, wide_in, first_fault, change_fault}
 use Rattle.deprecation_graph.proofs.Rising.{Contains-range, Contains-rest, length-le_rising}
 use Rattle.deprecation_graph.proofs.PathLemmas.{Leads-self, Leads-cons, Leads-back, Leads-forth, Leads-last}
 use Rattle.deprecation_graph.proofs.ChainLemmas.{reaches-leads, Contains-ends, ends_rising}
@@ -128,11 +128,11 @@ module _ {nodes now : List Node} {was is : ℕ → Bool} {a : ℕ} {to : Option 
     | inr ne ↦ next.others b ne ∙ e
   ]
 
-  pub between_changed : IsBetween nodes (changed now a to) is
+  pub between_changed : IsBetween nodes (changed_nodes now a to) is
   between_changed = record {
     count = length-set now a (node_of to) ∙ between.count;
     done = λ b e. elim (cases_eq b a) [
-      | inl same ↦ ap (slice_get (changed now a to)) same ∙ slice_get-set_same now a (node_of to) (omega (arith, between.count, next.place))
+      | inl same ↦ ap (slice_get (changed_nodes now a to)) same ∙ slice_get-set_same now a (node_of to) (omega (arith, between.count, next.place))
           ∙ sym next.node ∙ ap (slice_get nodes) (sym same)
       | inr ne ↦ slice_get-set_other now a b (node_of to) ne ∙ between.done b (sym (next.others b ne) ∙ e)
     ];
@@ -148,9 +148,9 @@ module _ {nodes now : List Node} {was is : ℕ → Bool} {a : ℕ} {to : Option 
 
   -- so a change that is refused shows that the last state isn't lawful
   pub allowed_between : IsLawful nodes → change_fault now a to ≡ None
-  allowed_between ok = ap (λ (cycle : Option ℕ). first_fault cycle (wide_in (changed now a to))) no_cycle ∙ ap (first_fault None) not_wide
+  allowed_between ok = ap (λ (cycle : Option ℕ). first_fault cycle (wide_in (changed_nodes now a to))) no_cycle ∙ ap (first_fault None) not_wide
     where
-      after : IsLawful (changed now a to)
+      after : IsLawful (changed_nodes now a to)
       after = lawful_between between_changed ok
 
       edge : (b : ℕ) → Contains (successors to) b → HasEdge (next_in nodes) a b
@@ -167,9 +167,9 @@ module _ {nodes now : List Node} {was is : ℕ → Bool} {a : ℕ} {to : Option 
             | inr not_led ↦ not_led
           ])
 
-      not_wide : wide_in (changed now a to) ≡ None
-      not_wide = find-None (is_wide (changed now a to)) (range_with_len 0 (length (changed now a to))) (λ x c.
-          le-ltb MOST_ENDS (length (ends_in (changed now a to) x)) (after.narrow x ((Contains-range (length (changed now a to)) x).0 c)))
+      not_wide : wide_in (changed_nodes now a to) ≡ None
+      not_wide = find-None (is_wide_node (changed_nodes now a to)) (range_with_len 0 (length (changed_nodes now a to))) (λ x c.
+          le-ltb MOST_ENDS (length (ends_in (changed_nodes now a to) x)) (after.narrow x ((Contains-range (length (changed_nodes now a to)) x).0 c)))
 
 -- where all are done the state is the last one
 pub all_are_done : {nodes now : List Node} {is_done : ℕ → Bool} → IsBetween nodes now is_done → ((a : ℕ) → a < length nodes → is_done a ≡ true)

@@ -7,7 +7,7 @@ use Rattle.std.proofs.lemmas.List.Elements.{All-push, All-contains, Contains-app
 use Rattle.std.proofs.lemmas.List.Sums.{sum_by-set}
 use Rattle.std.proofs.lemmas.Option.{get_or_from_slice_get, slice_get_within}
 use Rattle.deprecation_graph.specs.Paths.{HasEdge, Leads}
-use Rattle.deprecation_graph.specs.Graph.{Node, next_in, node_of, changed, IsLawful}
+use Rattle.deprecation_graph.specs.Graph.{Node, next_in, node_of, changed_nodes, IsLawful}
 use Rattle.deprecation_graph.proofs.PathLemmas.{Leads-self, Leads-then}
 use Rattle.filled_graph.specs.declared.filling.Mark.{Mark}
 use Rattle.filled_graph.specs.declared.filling.Mark.TheVariants.{New, Waiting, Done}
@@ -200,7 +200,7 @@ module _ {nodes now : List Node} {marks : List Mark} {seen waiting : List ℕ} (
       | inr ne ↦ next.others b ne ∙ e
     ]
 
-    pub settled : IsOnWay nodes (changed now a to) (slice_set marks a Done) seen rest
+    pub settled : IsOnWay nodes (changed_nodes now a to) (slice_set marks a Done) seen rest
     settled = record {
       between = between_changed way.between next;
       marked = length-set marks a Done ∙ way.marked;
@@ -280,12 +280,12 @@ module _ {nodes now : List Node} {marks : List Mark} {seen waiting : List ℕ} (
       })
 
   pub settles : (to : Option (List ℕ)) {now' : List Node} {marks' : List Mark} {rest : List ℕ} → slice_get nodes a ≡ Some (node_of to)
-      → length (next_in nodes a) ≤ get_or seen a 0 → now' ≡ changed now a to → marks' ≡ slice_set marks a Done → waiting ≡ rest ++ a ∷ []
+      → length (next_in nodes a) ≤ get_or seen a 0 → now' ≡ changed_nodes now a to → marks' ≡ slice_set marks a Done → waiting ≡ rest ++ a ∷ []
       → Moves nodes marks seen waiting now' marks' seen rest
   settles to {now'} {marks'} {rest} node all e f left =
       let within : a < length marks = omega (arith, last_is_node way a last, way.marked) in
       subst (λ (ns : List Node). Moves nodes marks seen waiting ns marks' seen rest) (sym e)
-      (subst (λ (ms : List Mark). Moves nodes marks seen waiting (changed now a to) ms seen rest) (sym f) (record {
+      (subst (λ (ms : List Mark). Moves nodes marks seen waiting (changed_nodes now a to) ms seen rest) (sym f) (record {
         way = settled way a rest to left node all;
         less = settled_less nodes marks seen waiting a rest within left;
         newer = none_newer marks a Done within refl;

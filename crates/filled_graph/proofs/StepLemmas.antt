@@ -4,7 +4,7 @@ use Rattle.std.proofs.lemmas.Bool.{cases_Bool, both_ways}
 use Rattle.std.proofs.lemmas.List.{get_or_default}
 use Rattle.std.proofs.lemmas.Option.{get_or_from_slice_get, slice_get-get_or, slice_get_read, slice_get_within}
 use Rattle.deprecation_graph.specs.Paths.{HasEdge}
-use Rattle.deprecation_graph.specs.Graph.{Node, next_in, node_of, successors, changed, IsLawful}
+use Rattle.deprecation_graph.specs.Graph.{Node, next_in, node_of, successors, changed_nodes, IsLawful}
 use Rattle.deprecation_graph.specs.Faults.{change_fault}
 use Rattle.filled_graph.specs.declared.filling.Mark.{Mark}
 use Rattle.filled_graph.specs.declared.filling.Mark.TheVariants.{New, Waiting, Done}
@@ -25,7 +25,7 @@ module _ {lists : List (Option (List ℕ))} {now : List Node} {marks : List Mark
   list_here = slice_get_read lists (length lists) a list refl (omega (arith, last_is_node way a last, count_nodes lists)) read
 
   pub settles_here : {now' : List Node} {marks' : List Mark} {rest : List ℕ} → length (next_in (nodes_of_lists lists) a) ≤ get_or seen a 0
-      → now' ≡ changed now a list → marks' ≡ slice_set marks a Done → waiting ≡ rest ++ a ∷ []
+      → now' ≡ changed_nodes now a list → marks' ≡ slice_set marks a Done → waiting ≡ rest ++ a ∷ []
       → Moves (nodes_of_lists lists) marks seen waiting now' marks' seen rest
   settles_here all e f left = settles way a last list (node_at lists a list list_here) all e f left
 

@@ -2,7 +2,7 @@
 ghost use Rattle.std.specs.Prelude.{◌≡◌, ◌+◌, ◌++◌, ◌∷◌, [], ◌<◌, ◌≤◌, length, replicate, slice_index, slice_set, false, IfErr, IfOk, OnOk, None};
 ghost use Rattle.std.specs.Option.{option_copied};
 ghost use Rattle.deprecation_graph.specs.declared.limits.TheConstants.{MOST_EDGES, MOST_NODES};
-ghost use Rattle.deprecation_graph.specs.Graph.{changed, edge_count, next_in, node_of, successors as successors_in, IsChange, IsLawful};
+ghost use Rattle.deprecation_graph.specs.Graph.{changed_nodes, edge_count, next_in, node_of, successors as successors_in, IsChange, IsLawful};
 ghost use Rattle.deprecation_graph.specs.Faults.{change_fault};
 ghost use Rattle.filled_graph.specs.declared.filling.Mark.TheVariants as mark;
 ghost use Rattle.filled_graph.specs.Filled.{nodes_of_lists};
@@ -111,7 +111,7 @@ fn change(
     requires few { length graph.old.nodes ≤ MOST_NODES }
     requires change { IsChange graph.old.nodes node list.now }
     requires room { edge_count graph.old.nodes + length (successors_in list.now) ≤ MOST_EDGES }
-    ensures nodes { OnOk result (graph.new.nodes ≡ changed graph.old.nodes node list.now) }
+    ensures nodes { OnOk result (graph.new.nodes ≡ changed_nodes graph.old.nodes node list.now) }
     ensures unlawful { IfErr result (λ f. f ≡ FillFault.Unlawful → change_fault graph.old.nodes node list.now ≡ None → ⊥) }
 {
     graph.reserve(0, successors(list).len() as u32)?;

@@ -25,7 +25,7 @@ use Rattle.numbered_names.specs.Shown.{different, names_at, Shows}
 use Rattle.numbered_names.proofs.Shown.{shows_none, shows_more, shows_fewer, shows_order, shows_same}
 use Rattle.asked_names.specs.Asked.{asked, facts_in, facts_of, fresh_facts, is_referred, leads, same_mode, there}
 use Rattle.asked_names.proofs.Moves.{item_there, item_left, statement_asked, statement_asked_no_more, led_there, led_asked, plain_asked, plain_there}
-use Rattle.kept_facts.specs.Lists.{Arrives, Asks, Leaves, ProbesStay, TargetsStay, Unasks}
+use Rattle.kept_facts.specs.Lists.{Arrives, Asks, Departs, ProbesStay, TargetsStay, Unasks}
 use Rattle.kept_facts.specs.Kept.{AreLive, board_of, Boards, ends_of_led, KeepsKnown, KeepsRoom, SameBoards, ShowRows, ShowsRows}
 
 -- ---- one list that a board shows
@@ -40,7 +40,7 @@ module _ (names : Names) (are : AreNames names) (old new : Board) (numbers : Lis
   arrived : Arrives old new names numbers → SameElements (names_at names numbers ++ list) other → Shows names (target_times old) list → Shows names (target_times new) other
   arrived a same s = shows_order names (target_times new) (names_at names numbers ++ list) other same (shows_more names (target_times old) (target_times new) numbers list are live (λ t. omega (arith, a.times t)) s)
 
-  left : Leaves old new names numbers → SameElements list (names_at names numbers ++ other) → Shows names (target_times old) list → Shows names (target_times new) other
+  left : Departs old new names numbers → SameElements list (names_at names numbers ++ other) → Shows names (target_times old) list → Shows names (target_times new) other
   left a same s = shows_fewer names (target_times old) (target_times new) numbers other are live (λ t. omega (arith, a.times t)) (shows_order names (target_times old) list (names_at names numbers ++ other) same s)
 
   now_asked : Asks old new names numbers → SameElements (names_at names numbers ++ list) other → Shows names (probe_times old) list → Shows names (probe_times new) other
@@ -97,7 +97,7 @@ module _ (names : Names) (are : AreNames names) (old new : Board) (mode : Mode) 
     there = arrived names are old new numbers live (there rows mode) (there next mode) a more s.there;
   }
 
-  pub goes : Leaves old new names numbers → SameElements (there rows mode) (names_at names numbers ++ there next mode) → asked next mode ≡ asked rows mode → ShowsRows names old rows mode → ShowsRows names new next mode
+  pub goes : Departs old new names numbers → SameElements (there rows mode) (names_at names numbers ++ there next mode) → asked next mode ≡ asked rows mode → ShowsRows names old rows mode → ShowsRows names new next mode
   goes a less same s = record {
     asked = subst (Shows names (probe_times new)) (sym same) (probes_stay old new a.stay names (asked rows mode) s.asked);
     there = left names are old new numbers live (there rows mode) (there next mode) a less s.there;
@@ -180,7 +180,7 @@ moved from to from_names to_names list other f t same h = omega (arith, f h, t h
 -- names come, others go, names are asked, and others no longer
 pub led : (names : Names) → AreNames names → (old come gone asks new : Board) (items_from items_to facts_from facts_to : List NameId) (rows next : Rows)
     → AreLive names items_from → AreLive names items_to → AreLive names facts_from → AreLive names facts_to
-    → Arrives old come names items_to → Leaves come gone names items_from → Asks gone asks names facts_to → Unasks asks new names facts_from
+    → Arrives old come names items_to → Departs come gone names items_from → Asks gone asks names facts_to → Unasks asks new names facts_from
     → SameElements (names_at names items_to ++ there rows Follow) (names_at names items_from ++ there next Follow)
     → SameElements (names_at names facts_to ++ asked rows Follow) (names_at names facts_from ++ asked next Follow)
     → ShowsRows names old rows Follow → ShowsRows names new next Follow
@@ -246,7 +246,7 @@ led_known old come gone asks new names facts_from facts_to a l q u = record {
 pub arrived_room : (old new : Board) (names : Names) (numbers : List NameId) → Arrives old new names numbers → KeepsRoom old new 0 (length numbers)
 arrived_room old new names numbers a = record { probe_room = omega (arith, a.stay.probe_room); target_room = omega (arith, a.room); wide = a.stay.wide }
 
-pub left_room : (old new : Board) (names : Names) (numbers : List NameId) → Leaves old new names numbers → KeepsRoom old new 0 0
+pub left_room : (old new : Board) (names : Names) (numbers : List NameId) → Departs old new names numbers → KeepsRoom old new 0 0
 left_room old new names numbers a = record { probe_room = omega (arith, a.stay.probe_room); target_room = omega (arith, a.room); wide = a.stay.wide }
 
 pub asked_room : (old new : Board) (names : Names) (numbers : List NameId) → Asks old new names numbers → KeepsRoom old new (length numbers) 0

@@ -67,8 +67,8 @@ pub record Unasking (old now : Board) (names : Names) (all rest : List NameId) :
 abbrev pub Arrives : Board → Board → Names → List NameId → Type 0
 Arrives old new names all = Arriving old new names all []
 
-abbrev pub Leaves : Board → Board → Names → List NameId → Type 0
-Leaves old new names all = Leaving old new names all []
+abbrev pub Departs : Board → Board → Names → List NameId → Type 0
+Departs old new names all = Leaving old new names all []
 
 abbrev pub Asks : Board → Board → Names → List NameId → Type 0
 Asks old new names all = Asking old new names all []

@@ -10,7 +10,7 @@ ghost use Rattle.pair_board.specs.Board.{FitsBoard, probe_times, target_times};
 ghost use Rattle.numbered_names.specs.Shown.{name_at, names_at, Shows, times_in};
 ghost use Rattle.asked_names.specs.Asked.{is_one_covering};
 ghost use Rattle.kept_facts.specs.Kept.{AreLive};
-ghost use Rattle.kept_facts.specs.Lists.{Arrives, Asks, IsWide, Leaves, Unasks, looks};
+ghost use Rattle.kept_facts.specs.Lists.{Arrives, Asks, IsWide, Departs, Unasks, looks};
 
 use cpe_steps::Steps;
 use name_index::{NameId, NameTable};
@@ -48,7 +48,7 @@ pub(crate) fn leave<L: Ledger>(
     requires fits { FitsBoard board.old table.now }
     requires live { AreLive table.now numbers.now }
     requires there { (t : ℕ) → times_in t numbers.now ≤ target_times board.old t }
-    ensures leaves { Leaves board.old board.new table.now numbers.now }
+    ensures leaves { Departs board.old board.new table.now numbers.now }
     ensures steps { steps.new ≤ steps.old + looks table.now side.Target board.old.probe_ids numbers.now }
     ensures rise { steps.old ≤ steps.new }
 {

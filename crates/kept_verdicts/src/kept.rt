@@ -1,5 +1,5 @@
 // Statements with kept verdicts: what they tell, and items and results of checks that come and go.
-ghost use Rattle.std.specs.Prelude.{◌≡◌, ◌∷◌, ◌<◌, ◌≤◌, ◌^◌, ℕ, [], List, IfOk, OnErr, OnOk, Some, find, length, map, position, slice_get, true};
+ghost use Rattle.std.specs.Prelude.{◌≡◌, ◌∷◌, ◌<◌, ◌≤◌, ◌^◌, ℕ, [], List, IfOk, OnErr, OnOk, Some, count_by, find, length, map, position, slice_get, true};
 ghost use Rattle.std.specs.List.{list_any};
 ghost use Rattle.std.specs.Option.{option_copied, option_map};
 ghost use Rattle.cpe_steps.specs.Within.{StepsWithin};
@@ -8,6 +8,8 @@ ghost use Rattle.cpe_rows.specs.Causes.{check_causes, statement_causes};
 ghost use Rattle.cpe_rows.specs.Changes.{differing};
 ghost use Rattle.cpe_rows.specs.FactNames.{number_of_facts};
 ghost use Rattle.cpe_rows.specs.Names.{is_same};
+ghost use Rattle.cpe_rows.specs.Verdict.{fact_truth};
+ghost use Rattle.cpe_applicability.specs.Board.{is_used, uses};
 ghost use Rattle.cpe_rows.specs.declared.edit.Edit.TheVariants as edit;
 ghost use Rattle.cpe_rows.specs.declared.truth.Truth.{Truth};
 ghost use Rattle.name_index.specs.Table.{IsLive, Names};
@@ -18,7 +20,7 @@ ghost use Rattle.kept_verdicts.specs.Telling.{IsMoved};
 
 use crate::tell::tell_flips;
 use cpe_applicability::Board;
-use cpe_rows::{Changed, CheckKey, EditFault, List, Room, Statement, Text, Truth};
+use cpe_rows::{Changed, CheckKey, EditFault, List, Mode, Room, Statement, Text, Truth};
 use cpe_steps::Steps;
 use cpe_values::Memory;
 use followed_facts::FollowedFacts;
@@ -111,6 +113,13 @@ impl KeptVerdicts {
         self.board.has_check(key)
     }
 
+    /// The result that is kept for a check, if there is one.
+    pub fn check(&self, key: &CheckKey) -> Option<Truth>
+        ensures { result ≡ option_map (λ c. c.1) (find (has_key key.now) (checks_in self.now)) }
+    {
+        self.board.check(key)
+    }
+
     /// The first fault of a statement that is to be put, but for the weight.
     pub fn statement_fault(&self, statement: &Statement) -> Option<EditFault>
         ensures { result ≡ first_some (statement_causes (statements_in self.now) statement.now) }
@@ -140,6 +149,20 @@ impl KeptVerdicts {
     {
         cpe_applicability::law::verdicts_are_truths();
         self.board.verdict(id)
+    }
+
+    /// How many statements of a mode refer to the name of a number. It goes over none of them.
+    pub fn users_of(&self, fact: NameId, mode: Mode) -> usize
+        ensures { result ≡ count_by (uses mode fact.0) self.now.board.rows }
+    {
+        self.board.users(fact, mode)
+    }
+
+    /// The truth of the fact references to the name of a number, which is kept where a statement of the mode refers to it.
+    pub fn truth_of(&self, fact: NameId, mode: Mode) -> Truth
+        ensures { (names : Names) (rows : Rows) → Stands names self.now rows → is_used self.now.board.rows mode fact.0 ≡ true → result ≡ fact_truth rows mode (name_at names fact) }
+    {
+        self.board.truth(fact, mode)
     }
 
     /// The verdicts now are those that callers know: changes are told from here on. It takes no memory.

@@ -73,12 +73,12 @@ EndsAt-written last a v w (suc zero) (y ∷ (z ∷ zs)) e h = EndsAt-written las
 EndsAt-written last a v w (suc (suc k)) (y ∷ (z ∷ zs)) e h = EndsAt-written last a v w (suc k) (z ∷ zs) e h
 
 -- the slots after a write
-pub record Written (s t : List Slot) (cell name k v : ℕ) (h : HeadRow) : Type 0 where
+pub record SlotWritten (s t : List Slot) (cell name k v : ℕ) (h : HeadRow) : Type 0 where
   pub rewrites : Rewrites s t name
   pub list : ListIs t name (Some (slice_set (walk s h.first h.len) k (cell, v)))
   pub kept : KeepsCells s t cell
 
-pub written : (s : List Slot) (cell name k v : ℕ) (c : CellRow) → length s ≤ END → AreLists s → (r : RowOf s cell name k) → slice_get s cell ≡ Some (Cell c) → Written s (set s cell (cell_of c.list v c.next)) cell name k v r.head
+pub written : (s : List Slot) (cell name k v : ℕ) (c : CellRow) → length s ≤ END → AreLists s → (r : RowOf s cell name k) → slice_get s cell ≡ Some (Cell c) → SlotWritten s (set s cell (cell_of c.list v c.next)) cell name k v r.head
 written s cell name k v c few ls r sa =
     let h = r.head in
     let w = walk s h.first h.len in
@@ -109,7 +109,7 @@ write_pool s t cell name k v c p st r sa is n =
     let ts = t.items.items in
     let h = r.head in
     let w = walk xs h.first h.len in
-    let q = subst (λ (ys : List Slot). Written xs ys cell name k v h) (sym is) (written xs cell name k v c (omega (arith, p.store.few)) p.lists r sa) in
+    let q = subst (λ (ys : List Slot). SlotWritten xs ys cell name k v h) (sym is) (written xs cell name k v c (omega (arith, p.store.few)) p.lists r sa) in
     IsPool-changed s t name (Some (slice_set w k (cell, v))) p st q.rewrites q.list
     (λ i d e same. elim (cases_eq i cell) [
       | inl here ↦ (k, ap (option_map (λ (y : Row). y.0)) (slice_get-set_same {X = Row} w k (cell, v) (slice_get_within w k _ r.here)) ∙ ap Some (sym here))
@@ -123,7 +123,7 @@ pub write_lists : (s t : List Slot) (cell v : ℕ) (c : CellRow) → length s �
 write_lists s t cell v c few ls sa is name k e =
     let r = row_of s cell name k e in
     let h = r.head in
-    let q = subst (λ (ys : List Slot). Written s ys cell name k v h) (sym is) (written s cell name k v c few ls r sa) in
+    let q = subst (λ (ys : List Slot). SlotWritten s ys cell name k v h) (sym is) (written s cell name k v c few ls r sa) in
     let w : list_at (lists_of s) name ≡ walk s h.first h.len = ap rows_or_none (list_at_head s name h r.is) in
     subst (λ (xs : List Row). Updates (lists_of s) (lists_of t) name (Some (slice_set xs k (cell, v)))) (sym w) (lists_updated s t name _ ls q.rewrites q.list)
 

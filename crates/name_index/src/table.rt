@@ -355,6 +355,19 @@ impl NameTable {
         }
     }
 
+    /// Makes room for so many names more, so that their memory is taken at once. Room for their products and texts is made as they come.
+    ///
+    /// # Errors
+    /// That memory ran out.
+    pub fn reserve(&mut self, names: u32) -> Result<(), Memory>
+        ensures { self.new ≡ self.old }
+    {
+        self.names.reserve(names as usize)?;
+        self.numbers.reserve(names as usize)?;
+        self.rows.reserve(names as usize)?;
+        Ok(())
+    }
+
     /// The number of a name. None exactly where no live number has it.
     pub fn find(&self, name: &Wfn) -> Option<NameId>
         ensures found { IfSome result (λ id. HasName self.now id.0 name.now) }

@@ -2,42 +2,32 @@
 use cpe_versions::version_cmp;
 use std::cmp::Ordering;
 
-fn is_less(a: &str, b: &str) -> bool {
-    version_cmp(a.as_bytes(), b.as_bytes()) == Ordering::Less
-        && version_cmp(b.as_bytes(), a.as_bytes()) == Ordering::Greater
+// Whether the one stands so to the other, and the other conversely to it.
+fn stand(a: &str, b: &str, so: Ordering, conversely: Ordering) -> bool {
+    version_cmp(a.as_bytes(), b.as_bytes()) == so
+        && version_cmp(b.as_bytes(), a.as_bytes()) == conversely
 }
 
-fn is_equal(a: &str, b: &str) -> bool {
-    version_cmp(a.as_bytes(), b.as_bytes()) == Ordering::Equal
-        && version_cmp(b.as_bytes(), a.as_bytes()) == Ordering::Equal
+// Whether each stands so to the next.
+fn each_stands(versions: &[&str], so: Ordering, conversely: Ordering) -> bool {
+    let mut last = None;
+    for version in versions {
+        if let Some(before) = last {
+            if !stand(before, version, so, conversely) {
+                return false;
+            }
+        }
+        last = Some(*version);
+    }
+    true
 }
 
-// Whether each is less than the next.
 fn rise(versions: &[&str]) -> bool {
-    let mut last = None;
-    for version in versions {
-        if let Some(before) = last {
-            if !is_less(before, version) {
-                return false;
-            }
-        }
-        last = Some(*version);
-    }
-    true
+    each_stands(versions, Ordering::Less, Ordering::Greater)
 }
 
-// Whether each is equal to the next.
 fn are_equal(versions: &[&str]) -> bool {
-    let mut last = None;
-    for version in versions {
-        if let Some(before) = last {
-            if !is_equal(before, version) {
-                return false;
-            }
-        }
-        last = Some(*version);
-    }
-    true
+    each_stands(versions, Ordering::Equal, Ordering::Equal)
 }
 
 #[test]

@@ -3,7 +3,7 @@ use Rattle.cpe_session.specs.declared.status.Status.TheVariants.{Memory}
 use Rattle.cpe_session.specs.Ran.{Ran, ReachedBy}
 use Rattle.cpe_session.specs.Session.{total_cost}
 use Rattle.cpe_session.specs.Table.{made_lines}
-use Rattle.cpe_session.specs.Task.{Transcript, Written, speech, spoken}
+use Rattle.cpe_session.specs.Task.{Transcript, Fixed, speech, spoken}
 use Rattle.cpe_session.proofs.Runs.{Ran-besides}
 use Rattle.cpe_drill.specs.declared.drilled.Drilled.{Drilled}
 use Rattle.cpe_drill.specs.Generated.{generated}
@@ -14,11 +14,11 @@ use Rattle.cpe_drill.proofs.run.drill_records.Goals as goal
 pub returns-clause-ran : goal.returns-clause-ran
 returns-clause-ran g c = λ left.
     let lines = made_lines generated c.args.count in
-    let ran = subst (λ (first : Drilled). Ran left left (g.K.Sink.held c.args.sink.now) (g.K.Sink.held c.answer_made.new.sink) (Written (spoken (speech (drill_session c.args.count) first) lines))
+    let ran = subst (λ (first : Drilled). Ran left left (g.K.Sink.held c.args.sink.now) (g.K.Sink.held c.answer_made.new.sink) (Fixed (spoken (speech (drill_session c.args.count) first) lines))
     (λ taken status. ReachedBy (drill_session c.args.count) first c.answer_made.new.state c.args.steps.now c.answer_made.new.steps lines lines status) c.answer_made.result)
     c.requires (c.answer_made.ensures.ran left) in
     Ran-besides
-    (subst (λ (all : Transcript). Ran left left (g.K.Sink.held c.args.sink.now) (g.K.Sink.held c.answer_made.new.sink) (Written all)
+    (subst (λ (all : Transcript). Ran left left (g.K.Sink.held c.args.sink.now) (g.K.Sink.held c.answer_made.new.sink) (Fixed all)
     (λ taken status. ReachedBy (drill_session c.args.count) undrilled c.answer_made.new.state c.args.steps.now c.answer_made.new.steps lines lines status) c.answer_made.result)
     (drill_is_spoken c.args.count) ran)
     (λ taken reached. drill-leaves c.args.count c.answer_made.new.state c.answer_made.result reached)

@@ -8,7 +8,7 @@ use Rattle.deprecation_graph.specs.Indexed.{list_of}
 use Rattle.deprecation_graph.specs.Groups.{Recounts}
 use Rattle.deprecation_graph.specs.Kept.{nodes_in}
 use Rattle.deprecation_graph.proofs.KeptLemmas.{same_steps}
-use Rattle.deprecation_graph.proofs.StoredLemmas.{groups_changed, groups_recounted, kept_grouped, count_nodes, list_below, relinked, changed_nodes, none_answer}
+use Rattle.deprecation_graph.proofs.StoredLemmas.{groups_changed, groups_recounted, kept_grouped, count_nodes, list_below, relinked, nodes_changed, none_answer}
 use Rattle.deprecation_graph.proofs.changes.set_kept.Goals as goal
 
 pub unlink_all-requires-clause-from : goal.unlink_all-requires-clause-from
@@ -52,14 +52,14 @@ index_mut-requires c = omega (arith, c.requires.change.node, count_nodes c.args.
 
 pub returns-clause-nodes : goal.returns-clause-nodes
 returns-clause-nodes c =
-    changed_nodes c.args.kept.now (slice_set c.args.kept.now.active.items c.args.node c.is_none-is_active.result) c.link_all.new.next.lists c.args.node c.is_none-is_active.result c.successors-all.result.now (option_copied c.args.next) c.requires.sound refl (none_answer c.args.next c.is_none-is_active.result c.is_none-is_active.ensures)
+    nodes_changed c.args.kept.now (slice_set c.args.kept.now.active.items c.args.node c.is_none-is_active.result) c.link_all.new.next.lists c.args.node c.is_none-is_active.result c.successors-all.result.now (option_copied c.args.next) c.requires.sound refl (none_answer c.args.next c.is_none-is_active.result c.is_none-is_active.ensures)
     (relinked c.args.kept.now.next.lists c.unlink_all.new.next.lists c.link_all.new.next.lists c.args.node c.successors-all.result.now (omega (arith, c.requires.change.node, count_nodes c.args.kept.now c.requires.sound, c.requires.sound.next)) c.unlink_all.ensures.next c.link_all.ensures.next) c.successors-all.ensures
 
 pub returns-clause-sound : goal.returns-clause-sound
 returns-clause-sound c =
     let lt : c.args.node < length c.args.kept.now.next.lists = omega (arith, c.requires.change.node, count_nodes c.args.kept.now c.requires.sound, c.requires.sound.next) in
     let lists = relinked c.args.kept.now.next.lists c.unlink_all.new.next.lists c.link_all.new.next.lists c.args.node c.successors-all.result.now lt c.unlink_all.ensures.next c.link_all.ensures.next in
-    let nodes = changed_nodes c.args.kept.now (slice_set c.args.kept.now.active.items c.args.node c.is_none-is_active.result) c.link_all.new.next.lists c.args.node c.is_none-is_active.result c.successors-all.result.now (option_copied c.args.next) c.requires.sound refl (none_answer c.args.next c.is_none-is_active.result c.is_none-is_active.ensures) lists c.successors-all.ensures in
+    let nodes = nodes_changed c.args.kept.now (slice_set c.args.kept.now.active.items c.args.node c.is_none-is_active.result) c.link_all.new.next.lists c.args.node c.is_none-is_active.result c.successors-all.result.now (option_copied c.args.next) c.requires.sound refl (none_answer c.args.next c.is_none-is_active.result c.is_none-is_active.ensures) lists c.successors-all.ensures in
     let recounts = subst (λ (marks : List Bool). Recounts c.args.kept.now.groups.items c.recount.new.groups.items marks (slice_set marks c.args.node c.is_none-is_active.result)) c.deref.ensures.value c.recount.ensures.recounts in
     record {
       next = omega (arith, ap length lists, length-set c.args.kept.now.next.lists c.args.node c.successors-all.result.now, length-set c.args.kept.now.active.items c.args.node c.is_none-is_active.result, c.requires.sound.next);

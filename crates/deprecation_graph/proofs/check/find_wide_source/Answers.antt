@@ -2,8 +2,8 @@ use Rattle.std.proofs.Common.{◌∙◌, not, ◌<◌, ℕ, length, ap, sym, sub
 use Rattle.std.specs.List.{All, find, filter}
 use Rattle.std.specs.Option.{option_copied}
 use Rattle.std.proofs.lemmas.Result.{IfOk-weaker}
-use Rattle.deprecation_graph.specs.Graph.{changed}
-use Rattle.deprecation_graph.specs.Faults.{is_wide}
+use Rattle.deprecation_graph.specs.Graph.{changed_nodes}
+use Rattle.deprecation_graph.specs.Faults.{is_wide_node}
 use Rattle.deprecation_graph.specs.Indexed.{has_none}
 use Rattle.deprecation_graph.specs.Kept.{nodes_in}
 use Rattle.deprecation_graph.proofs.KeptLemmas.{find_wide_source as wide_is_source, kept_sources_below, length-nodes_of}
@@ -23,7 +23,7 @@ pub returns-then-is_none : goal.returns-then-is_none
 returns-then-is_none c =
     let to = option_copied c.args.change.next in
     let roots = c.deref-2.ensures.value ∙ c.in_ok-roots.ensures ∙ ap (filter (has_none c.args.kept.now.before.lists)) (c.deref.ensures.value ∙ c.in_ok-sources.ensures) in
-    sym (narrow_roots c.args.kept.now c.requires.kept c.args.change.node to c.requires.change (sym (ap (find (is_wide (changed (nodes_in c.args.kept.now) c.args.change.node to))) roots) ∙ sym c.in_ok-find_wide_among.ensures ∙ none_found c.in_ok-find_wide_among.field-0 (c.is_none.ensures ∙ ap not c.if-is_none.true)))
+    sym (narrow_roots c.args.kept.now c.requires.kept c.args.change.node to c.requires.change (sym (ap (find (is_wide_node (changed_nodes (nodes_in c.args.kept.now) c.args.change.node to))) roots) ∙ sym c.in_ok-find_wide_among.ensures ∙ none_found c.in_ok-find_wide_among.field-0 (c.is_none.ensures ∙ ap not c.if-is_none.true)))
 
 pub find_wide_among-requires-2-clause-nodes : goal.find_wide_among-requires-2-clause-nodes
 find_wide_among-requires-2-clause-nodes c = kept_sources_below c.args.kept.now c.args.change.node c.deref-3.result.now c.requires.kept (c.deref-3.ensures.value ∙ c.in_ok-sources.ensures)
@@ -31,4 +31,4 @@ find_wide_among-requires-2-clause-nodes c = kept_sources_below c.args.kept.now c
 pub returns : goal.returns
 returns c =
     let to = option_copied c.args.change.next in
-    IfOk-weaker c.find_wide_among-2.result _ _ (λ v e. e ∙ ap (find (is_wide (changed (nodes_in c.args.kept.now) c.args.change.node to))) (c.deref-3.ensures.value ∙ c.in_ok-sources.ensures) ∙ wide_is_source (nodes_in c.args.kept.now) c.args.change.node to c.requires.kept.lawful c.requires.change) c.find_wide_among-2.ensures
+    IfOk-weaker c.find_wide_among-2.result _ _ (λ v e. e ∙ ap (find (is_wide_node (changed_nodes (nodes_in c.args.kept.now) c.args.change.node to))) (c.deref-3.ensures.value ∙ c.in_ok-sources.ensures) ∙ wide_is_source (nodes_in c.args.kept.now) c.args.change.node to c.requires.kept.lawful c.requires.change) c.find_wide_among-2.ensures

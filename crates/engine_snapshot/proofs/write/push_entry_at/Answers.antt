@@ -1,5 +1,5 @@
 use Rattle.std.proofs.Common.{sym}
-use Rattle.cpe_dictionary.specs.Lent.{entry_lent}
+use Rattle.cpe_rows.specs.Lent.{entry_lent}
 use Rattle.cpe_rows.specs.Lawful.{has_successors}
 use Rattle.engine_snapshot.proofs.WriteLemmas.{holds_at}
 use Rattle.engine_snapshot.proofs.write.push_entry_at.Goals as goal

@@ -1,7 +1,7 @@
 use Rattle.std.proofs.Common.{◌≡◌, ◌<◌, List, length, sym, ap, subst, ◌∙◌}
 use Rattle.std.proofs.lemmas.List.{length-map}
 use Rattle.cpe_rows.specs.Lawful.{IsDictionary}
-use Rattle.deprecation_graph.specs.Graph.{Node, changed}
+use Rattle.deprecation_graph.specs.Graph.{Node, changed_nodes}
 use Rattle.name_index.specs.declared.table.NameId.{NameId}
 use Rattle.name_index.specs.Table.{kept_at}
 use Rattle.names_in_order.specs.InOrder.{names_numbered}
@@ -35,7 +35,7 @@ returns-clause-fits c =
           (subst (λ (s : Stored). next ≡ numbered (entries_in table s) d) back c.requires.numbers)
           (subst (λ (s : Stored). IsDictionary (written (rewritten d note) k (entries_in table s))) back c.requires.lawful)
           (ap (entries_of ns) all ∙ written_beside d note ns i.details.items k even)
-          (c.set_edges.ensures.nodes ∙ ap (changed c.reserve.new.self.nodes k) c.next-2.ensures ∙ ap (λ (nodes : List Node). changed nodes k next) c.reserve.ensures.nodes);
+          (c.set_edges.ensures.nodes ∙ ap (changed_nodes c.reserve.new.self.nodes k) c.next-2.ensures ∙ ap (λ (nodes : List Node). changed_nodes nodes k next) c.reserve.ensures.nodes);
     }
 
 pub returns-clause-ok : goal.returns-clause-ok

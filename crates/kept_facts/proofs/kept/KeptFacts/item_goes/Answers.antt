@@ -5,7 +5,7 @@ use Rattle.cpe_rows.specs.declared.statement.Mode.TheVariants.{Plain, Follow}
 use Rattle.name_index.specs.declared.table.NameId.{NameId}
 use Rattle.numbered_names.specs.Shown.{name_at, names_at, times_in}
 use Rattle.pair_board.specs.Board.{target_times}
-use Rattle.kept_facts.specs.Lists.{Leaves}
+use Rattle.kept_facts.specs.Lists.{Departs}
 use Rattle.kept_facts.specs.Kept.{Boards, KeepKnown, KeepsRoom, ShowRows}
 use Rattle.kept_facts.proofs.Boards.{left_room, goes, item_less, probes_known}
 use Rattle.kept_facts.proofs.Steps.{one_there}
@@ -22,7 +22,7 @@ returns g c = record {
   fits = grind (arith, common_steps);
   shows = λ rows asked known led. let names = c.args.table.now in
       let before = subst (λ (b : Boards). ShowRows names b rows) (sym c.self.view_is) asked in
-      let one = subst (λ (ns : List NameId). Leaves c.self.inside.plain c.leave.new.board names ns) c.from_ref.ensures.value c.leave.ensures.leaves in
+      let one = subst (λ (ns : List NameId). Departs c.self.inside.plain c.leave.new.board names ns) c.from_ref.ensures.value c.leave.ensures.leaves in
       record {
         plain = goes names c.lawful.ensures c.self.inside.plain c.leave.new.board Plain (c.args.item ∷ []) (c.requires.item, tt) rows (after rows (edit.DropItem (name_at names c.args.item))) one (item_less rows Plain (name_at names c.args.item) (names_at names (c.args.item ∷ [])) known refl) refl before.plain;
         follow = goes names c.lawful.ensures c.self.inside.follow c.leave-2.new.board Follow c.args.ends.now c.requires.ends rows (after rows (edit.DropItem (name_at names c.args.item))) c.leave-2.ensures.leaves (item_less rows Follow (name_at names c.args.item) (names_at names c.args.ends.now) known led) refl before.follow;
@@ -33,7 +33,7 @@ returns g c = record {
         plain = probes_known c.self.inside.plain c.leave.new.board c.leave.ensures.leaves.stay;
         follow = probes_known c.self.inside.follow c.leave-2.new.board c.leave-2.ensures.leaves.stay;
       });
-  room = let one = subst (λ (ns : List NameId). Leaves c.self.inside.plain c.leave.new.board c.args.table.now ns) c.from_ref.ensures.value c.leave.ensures.leaves in
+  room = let one = subst (λ (ns : List NameId). Departs c.self.inside.plain c.leave.new.board c.args.table.now ns) c.from_ref.ensures.value c.leave.ensures.leaves in
       subst (λ (b : Boards). KeepsRoom b.plain c.leave.new.board 0 0) c.self.view_is (left_room c.self.inside.plain c.leave.new.board c.args.table.now (c.args.item ∷ []) one);
   room_follow = subst (λ (b : Boards). KeepsRoom b.follow c.leave-2.new.board 0 0) c.self.view_is (left_room c.self.inside.follow c.leave-2.new.board c.args.table.now c.args.ends.now c.leave-2.ensures.leaves);
   steps = grind (arith, common_steps);

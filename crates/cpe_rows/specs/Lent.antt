@@ -1,7 +1,7 @@
 -- An entry that is lent.
 use Rattle.std.specs.Option.{option_copied}
 use Rattle.cpe_rows.specs.declared.entry.Entry.{Entry}
-use Rattle.cpe_dictionary.specs.declared.entry_ref.EntryRef.{EntryRef}
+use Rattle.cpe_rows.specs.declared.entry_ref.EntryRef.{EntryRef}
 
 -- the entry that has these parts
 abbrev pub entry_lent : EntryRef → Entry

@@ -1,7 +1,7 @@
 use Rattle.std.proofs.Common.{◌≡◌, ◌++◌, take, length}
 use Rattle.std.specs.List.{flat_map}
 use Rattle.cpe_values.specs.Spelling.{character}
-use Rattle.cpe_values.proofs.spelling.push_body.Given as goal
+use Rattle.cpe_values.proofs.spelling.push_characters.Given as goal
 
 abbrev pub invariant-loop-byte : goal.invariant-loop-byte
 invariant-loop-byte l = record {
