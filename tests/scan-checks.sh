@@ -164,7 +164,7 @@ reads_machines() {
 
 # The page of report.py over the samples, and as it stands in a browser, where there is one.
 shows_pages() {
-    scans --json --suppress "$ranges/suppress.txt" --lists "$ranges/web-1.cdx.json" "$ranges/app-1.txt" \
+    scans --json --why --suppress "$ranges/suppress.txt" --lists "$ranges/web-1.cdx.json" "$ranges/app-1.txt" \
         > "$room/scan.json" 2> "$room/error"
     limited python3 recipes/report.py --title 'Two machines' "$room/scan.json" > "$room/page.html" 2> "$room/error"
     status=$?

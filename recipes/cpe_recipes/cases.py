@@ -42,7 +42,7 @@ class Statement:
         waiting = [value["test"]]
         while waiting:
             one = waiting.pop()
-            key = _range_of(one)
+            key = range_of(one)
             if key is not None and key in ranges:
                 ranged[key] = checks[key] = None
             elif "op" in one:
@@ -54,7 +54,7 @@ class Statement:
         return Statement(value["id"], tuple(facts), tuple(ranged), tuple(checks))
 
 
-def _range_of(test: Json) -> str | None:
+def range_of(test: Json) -> str | None:
     """The id of the check where a test is a name and the check of its range."""
     of = test.get("of", ())
     if test.get("op") != "AND" or test.get("negate") or len(of) != 2 or "fact" not in of[0] or "check" not in of[1]:

@@ -109,10 +109,23 @@ class Unsure:
 
 @dataclass
 class Decided:
-    """What is decided of a machine: the truths of checks by their ids, and those that have none."""
+    """What is decided of a machine: the truths of checks by their ids, those that have none, and of each that is TRUE the first item
+    that makes it so."""
 
     truths: dict[str, bool] = field(default_factory=dict)
     unsure: dict[str, Unsure] = field(default_factory=dict)
+    inside: dict[str, str] = field(default_factory=dict)
+
+    def put(self, key: str, is_inside: bool, item: str) -> None:
+        """Puts how an item stands to the range of a check."""
+        self.truths[key] = self.truths.get(key, False) or is_inside
+        if is_inside:
+            self.inside.setdefault(key, item)
+
+    def clear(self) -> None:
+        """Lets go of what the verdicts have too."""
+        self.truths.clear()
+        self.inside.clear()
 
 
 class Decider:
@@ -303,13 +316,13 @@ def decide(leads: Iterable[Lead], decider: Decider, lists: Lists) -> Decided:
     for lead in leads:
         for name in (lead.name, *lead.ends):
             for key in lists.keys(name):
-                decided.truths[key] = True
+                decided.put(key, True, lead.name)
         for end in lead.ends:
             for key, stand in decider.stands(end).items():
                 if isinstance(stand, str):
                     decided.unsure.setdefault(key, Unsure(key, end, stand))
                 else:
-                    decided.truths[key] = decided.truths.get(key, False) or stand
+                    decided.put(key, stand, lead.name)
     for key in [key for key in decided.unsure if decided.truths.get(key)]:
         del decided.unsure[key]
     for key in decided.unsure:

@@ -66,6 +66,14 @@ def read_feed(path: str | None) -> bytes:
         raise FeedFault(f"can not be unpacked: {fault}") from fault
 
 
+def whole(path: str | None) -> bytes:
+    """The bytes of a feed; Fatal where it can not be read."""
+    try:
+        return read_feed(path)
+    except FeedFault as fault:
+        raise Fatal(f"{name_of(path)}: {fault}") from fault
+
+
 def text_lines(text: str) -> list[str]:
     """The lines of a text, without the line ends of Windows. (JSON may have in it what str.splitlines takes for ends.)"""
     lines = [line.removesuffix("\r") for line in text.split("\n")]

@@ -20,16 +20,21 @@ MOST_ALIKE = 20
 @dataclass
 class Found:
     """What came of a machine: where its items lead, what is decided of its ranges, the verdicts that were asked for by the
-    places of statements, and why some are UNKNOWN."""
+    places of statements, why some are UNKNOWN, and where it was asked for which items make others TRUE."""
 
     machine: Machine
     leads: list[Lead]
     decided: Decided = field(default_factory=Decided)
     truths: dict[int, str] = field(default_factory=dict)
     supposed: dict[int, str] = field(default_factory=dict)
+    deciding: dict[int, list[str]] | None = None
 
     def has_items(self) -> bool:
         return bool(self.leads)
+
+    def places_of(self, truth: str) -> list[int]:
+        """The places of the statements that were asked for and are so, in order."""
+        return sorted(place for place, one in self.truths.items() if one == truth)
 
     def removed(self) -> list[str]:
         """Its items under removed names, which lead nowhere."""
@@ -42,10 +47,7 @@ class Hanging:
     def __init__(self, known: Known, found: Iterable[Found]) -> None:
         self._known = known
         self._found = {one.machine.name: one for one in found}
-        self._parts: dict[str, list[int]] = {}
-        for place, statement in enumerate(known.statements):
-            for id in {statement.id, advisories.base_id(statement.id)}:
-                self._parts.setdefault(id, []).append(place)
+        self._parts = _parts(known)
 
     def on(self, advisory: str, machine: str | None) -> list[str]:
         """The reasons, in words, without repeats."""
@@ -61,6 +63,15 @@ class Hanging:
                 elif key in self._known.stand_ins:
                     reasons[self._known.stand_ins[key]] = None
         return list(reasons)
+
+
+def _parts(known: Known) -> dict[str, list[int]]:
+    """The places of the statements of each advisory, by its id and by those of its parts."""
+    parts: dict[str, list[int]] = {}
+    for place, statement in enumerate(known.statements):
+        for id in {statement.id, advisories.base_id(statement.id)}:
+            parts.setdefault(id, []).append(place)
+    return parts
 
 
 def machines_with_verdicts(known: Known, bare: Sequence[str], found: Iterable[Found]) -> list[verdicts.Machine]:
@@ -138,19 +149,36 @@ def json_of(
     maybe: dict[str, list[Json]] = {}
     for name, id, item, fact in rows:
         maybe.setdefault(name, []).append({"id": id, "item": item, "fact": fact})
-    of_machines = [_machine_json(one, machine, about, maybe) for one, machine in zip(found, machines)]
+    parts = _parts(known)
+    of_machines = [_machine_json(one, machine, about, maybe, parts) for one, machine in zip(found, machines)]
     advisories_of = verdicts.Statements([statement.id for statement in known.statements]).advisories
     return {"advisories": len(advisories_of), "machines": of_machines}
 
 
-def _machine_json(one: Found, machine: verdicts.Machine, about: affected.About, maybe: Mapping[str, list[Json]]) -> Json:
+def _machine_json(
+    one: Found,
+    machine: verdicts.Machine,
+    about: affected.About,
+    maybe: Mapping[str, list[Json]],
+    parts: Mapping[str, Sequence[int]],
+) -> Json:
     row: dict[str, Json] = {"name": machine.name, "items": len(one.leads)}
     if machine.has_items:
-        row["verdicts"] = [_verdict_json(id, truth, machine, about) for id, truth in _in_order(machine, about)]
+        row["verdicts"] = [
+            _verdict_json(id, truth, machine, about) | _decided_json(one, truth, parts.get(id, ()))
+            for id, truth in _in_order(machine, about)
+        ]
         row["perhaps"] = maybe.get(one.machine.name, [])
         row["notInDictionary"] = [lead.name for lead in one.leads if not lead.is_entry]
         row["underRemovedName"] = one.removed()
     return row
+
+
+def _decided_json(one: Found, truth: str, places: Iterable[int]) -> dict[str, Json]:
+    """Which items make it TRUE, in words, where it was asked for."""
+    if truth != "TRUE" or one.deciding is None:
+        return {}
+    return {"decidedBy": list(dict.fromkeys(reason for place in places for reason in one.deciding.get(place, ())))}
 
 
 def _in_order(machine: verdicts.Machine, about: affected.About) -> list[tuple[str, str]]:

@@ -61,6 +61,16 @@ class Program:
         """What the program writes under these words over these lines."""
         return list(self.lines(words, records))
 
+    def bytes(self, words: Sequence[str], data: bytes) -> bytes:
+        """What the program writes under these words over these bytes."""
+        try:
+            run = subprocess.run([self.path, *words], input=data, stdout=subprocess.PIPE, check=False)
+        except OSError as fault:
+            raise Fatal(f"{self.path} can not be run: {why(fault)}") from fault
+        if run.returncode not in (0, 1):
+            raise Fatal(f"{self.path} {' '.join(words)} ended with status {run.returncode}")
+        return run.stdout
+
     def accepted(self, candidates: Iterable[Candidate], said: Said, unsaid: str = "") -> list[str]:
         """The records that cpe accepts, each after those before it. The others are said, but for those that it refuses for
         the reason `unsaid`."""

@@ -1,7 +1,7 @@
 """The whole way, from feeds and what machines have to the advisories that concern each machine.
 
     python3 scan.py --dictionary FILE.. | --records FILE.. --advisories FILE.. [--matches FILE..]
-        --machines FILE | --lists FILE.. [--suppress FILE] [--letters FILE] [--all] [--json]
+        --machines FILE | --lists FILE.. [--suppress FILE] [--letters FILE] [--all] [--json [--why]]
 
 - --dictionary, --advisories, --matches: pages of NVD's API 2.0, as they come or packed by gzip. --records: what dictionary.sh
   made of such pages before.
@@ -10,6 +10,7 @@
 - --letters: the products of which letters in versions count upward, in place of letters.txt.
 - --all: the table and the JSON have the verdicts that are FALSE too.
 - --json: the same as one value of JSON, with what was left out (`leftOut`). report.py makes a page of it.
+- --why: the JSON tells of each verdict that is TRUE which items make it so (`decidedBy`); deciding.py says how, and what it takes.
 
 What machines are asked for, cases.py says; all verdicts come from one run of cpe.
 
@@ -31,6 +32,7 @@ from dataclasses import dataclass, field
 from . import advisories, affected, dictionary, inventory, matches, products, suppressed, unlisted, verdicts
 from .cases import Cases, Index, Known, Product, items_by_product, lines_of, verdicts_of
 from .decide import LETTERS, Decider, Lead, Leads, Lists, decide, leads_of
+from .deciding import Deciding
 from .feeds import FeedFault, Page, name_of, pages, read_feed, text_lines
 from .machines import Machine, read_lists, read_machines
 from .outcome import MOST_ALIKE, Found, Hanging, json_of, machines_with_verdicts, perhaps, tell_items, tell_perhaps
@@ -43,7 +45,7 @@ from .words import FLAG, MANY, ONE, Words, read_words
 
 USAGE = (
     "scan.py --dictionary FILE.. | --records FILE.. --advisories FILE.. [--matches FILE..] "
-    "--machines FILE | --lists FILE.. [--suppress FILE] [--letters FILE] [--all] [--json]"
+    "--machines FILE | --lists FILE.. [--suppress FILE] [--letters FILE] [--all] [--json [--why]]"
 )
 OPTIONS = {
     "--dictionary": MANY,
@@ -56,14 +58,18 @@ OPTIONS = {
     "--letters": ONE,
     "--all": FLAG,
     "--json": FLAG,
+    "--why": FLAG,
 }
 
 
 class Scan:
     """Verdicts of machines over what is known."""
 
-    def __init__(self, program: Program, known: Known, lists: Lists, letters: Letters, progress: Progress) -> None:
+    def __init__(
+        self, program: Program, known: Known, lists: Lists, letters: Letters, progress: Progress, has_why: bool = False
+    ) -> None:
         self._program, self._known, self._lists, self._letters, self._progress = program, known, lists, letters, progress
+        self._deciding = Deciding(program, known) if has_why else None
         self.bare: list[str] = []
         self.successors: dict[Product, list[Product]] = {}
         self._leads = Leads()
@@ -119,10 +125,13 @@ class Scan:
                 reasons = {name: f"{name} was removed from the dictionary" for name in one.removed()}
                 asked[-1].append(self._asked_so(restored, _leads_in(restored.leads, one.machine.items), reasons))
         self._ask([here] if restored is None else [here, restored])
-        for one, of_machine in zip(found, asked):
+        for done, (one, of_machine) in enumerate(zip(found, asked)):
             self._put(one, of_machine)
+            if self._deciding is not None:
+                self._progress.count("asking which items decide", done, len(found))
+                one.deciding = self._deciding.reasons([lead.name for lead in one.leads], one.decided, one.places_of("TRUE"))
             # (what is decided is in the verdicts, and would be much beside them)
-            one.decided.truths.clear()
+            one.decided.clear()
 
     def _asked_so(self, state: _State, leads: list[Lead], reasons: dict[str, str]) -> _Asked:
         """What is asked of a machine where its items lead so, and in words why they may."""
@@ -275,7 +284,8 @@ def read_asked(read: Words, said: Said) -> list[Machine]:
 def run(words: Sequence[str]) -> int:
     read = read_words(words, OPTIONS, USAGE)
     one_of = [("--dictionary", "--records"), ("--advisories",), ("--machines", "--lists")]
-    if read.files or not all(any(map(read.has, options)) for options in one_of) or read.has("--machines") and read.has("--lists"):
+    is_odd = read.has("--machines") and read.has("--lists") or read.has("--why") and not read.has("--json")
+    if read.files or is_odd or not all(any(map(read.has, options)) for options in one_of):
         raise Fatal(f"usage: {USAGE}")
     program = Program()
     with Progress() as progress:
@@ -298,7 +308,7 @@ def _result(read: Words, program: Program, said: Noting, progress: Progress) -> 
     progress.step("reading the match feed")
     feed = pages(read.many("--matches"), said, matches.KINDS, strict=True) if read.has("--matches") else []
     lists = Lists(program, matches.listed(feed, known.ranges.keys(), said))
-    scan = Scan(program, known, lists, letters, progress)
+    scan = Scan(program, known, lists, letters, progress, read.has("--why"))
     found = scan.machines(asked)
     scan.tell_items(found, said)
     machines = machines_with_verdicts(known, scan.bare, found)

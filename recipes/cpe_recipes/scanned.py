@@ -177,10 +177,8 @@ class _Reader:
         if advisory is None:
             advisory = self._advisories[id] = self._advisory(id, one, where)
         if truth != "FALSE":
-            reasons = self._given(one, "hangsOn", list, where) or []
+            reasons = self._texts(one, "hangsOn", where) + self._texts(one, "decidedBy", where)
             accepted = self._given(one, "accepted", str, where)
-            if not all(isinstance(reason, str) for reason in reasons):
-                raise self._fault(where, "hangs on what is no text")
             if accepted is not None:
                 reasons = [f"{truth}: {accepted}", *reasons]
             group = truth if accepted is None else ACCEPTED
@@ -196,6 +194,13 @@ class _Reader:
         if score is not None and not 0 <= score <= HIGHEST:
             raise self._fault(where, "has a score that is none")
         return Advisory(id, title, None if score is None else float(score), severity, published, url)
+
+    def _texts(self, one: Json, key: str, where: str) -> list[str]:
+        """The texts of a list that may be missing."""
+        texts = self._given(one, key, list, where) or []
+        if not all(isinstance(text, str) for text in texts):
+            raise self._fault(where, f"has in {key} what is no text")
+        return list(texts)
 
     def _given(self, value: Json, key: str, kind: type | tuple[type, ...], where: str) -> Json:
         """What an object has under a key, None where it has none."""

@@ -225,7 +225,8 @@ class Refused(ReportCase):
             ({"score": 1e999}, "has a score that is none"),
             ({"title": 7}, "has a member title that is no text"),
             ({"hangsOn": "x"}, "has a member hangsOn that is no list"),
-            ({"hangsOn": [7]}, "hangs on what is no text"),
+            ({"hangsOn": [7]}, "has in hangsOn what is no text"),
+            ({"decidedBy": ["an item", None]}, "has in decidedBy what is no text"),
             ({"verdict": "true"}, "is no verdict: true"),
         ):
             text = json.dumps(table(machine("m", {**verdict("A", "TRUE"), **more}))).replace("Infinity", "1e999")

@@ -51,9 +51,9 @@ def ranged(one):
     return {"op": "AND", "of": [{"fact": one.criteria}, {"check": {"system": "NVD", "href": "cpeMatch", "id": one.key}}]}
 
 
-def scanned(known, machines, listed=None, **more):
+def scanned(known, machines, listed=None, has_why=False, **more):
     program = Program()
-    made = Scan(program, known, Lists(program, listed or {}), NO_LETTERS, Progress(is_shown=False))
+    made = Scan(program, known, Lists(program, listed or {}), NO_LETTERS, Progress(is_shown=False), has_why)
     return made, made.machines(machines, **more)
 
 
@@ -291,7 +291,7 @@ class Words(unittest.TestCase):
     def test_wrong_words_are_fatal(self):
         good = ["--dictionary", self.DICTIONARY, "--advisories", self.ADVISORIES]
         machines = ["--lists", str(SAMPLES / "app-1.txt")]
-        for words in ([], good, machines, good[:2] + machines, good[2:] + machines, ["more"], [*good, *machines, "--machines", "m"]):
+        for words in ([], good, machines, good[:2] + machines, good[2:] + machines, ["more"], [*good, *machines, "--machines", "m"], [*good, *machines, "--why"]):
             with self.subTest(words), self.assertRaises(Fatal):
                 self.run_over(*words)
 

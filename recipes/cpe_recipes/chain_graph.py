@@ -1,0 +1,108 @@
+"""Where deprecations lead from names, as a graph in DOT: sh chain-graph.sh [--svg FILE] RECORDS NAME...
+
+RECORDS are those of `cpe resolve`, and each NAME is one in either binding. Each entry to which paths of successors lead stands in the
+graph once, with an arrow for each successor that tells the kind of the deprecation; names to which nothing more leads have a double
+edge, and removed ones a dashed one. With --svg the program `dot` of Graphviz draws the graph into that file, too.
+
+    sh chain-graph.sh records.jsonl cpe:/a:mysql:mysql:5.1.73 | dot -Tsvg > chain.svg
+
+The status is 1 where records were refused, and 2 where a name is none.
+"""
+from __future__ import annotations
+
+import json
+import shutil
+import subprocess
+from collections.abc import Iterator
+
+from .feeds import text_lines, whole
+from .program import Program, refusals
+from .said import Fatal, Output, Said, why
+from .words import ONE, read_words
+
+USAGE = "chain-graph.sh [--svg FILE] RECORDS NAME..."
+
+
+def run(words: list[str]) -> int:
+    asked = read_words(words, {"--svg": ONE}, USAGE)
+    if len(asked.files) < 2:
+        raise Fatal(f"usage: {USAGE}")
+    records = text_lines(whole(asked.files[0]).decode(errors="replace"))
+    program, said, output = Program(), Said(), Output()
+    steps = steps_of(program, records, asked.files[1:], said)
+    lines = list(graph(steps, successors_of(program, records, [name for name, state in steps.items() if state != "active"])))
+    svg = asked.one("--svg")
+    if svg is not None:
+        draw(lines, svg)
+    output.lines(lines)
+    output.end()
+    return said.status()
+
+
+def steps_of(program: Program, records: list[str], names: list[str], said: Said) -> dict[str, str]:
+    """The names to which paths lead, and of each whether it is `active`, the kind of its deprecation, or nothing where it is no entry."""
+    questions = [json.dumps({"do": "chain", "name": name}) for name in names]
+    lines = program.run(["resolve"], [*records, *questions])
+    refused = refusals(lines)
+    for number, name in enumerate(names, len(records) + 1):
+        if number in refused:
+            raise Fatal(f"{name} is no name: {refused[number]}")
+    for number, reason in refused.items():
+        said.left_out(f"line {number}", reason)
+    steps: dict[str, str] = {}
+    for line in lines[first_answer(lines, len(names)) :]:
+        word, *rest = line.split(" ")
+        if word == "chain":
+            steps.setdefault(rest[0], "")
+        elif word == "step":
+            steps[rest[0]] = rest[1]
+    return steps
+
+
+def first_answer(lines: list[str], count: int) -> int:
+    """The place of the first of the last so many answers to chains."""
+    chains = [place for place, line in enumerate(lines) if line.startswith("chain ")]
+    return chains[-count]
+
+
+def successors_of(program: Program, records: list[str], names: list[str]) -> dict[str, tuple[str, list[str]]]:
+    """The kind and the successors of each of these entries that is deprecated."""
+    questions = [json.dumps({"do": "show", "name": name}) for name in names]
+    found = {}
+    for line in program.run(["resolve"], [*records, *questions])[-len(questions) :] if questions else []:
+        text = line.removeprefix("show ")
+        entry = json.loads(text) if text.startswith("{") else {"deprecation": None}
+        if entry["deprecation"] is not None:
+            found[entry["name"]] = entry["deprecation"]["kind"], entry["deprecation"]["successors"]
+    return found
+
+
+def graph(steps: dict[str, str], successors: dict[str, tuple[str, list[str]]]) -> Iterator[str]:
+    """The lines of the graph."""
+    numbers = {name: number for number, name in enumerate(steps, 1)}
+    yield "digraph chain {"
+    yield "  rankdir=LR;"
+    yield "  node [shape=box];"
+    for name, state in steps.items():
+        look = {"active": ", peripheries=2", "": ", peripheries=2", "NAME_REMOVAL": ", style=dashed"}.get(state, "")
+        yield f"  n{numbers[name]} [label={quoted(name)}{look}];"
+    for name, (kind, following) in successors.items():
+        for successor in following:
+            yield f"  n{numbers[name]} -> n{numbers[successor]} [label={quoted(kind)}];"
+    yield "}"
+
+
+def quoted(text: str) -> str:
+    """A text as DOT quotes it."""
+    return '"' + text.replace("\\", "\\\\").replace('"', '\\"') + '"'
+
+
+def draw(lines: list[str], path: str) -> None:
+    if shutil.which("dot") is None:
+        raise Fatal("there is no dot, which draws graphs")
+    try:
+        subprocess.run(["dot", "-Tsvg", "-o", path], input="\n".join(lines).encode(), check=True, stdout=subprocess.DEVNULL)
+    except OSError as fault:
+        raise Fatal(f"dot can not be run: {why(fault)}") from fault
+    except subprocess.CalledProcessError as fault:
+        raise Fatal(f"dot ended with status {fault.returncode}") from fault
