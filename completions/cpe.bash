@@ -10,7 +10,7 @@ _cpe() {
             return ;;
     esac
     case $COMP_CWORD in
-        1) words='unbind bind compare resolve evaluate watch convert advise save load cover make drill' ;;
+        1) words='unbind bind compare resolve evaluate watch convert explain check advise save load cover make drill' ;;
         2)
             case ${COMP_WORDS[1]} in
                 bind) words='fs uri' ;;

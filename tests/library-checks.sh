@@ -36,7 +36,7 @@ speaks_alike() {
 speaks_vectors() {
     for folder in tests/vectors/*; do
         case $(basename "$folder") in
-            unbind | compare | resolve | evaluate | watch | convert | advise | cover) words=$(basename "$folder") ;;
+            unbind | compare | resolve | evaluate | watch | convert | explain | check | advise | cover) words=$(basename "$folder") ;;
             bind-fs) words='bind fs' ;;
             bind-uri) words='bind uri' ;;
             *) continue ;;

@@ -3,7 +3,7 @@
 # The status is 0 where no check failed.
 . "$(dirname "$0")/checks.sh"
 
-usage='usage: cpe bind fs|bind uri|unbind|compare|resolve|evaluate|watch|make N|drill N|convert|advise|save|load|cover'
+usage='usage: cpe bind fs|bind uri|unbind|compare|resolve|evaluate|watch|make N|drill N|convert|explain|check|advise|save|load|cover'
 
 # bounds WHAT: whether the address space can be bounded here, as the check of this name needs.
 bounds() {
@@ -1164,6 +1164,46 @@ checks_of_convert() {
     fails_on_closed_streams examples/convert.jsonl convert
 }
 
+# What explain writes before its certificates resolve writes on the same lines; and check says of each of them that it holds.
+explains_and_checks() {
+    for file; do
+        what="certificates hold: $(basename "$file")"
+        limited "$program" explain < "$file" > "$room/explained" 2> "$room/error"
+        grep '^{"do":"proof",' "$room/explained" > "$room/proofs"
+        grep -v '^{"do":"proof",' "$room/explained" > "$room/out"
+        limited "$program" resolve < "$file" > "$room/wanted" 2>> "$room/error"
+        judge "explain answers as resolve does: $(basename "$file")" 0 0 "$room/wanted"
+        sed 's/^{"do":"proof","id":"\(\([^"\\]\|\\.\)*\)".*/\1/; s/\\\(.\)/\1/g; s/.*/proof & holds/' "$room/proofs" >> "$room/wanted"
+        { cat "$file"; echo; cat "$room/proofs"; } | limited "$program" check > "$room/out" 2> "$room/error"
+        judge "$what" 0 0 "$room/wanted"
+    done
+}
+
+# A second program, which is small, makes the same certificates, and tells which of a thousand changed ones are good.
+tries_certificates() {
+    what='certificates of which a token is changed'
+    needs "$what" python3 || return
+    limited python3 -B tests/proofs.py "$program" > "$room/tried" 2> "$room/error"
+    status=$?
+    grep '^FAILED' "$room/tried" > "$room/out"
+    judge "$what" "$status" 0 /dev/null
+}
+
+checks_of_certificates() {
+    for word in explain check; do
+        answers "an empty input: $word" /dev/null /dev/null 0 "$word"
+        answers "a word too many: $word" examples/inventory.jsonl "$room/usage.out" 2 "$word" names
+        answers_vectors "$word" "$word"
+        answers_vectors_in_pieces "$word" "$word"
+        answers "a read that fails ends with status 3: $word" . /dev/null 3 "$word"
+        fails_on_closed_streams examples/inventory.jsonl "$word"
+        fails_on_a_full_device examples/inventory.jsonl "$word"
+    done
+    explains_and_checks examples/inventory.jsonl examples/objects.jsonl tests/vectors/evaluate/*.in
+    tries_certificates
+    answers_at_once tests/vectors/check/no-statements.in tests/vectors/check/no-statements.out 0 check
+}
+
 checks_of_advise() {
     answers 'advisories over versions' examples/advise.jsonl examples/advise.out 1 advise
     answers 'an empty input: advise' /dev/null /dev/null 0 advise
@@ -1481,6 +1521,7 @@ checks_of_resolve
 checks_of_evaluate
 checks_of_watch
 checks_of_convert
+checks_of_certificates
 checks_of_advise
 checks_of_snapshots
 checks_of_cover

@@ -164,7 +164,7 @@ completes_in() {
     completes "$1" 'uri' bind u
     completes "$1" '1 10 100 1000 10000 100000 800000' make ''
     completes "$1" '800000' drill 8
-    completes "$1" 'compare convert cover' c
+    completes "$1" 'compare convert check cover' c
     completes "$1" '' watch ''
     completes "$1" '' bind fs ''
     completes "$1" '' x

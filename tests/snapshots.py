@@ -3,7 +3,8 @@
     python3 tests/snapshots.py PROGRAM [--all]
 
 A small snapshot of each kind of row is cut at each byte, made longer, and changed at each byte: to four other values, or with
---all to each of the 255 others, which takes minutes. What `load` has to say of it is told by the recipe that reads snapshots,
+--all to each of the 255 others, which takes minutes. With --all an input that is longer than any snapshot comes too: it has to
+be refused, and read to its end. What `load` has to say of it is told by the recipe that reads snapshots,
 which knows their form alone: rows that it reads are written as records, and `save` has to make the same bytes of these. The
 status is 0 where nothing failed.
 """
@@ -68,6 +69,9 @@ def is_right(program, data):
     return refused
 
 
+# A snapshot has no more bytes.
+MOST_BYTES = 536_870_936
+
 SMALL = [
     [],
     [{'do': 'item', 'name': 'cpe:/a'}],
@@ -91,6 +95,22 @@ def variants(data, is_all):
         yield from (data[:at] + bytes([other]) + data[at + 1:] for other in dict.fromkeys(others) if other != value)
 
 
+def refuses_too_long(program):
+    """Whether an input of more bytes than a snapshot has at most is refused, and read to its end."""
+    more = MOST_BYTES + 1
+    with subprocess.Popen([program, 'load'], stdin=subprocess.PIPE, stdout=subprocess.PIPE) as child:
+        try:
+            child.stdin.write(b'CPESNAP1')
+            more -= 8
+            while more > 0:
+                more -= child.stdin.write(bytes(min(more, 1 << 20)))
+            child.stdin.close()
+        except BrokenPipeError:
+            return False
+        out = child.stdout.read()
+    return child.returncode == 1 and out == b'refused snapshot\n'
+
+
 def main():
     parser = argparse.ArgumentParser(description=__doc__, formatter_class=argparse.RawDescriptionHelpFormatter)
     parser.add_argument('program')
@@ -107,6 +127,11 @@ def main():
             if not is_right(given.program, other):
                 failed += 1
                 print(f'FAILED: load of {other.hex()}')
+    if given.all:
+        tried += 1
+        if not refuses_too_long(given.program):
+            failed += 1
+            print(f'FAILED: load of {MOST_BYTES + 1} bytes')
     print(f'{tried} inputs of load tried, {failed} failed')
     return 1 if failed else 0
 
