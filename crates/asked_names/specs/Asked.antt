@@ -2,7 +2,6 @@
 use Rattle.std.specs.Prelude.{Bool, true, false, not, ◌&&◌, if◌then◌else◌, List, [], ◌∷◌, ◌++◌, map, filter}
 use Rattle.std.specs.List.{flat_map, list_any}
 use Rattle.cpe_name.specs.Eleven.{Values}
-use Rattle.cpe_relation.specs.NameRelation.{covers}
 use Rattle.cpe_rows.specs.Chains.{ends, leads_to}
 use Rattle.cpe_rows.specs.FactNames.{fact_names}
 use Rattle.cpe_rows.specs.Names.{is_same}
@@ -59,9 +58,9 @@ asked rows mode = flat_map (leads rows.entries mode) (facts_in mode rows.stateme
 abbrev pub there : Rows → Mode → List Values
 there rows mode = flat_map (leads rows.entries mode) rows.items
 
--- one of the first names covers one of the others
-abbrev pub is_one_covering : List Values → List Values → Bool
-is_one_covering names others = list_any (λ f. list_any (covers f) others) names
+-- one of the first names stands in the relation to one of the others
+abbrev pub is_one : (Values → Values → Bool) → List Values → List Values → Bool
+is_one relates names others = list_any (λ f. list_any (relates f) others) names
 
 abbrev pub entry_names : List Entry → List Values
 entry_names entries = map (λ (e : Entry). e.name) entries

@@ -2,6 +2,8 @@
 ghost use Rattle.std.specs.Prelude.{◌≡◌, ◌⊎◌, ◌≤◌, ◌∷◌, ◌++◌, length, Bool, List, ℕ, Some, true, cond, filter, find, replicate};
 ghost use Rattle.std.specs.List.{flat_map, list_any, sum_by};
 ghost use Rattle.cpe_name.specs.Eleven.{Values};
+ghost use Rattle.cpe_relation.specs.Maybe.{maybe};
+ghost use Rattle.cpe_relation.specs.NameRelation.{covers};
 ghost use Rattle.cpe_rows.specs.Prelude.{after, ends, fact_names, has_id, IsAccepted, leads_to, Rows};
 ghost use Rattle.cpe_rows.specs.Lawful.{are_different, IsLawful};
 ghost use Rattle.cpe_rows.specs.Names.{is_same};
@@ -16,14 +18,16 @@ ghost use Rattle.cpe_rows.specs.declared.truth.Truth.{Truth};
 ghost use Rattle.cpe_changes.specs.Touching.{deprecation_changed};
 ghost use Rattle.product_orders.specs.Elements.{SameElements};
 ghost use Rattle.numbered_names.specs.Shown.{times_named};
-ghost use Rattle.asked_names.specs.Asked.{asked, facts_in, facts_of, fresh_facts, is_one_covering, is_referred, leads, names_kept, references_in, references_of, source_names, there};
+ghost use Rattle.asked_names.specs.Asked.{asked, facts_in, facts_of, fresh_facts, is_one, is_referred, leads, names_kept, references_in, references_of, source_names, there};
 
 use cpe_rows::Edit;
 
-/// A fact is true exactly where one of the names to which it leads covers one that is there, in whatever order these stand.
+/// A fact is true exactly where one of the names to which it leads covers one that is there, and else unknown exactly where one of them
+/// may cover one, in whatever order these stand.
 pub fn facts_are_asked()
-    ensures truth { (rows : Rows) (mode : Mode) (fact : Values) → fact_truth rows mode fact ≡ truth (is_one_covering (leads rows.entries mode fact) (there rows mode)) }
-    ensures order { (names others same : List Values) → SameElements others same → is_one_covering names others ≡ is_one_covering names same }
+    ensures truth { (rows : Rows) (mode : Mode) (fact : Values) → fact_truth rows mode fact
+        ≡ truth (is_one covers (leads rows.entries mode fact) (there rows mode)) (is_one maybe (leads rows.entries mode fact) (there rows mode)) }
+    ensures order { (relates : Values → Values → Bool) (names others same : List Values) → SameElements others same → is_one relates names others ≡ is_one relates names same }
 {}
 
 /// An item brings the names to which it leads, and takes them along. It asks nothing.

@@ -7,6 +7,7 @@ use Rattle.std.proofs.lemmas.List.Folds.{list_any-append}
 use Rattle.std.proofs.lemmas.Option.{same_Some}
 use Rattle.cpe_name.specs.Eleven.{Values}
 use Rattle.cpe_relation.specs.NameRelation.{covers}
+use Rattle.cpe_relation.specs.Maybe.{maybe}
 use Rattle.cpe_rows.specs.Rows.{Rows}
 use Rattle.cpe_rows.specs.Reach.{Among}
 use Rattle.cpe_rows.specs.Chains.{leads_to, ends}
@@ -19,8 +20,9 @@ use Rattle.cpe_rows.specs.declared.edit.Edit.TheVariants as edit
 use Rattle.cpe_rows.specs.declared.statement.Mode.{Mode}
 use Rattle.cpe_rows.specs.declared.statement.Mode.TheVariants.{Plain, Follow}
 use Rattle.cpe_rows.proofs.Lists.{no_element, not_element, same_any}
-use Rattle.cpe_changes.specs.Touching.{deprecation_changed, touches_deprecation}
+use Rattle.cpe_changes.specs.Touching.{deprecation_changed, reaches, touches_deprecation}
 use Rattle.cpe_changes.proofs.ChainChanges.{same_ends}
+use Rattle.cpe_changes.proofs.Reaching.{none_reached}
 
 -- what passes in none of the lists of the kept elements, passes in that of no kept one
 module _ (p : Values → Bool) (of : Values → List Values) (keep : Values → Bool) where
@@ -50,31 +52,35 @@ module _ (es left : List Entry) (items : List Values) (n : Values) (same : (x : 
   abbrev touched : List Values
   touched = flat_map both_ends (filter leads items)
 
-  module _ (f : Values) (apart : leads_to es f n ≡ false) (uncovered : list_any (λ g. list_any (covers g) touched) (ends es f) ≡ false) where
-    abbrev covered_in : List Values → Values → Bool
-    covered_in xs g = list_any (covers g) xs
+  module _ (relates : Values → Values → Bool) (f : Values) (apart : leads_to es f n ≡ false) (unmet : list_any (λ g. list_any (relates g) touched) (ends es f) ≡ false) where
+    abbrev related_in : List Values → Values → Bool
+    related_in xs g = list_any (relates g) xs
 
     both_apart : (x : Values) → Among items x → leads_to es x n ≡ true → (g : Values) → Among (ends es f) g
-        → (list_any (covers g) (ends es x) ≡ false) × (list_any (covers g) (ends left x) ≡ false)
+        → (list_any (relates g) (ends es x) ≡ false) × (list_any (relates g) (ends left x) ≡ false)
     both_apart x m t g k =
-        let none = in_none (covers g) both_ends leads items (not_element (covered_in touched) (ends es f) uncovered g k) x m t in
-        or_parts (list_any (covers g) (ends es x)) (list_any (covers g) (ends left x)) (sym (list_any-append (covers g) (ends es x) (ends left x)) ∙ none)
+        let none = in_none (relates g) both_ends leads items (not_element (related_in touched) (ends es f) unmet g k) x m t in
+        or_parts (list_any (relates g) (ends es x)) (list_any (relates g) (ends left x)) (sym (list_any-append (relates g) (ends es x) (ends left x)) ∙ none)
 
-    same_followed : (x : Values) → Among items x → is_followed left f x ≡ is_followed es f x
+    same_followed : (x : Values) → Among items x → is_followed relates left f x ≡ is_followed relates es f x
     same_followed x m = go (leads_to es x n) refl where
-      go : (b : Bool) → leads_to es x n ≡ b → is_followed left f x ≡ is_followed es f x
+      go : (b : Bool) → leads_to es x n ≡ b → is_followed relates left f x ≡ is_followed relates es f x
       go true t =
-          ap (list_any (covered_in (ends left x))) (same f apart)
-          ∙ (no_element (covered_in (ends left x)) (ends es f) (λ g k. (both_apart x m t g k).1)
-          ∙ sym (no_element (covered_in (ends es x)) (ends es f) (λ g k. (both_apart x m t g k).0)))
-      go false t = λ i. list_any (covered_in (same x t i)) (same f apart i)
+          ap (list_any (related_in (ends left x))) (same f apart)
+          ∙ (no_element (related_in (ends left x)) (ends es f) (λ g k. (both_apart x m t g k).1)
+          ∙ sym (no_element (related_in (ends es x)) (ends es f) (λ g k. (both_apart x m t g k).0)))
+      go false t = λ i. list_any (related_in (same x t i)) (same f apart i)
 
-    all_followed : list_any (is_followed left f) items ≡ list_any (is_followed es f) items
-    all_followed = same_any (is_followed left f) (is_followed es f) items same_followed
+    all_followed : list_any (is_followed relates left f) items ≡ list_any (is_followed relates es f) items
+    all_followed = same_any (is_followed relates left f) (is_followed relates es f) items same_followed
 
-  pub followed : (f : Values) → (leads_to es f n || list_any (λ g. list_any (covers g) touched) (ends es f)) ≡ false
-      → list_any (is_followed left f) items ≡ list_any (is_followed es f) items
-  followed f h = let parts = or_parts (leads_to es f n) (list_any (λ g. list_any (covers g) touched) (ends es f)) h in all_followed f parts.0 parts.1
+  pub followed : (f : Values) → (leads_to es f n || list_any (λ g. list_any (reaches g) touched) (ends es f)) ≡ false
+      → truth (list_any (is_followed covers left f) items) (list_any (is_followed maybe left f) items)
+      ≡ truth (list_any (is_followed covers es f) items) (list_any (is_followed maybe es f) items)
+  followed f h =
+      let parts = or_parts (leads_to es f n) (list_any (λ g. list_any (reaches g) touched) (ends es f)) h in
+      let none = none_reached (ends es f) touched parts.1 in
+      λ i. truth (all_followed covers f parts.0 none.0 i) (all_followed maybe f parts.0 none.1 i)
 
 -- other entries, in which names that don't lead to n have the same ends
 pub record KeepsOtherEnds (rows : Rows) (n : Values) (next : Rows) : Type 0 where
@@ -115,7 +121,7 @@ same_ends_after rows e n x h apart = let w = leaves rows e n h in ap (λ (r : Ro
 facts_at : (rows : Rows) (n f : Values) (mode : Mode) (entries : List Entry) → ((x : Values) → leads_to rows.entries x n ≡ false → ends entries x ≡ ends rows.entries x)
     → touches_deprecation rows (record rows { entries = entries }) n mode f ≡ false → fact_truth (record rows { entries = entries }) mode f ≡ fact_truth rows mode f
 facts_at rows n f Plain entries same h = refl
-facts_at rows n f Follow entries same h = ap truth (followed rows.entries entries rows.items n same f h)
+facts_at rows n f Follow entries same h = followed rows.entries entries rows.items n same f h
 
 pub same_facts : (rows : Rows) (e : Edit) (n f : Values) (mode : Mode) → deprecation_changed e ≡ Some n
     → touches_deprecation rows (after rows e) n mode f ≡ false → fact_truth (after rows e) mode f ≡ fact_truth rows mode f

@@ -1,4 +1,5 @@
 pub mod UntouchedTests
+pub mod Reaching
 pub mod ItemChanges
 pub mod CheckChanges
 pub mod ChainChanges

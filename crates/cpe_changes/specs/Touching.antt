@@ -3,6 +3,7 @@ use Rattle.std.specs.Prelude.{List, Bool, false, ◌||◌, ◌++◌, filter, Opt
 use Rattle.std.specs.List.{list_any, flat_map}
 use Rattle.cpe_name.specs.Eleven.{Values}
 use Rattle.cpe_relation.specs.NameRelation.{covers}
+use Rattle.cpe_relation.specs.Maybe.{maybe}
 use Rattle.cpe_rows.specs.Rows.{Rows, same_key}
 use Rattle.cpe_rows.specs.After.{after}
 use Rattle.cpe_rows.specs.Chains.{leads_to, ends}
@@ -27,10 +28,18 @@ touches_step fact check (Test-F.Check key) = check key
 abbrev pub touches : (Values → Bool) → (CheckKey → Bool) → Test → Bool
 touches fact check = fold-Test Bool (touches_step fact check)
 
--- the fact covers the item by the names as they stand, or an end of the fact covers one of the item
+-- the name covers the other, or may cover it
+abbrev pub reaches : Values → Values → Bool
+reaches name other = covers name other || maybe name other
+
+-- the fact stands in the relation to the item by the names as they stand, or an end of the fact to one of the item
+abbrev pub stands_to : (Values → Values → Bool) → List Entry → Mode → Values → Values → Bool
+stands_to relates entries Plain fact item = relates fact item
+stands_to relates entries Follow fact item = is_followed relates entries fact item
+
+-- the fact covers the item, or may cover it
 abbrev pub touches_item : List Entry → Mode → Values → Values → Bool
-touches_item entries Plain fact item = covers fact item
-touches_item entries Follow fact item = is_followed entries fact item
+touches_item entries mode fact item = stands_to reaches entries mode fact item
 
 -- the name of the entry whose deprecation the edit changes
 abbrev pub deprecation_changed : Edit → Option Values
@@ -44,11 +53,11 @@ abbrev pub touched_ends : Rows → Rows → Values → List Values
 touched_ends rows next n =
     flat_map (λ x. ends rows.entries x ++ ends next.entries x) (filter (λ x. leads_to rows.entries x n) rows.items)
 
--- a fact that is followed leads to the entry of this name, or has an end that covers a touched one
+-- a fact that is followed leads to the entry of this name, or has an end that covers or may cover a touched one
 abbrev pub touches_deprecation : Rows → Rows → Values → Mode → Values → Bool
 touches_deprecation rows next n Plain fact = false
 touches_deprecation rows next n Follow fact =
-    leads_to rows.entries fact n || list_any (λ f. list_any (covers f) (touched_ends rows next n)) (ends rows.entries fact)
+    leads_to rows.entries fact n || list_any (λ f. list_any (reaches f) (touched_ends rows next n)) (ends rows.entries fact)
 
 -- the edit touches the fact, in a statement of this mode
 abbrev pub touches_fact : Rows → Edit → Mode → Values → Bool

@@ -2,6 +2,8 @@
 ghost use Rattle.std.specs.Prelude.{◌≡◌, [], List, Bool, Some, false};
 ghost use Rattle.std.specs.List.{list_any};
 ghost use Rattle.cpe_name.specs.Eleven.{Values};
+ghost use Rattle.cpe_relation.specs.NameRelation.{covers};
+ghost use Rattle.cpe_relation.specs.Maybe.{maybe};
 ghost use Rattle.cpe_rows.specs.Rows.{Rows, same_key};
 ghost use Rattle.cpe_rows.specs.Chains.{leads_to, ends};
 ghost use Rattle.cpe_rows.specs.After.{after};
@@ -16,7 +18,7 @@ ghost use Rattle.cpe_rows.specs.declared.entry.Entry.{Entry};
 ghost use Rattle.cpe_rows.specs.declared.statement.Mode.{Mode};
 ghost use Rattle.cpe_rows.specs.declared.statement.Mode.TheVariants.{Plain, Follow};
 ghost use Rattle.cpe_rows.specs.declared.statement.Statement.{Statement};
-ghost use Rattle.cpe_changes.specs.Touching.{touches, touches_item, deprecation_changed, touches_deprecation, touches_fact, touches_check, touches_statement};
+ghost use Rattle.cpe_changes.specs.Touching.{touches, stands_to, touches_item, deprecation_changed, touches_deprecation, touches_fact, touches_check, touches_statement};
 
 use cpe_rows::Edit;
 
@@ -28,10 +30,11 @@ pub fn untouched_tests_stay()
         → touches touched touched_check t ≡ false → test_truth fact check t ≡ test_truth later_fact later_check t }
 {}
 
-/// A fact is true exactly where it touches an item. An item that is added or dropped touches no fact but those that touch it,
-/// and no check.
+/// A fact is true exactly where it covers an item, and else unknown exactly where it may cover one. An item that is added or dropped
+/// touches no fact but those that cover it or may cover it, and no check.
 pub fn items_touch()
-    ensures truth { (rows : Rows) (mode : Mode) (fact : Values) → fact_truth rows mode fact ≡ truth (list_any (touches_item rows.entries mode fact) rows.items) }
+    ensures truth { (rows : Rows) (mode : Mode) (fact : Values) → fact_truth rows mode fact
+        ≡ truth (list_any (stands_to covers rows.entries mode fact) rows.items) (list_any (stands_to maybe rows.entries mode fact) rows.items) }
     ensures added { (rows : Rows) (mode : Mode) (fact n : Values) → touches_item rows.entries mode fact n ≡ false
         → fact_truth (after rows (Edit.Item n)) mode fact ≡ fact_truth rows mode fact }
     ensures dropped { (rows : Rows) (mode : Mode) (fact n : Values) → touches_item rows.entries mode fact n ≡ false
@@ -51,7 +54,7 @@ pub fn checks_touch()
 
 /// A deprecation that is given, replaced or taken away changes the ends of no name that doesn't lead to the entry. It touches no
 /// check and no fact that is asked by its name as it stands. Of the facts that are followed it touches those that lead to the
-/// entry, and those with an end that covers an end, before or after, of an item that leads there.
+/// entry, and those with an end that covers or may cover an end, before or after, of an item that leads there.
 pub fn deprecations_touch()
     ensures ends { (rows : Rows) (e : Edit) (n x : Values) → deprecation_changed e ≡ Some n → leads_to rows.entries x n ≡ false → ends (after rows e).entries x ≡ ends rows.entries x }
     ensures items { (rows : Rows) (e : Edit) (n : Values) → deprecation_changed e ≡ Some n → (after rows e).items ≡ rows.items }

@@ -3,11 +3,11 @@ use Rattle.std.proofs.Common.{◌≡◌, List, [], ◌∷◌, Bool, true, false,
 use Rattle.std.specs.List.{list_any, list_all}
 use Rattle.std.proofs.lemmas.Bool.{or_from, or_parts, and_from, and_parts, not_from_false, not-true}
 use Rattle.cpe_name.specs.Eleven.{Values}
-use Rattle.cpe_rows.specs.Names.{is_same, is_lower, has_wildcards}
+use Rattle.cpe_rows.specs.Names.{is_same, is_lower}
 use Rattle.cpe_rows.specs.Rows.{Rows, is_item}
 use Rattle.cpe_rows.specs.Limits.{limited, exceeds}
 use Rattle.cpe_rows.specs.After.{after, without_first}
-use Rattle.cpe_rows.specs.Lawful.{IsLawful, is_item_name, are_different}
+use Rattle.cpe_rows.specs.Lawful.{IsLawful, are_different}
 use Rattle.cpe_rows.specs.Accepted.{IsAccepted}
 use Rattle.cpe_rows.specs.declared.edit.Edit.TheVariants as edit
 use Rattle.cpe_rows.specs.declared.fault.EditFault.TheVariants as fault
@@ -24,19 +24,16 @@ module _ (rows next : Rows) (n : Values) (h : IsAccepted rows (edit.Item n) next
   result : IsUnrefused rows (edit.Item n) × (left ≡ next)
   result = unrefused h
 
-  named : is_item_name n ≡ true
-  named = and_from (is_lower n) (not (has_wildcards n)) h.valid (not_from_false (has_wildcards n) (none_when (has_wildcards n) fault.Wildcards result.0.0))
-
   stays : IsLawful left
   stays = record {
     formed = stay_formed rows (edit.Item n) h.lawful.formed h.formed;
     dictionary = h.lawful.dictionary;
-    item_names = all_with_last is_item_name rows.items n named ∙ h.lawful.item_names;
-    items_differ = different_with_last is_same rows.items n (λ a m. not_same n a (not_element (is_same n) rows.items (none_when (is_item rows n) fault.Exists result.0.1.0) a m)) ∙ h.lawful.items_differ;
+    item_names = all_with_last is_lower rows.items n h.valid ∙ h.lawful.item_names;
+    items_differ = different_with_last is_same rows.items n (λ a m. not_same n a (not_element (is_same n) rows.items (none_when (is_item rows n) fault.Exists result.0.0) a m)) ∙ h.lawful.items_differ;
     lawful_statements = h.lawful.lawful_statements;
     ids_differ = h.lawful.ids_differ;
     keys_differ = h.lawful.keys_differ;
-    within = not_found fault.Full (exceeds left) limited result.0.1.1.0;
+    within = not_found fault.Full (exceeds left) limited result.0.1.0;
   }
 
   pub lawful_with : IsLawful next
@@ -76,7 +73,7 @@ module _ (rows next : Rows) (n : Values) (h : IsAccepted rows (edit.DropItem n) 
   still_lawful = record {
     formed = stay_formed rows (edit.DropItem n) h.lawful.formed h.formed;
     dictionary = h.lawful.dictionary;
-    item_names = all_but_first (is_same n) is_item_name rows.items h.lawful.item_names;
+    item_names = all_but_first (is_same n) is_lower rows.items h.lawful.item_names;
     items_differ = different_but_first (is_same n) is_same rows.items h.lawful.items_differ;
     lawful_statements = h.lawful.lawful_statements;
     ids_differ = h.lawful.ids_differ;

@@ -121,7 +121,7 @@ module _ (rows : Rows) (h : AreWithin rows) where
   of_item : (n : Values) → AreCauses (edit.Item n)
   of_item n =
       let next = after rows (edit.Item n) in
-      let front = when (has_wildcards n) fault.Wildcards ∷ when (is_item rows n) fault.Exists ∷ [] in
+      let front = when (is_item rows n) fault.Exists ∷ [] in
       first_same front (full next ∷ []) (when (nat_lt (most limit.Items) (length rows.items + 1)) (fault.Full limit.Items) ∷ heavy next ∷ [])
       (raised_items next (within limit.Entries) (within limit.Statements) (within limit.Facts) (within limit.Checks)
       ∙ (λ i. first_some (when (nat_lt (most limit.Items) (length-last rows.items n i)) (fault.Full limit.Items) ∷ heavy next ∷ [])))

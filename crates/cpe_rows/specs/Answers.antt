@@ -3,6 +3,7 @@ use Rattle.std.specs.Prelude.{List, Bool, ◌&&◌, ◌||◌, map, filter, find,
 use Rattle.std.specs.Option.{option_map_or}
 use Rattle.cpe_name.specs.Eleven.{Values}
 use Rattle.cpe_relation.specs.NameRelation.{covers}
+use Rattle.cpe_relation.specs.Maybe.{maybe}
 use Rattle.cpe_rows.specs.Rows.{Rows, entry_of, has_id}
 use Rattle.cpe_rows.specs.Chains.{is_active, chain, ends}
 use Rattle.cpe_rows.specs.Verdict.{verdict}
@@ -34,7 +35,7 @@ rows_found n active_only entries = map row_of (filter (is_found n active_only) e
 abbrev pub answer : Rows → Query → Reply
 answer rows (query.Lookup n) = reply.Lookup n (option_map state_of (entry_of rows n))
 answer rows (query.Search n active_only) = reply.Search n (rows_found n active_only rows.entries)
-answer rows (query.Items n) = reply.Items n (filter (covers n) rows.items)
+answer rows (query.Items n) = reply.Items n (filter (covers n) rows.items) (filter (maybe n) rows.items)
 answer rows (query.Chain n) = reply.Chain n (map row_of (chain rows.entries n)) (ends rows.entries n)
 answer rows (query.Show n) = reply.Show n (entry_of rows n)
 answer rows (query.Verdict id) = reply.Verdict id (option_map (verdict rows) (find (has_id id) rows.statements))

@@ -34,8 +34,7 @@ entry_causes entries e =
 -- the same of an item
 abbrev pub item_causes : List Values → Values → List (Option EditFault)
 item_causes items n =
-    when (has_wildcards n) fault.Wildcards ∷ when (list_any (is_same n) items) fault.Exists
-    ∷ when (nat_lt (most limit.Items) (length items + 1)) (fault.Full limit.Items) ∷ []
+    when (list_any (is_same n) items) fault.Exists ∷ when (nat_lt (most limit.Items) (length items + 1)) (fault.Full limit.Items) ∷ []
 
 -- the same of a statement
 abbrev pub statement_causes : List Statement → Statement → List (Option EditFault)

@@ -64,7 +64,7 @@ abbrev pub faults : Rows → Edit → List (Option EditFault)
 faults rows (edit.Entry e) =
     when (not (is_identifier e.name)) fault.NotIdentifier ∷ when (has_wildcards e.name) fault.Wildcards
     ∷ when (is_entry rows e.name) fault.Exists ∷ full (after rows (edit.Entry e)) ∷ []
-faults rows (edit.Item n) = when (has_wildcards n) fault.Wildcards ∷ when (is_item rows n) fault.Exists ∷ full (after rows (edit.Item n)) ∷ []
+faults rows (edit.Item n) = when (is_item rows n) fault.Exists ∷ full (after rows (edit.Item n)) ∷ []
 faults rows (edit.DropItem n) = when (not (is_item rows n)) fault.Unknown ∷ []
 faults rows (edit.Deprecate n d date comment) =
     when (not (is_entry rows n)) fault.Unknown ∷ when (is_deprecated rows n) fault.AlreadyDeprecated

@@ -34,10 +34,6 @@ has_successors entries e = list_all (λ s. list_any (is_named s) entries) (succe
 abbrev pub is_cyclic : List Entry → Entry → Bool
 is_cyclic entries e = list_any (λ s. leads_to entries s e.name) (successors_of e)
 
--- a name without specials, in lower case
-abbrev pub is_item_name : Values → Bool
-is_item_name n = is_lower n && not (has_wildcards n)
-
 -- an id, and a test that a statement may have, whose names are in lower case
 abbrev pub is_lawful_statement : Statement → Bool
 is_lawful_statement s = is_id s.id && is_statement_test s.test
@@ -55,7 +51,7 @@ pub record IsDictionary (entries : List Entry) : Type 0 where
 pub record IsLawful (rows : Rows) : Type 0 where
   pub formed : AreFormed rows
   pub dictionary : IsDictionary rows.entries
-  pub item_names : list_all is_item_name rows.items ≡ true
+  pub item_names : list_all is_lower rows.items ≡ true
   pub items_differ : are_different is_same rows.items ≡ true
   pub lawful_statements : list_all is_lawful_statement rows.statements ≡ true
   pub ids_differ : are_different (λ s. has_id s.id) rows.statements ≡ true

@@ -33,10 +33,11 @@ pub enum Reply {
         name: Wfn,
         rows: List<Row>,
     },
-    /// The items that the name covers.
+    /// The items that the name covers, and those that it may cover, since they are known only in part.
     Items {
         name: Wfn,
         rows: List<Wfn>,
+        maybe: List<Wfn>,
     },
     /// The entries to which a path of successors leads from the name, and the names of the active ones among them. Where
     /// there is no entry of this name, there are no entries, and the name is its own end.

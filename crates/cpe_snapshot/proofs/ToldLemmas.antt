@@ -12,7 +12,7 @@ use Rattle.cpe_name.specs.Names.{IsName}
 use Rattle.cpe_rows.specs.Names.{is_lower, is_identifier, has_wildcards}
 use Rattle.cpe_rows.specs.FactNames.{fact_names, fact_names_step}
 use Rattle.cpe_rows.specs.Formed.{IsDated, IsFormedEntry, IsFormedStatement}
-use Rattle.cpe_rows.specs.Lawful.{IsLawful, is_entry_name, is_item_name, is_lawful_statement}
+use Rattle.cpe_rows.specs.Lawful.{IsLawful, is_entry_name, is_lawful_statement}
 use Rattle.cpe_rows.specs.Limits.{AreWithin}
 use Rattle.cpe_rows.specs.Rows.{Rows, is_named}
 use Rattle.cpe_rows.specs.Shape.{largest, depth_of, is_sound, sound_step}
@@ -123,8 +123,8 @@ entries_told all short (e ∷ es) light formed texts named =
 
 -- ---- items
 
-item_told : (n : Values) → name_weight n ≤ MOST → IsName n × (is_item_name n ≡ true) → IsSpelled n
-item_told n light is = (omega (arith, light), (is.0, and_first (is_lower n) (not (has_wildcards n)) is.1))
+item_told : (n : Values) → name_weight n ≤ MOST → IsName n × (is_lower n ≡ true) → IsSpelled n
+item_told n light is = (omega (arith, light), is)
 
 -- ---- keys
 
@@ -270,9 +270,9 @@ lawful_are_told rows lawful texts =
       );
       items = (
         le-leb _ _ (few_items rows lawful.within),
-        zipped (λ n. name_weight n ≤ MOST) (λ n. IsName n × (is_item_name n ≡ true)) IsSpelled item_told rows.items (each_below name_weight MOST rows.items (omega (arith, light)))
-            (zipped IsName (λ n. is_item_name n ≡ true) (λ n. IsName n × (is_item_name n ≡ true)) (λ n a b. (a, b)) rows.items
-            (recursion_from_All IsName rows.items lawful.formed.items) (tested is_item_name rows.items lawful.item_names)),
+        zipped (λ n. name_weight n ≤ MOST) (λ n. IsName n × (is_lower n ≡ true)) IsSpelled item_told rows.items (each_below name_weight MOST rows.items (omega (arith, light)))
+            (zipped IsName (λ n. is_lower n ≡ true) (λ n. IsName n × (is_lower n ≡ true)) (λ n a b. (a, b)) rows.items
+            (recursion_from_All IsName rows.items lawful.formed.items) (tested is_lower rows.items lawful.item_names)),
       );
       statements = (
         le-leb _ _ (few_statements rows lawful.within),

@@ -11,8 +11,8 @@ use Rattle.cpe_name.specs.Eleven.{Values}
 use Rattle.cpe_name.specs.Names.{IsName}
 use Rattle.cpe_rows.specs.FactNames.{fact_names}
 use Rattle.cpe_rows.specs.Formed.{IsFormedEntry, IsFormedStatement}
-use Rattle.cpe_rows.specs.Lawful.{are_different, IsDictionary, IsLawful, is_item_name, is_lawful_statement}
-use Rattle.cpe_rows.specs.Names.{is_same}
+use Rattle.cpe_rows.specs.Lawful.{are_different, IsDictionary, IsLawful, is_lawful_statement}
+use Rattle.cpe_rows.specs.Names.{is_lower, is_same}
 use Rattle.cpe_rows.specs.Rows.{Rows, has_id, has_key}
 use Rattle.cpe_rows.specs.Weight.{total, entry_weight, name_weight, statement_weight, check_weight}
 use Rattle.cpe_rows.specs.declared.entry.Entry.{Entry}
@@ -125,7 +125,7 @@ module _ (part whole : Rows) (is : IsPart part whole) where
       statements = front_every part.statements whole.statements is.statements IsFormedStatement h.formed.statements;
     };
     dictionary = subst IsDictionary same h.dictionary;
-    item_names = front_all part.items whole.items is.items is_item_name h.item_names;
+    item_names = front_all part.items whole.items is.items is_lower h.item_names;
     items_differ = front_different part.items whole.items is.items is_same h.items_differ;
     lawful_statements = front_all part.statements whole.statements is.statements is_lawful_statement h.lawful_statements;
     ids_differ = front_different part.statements whole.statements is.statements (λ s. has_id s.id) h.ids_differ;

@@ -9,7 +9,7 @@ use Rattle.cpe_rows.specs.After.{after, with_check}
 use Rattle.cpe_rows.specs.Causes.{causes, entry_causes, heavy}
 use Rattle.cpe_rows.specs.FactNames.{number_of_facts}
 use Rattle.cpe_rows.specs.Faults.{when}
-use Rattle.cpe_rows.specs.Lawful.{are_different, IsLawful, is_entry_name, is_item_name, is_lawful_statement}
+use Rattle.cpe_rows.specs.Lawful.{are_different, IsLawful, is_entry_name, is_lawful_statement}
 use Rattle.cpe_rows.specs.Limits.{AreWithin, exceeds, most}
 use Rattle.cpe_rows.specs.Names.{is_same, is_lower, is_identifier, has_wildcards}
 use Rattle.cpe_rows.specs.Rows.{Rows, is_named, has_id, has_key}
@@ -100,19 +100,15 @@ module _ (rows : Rows) (n : Values) (more : List Values) (h : IsLawful (with_ite
   lawful_items : IsLawful next_items
   lawful_items = lawful_before_items next_items more (subst IsLawful (items_on rows n more) h)
 
-  item_parts : (is_lower n ≡ true) × (not (has_wildcards n) ≡ true)
-  item_parts = and_parts (is_lower n) (not (has_wildcards n)) (all_middle is_item_name rows.items n more h.item_names)
-
   pub item_taken : IsTaken rows (edit.Item n)
   item_taken =
-      let plain = not-true (has_wildcards n) item_parts.1 in
       let new = apart_before is_same not_same rows.items n more h.items_differ in
       let few = no_more (most limit.Items) rows.items n (each_within next_items lawful_items.within limit.Items) in
       record {
-        valid = item_parts.0;
+        valid = all_middle is_lower rows.items n more h.item_names;
         taken =
             light_accepted rows (edit.Item n) (lawful_before_items rows (n ∷ more) h).within
-            (λ i. first_some (when (plain i) fault.Wildcards ∷ when (new i) fault.Exists ∷ when (few i) (fault.Full limit.Items) ∷ []))
+            (λ i. first_some (when (new i) fault.Exists ∷ when (few i) (fault.Full limit.Items) ∷ []))
             (light next_items lawful_items.within);
       }
 
