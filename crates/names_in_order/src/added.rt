@@ -10,7 +10,7 @@ use cpe_values::Memory;
 use name_index::{NameId, NameIndex, NameTable};
 
 /// Different numbers in an order, after which one more may be put.
-pub(crate) trait PushNumber {
+pub trait PushNumber {
     /// The numbers, in their order.
     ghost numbers: { Self → List NameId };
 

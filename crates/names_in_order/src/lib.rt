@@ -3,8 +3,9 @@
 //!
 //! A [`GrowingNames`] keeps the numbers of names in the order in which they came, and none of them goes. Beside its table
 //! ([`GrowingNames::with`]) it is a list of names, each found by its hash, by its place and by its product. Of a [`ChangingNames`] any
-//! may go. What is so of a list stays so where others hold and release names of the table: [`orders_stay`]. What a list is without a
-//! number that has gone, [`orders_without`] says.
+//! may go; a [`MarkedNumbers`] keeps their numbers alone, for who finds names by more than what covers them. What is so of a list stays
+//! so where others hold and release names of the table: [`orders_stay`]. What a list is without a number that has gone,
+//! [`orders_without`] says.
 #![tactic(auto)]
 
 mod added;
@@ -14,5 +15,7 @@ pub mod law;
 mod marked;
 mod numbers;
 
+pub use added::PushNumber;
 pub use changing::ChangingNames;
 pub use growing::{GrowingNames, NamesInOrder};
+pub use marked::MarkedNumbers;

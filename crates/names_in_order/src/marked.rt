@@ -15,7 +15,7 @@ use std::marker::Model;
 /// One that goes leaves a mark in its place. Where more places are marks than not, the numbers close up, so that one that goes costs
 /// the same in the mean, whatever their number.
 #[derive(Drop)]
-pub(crate) struct MarkedNumbers {
+pub struct MarkedNumbers {
     // By place.
     slots: Vec<Option<NameId>>,
     // By number, up to the largest that was one of these.
@@ -266,7 +266,7 @@ fn put_in_order(
 
 impl MarkedNumbers {
     /// No numbers. It takes no memory.
-    pub(crate) fn new(alloc: Global) -> MarkedNumbers
+    pub fn new(alloc: Global) -> MarkedNumbers
         ensures { result ≡ [] }
     {
         MarkedNumbers {
@@ -277,21 +277,21 @@ impl MarkedNumbers {
     }
 
     /// How many there are.
-    pub(crate) fn len(&self) -> usize
+    pub fn len(&self) -> usize
         ensures { result ≡ length self.now }
     {
         self.len
     }
 
     /// Whether a number is one of these. It looks at one place alone.
-    pub(crate) fn has(&self, id: NameId) -> bool
+    pub fn has(&self, id: NameId) -> bool
         ensures { result ≡ list_any (same_id id) self.now }
     {
         find_place(&self.slots, &self.places, id).is_some()
     }
 
     /// The numbers by place, with marks among them: no more than there are numbers.
-    pub(crate) fn slots(&self) -> &[Option<NameId>]
+    pub fn slots(&self) -> &[Option<NameId>]
         ensures numbers { numbers_in result.now ≡ self.now }
         ensures dense { length result.now ≤ length self.now + length self.now }
     {
@@ -300,7 +300,7 @@ impl MarkedNumbers {
 
     /// Takes a number out, if it is one of these; the others stay in their order. It takes no memory, and costs the same in the mean,
     /// whatever their number.
-    pub(crate) fn remove(&mut self, id: NameId)
+    pub fn remove(&mut self, id: NameId)
         ensures { self.new ≡ without_first (same_id id) self.old }
     {
         if let Some(place) = find_place(&self.slots, &self.places, id) {
@@ -313,14 +313,14 @@ impl MarkedNumbers {
     ///
     /// # Errors
     /// Only that memory ran out.
-    pub(crate) fn in_order(&self, alloc: Global, found: &[NameId]) -> Result<Vec<NameId>, Memory>
+    pub fn in_order(&self, alloc: Global, found: &[NameId]) -> Result<Vec<NameId>, Memory>
         ensures { IfOk result (λ ids. PutsInOrder self.now found.now ids.items) }
     {
         put_in_order(alloc, &self.slots, &self.places, found)
     }
 
     /// No number stands twice. It does nothing, and tells a proof so.
-    pub(crate) fn lawful(&self)
+    pub fn lawful(&self)
         ensures { IsDistinct same_id self.now }
     {
         let _slots = &self.slots;

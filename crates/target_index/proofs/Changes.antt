@@ -1,5 +1,5 @@
 -- One number more or less among the targets.
-use Rattle.std.proofs.Common.{◌≡◌, ◌≢◌, ◌⊎◌, ℕ, suc, ◌+◌, ◌-◌, ◌<◌, ◌≤◌, Bool, true, false, not, cond, List, [], ◌∷◌, ◌++◌, map, length, get_or, Option, Some, None, count_by, refl, sym, ap, subst, ◌∙◌, inl, inr, arith, eq-eqb, eqb-true, length-append}
+use Rattle.std.proofs.Common.{◌≡◌, ◌≢◌, ◌⊎◌, ℕ, suc, ◌+◌, ◌-◌, ◌<◌, ◌≤◌, Bool, true, false, not, cond, List, [], ◌∷◌, ◌++◌, length, get_or, Option, Some, None, count_by, refl, sym, ap, subst, ◌∙◌, inl, inr, arith, eqb-true}
 use Rattle.std.specs.Prelude.{IsSome, nat_eq, vec_capacity}
 use Rattle.std.specs.List.{sum_by, position, position_from, Contains, AllByRecursion, swap_remove}
 use Rattle.std.proofs.lemmas.Bool.{cases_eq, ne_eqb}

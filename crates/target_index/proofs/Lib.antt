@@ -1,2 +1,4 @@
 pub mod Walks
+pub mod Meetings
 pub mod Changes
+pub mod Stay

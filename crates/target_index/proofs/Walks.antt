@@ -1,5 +1,5 @@
 -- Counts over what a name meets.
-use Rattle.std.proofs.Common.{◌≡◌, ◌⊎◌, ℕ, ◌+◌, ◌≤◌, Bool, true, false, not, ◌&&◌, ◌||◌, cond, ltb, List, [], ◌∷◌, ◌++◌, map, length, count_by, refl, sym, ap, ◌∙◌, inl, inr, arith}
+use Rattle.std.proofs.Common.{◌≡◌, ℕ, ◌+◌, ◌≤◌, Bool, true, false, not, ◌&&◌, ◌||◌, cond, List, [], ◌∷◌, ◌++◌, length, count_by, refl, sym, ap, ◌∙◌, arith}
 use Rattle.std.specs.Prelude.{IsTrue, nat_lt}
 use Rattle.std.specs.List.{sum_by, filter}
 use Rattle.std.proofs.lemmas.Bool.{or_left, or_right, false≢true, ltb-false}
@@ -11,7 +11,7 @@ use Rattle.cpe_name.specs.Eleven.{Values}
 use Rattle.cpe_name.specs.Wildcards.{name_has_specials}
 use Rattle.cpe_relation.specs.NameRelation.{covers}
 use Rattle.cpe_relation.specs.Near.{near}
-use Rattle.cpe_relation.specs.Maybe.{maybe, meets}
+use Rattle.cpe_relation.specs.Maybe.{maybe}
 use Rattle.product_orders.specs.declared.products.Side.TheVariants as side
 use Rattle.product_orders.specs.Elements.{SameElements}
 use Rattle.product_orders.proofs.Sums.{if_passes, sum_filter}
@@ -96,7 +96,7 @@ module _ (names : Names) (name : Values) where
           by true h false k = absurd (omega (arith, z, ap {B = ℕ} (λ (d : Bool). cond (not d) 1 0) k))
 
   -- what the name may cover is open
-  few_open : ((a b : Values) → IsTrue (maybe a b) → name_has_specials b ≡ true) → (xs : List (ℕ × ℕ)) → maybe_count names name xs ≤ open_count names xs
+  pub few_open : ((a b : Values) → IsTrue (maybe a b) → name_has_specials b ≡ true) → (xs : List (ℕ × ℕ)) → maybe_count names name xs ≤ open_count names xs
   few_open law xs = sum_by-le-sum_by (λ (y : ℕ × ℕ). cond (maybe name (kept_at names y.0).name) 1 0) (λ (y : ℕ × ℕ). cond (is_open names y.0) 1 0) xs (λ y. by (maybe name (kept_at names y.0).name) (is_open names y.0) (law name (kept_at names y.0).name))
     where
       by : (a b : Bool) → (a ≡ true → b ≡ true) → cond a 1 0 ≤ cond b 1 0

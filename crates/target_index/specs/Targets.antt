@@ -1,5 +1,5 @@
 -- Targets by number as contracts see them. A target whose name has a special is known in part: it is open.
-use Rattle.std.specs.Prelude.{◌≡◌, ℕ, ◌≤◌, Bool, not, List, [], ◌++◌, count_by}
+use Rattle.std.specs.Prelude.{◌≡◌, ℕ, ◌≤◌, Bool, not, List, [], ◌++◌, Some, count_by}
 use Rattle.cpe_values.specs.declared.value.Value.{Value}
 use Rattle.cpe_values.specs.Lower.{has_specials}
 use Rattle.cpe_name.specs.Eleven.{Values}
@@ -7,7 +7,7 @@ use Rattle.cpe_name.specs.Wildcards.{name_has_specials}
 use Rattle.cpe_relation.specs.NameRelation.{covers}
 use Rattle.cpe_relation.specs.Maybe.{maybe, meets}
 use Rattle.name_index.specs.declared.table.NameId.{NameId}
-use Rattle.name_index.specs.Table.{Names, kept_at}
+use Rattle.name_index.specs.Table.{Names, Kept, find_kept, kept_at}
 use Rattle.name_index.specs.Index.{Fits}
 
 -- the numbers of those whose product has no special, and of those whose product has one, each with the number of its product and
@@ -56,6 +56,10 @@ pub record FitsTargets (t : Targets) (names : Names) : Type 0 where
   pub none_loose : count_by (λ (x : ℕ × ℕ). is_loose names x.0) t.plain ≡ 0
   pub all_loose : count_by (λ (x : ℕ × ℕ). not (is_loose names x.0)) t.loose ≡ 0
   pub opens : t.opens ≡ open_count names (held t)
+
+-- what is live keeps its name and the number of its product
+abbrev pub StaysAt : Names → Names → ℕ → Type 0
+StaysAt old new id = (k : Kept) → find_kept old id ≡ Some k → (l : Kept) × (find_kept new id ≡ Some l) × (l.name ≡ k.name) × (l.product ≡ k.product)
 
 -- the same is held, and no room is lost
 pub record SameTargets (old new : Targets) : Type 0 where

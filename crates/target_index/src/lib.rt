@@ -2,24 +2,29 @@
 //!
 //! A target is open where its name has a special. No name covers it, but a name may. A [`TargetIndex`] holds targets of both kinds.
 //! Those whose product has no special lie in an index by product; those whose product has one stand in a list, since each product
-//! meets them, and whoever asks goes over all of these.
+//! meets them, and whoever asks goes over all of these. How many targets a name covers, and how many it may cover, is counted
+//! ([`TargetIndex::count`]), or the two are told apart and listed ([`TargetIndex::met`]). Targets fit the table of their names still
+//! where others hold and release names of it: [`targets_stay`](law::targets_stay).
 #![tactic(auto)]
 
-ghost use Rattle.std.specs.Prelude.{◌≡◌, ℕ, ◌+◌, ◌<◌, ◌≤◌, ◌∷◌, length, Some, OnOk, count_by};
+ghost use Rattle.std.specs.Prelude.{◌≡◌, ℕ, ◌+◌, ◌<◌, ◌≤◌, ◌∷◌, filter, length, Some, IfOk, OnOk, count_by};
 ghost use Rattle.cpe_name.specs.Lower.{IsLower};
 ghost use Rattle.cpe_steps.specs.Within.{StepsWithin};
 ghost use Rattle.product_orders.specs.Elements.{SameElements};
 ghost use Rattle.name_index.specs.Table.{Names, Kept, find_kept, IsLive, kept_at};
-ghost use Rattle.name_index.specs.Index.{ids, times_held};
-ghost use Rattle.target_index.specs.Targets.{AreNone, FitsTargets, SameTargets, held, is_met, covered_count, maybe_count};
+ghost use Rattle.name_index.specs.Index.{ids, is_covered, times_held};
+ghost use Rattle.target_index.specs.Targets.{AreNone, FitsTargets, SameTargets, held, is_maybe, is_met, covered_count, maybe_count};
 
 mod counting;
+pub mod law;
+mod meeting;
 mod parts;
 
 pub use counting::Counts;
 use cpe_name::Wfn;
 use cpe_steps::Steps;
 use cpe_values::Memory;
+pub use meeting::Met;
 use name_index::{NameId, NameTable};
 use parts::Parts;
 use std::alloc::Global;
@@ -113,5 +118,26 @@ impl TargetIndex {
         ensures steps { StepsWithin steps.old steps.new (count_by (is_met table.now name.now.product) (ids (held self.now))) }
     {
         self.parts.count(table, name, steps)
+    }
+
+    /// The targets that a name covers, and those that it may cover, each in any order. It looks at none twice, and only at such
+    /// whose product the name's meets.
+    ///
+    /// # Errors
+    /// Only that memory ran out. The bound on steps holds then, too.
+    pub fn met<L: Ledger>(
+        &self,
+        alloc: Global,
+        table: &NameTable,
+        name: &Wfn,
+        steps: &mut Steps<L>,
+    ) -> Result<Met, Memory>
+        requires fits { FitsTargets self.now table.now }
+        requires lower { IsLower name.now }
+        ensures covered { IfOk result (λ m. SameElements (filter (is_covered table.now name.now) (ids (held self.now))) m.covered.items) }
+        ensures maybe { IfOk result (λ m. SameElements (filter (is_maybe table.now name.now) (ids (held self.now))) m.maybe.items) }
+        ensures steps { StepsWithin steps.old steps.new (count_by (is_met table.now name.now.product) (ids (held self.now))) }
+    {
+        self.parts.met(alloc, table, name, steps)
     }
 }

@@ -1,4 +1,4 @@
-use Rattle.std.proofs.Common.{◌≡◌, ◌+◌, ◌≤◌, drop, length}
+use Rattle.std.proofs.Common.{◌≡◌, ◌+◌, ◌≤◌, drop}
 use Rattle.std.specs.List.{AllByRecursion}
 use Rattle.name_index.specs.Table.{IsLive}
 use Rattle.target_index.specs.declared.parts.Loose.{Loose}

@@ -1,8 +1,8 @@
-use Rattle.std.proofs.Common.{◌≡◌, ◌+◌, ◌-◌, ℕ, ◌∷◌, Bool, true, false, cond, refl, sym, ap, ◌∙◌, arith, length}
+use Rattle.std.proofs.Common.{◌+◌, ◌-◌, ℕ, ◌∷◌, Bool, cond, refl, sym, ap, ◌∙◌, arith}
 use Rattle.product_orders.specs.Elements.{SameElements}
 use Rattle.name_index.specs.Table.{kept_at}
 use Rattle.target_index.specs.declared.parts.Parts.{Parts}
-use Rattle.target_index.specs.Targets.{FitsTargets, held}
+use Rattle.target_index.specs.Targets.{held}
 use Rattle.target_index.specs.Parts.{targets_of}
 use Rattle.target_index.proofs.Changes.{loose_added, plain_added, pushed, once_more}
 use Rattle.target_index.proofs.parts.Parts.add.Goals as goal

@@ -1,8 +1,8 @@
-use Rattle.std.proofs.Common.{◌≡◌, ◌-◌, ℕ, ◌∷◌, Bool, true, false, cond, refl, sym, ap, subst, ◌∙◌, arith, length}
+use Rattle.std.proofs.Common.{◌-◌, ℕ, ◌∷◌, Bool, cond, refl, sym, ap, subst, ◌∙◌, arith}
 use Rattle.product_orders.specs.Elements.{SameElements}
 use Rattle.name_index.specs.Table.{kept_at}
 use Rattle.target_index.specs.declared.parts.Parts.{Parts}
-use Rattle.target_index.specs.Targets.{FitsTargets, held}
+use Rattle.target_index.specs.Targets.{held}
 use Rattle.target_index.specs.Parts.{pairs_of, targets_of}
 use Rattle.target_index.proofs.Changes.{loose_dropped, plain_dropped, not_loose, not_plain, held_apart, held_there, its_product, once_less}
 use Rattle.target_index.proofs.parts.Parts.drop_name.Goals as goal

@@ -1,0 +1,172 @@
+// The targets that a name covers, and those that it may cover.
+ghost use Rattle.std.specs.Prelude.{◌≡◌, ℕ, ◌+◌, ◌++◌, ◌∷◌, [], IfOk, OnOk, cond, count_by, filter, length};
+ghost use Rattle.cpe_name.specs.Lower.{IsLower};
+ghost use Rattle.cpe_relation.specs.NameRelation.{covers};
+ghost use Rattle.cpe_relation.specs.Maybe.{maybe};
+ghost use Rattle.cpe_relation.specs.Order.{IsOrder};
+ghost use Rattle.cpe_steps.specs.Within.{StepsWithin};
+ghost use Rattle.product_orders.specs.declared.products.Side.TheVariants as side;
+ghost use Rattle.product_orders.specs.Elements.{SameElements};
+ghost use Rattle.name_index.specs.Table.{IsLive};
+ghost use Rattle.name_index.specs.Index.{Fits, ids, is_covered, is_near};
+ghost use Rattle.target_index.specs.Targets.{is_loose, is_maybe};
+ghost use Rattle.target_index.specs.Parts.{pairs_of};
+
+use crate::parts::Loose;
+use cpe_name::{Attribute, Wfn};
+use cpe_relation::{covers_in_order, deciding_order, maybe};
+use cpe_steps::Steps;
+use cpe_values::Memory;
+use name_index::{NameId, NameIndex, NameTable};
+use std::alloc::Global;
+use std::sync::ledger::Ledger;
+
+/// The targets that a name covers, and those that it may cover, each in any order.
+#[derive(Drop)]
+pub struct Met {
+    /// Those that it covers.
+    pub covered: Vec<NameId>,
+    /// Those that it may cover.
+    pub maybe: Vec<NameId>,
+}
+
+// Whether a name covers a target, by an order of the attributes.
+fn is_covering(order: &[Attribute], name: &Wfn, target: &Wfn) -> bool
+    requires { IsOrder order.now }
+    ensures { result ≡ covers name.now target.now }
+{
+    covers_in_order(order, name, target)
+}
+
+// Whether a name may cover a target.
+fn may_cover(name: &Wfn, target: &Wfn) -> bool
+    ensures { result ≡ maybe name.now target.now }
+{
+    maybe(name, target)
+}
+
+// Puts a number last where it passes.
+fn push_where(passes: bool, ids: &mut Vec<NameId>, id: NameId) -> Result<(), Memory>
+    ensures { OnOk result (ids.new.items ≡ cond passes (ids.old.items ++ id ∷ []) ids.old.items) }
+{
+    if passes {
+        ids.push(id)?;
+    }
+    Ok(())
+}
+
+// Looks at a target, and puts it last where it belongs.
+fn push_met<L: Ledger>(
+    order: &[Attribute],
+    table: &NameTable,
+    name: &Wfn,
+    target: NameId,
+    covered: &mut Vec<NameId>,
+    maybes: &mut Vec<NameId>,
+    steps: &mut Steps<L>,
+) -> Result<(), Memory>
+    requires order { IsOrder order.now }
+    requires live { IsLive table.now target.0 }
+    ensures covered { OnOk result (covered.new.items ≡ cond (is_covered table.now name.now target) (covered.old.items ++ target ∷ []) covered.old.items) }
+    ensures maybe { OnOk result (maybes.new.items ≡ cond (is_maybe table.now name.now target) (maybes.old.items ++ target ∷ []) maybes.old.items) }
+    ensures step { steps.new ≡ steps.old + 1 }
+{
+    let other = table.look(target, steps);
+    push_where(is_covering(order, name, other), covered, target)?;
+    push_where(may_cover(name, other), maybes, target)
+}
+
+// Among those whose product has no special: the name's product covers that of each target that the name covers or may cover.
+fn meet_plain<L: Ledger>(
+    order: &[Attribute],
+    index: &NameIndex,
+    table: &NameTable,
+    name: &Wfn,
+    covered: &mut Vec<NameId>,
+    maybes: &mut Vec<NameId>,
+    steps: &mut Steps<L>,
+) -> Result<(), Memory>
+    requires order { IsOrder order.now }
+    requires fits { Fits index.now.held table.now }
+    requires lower { IsLower name.now }
+    requires plain { count_by (λ (x : ℕ × ℕ). is_loose table.now x.0) index.now.held ≡ 0 }
+    requires none { covered.old.items ≡ [] }
+    requires none_maybe { maybes.old.items ≡ [] }
+    ensures covered { OnOk result (SameElements (filter (is_covered table.now name.now) (ids index.now.held)) covered.new.items) }
+    ensures maybe { OnOk result (SameElements (filter (is_maybe table.now name.now) (ids index.now.held)) maybes.new.items) }
+    ensures steps { StepsWithin steps.old steps.new (count_by (is_near table.now side.Source name.now.product) (ids index.now.held)) }
+{
+    cpe_relation::law::relation_laws();
+    for target in index.with_covered_product(table, name) {
+        push_met(order, table, name, target, covered, maybes, steps)?;
+    }
+    Ok(())
+}
+
+// Among those whose product has a special, none of which is covered.
+fn meet_loose<L: Ledger>(
+    loose: &[Loose],
+    table: &NameTable,
+    name: &Wfn,
+    maybes: &mut Vec<NameId>,
+    steps: &mut Steps<L>,
+) -> Result<(), Memory>
+    requires { Fits (pairs_of loose.now) table.now }
+    ensures maybe { OnOk result (maybes.new.items ≡ maybes.old.items ++ filter (is_maybe table.now name.now) (ids (pairs_of loose.now))) }
+    ensures steps { StepsWithin steps.old steps.new (length loose.now) }
+{
+    for one in loose {
+        let other = table.look(NameId(one.id), steps);
+        push_where(may_cover(name, other), maybes, NameId(one.id))?;
+    }
+    Ok(())
+}
+
+// Where none is open.
+pub(crate) fn meet_whole<L: Ledger>(
+    alloc: Global,
+    index: &NameIndex,
+    table: &NameTable,
+    name: &Wfn,
+    steps: &mut Steps<L>,
+) -> Result<Met, Memory>
+    requires fits { Fits index.now.held table.now }
+    requires lower { IsLower name.now }
+    ensures covered { IfOk result (λ m. SameElements (filter (is_covered table.now name.now) (ids index.now.held)) m.covered.items) }
+    ensures maybe { IfOk result (λ m. m.maybe.items ≡ []) }
+    ensures steps { StepsWithin steps.old steps.new (count_by (is_near table.now side.Source name.now.product) (ids index.now.held)) }
+{
+    let covered = index.covered_by(alloc, table, name, steps)?;
+    Ok(Met {
+        covered,
+        maybe: Vec::new(alloc),
+    })
+}
+
+// Where some are open.
+pub(crate) fn meet_each<L: Ledger>(
+    alloc: Global,
+    index: &NameIndex,
+    loose: &[Loose],
+    table: &NameTable,
+    name: &Wfn,
+    steps: &mut Steps<L>,
+) -> Result<Met, Memory>
+    requires fits { Fits index.now.held table.now }
+    requires loose { Fits (pairs_of loose.now) table.now }
+    requires lower { IsLower name.now }
+    requires plain { count_by (λ (x : ℕ × ℕ). is_loose table.now x.0) index.now.held ≡ 0 }
+    ensures covered { IfOk result (λ m. SameElements (filter (is_covered table.now name.now) (ids index.now.held)) m.covered.items) }
+    ensures maybe { IfOk result (λ m. SameElements (filter (is_maybe table.now name.now) (ids (index.now.held ++ pairs_of loose.now))) m.maybe.items) }
+    ensures steps { StepsWithin steps.old steps.new (count_by (is_near table.now side.Source name.now.product) (ids index.now.held) + length loose.now) }
+{
+    let order = deciding_order(alloc, name)?;
+    let mut covered = Vec::new(alloc);
+    let mut maybes = Vec::new(alloc);
+    meet_plain(&order, index, table, name, &mut covered, &mut maybes, steps)?;
+    meet_loose(loose, table, name, &mut maybes, steps)?;
+    Ok(Met {
+        covered,
+        maybe: maybes,
+    })
+}
