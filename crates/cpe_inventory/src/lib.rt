@@ -2,17 +2,15 @@
 //!
 //! Each keeps its rows in the order in which they came, and finds them by their hashes: the cost of putting and of finding a
 //! row is the same whatever the number of rows, and that of one that goes nearly so, in the mean. Results have rising tickets, so that
-//! none is renumbered where another goes. Items are numbers of a table of names that others use, too: [`Items`] is a view of both.
+//! none is renumbered where another goes. Items are numbers of a table of names that others use, too: [`ItemSlots`] is a view of both.
 #![tactic(auto)]
 
 mod checks;
 mod faults;
-mod items;
 mod kept;
 pub mod law;
 mod slots;
 
 pub use checks::Checks;
 pub use faults::check_fault;
-pub use items::Items;
 pub use slots::ItemSlots;

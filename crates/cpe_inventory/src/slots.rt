@@ -44,7 +44,7 @@ fn name_in(table: &NameTable, slot: Option<NameId>) -> Option<&Wfn>
     }
 }
 
-impl ItemSlots<'_> {
+impl<'t> ItemSlots<'t> {
     /// How many slots there are.
     pub fn len(&self) -> usize
         ensures { result ≡ length self.now }
@@ -53,7 +53,7 @@ impl ItemSlots<'_> {
     }
 
     /// The name of the item in a slot, if there is one.
-    pub fn at(&self, slot: usize) -> Option<&Wfn>
+    pub fn at(&self, slot: usize) -> Option<&'t Wfn>
         ensures { option_copied result ≡ get_or self.now slot None }
     {
         match self.slots.get(slot) {

@@ -12,7 +12,7 @@ ghost use Rattle.names_in_order.specs.InOrder.{names_numbered, same_id};
 ghost use Rattle.names_in_order.specs.Places.{near_count};
 ghost use Rattle.owned_names.specs.Owned.{AreOwn, IsNew};
 
-use cpe_inventory::Items as View;
+use crate::view::ItemView;
 use cpe_name::Wfn;
 use cpe_rows::List;
 use cpe_steps::Steps;
@@ -132,7 +132,7 @@ impl Items {
     pub(crate) fn has(&self, name: &Wfn) -> bool
         ensures { result ≡ list_any (is_same name.now) self.now }
     {
-        View::new(&self.table, &self.names).has(name)
+        ItemView::new(&self.table, &self.names).has(name)
     }
 
     /// Puts an item of a new name last, which is in lower case. The name is moved.
@@ -172,6 +172,6 @@ impl Items {
         ensures found { IfOk result (λ found. found ≡ filter (covers name.now) self.now) }
         ensures steps { StepsWithin steps.old steps.new (near_count name.now self.now) }
     {
-        View::new(&self.table, &self.names).covered(alloc, name, steps)
+        ItemView::new(&self.table, &self.names).covered(alloc, name, steps)
     }
 }

@@ -8,6 +8,7 @@ mod items;
 pub mod law;
 mod limits;
 mod range;
+mod view;
 
 pub use advisories::Advisories;
 pub use cpe_advisories::{

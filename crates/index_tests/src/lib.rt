@@ -1,4 +1,5 @@
-//! Tests alone: products in their orders, a table of names, an index of them and lists of them, through their public calls.
+//! Tests alone: products in their orders, a table of names, an index of them, and lists of names and of items, through their public
+//! calls.
 #![tactic(auto)]
 
 #[cfg(test)]
@@ -7,6 +8,8 @@ mod blocks;
 mod filters;
 #[cfg(test)]
 mod held;
+#[cfg(test)]
+mod items;
 #[cfg(test)]
 mod lists;
 #[cfg(test)]

@@ -1,20 +1,21 @@
-// The items of an inventory.
-ghost use Rattle.std.specs.Prelude.{◌≡◌, ◌+◌, IfOk, OnOk, filter, length};
+// The items of an inventory, beside the table of their names.
+ghost use Rattle.std.specs.Prelude.{◌≡◌, IfOk, filter, length};
 ghost use Rattle.std.specs.List.{list_any};
+ghost use Rattle.cpe_inventory.specs.Slots.{names_kept};
 ghost use Rattle.cpe_name.specs.Lower.{IsLower};
+ghost use Rattle.cpe_relation.specs.Maybe.{maybe};
 ghost use Rattle.cpe_relation.specs.NameRelation.{covers};
 ghost use Rattle.cpe_rows.specs.Names.{is_same};
 ghost use Rattle.cpe_steps.specs.Within.{StepsWithin};
-ghost use Rattle.names_in_order.specs.InOrder.{AreInOrder, names_numbered};
-ghost use Rattle.names_in_order.specs.Places.{looked_count, near_count};
-ghost use Rattle.cpe_inventory.specs.Slots.{names_kept};
+ghost use Rattle.names_in_order.specs.InOrder.{names_numbered};
+ghost use Rattle.items_in_order.specs.InOrder.{AreItems, met_count};
 
+use crate::names::ItemNames;
 use cpe_name::Wfn;
 use cpe_rows::List;
 use cpe_steps::Steps;
 use cpe_values::Memory;
 use name_index::{NameId, NameTable};
-use names_in_order::ChangingNames;
 use std::alloc::Global;
 use std::marker::Model;
 use std::sync::ledger::Ledger;
@@ -24,19 +25,29 @@ use std::sync::ledger::Ledger;
 #[derive(Drop)]
 pub struct Items<'t> {
     table: &'t NameTable,
-    names: &'t ChangingNames,
+    names: &'t ItemNames,
 }
 
 impl<'t> Model for Items<'t> {
     ghost use Rattle.std.specs.Prelude.{List};
     ghost use Rattle.cpe_name.specs.Eleven.{Values};
-    ghost use Rattle.names_in_order.specs.InOrder.{AreInOrder, names_numbered};
+    ghost use Rattle.names_in_order.specs.InOrder.{names_numbered};
+    ghost use Rattle.items_in_order.specs.InOrder.{AreItems};
 
     ghost Value = { List Values };
 
     ghost view = { λ i. names_numbered i.table.now i.names.now.numbers };
 
-    ghost invariant = { λ i. AreInOrder i.table.now i.names.now.held i.names.now.numbers };
+    ghost invariant = { λ i. AreItems i.table.now i.names.now.targets i.names.now.numbers };
+}
+
+/// The items that a name covers, and those that it may cover.
+#[derive(Drop)]
+pub struct MetItems {
+    /// Those that it covers.
+    pub covered: List<Wfn>,
+    /// Those that it may cover.
+    pub maybe: List<Wfn>,
 }
 
 // The names of these numbers.
@@ -54,8 +65,8 @@ fn names_of(alloc: Global, table: &NameTable, ids: &[NameId]) -> Result<List<Wfn
 
 impl<'t> Items<'t> {
     /// Items beside the table of their names.
-    pub fn new(table: &'t NameTable, names: &'t ChangingNames) -> Items<'t>
-        requires { AreInOrder table.now names.now.held names.now.numbers }
+    pub fn new(table: &'t NameTable, names: &'t ItemNames) -> Items<'t>
+        requires { AreItems table.now names.now.targets names.now.numbers }
         ensures { result ≡ names_numbered table.now names.now.numbers }
     {
         Items { table, names }
@@ -76,23 +87,28 @@ impl<'t> Items<'t> {
         self.names.find(self.table, name).is_some()
     }
 
-    /// The items that a name in lower case covers (NIST IR 7696), in their order. A step is a look at an item: it looks once at each
-    /// whose product that of the name covers, and at no other: all these are items to whose product that of the name is near.
+    /// The items that a name in lower case covers (NIST IR 7696), and those that it may cover, in their order. A step is a look at an
+    /// item: it looks at none twice, and only at such whose product that of the name meets.
     ///
     /// # Errors
     /// Only that memory ran out. The bound on steps holds then, too.
-    pub fn covered<L: Ledger>(
+    pub fn met<L: Ledger>(
         &self,
         alloc: Global,
         name: &Wfn,
         steps: &mut Steps<L>,
-    ) -> Result<List<Wfn>, Memory>
+    ) -> Result<MetItems, Memory>
         requires { IsLower name.now }
-        ensures found { IfOk result (λ found. found ≡ filter (covers name.now) self.now) }
-        ensures steps { StepsWithin steps.old steps.new (near_count name.now self.now) }
-        ensures looked { OnOk result (steps.new ≡ steps.old + looked_count name.now self.now) }
+        ensures covered { IfOk result (λ m. m.covered ≡ filter (covers name.now) self.now) }
+        ensures maybe { IfOk result (λ m. m.maybe ≡ filter (maybe name.now) self.now) }
+        ensures steps { StepsWithin steps.old steps.new (met_count name.now self.now) }
     {
-        let ids = self.names.covered(alloc, self.table, name, steps)?;
-        names_of(alloc, self.table, &ids)
+        let ids = self.names.met(alloc, self.table, name, steps)?;
+        let covered = names_of(alloc, self.table, &ids.covered)?;
+        let maybes = names_of(alloc, self.table, &ids.maybe)?;
+        Ok(MetItems {
+            covered,
+            maybe: maybes,
+        })
     }
 }

@@ -3,7 +3,7 @@ use Rattle.std.specs.List.{list_any}
 use Rattle.cpe_name.specs.Eleven.{Values}
 use Rattle.cpe_rows.specs.Names.{is_same}
 use Rattle.cpe_inventory.proofs.SlotLemmas.{any_name}
-use Rattle.cpe_inventory.proofs.items.Items.has.Goals as goal
+use Rattle.cpe_ranges.proofs.view.ItemView.has.Goals as goal
 
 pub returns : goal.returns
 returns c =

@@ -6,7 +6,7 @@ use Rattle.cpe_relation.specs.NameRelation.{covers}
 use Rattle.name_index.specs.declared.table.NameId.{NameId}
 use Rattle.cpe_inventory.specs.Slots.{names_kept}
 use Rattle.cpe_inventory.proofs.SlotLemmas.{kept_numbered}
-use Rattle.cpe_inventory.proofs.items.Items.covered.Goals as goal
+use Rattle.cpe_ranges.proofs.view.ItemView.covered.Goals as goal
 
 pub returns-clause-found : goal.returns-clause-found
 returns-clause-found g c =

@@ -1,0 +1,90 @@
+// Items beside the table of their names.
+ghost use Rattle.std.specs.Prelude.{◌≡◌, ◌+◌, IfOk, OnOk, filter};
+ghost use Rattle.std.specs.List.{list_any};
+ghost use Rattle.cpe_name.specs.Lower.{IsLower};
+ghost use Rattle.cpe_relation.specs.NameRelation.{covers};
+ghost use Rattle.cpe_rows.specs.Names.{is_same};
+ghost use Rattle.cpe_steps.specs.Within.{StepsWithin};
+ghost use Rattle.names_in_order.specs.InOrder.{AreInOrder, names_numbered};
+ghost use Rattle.names_in_order.specs.Places.{looked_count, near_count};
+ghost use Rattle.cpe_inventory.specs.Slots.{names_kept};
+
+use cpe_name::Wfn;
+use cpe_rows::List;
+use cpe_steps::Steps;
+use cpe_values::Memory;
+use name_index::{NameId, NameTable};
+use names_in_order::ChangingNames;
+use std::alloc::Global;
+use std::marker::Model;
+use std::sync::ledger::Ledger;
+
+/// Items beside the table of their names: names in lower case in the order in which they came. Contracts see the list of these names.
+#[derive(Drop)]
+pub(crate) struct ItemView<'t> {
+    table: &'t NameTable,
+    names: &'t ChangingNames,
+}
+
+impl<'t> Model for ItemView<'t> {
+    ghost use Rattle.std.specs.Prelude.{List};
+    ghost use Rattle.cpe_name.specs.Eleven.{Values};
+    ghost use Rattle.names_in_order.specs.InOrder.{AreInOrder, names_numbered};
+
+    ghost Value = { List Values };
+
+    ghost view = { λ i. names_numbered i.table.now i.names.now.numbers };
+
+    ghost invariant = { λ i. AreInOrder i.table.now i.names.now.held i.names.now.numbers };
+}
+
+// The names of these numbers.
+fn names_of(alloc: Global, table: &NameTable, ids: &[NameId]) -> Result<List<Wfn>, Memory>
+    ensures { IfOk result (λ found. found ≡ names_kept table.now ids.now) }
+{
+    let mut found = List::new(alloc);
+    for id in ids {
+        if let Some(name) = table.get(*id) {
+            found.push(name.copy(alloc)?)?;
+        }
+    }
+    Ok(found)
+}
+
+impl<'t> ItemView<'t> {
+    /// Items beside the table of their names.
+    pub(crate) fn new(table: &'t NameTable, names: &'t ChangingNames) -> ItemView<'t>
+        requires { AreInOrder table.now names.now.held names.now.numbers }
+        ensures { result ≡ names_numbered table.now names.now.numbers }
+    {
+        ItemView { table, names }
+    }
+
+    /// Whether an item has this name. It is found by its hash.
+    #[tactic(auto, unfolding(cpe_rows::specs::Names::is_same))]
+    pub(crate) fn has(&self, name: &Wfn) -> bool
+        ensures { result ≡ list_any (is_same name.now) self.now }
+    {
+        self.names.find(self.table, name).is_some()
+    }
+
+    /// The items that a name in lower case covers (NIST IR 7696), in their order. A step is a look at an item: it looks once at each
+    /// whose product that of the name covers, and at no other: all these are items to whose product that of the name is near.
+    ///
+    /// # Errors
+    /// Only that memory ran out. The bound on steps holds then, too.
+    pub(crate) fn covered<L: Ledger>(
+        &self,
+        alloc: Global,
+        name: &Wfn,
+        steps: &mut Steps<L>,
+    ) -> Result<List<Wfn>, Memory>
+        requires { IsLower name.now }
+        ensures found { IfOk result (λ found. found ≡ filter (covers name.now) self.now) }
+        ensures steps { StepsWithin steps.old steps.new (near_count name.now self.now) }
+        ensures looked { OnOk result (steps.new ≡ steps.old + looked_count name.now self.now) }
+    {
+        let ids = self.names.covered(alloc, self.table, name, steps)?;
+        names_of(alloc, self.table, &ids)
+    }
+}

@@ -1,0 +1,11 @@
+use Rattle.std.proofs.Common.{List, ap, sym, ◌∙◌}
+use Rattle.std.specs.List.{list_any}
+use Rattle.cpe_name.specs.Eleven.{Values}
+use Rattle.cpe_rows.specs.Names.{is_same}
+use Rattle.cpe_inventory.proofs.SlotLemmas.{any_name}
+use Rattle.items_in_order.proofs.items.Items.has.Goals as goal
+
+pub returns : goal.returns
+returns c =
+    let name = c.args.name.now in
+    c.is_some.ensures ∙ c.find.ensures.any ∙ sym (any_name name _) ∙ ap (λ (ns : List Values). list_any (is_same name) ns) c.self.view_is
