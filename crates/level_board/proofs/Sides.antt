@@ -15,7 +15,7 @@ use Rattle.level_board.specs.declared.rows.Row.{Row}
 use Rattle.level_board.specs.declared.parts.Parts.{Parts}
 use Rattle.level_board.specs.Rows.{Seen, told, level_of, fresh_row, seen, find_row, changed, changed_count, with_times, Tells, IsOrder}
 use Rattle.level_board.specs.Board.{one_if, covers_at, maybe_at, tells_at, covered_count, maybe_count, find_times, or_none, times_in, was_in, board_of, IsBoard, FitsBoard, TargetsTo, ProbesTo}
-use Rattle.pair_board.proofs.Changes.{put_some, put_here, put_other, on_added, on_dropped, length_added, length_dropped, fits_added, fits_dropped}
+use Rattle.level_board.proofs.Changes.{put_some, put_here, put_other, on_added, on_dropped, length_added, length_dropped, fits_added, fits_dropped}
 
 pub seen_some : (o : Option Row) → is_some (seen o) ≡ is_some o
 seen_some None = refl

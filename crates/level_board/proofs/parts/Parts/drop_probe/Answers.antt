@@ -3,7 +3,7 @@ use Rattle.std.specs.Prelude.{min}
 use Rattle.level_board.specs.declared.parts.Parts.{Parts}
 use Rattle.level_board.specs.Rows.{find_row}
 use Rattle.level_board.specs.Board.{ProbesTo, board_of, one_if}
-use Rattle.pair_board.proofs.Changes.{held_there}
+use Rattle.level_board.proofs.Changes.{held_there}
 use Rattle.level_board.proofs.Sides.{some_seen, after_dropped, times_set}
 use Rattle.level_board.proofs.parts.Parts.drop_probe.Goals as goal
 

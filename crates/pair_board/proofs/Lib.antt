@@ -1,6 +1,0 @@
-pub mod Orders
-pub mod WalkCounts
-pub mod Changes
-pub mod Sides
-pub mod Told
-pub mod Kept
