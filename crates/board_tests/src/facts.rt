@@ -2,7 +2,7 @@
 ghost use Rattle.std.specs.Prelude.{◌≡◌, ◌+◌, ◌≤◌, ℕ, [], length};
 ghost use Rattle.std.specs.List.{flat_map};
 ghost use Rattle.product_orders.specs.Elements.{SameElements};
-ghost use Rattle.pair_board.specs.Board.{probe_times};
+ghost use Rattle.level_board.specs.Board.{probe_times};
 ghost use Rattle.cpe_rows.specs.Prelude.{after, Rows};
 ghost use Rattle.cpe_rows.specs.declared.edit.Edit.TheVariants as edit;
 ghost use Rattle.cpe_rows.specs.declared.statement.Statement.{Statement};

@@ -1,42 +1,53 @@
 -- What names that aren't flipped keep, and what tables change.
-use Rattle.std.proofs.Common.{◌≡◌, ℕ, ◌≤◌, Bool, true, false, ◌||◌, List, [], ◌∷◌, length, Option, Some, None, refl, sym, ap, ◌∙◌, inl, inr, arith}
+use Rattle.std.proofs.Common.{◌≡◌, ℕ, ◌≤◌, false, List, [], ◌∷◌, length, Option, Some, None, refl, sym, ap, ◌∙◌, inl, inr, arith}
 use Rattle.std.specs.List.{list_any, AllByRecursion}
 use Rattle.std.proofs.lemmas.Bool.{cases_Bool}
 use Rattle.std.proofs.lemmas.Option.{same_Some}
 use Rattle.cpe_name.specs.Eleven.{Values}
+use Rattle.cpe_relation.specs.Maybe.{maybe}
 use Rattle.cpe_relation.specs.NameRelation.{covers}
 use Rattle.name_index.specs.declared.table.NameId.{NameId}
 use Rattle.name_index.specs.Table.{Names, find_kept, kept_at, Holds, Releases}
-use Rattle.pair_board.specs.Rows.{Seen, differs, holds_now}
-use Rattle.pair_board.specs.Board.{AreAnswers, AreFlips, Board, FitsBoard, probe_at, probe_times, target_times, times_in as times_of, was_in}
+use Rattle.level_board.specs.Rows.{Seen, differs, level_now}
+use Rattle.level_board.specs.declared.level.Level.{Level}
+use Rattle.level_board.specs.declared.level.Level.TheVariants.{Covered, Maybe, Free}
+use Rattle.level_board.specs.Board.{AreAnswers, AreFlips, Board, FitsBoard, probe_at, probe_times, target_times, times_in as times_of, was_in}
 use Rattle.cpe_rows.specs.Rows.{Rows}
+use Rattle.cpe_rows.specs.Truth.{or_of}
 use Rattle.cpe_rows.specs.Verdict.{fact_truth, truth}
+use Rattle.cpe_rows.specs.declared.truth.Truth.{Truth}
 use Rattle.cpe_rows.specs.declared.statement.Mode.{Mode}
 use Rattle.cpe_rows.specs.declared.statement.Mode.TheVariants.{Plain, Follow}
-use Rattle.numbered_names.specs.Shown.{names_at, Shows}
+use Rattle.numbered_names.specs.Shown.{name_at, names_at, Shows}
 use Rattle.numbered_names.proofs.Shown.{shown_passes, passing_shown}
 use Rattle.numbered_names.proofs.Tables.{held_shows, released_shows}
-use Rattle.asked_names.specs.Asked.{is_one_covering, leads, there}
+use Rattle.asked_names.specs.Asked.{leads, there}
 use Rattle.asked_names.proofs.Facts.{fact_is}
-use Rattle.kept_facts.proofs.Steps.{holds_shown}
+use Rattle.kept_facts.specs.Lists.{truth_of_names}
+use Rattle.kept_facts.proofs.Truths.{first_truth, level_shown, level_truth}
 use Rattle.kept_facts.specs.Kept.{AreNowhere, AreSettled, AreSound, board_of, Boards, FitBoards, IsOneOf, KeepKnown, KeepsKnown, ShowRows, ShowsRows}
 
-pub fact_kept : (rows : Rows) (mode : Mode) (names : Names) (fact : Values) (numbers : List NameId) (answer : Bool) → names_at names numbers ≡ leads rows.entries mode fact → answer ≡ is_one_covering (names_at names numbers) (there rows mode) → fact_truth rows mode fact ≡ truth answer
-fact_kept rows mode names fact numbers answer e is = fact_is rows mode fact ∙ ap (λ (ns : List Values). truth (is_one_covering ns (there rows mode))) (sym e) ∙ ap truth (sym is)
+pub fact_kept : (rows : Rows) (mode : Mode) (names : Names) (fact : Values) (numbers : List NameId) → names_at names numbers ≡ leads rows.entries mode fact → fact_truth rows mode fact ≡ truth_of_names (names_at names numbers) (there rows mode)
+fact_kept rows mode names fact numbers e = fact_is rows mode fact ∙ ap (λ (ns : List Values). truth_of_names ns (there rows mode)) (sym e)
 
-pub answer_kept : (boards : Boards) (mode : Mode) (numbers : List NameId) (answer : Bool)
-    → ((names : Names) (list : List Values) → FitsBoard (board_of boards mode) names → Shows names (target_times (board_of boards mode)) list → answer ≡ is_one_covering (names_at names numbers) list)
-    → (names : Names) (rows : Rows) (fact : Values) → FitBoards boards names → ShowRows names boards rows → names_at names numbers ≡ leads rows.entries mode fact → truth answer ≡ fact_truth rows mode fact
-answer_kept boards Plain numbers answer by names rows fact fits shows is = sym (fact_kept rows Plain names fact numbers answer is (by names (there rows Plain) fits.plain shows.plain.there))
-answer_kept boards Follow numbers answer by names rows fact fits shows is = sym (fact_kept rows Follow names fact numbers answer is (by names (there rows Follow) fits.follow shows.follow.there))
+pub answer_kept : (boards : Boards) (mode : Mode) (numbers : List NameId) (answer : Truth)
+    → ((names : Names) (list : List Values) → FitsBoard (board_of boards mode) names → Shows names (target_times (board_of boards mode)) list → answer ≡ truth_of_names (names_at names numbers) list)
+    → (names : Names) (rows : Rows) (fact : Values) → FitBoards boards names → ShowRows names boards rows → names_at names numbers ≡ leads rows.entries mode fact → answer ≡ fact_truth rows mode fact
+answer_kept boards Plain numbers answer by names rows fact fits shows is = by names (there rows Plain) fits.plain shows.plain.there ∙ sym (fact_kept rows Plain names fact numbers is)
+answer_kept boards Follow numbers answer by names rows fact fits shows is = by names (there rows Follow) fits.follow shows.follow.there ∙ sym (fact_kept rows Follow names fact numbers is)
 
 -- ---- one name
 
-same_if : (a b : Bool) → differs a b ≡ false → a ≡ b
-same_if true true e = refl
-same_if true false e = absurd cc
-same_if false true e = absurd cc
-same_if false false e = refl
+same_if : (a b : Level) → differs a b ≡ false → a ≡ b
+same_if Covered Covered e = refl
+same_if Covered Maybe e = absurd cc
+same_if Covered Free e = absurd cc
+same_if Maybe Covered e = absurd cc
+same_if Maybe Maybe e = refl
+same_if Maybe Free e = absurd cc
+same_if Free Covered e = absurd cc
+same_if Free Maybe e = absurd cc
+same_if Free Free e = refl
 
 -- what is kept of a probe that is on the board
 seen_there : (board : Board) (p : ℕ) → 1 ≤ probe_times board p → (s : Seen) × (probe_at board p ≡ Some s)
@@ -46,39 +57,44 @@ seen_there board p some = by (probe_at board p) refl
     by None e = absurd (omega (arith, some, ap times_of e))
     by (Some s) e = (s, e)
 
--- the answer of a probe that isn't flipped is the known one
-known_is : (board : Board) → AreFlips board → (p : ℕ) (s : Seen) → probe_at board p ≡ Some s → (IsOneOf board.flips p → ⊥) → s.was ≡ holds_now s
-known_is board flips p s e apart = elim (cases_Bool (differs s.was (holds_now s))) [
+-- the level of a probe that isn't flipped is the known one
+known_is : (board : Board) → AreFlips board → (p : ℕ) (s : Seen) → probe_at board p ≡ Some s → (IsOneOf board.flips p → ⊥) → s.was ≡ level_now s
+known_is board flips p s e apart = elim (cases_Bool (differs s.was (level_now s))) [
   | inl t ↦ absurd (apart (flips.whole p (s, e, t)))
-  | inr f ↦ same_if s.was (holds_now s) f
+  | inr f ↦ same_if s.was (level_now s) f
 ]
 
 none_flipped : (board : Board) (p : ℕ) → board.flips ≡ [] → IsOneOf board.flips p → ⊥
 none_flipped board p e h = omega (arith, h.1, ap length e)
 
+-- what a probe that is on the board tells of a fact
+abbrev told : Names → ℕ → List Values → Truth
+told names p list = truth (list_any (covers (kept_at names p).name) list) (list_any (maybe (kept_at names p).name) list)
+
 answer_is : (board : Board) (names : Names) (list : List Values) (p : ℕ) (s : Seen) → AreAnswers board → FitsBoard board names → Shows names (target_times board) list → probe_at board p ≡ Some s
-    → holds_now s ≡ list_any (covers (kept_at names p).name) list
+    → level_truth (level_now s) ≡ told names p list
 answer_is board names list p s answers fits shows e =
-    holds_shown board names list p (holds_now s) (λ passes id. shown_passes names (target_times board) list passes id shows) (λ passes. passing_shown names (target_times board) list passes shows) (answers names p s fits e)
+    level_shown board names list p (λ passes id. shown_passes names (target_times board) list passes id shows) (λ passes. passing_shown names (target_times board) list passes shows) (level_now s) (answers names p s fits e)
 
 module _ (names : Names) (old new : Board) (before after : List Values)
     (fits_old : FitsBoard old names) (fits_new : FitsBoard new names) (shows_old : Shows names (target_times old) before) (shows_new : Shows names (target_times new) after)
     (answers_old : AreAnswers old) (answers_new : AreAnswers new) (flips_old : AreFlips old) (flips_new : AreFlips new) (settled : old.flips ≡ []) (was : KeepsKnown old new) where
-  name_stays : (p : ℕ) → 1 ≤ probe_times old p → 1 ≤ probe_times new p → (IsOneOf new.flips p → ⊥) → list_any (covers (kept_at names p).name) after ≡ list_any (covers (kept_at names p).name) before
+  name_stays : (p : ℕ) → 1 ≤ probe_times old p → 1 ≤ probe_times new p → (IsOneOf new.flips p → ⊥) → told names p after ≡ told names p before
   name_stays p some more apart =
       let s = seen_there old p some in
       let t = seen_there new p more in
       let known : Some t.0.was ≡ Some s.0.was = sym (ap was_in t.1) ∙ was.was p (omega (arith, some)) (omega (arith, more)) ∙ ap was_in s.1 in
       sym (answer_is new names after p t.0 answers_new fits_new shows_new t.1)
-      ∙ sym (known_is new flips_new p t.0 t.1 apart)
-      ∙ same_Some t.0.was s.0.was known
-      ∙ known_is old flips_old p s.0 s.1 (none_flipped old p settled)
+      ∙ ap level_truth (sym (known_is new flips_new p t.0 t.1 apart) ∙ same_Some t.0.was s.0.was known ∙ known_is old flips_old p s.0 s.1 (none_flipped old p settled))
       ∙ answer_is old names before p s.0 answers_old fits_old shows_old s.1
 
   names_stay : (numbers : List NameId) → AllByRecursion (λ (x : NameId). 1 ≤ probe_times old x.0) numbers → AllByRecursion (λ (x : NameId). 1 ≤ probe_times new x.0) numbers → AllByRecursion (λ (x : NameId). IsOneOf new.flips x.0 → ⊥) numbers
-      → is_one_covering (names_at names numbers) after ≡ is_one_covering (names_at names numbers) before
+      → truth_of_names (names_at names numbers) after ≡ truth_of_names (names_at names numbers) before
   names_stay [] some more apart = refl
-  names_stay (x ∷ numbers) some more apart = λ i. name_stays x.0 some.0 more.0 apart.0 i || names_stay numbers some.1 more.1 apart.1 i
+  names_stay (x ∷ numbers) some more apart =
+      first_truth (name_at names x) (names_at names numbers) after
+      ∙ (λ i. or_of (name_stays x.0 some.0 more.0 apart.0 i) (names_stay numbers some.1 more.1 apart.1 i))
+      ∙ sym (first_truth (name_at names x) (names_at names numbers) before)
 
 fact_stays : (rows next : Rows) (mode : Mode) (names : Names) (old new : Board) (fact : Values) (numbers : List NameId)
     → FitsBoard old names → FitsBoard new names → ShowsRows names old rows mode → ShowsRows names new next mode → AreAnswers old → AreAnswers new → AreFlips old → AreFlips new → old.flips ≡ [] → KeepsKnown old new
@@ -86,9 +102,9 @@ fact_stays : (rows next : Rows) (mode : Mode) (names : Names) (old new : Board) 
     → AllByRecursion (λ (x : NameId). 1 ≤ probe_times old x.0) numbers → AllByRecursion (λ (x : NameId). 1 ≤ probe_times new x.0) numbers → AllByRecursion (λ (x : NameId). IsOneOf new.flips x.0 → ⊥) numbers
     → fact_truth next mode fact ≡ fact_truth rows mode fact
 fact_stays rows next mode names old new fact numbers fits_old fits_new is_old is_new answers_old answers_new flips_old flips_new settled was e f some more apart =
-    fact_kept next mode names fact numbers (is_one_covering (names_at names numbers) (there next mode)) f refl
-    ∙ ap truth (names_stay names old new (there rows mode) (there next mode) fits_old fits_new is_old.there is_new.there answers_old answers_new flips_old flips_new settled was numbers some more apart)
-    ∙ sym (fact_kept rows mode names fact numbers (is_one_covering (names_at names numbers) (there rows mode)) e refl)
+    fact_kept next mode names fact numbers f
+    ∙ names_stay names old new (there rows mode) (there next mode) fits_old fits_new is_old.there is_new.there answers_old answers_new flips_old flips_new settled was numbers some more apart
+    ∙ sym (fact_kept rows mode names fact numbers e)
 
 pub facts_stay : (rows next : Rows) (mode : Mode) (names : Names) (old new : Boards) (fact : Values) (numbers : List NameId)
     → FitBoards old names → FitBoards new names → ShowRows names old rows → ShowRows names new next → AreSound old → AreSound new → AreSettled old → KeepKnown old new

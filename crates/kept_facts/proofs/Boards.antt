@@ -1,6 +1,6 @@
 -- What boards show after an edit.
 use Rattle.std.proofs.Common.{◌≡◌, ◌≢◌, ℕ, ◌<◌, length, true, cond, List, [], ◌++◌, refl, sym, ap, subst, ◌∙◌, arith, Some}
-use Rattle.std.specs.Prelude.{filter, find, nat_lt, not}
+use Rattle.std.specs.Prelude.{filter, find, not}
 use Rattle.std.proofs.lemmas.Option.{same_Some}
 use Rattle.std.specs.List.{flat_map, list_any, sum_by}
 use Rattle.std.proofs.lemmas.List.Sums.{sum_by-append}
@@ -8,8 +8,8 @@ use Rattle.cpe_name.specs.Eleven.{Values}
 use Rattle.product_orders.specs.Elements.{SameElements}
 use Rattle.name_index.specs.declared.table.NameId.{NameId}
 use Rattle.name_index.specs.Table.{Names, AreNames}
-use Rattle.pair_board.specs.Board.{Board, Clears, FitsBoard, IsEmptyBoard, SameBoard, covered_count, find_times, or_none, times_in as times_of, probe_at, probe_times, target_times, was_at, was_in}
-use Rattle.pair_board.specs.Rows.{Seen, holds_now, known_now}
+use Rattle.level_board.specs.Board.{Board, Clears, FitsBoard, IsEmptyBoard, SameBoard, find_times, or_none, times_in as times_of, probe_at, probe_times, target_times, was_at, was_in}
+use Rattle.level_board.specs.Rows.{Seen, known_now, level_now, level_of}
 use Rattle.std.proofs.Common.{Option, None}
 use Rattle.cpe_rows.specs.After.{after}
 use Rattle.cpe_rows.specs.FactNames.{fact_names}
@@ -25,7 +25,8 @@ use Rattle.numbered_names.specs.Shown.{different, names_at, Shows}
 use Rattle.numbered_names.proofs.Shown.{shows_none, shows_more, shows_fewer, shows_order, shows_same}
 use Rattle.asked_names.specs.Asked.{asked, facts_in, facts_of, fresh_facts, is_referred, leads, same_mode, there}
 use Rattle.asked_names.proofs.Moves.{item_there, item_left, statement_asked, statement_asked_no_more, led_there, led_asked, plain_asked, plain_there}
-use Rattle.kept_facts.specs.Lists.{Arrives, Asks, Departs, ProbesStay, TargetsStay, Unasks}
+use Rattle.kept_facts.specs.Lists.{Arrives, Asks, Departs, level_there, ProbesStay, TargetsStay, Unasks}
+use Rattle.kept_facts.proofs.Steps.{known_by}
 use Rattle.kept_facts.specs.Kept.{AreLive, board_of, Boards, ends_of_led, KeepsKnown, KeepsRoom, SameBoards, ShowRows, ShowsRows}
 
 -- ---- one list that a board shows
@@ -62,7 +63,7 @@ itself board = record {
   probes = λ p. refl;
   targets = λ t. refl;
   probe_ids = refl;
-  target_ids = refl;
+  target_index = record { plain = refl; loose = refl; opens = refl; spare = omega arith; wide = omega arith };
   flips = refl;
   probe_room = omega arith;
   target_room = omega arith;
@@ -217,9 +218,9 @@ plain_stays names board rows e n h s = record {
 pub probes_known : (old new : Board) → ProbesStay old new → KeepsKnown old new
 probes_known old new s = record { was = λ p some more. s.was p; fresh = λ p t none some e. absurd (omega (arith, none, some, s.times p)) }
 
--- the answer of a name that is asked anew, as the counts give it
-known_now_is : (board : Board) (names : Names) (p : ℕ) (s : Seen) → FitsBoard board names → probe_at board p ≡ Some s → was_at board p ≡ Some (nat_lt 0 (covered_count names p board.target_ids)) → s.was ≡ holds_now s
-known_now_is board names p s fits e was = same_Some s.was (nat_lt 0 (covered_count names p board.target_ids)) (sym (ap was_in e) ∙ was) ∙ ap (nat_lt 0) (sym (fits.counts p s e))
+-- the level of a name that is asked anew, as the counts give it
+known_now_is : (board : Board) (names : Names) (p : ℕ) (s : Seen) → FitsBoard board names → probe_at board p ≡ Some s → was_at board p ≡ Some (level_there names board p) → s.was ≡ level_now s
+known_now_is board names p s fits e was = same_Some s.was (level_there names board p) (sym (ap was_in e) ∙ was) ∙ (λ i. level_of (sym (fits.counts p s e) i) (sym (fits.maybes p s e) i))
 
 pub asks_known : (old new : Board) (names : Names) (numbers : List NameId) → Asks old new names numbers → KeepsKnown old new
 asks_known old new names numbers a = record { was = λ p some more. a.was p some; fresh = λ p s none some e. known_now_is new names p s a.fits e (a.was_new p none some) }
@@ -238,7 +239,7 @@ led_known old come gone asks new names facts_from facts_to a l q u = record {
   fresh = λ p s none some e.
       let none_yet : probe_times gone p ≡ 0 = omega (arith, none, a.times p, l.times p) in
       let some_then : 0 < probe_times asks p = omega (arith, some, u.times p) in
-      known_now_is new names p s u.fits e (u.was p some ∙ q.was_new p none_yet some_then ∙ ap (λ (ids : List (ℕ × ℕ)). Some (nat_lt 0 (covered_count names p ids))) (sym u.stay.target_ids));
+      known_now_is new names p s u.fits e (u.was p some ∙ q.was_new p none_yet some_then ∙ ap (known_by names p) (sym u.stay.target_index));
 }
 
 -- ---- room

@@ -1,19 +1,20 @@
 -- What one number more makes of a board on which so many came, went, are asked or are no longer asked.
-use Rattle.std.proofs.Common.{◌≡◌, ◌≢◌, ℕ, zero, suc, ◌+◌, ◌-◌, ◌≤◌, ◌<◌, Bool, true, false, cond, List, [], ◌∷◌, drop, length, get_or, Some, refl, sym, ap, subst, ◌∙◌, inl, inr, arith, eq-eqb}
-use Rattle.std.specs.Prelude.{nat_eq, nat_lt, IsTrue, ◌↔◌}
-use Rattle.std.specs.List.{list_any, AllByRecursion}
+use Rattle.std.proofs.Common.{◌≡◌, ◌≢◌, ℕ, zero, suc, ◌+◌, ◌-◌, ◌≤◌, ◌<◌, Bool, true, false, cond, List, [], ◌∷◌, drop, length, get_or, Option, Some, refl, sym, ap, subst, ◌∙◌, inl, inr, arith, eq-eqb}
+use Rattle.std.specs.Prelude.{nat_eq}
+use Rattle.std.specs.List.{AllByRecursion}
 use Rattle.std.proofs.Math.Seq.{drop-cons}
-use Rattle.std.proofs.lemmas.Bool.{cases_eq, ne_eqb, both_ways}
+use Rattle.std.proofs.lemmas.Bool.{cases_eq, ne_eqb}
 use Rattle.std.proofs.lemmas.List.Sums.{sum_by-cons}
-use Rattle.cpe_name.specs.Eleven.{Values}
-use Rattle.cpe_relation.specs.NameRelation.{covers}
 use Rattle.product_orders.specs.declared.products.Side.{Side}
 use Rattle.name_index.specs.declared.table.NameId.{NameId}
 use Rattle.name_index.specs.Table.{Names, kept_at, IsLive}
-use Rattle.pair_board.specs.Board.{Board, Holds, TargetsTo, ProbesTo, probe_times, target_times, was_at, covered_count}
+use Rattle.target_index.specs.Targets.{Targets, held}
+use Rattle.level_board.specs.Board.{Board, TargetsTo, ProbesTo, probe_times, target_times, was_at, covered_count, maybe_count}
+use Rattle.level_board.specs.Rows.{level_of}
+use Rattle.level_board.specs.declared.level.Level.{Level}
 use Rattle.numbered_names.specs.Shown.{times_in}
 use Rattle.numbered_names.proofs.Shown.{number_first, live_is}
-use Rattle.kept_facts.specs.Lists.{IsWide, looks_at, looks, Arriving, Leaving, Asking, Unasking}
+use Rattle.kept_facts.specs.Lists.{IsWide, level_there, looks_at, looks, Arriving, Leaving, Asking, Unasking}
 
 add_one : (i : ℕ) → suc i ≡ i + 1
 add_one i = omega arith
@@ -54,6 +55,10 @@ wide_there board now names id wide same live = omega (arith, wide id (kept_at na
 
 pub looks_first : (names : Names) (side : Side) (others : List (ℕ × ℕ)) (x : NameId) (rest xs : List NameId) → xs ≡ x ∷ rest → looks names side others xs ≡ looks_at names side others x + looks names side others rest
 looks_first names side others x rest xs e = ap (looks names side others) e ∙ sum_by-cons (looks_at names side others) x rest
+
+-- the level of a number that is known, by the names that are there
+abbrev pub known_by : Names → ℕ → Targets → Option Level
+known_by names p ts = Some (level_of (covered_count names p (held ts)) (maybe_count names p (held ts)))
 
 module _ (names : Names) (old now new : Board) (all : List NameId) (x : NameId) (rest xs : List NameId) (e : xs ≡ x ∷ rest) where
   first_times : (t : ℕ) → times_in t xs ≡ times_in t (x ∷ rest)
@@ -130,7 +135,7 @@ module _ (names : Names) (old now new : Board) (all : List NameId) (x : NameId) 
     times = times;
     stay = record {
       targets = t.targets ∙ a.stay.targets;
-      target_ids = t.target_ids ∙ a.stay.target_ids;
+      target_index = t.target_index ∙ a.stay.target_index;
       target_room = t.target_room ∙ a.stay.target_room;
       wide = t.wide ∙ a.stay.wide;
     };
@@ -161,18 +166,18 @@ module _ (names : Names) (old now new : Board) (all : List NameId) (x : NameId) 
         | inr ne ↦ omega (arith, a.still p some, t.others p ne)
       ]
 
-      was_new : (p : ℕ) → probe_times old p ≡ 0 → 0 < probe_times new p → was_at new p ≡ Some (nat_lt 0 (covered_count names p new.target_ids))
+      was_new : (p : ℕ) → probe_times old p ≡ 0 → 0 < probe_times new p → was_at new p ≡ Some (level_there names new p)
       was_new p none some = elim (cases_eq p x.0) [
         | inl at ↦ at_itself at (probe_times now p) refl
-        | inr ne ↦ t.was p ne ∙ a.was_new p none (omega (arith, some, t.others p ne)) ∙ ap (λ (ids : List (ℕ × ℕ)). Some (nat_lt 0 (covered_count names p ids))) (sym t.target_ids)
+        | inr ne ↦ t.was p ne ∙ a.was_new p none (omega (arith, some, t.others p ne)) ∙ ap (known_by names p) (sym t.target_index)
       ]
         where
-          at_itself : p ≡ x.0 → (n : ℕ) → probe_times now p ≡ n → was_at new p ≡ Some (nat_lt 0 (covered_count names p new.target_ids))
-          at_itself at zero h = subst (λ (k : ℕ). was_at new k ≡ Some (nat_lt 0 (covered_count names k new.target_ids))) (sym at) (t.was_new (ap (probe_times now) (sym at) ∙ h))
+          at_itself : p ≡ x.0 → (n : ℕ) → probe_times now p ≡ n → was_at new p ≡ Some (level_there names new p)
+          at_itself at zero h = subst (λ (k : ℕ). was_at new k ≡ Some (level_there names new k)) (sym at) (t.was_new (ap (probe_times now) (sym at) ∙ h))
           at_itself at (suc n) h =
               let more : 0 < probe_times now p = omega (arith, h) in
               ap (was_at new) at ∙ was_here (omega (arith, more, ap (probe_times now) at)) ∙ ap (was_at now) (sym at)
-              ∙ a.was_new p none more ∙ ap (λ (ids : List (ℕ × ℕ)). Some (nat_lt 0 (covered_count names p ids))) (sym t.target_ids)
+              ∙ a.was_new p none more ∙ ap (known_by names p) (sym t.target_index)
 
   -- ---- one less is asked
 
@@ -185,7 +190,7 @@ module _ (names : Names) (old now new : Board) (all : List NameId) (x : NameId) 
     times = times;
     stay = record {
       targets = t.targets ∙ a.stay.targets;
-      target_ids = t.target_ids ∙ a.stay.target_ids;
+      target_index = t.target_index ∙ a.stay.target_index;
       target_room = t.target_room ∙ a.stay.target_room;
       wide = t.wide ∙ a.stay.wide;
     };
@@ -207,21 +212,3 @@ module _ (names : Names) (old now new : Board) (all : List NameId) (x : NameId) 
         | inl at ↦ ap (was_at new) at ∙ t.was_kept (omega (arith, some, ap (probe_times new) at, t.times_now)) (omega (arith, some_now)) ∙ ap (was_at now) (sym at) ∙ a.was p (omega (arith, some_now, ap (probe_times now) at))
         | inr ne ↦ t.was p ne ∙ a.was p (omega (arith, some, t.others p ne))
       ]
-
--- ---- what holds
-
-pub holds_shown : (board : Board) (names : Names) (there : List Values) (p : ℕ) (result : Bool)
-    → ((passes : Values → Bool) (id : ℕ) → 1 ≤ target_times board id → passes (kept_at names id).name ≡ true → list_any passes there ≡ true)
-    → ((passes : Values → Bool) → list_any passes there ≡ true → (id : ℕ) × (1 ≤ target_times board id) × (passes (kept_at names id).name ≡ true))
-    → IsTrue result ↔ Holds board names p → result ≡ list_any (covers (kept_at names p).name) there
-holds_shown board names there p result somewhere passing holds = by result (list_any (covers (kept_at names p).name) there) refl refl
-  where
-    by : (a b : Bool) → result ≡ a → list_any (covers (kept_at names p).name) there ≡ b → a ≡ b
-    by true true e f = refl
-    by false false e f = refl
-    by true false e f =
-        let t = holds.0 e in
-        absurd (both_ways (list_any (covers (kept_at names p).name) there) f (somewhere (covers (kept_at names p).name) t.0 (omega (arith, t.1)) t.2))
-    by false true e f =
-        let t = passing (covers (kept_at names p).name) f in
-        absurd (both_ways result e (holds.1 (t.0, omega (arith, t.1), t.2)))

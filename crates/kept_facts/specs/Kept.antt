@@ -5,8 +5,8 @@ use Rattle.cpe_name.specs.Eleven.{Values}
 use Rattle.product_orders.specs.declared.products.Side.{Side}
 use Rattle.name_index.specs.declared.table.NameId.{NameId}
 use Rattle.name_index.specs.Table.{Names, IsLive}
-use Rattle.pair_board.specs.Board.{AreAnswers, AreFlips, Board, FitsBoard, IsOn, SameBoard, probe_at, probe_times, target_times, was_at}
-use Rattle.pair_board.specs.Rows.{Seen, holds_now, number_at}
+use Rattle.level_board.specs.Board.{AreAnswers, AreFlips, Board, FitsBoard, IsOn, SameBoard, probe_at, probe_times, target_times, was_at}
+use Rattle.level_board.specs.Rows.{Seen, level_now, number_at}
 use Rattle.cpe_rows.specs.Chains.{ends, leads_to}
 use Rattle.cpe_rows.specs.Rows.{Rows}
 use Rattle.cpe_rows.specs.declared.entry.Entry.{Entry}
@@ -41,13 +41,13 @@ pub record FitBoards (boards : Boards) (names : Names) : Type 0 where
 abbrev pub AreKnown : Names → Rows → Type 0
 AreKnown names rows = (n : Values) → 1 ≤ times_named n (names_kept rows) → IsKnown names n
 
--- what is so of all boards: they hold the numbers that are asked or there, their answers are right, and the flipped ones are told
+-- what is so of all boards: they hold the numbers that are asked or there, their levels are right, and the flipped ones are told
 pub record AreSound (boards : Boards) : Type 0 where
   pub on : (mode : Mode) → IsOn (board_of boards mode)
   pub answers : (mode : Mode) → AreAnswers (board_of boards mode)
   pub flips : (mode : Mode) → AreFlips (board_of boards mode)
 
--- the answers now are the known ones
+-- the levels now are the known ones
 pub record AreSettled (boards : Boards) : Type 0 where
   pub plain : boards.plain.flips ≡ []
   pub follow : boards.follow.flips ≡ []
@@ -55,10 +55,10 @@ pub record AreSettled (boards : Boards) : Type 0 where
 abbrev pub AreLive : Names → List NameId → Type 0
 AreLive names numbers = AllByRecursion (λ (x : NameId). IsLive names x.0) numbers
 
--- what was known of names that are asked before and after stays known; of a name that wasn't asked before the answer now is known
+-- what was known of names that are asked before and after stays known; of a name that wasn't asked before the level now is known
 pub record KeepsKnown (old new : Board) : Type 0 where
   pub was : (p : ℕ) → 0 < probe_times old p → 0 < probe_times new p → was_at new p ≡ was_at old p
-  pub fresh : (p : ℕ) (s : Seen) → probe_times old p ≡ 0 → 0 < probe_times new p → probe_at new p ≡ Some s → s.was ≡ holds_now s
+  pub fresh : (p : ℕ) (s : Seen) → probe_times old p ≡ 0 → 0 < probe_times new p → probe_at new p ≡ Some s → s.was ≡ level_now s
 
 pub record KeepKnown (old new : Boards) : Type 0 where
   pub plain : KeepsKnown old.plain new.plain
@@ -89,6 +89,6 @@ pub record AreNowhere (boards : Boards) (id : ℕ) : Type 0 where
   pub asked_follow : probe_times boards.follow id ≡ 0
   pub there_follow : target_times boards.follow id ≡ 0
 
--- so many looks at most take names that come or go by others: one each, and one for each different one of the others that is near
+-- so many looks at most take names that come or go by others: one each, and one for each different one of the others whose product meets
 abbrev pub looks_by : Side → List Values → List Values → ℕ
 looks_by side others names = sum_by (λ (n : Values). 1 + near_names side n.product (different others)) names

@@ -7,7 +7,7 @@ use Rattle.product_orders.specs.declared.products.Side.TheVariants as side
 use Rattle.product_orders.specs.Elements.{SameElements}
 use Rattle.name_index.specs.declared.table.NameId.{NameId}
 use Rattle.name_index.specs.Table.{Names, IsLive}
-use Rattle.pair_board.specs.Board.{probe_times, target_times}
+use Rattle.level_board.specs.Board.{probe_times, target_times, target_ids}
 use Rattle.cpe_rows.specs.After.{after}
 use Rattle.cpe_rows.specs.Chains.{ends as ends_in}
 use Rattle.cpe_rows.specs.Names.{is_same}
@@ -77,7 +77,7 @@ pub record ItemComes (old new : Boards) (table : Names) (item : NameId) (led : L
   pub room : KeepsRoom old.plain new.plain 0 1
   -- and that of the ends in mode follow
   pub room_follow : KeepsRoom old.follow new.follow 0 (length led)
-  -- it looks at these names, and at those that are asked and near them
+  -- it looks at these names, and at those that are asked and meet them
   pub steps : now ≤ before + looks table side.Target old.plain.probe_ids (item ∷ []) + looks table side.Target old.follow.probe_ids led
   -- and no step is taken back
   pub rise : before ≤ now
@@ -95,7 +95,7 @@ pub record ItemGoes (old new : Boards) (table : Names) (item : NameId) (led : Li
   pub room : KeepsRoom old.plain new.plain 0 0
   -- nor in mode follow
   pub room_follow : KeepsRoom old.follow new.follow 0 0
-  -- it looks at these names, and at those that are asked and near them
+  -- it looks at these names, and at those that are asked and meet them
   pub steps : now ≤ before + looks table side.Target old.plain.probe_ids (item ∷ []) + looks table side.Target old.follow.probe_ids led
   -- and no step is taken back
   pub rise : before ≤ now
@@ -113,8 +113,8 @@ pub record FactsAsked (old new : Boards) (table : Names) (mode : Mode) (numbers 
   pub room : KeepsRoom (board_of old mode) (board_of new mode) (length numbers) 0
   -- the other board stays
   pub other : (m : Mode) → m ≢ mode → board_of new m ≡ board_of old m
-  -- it looks at these names, and at those that are there and near them
-  pub steps : now ≤ before + looks table side.Source (board_of old mode).target_ids numbers
+  -- it looks at these names, and at those that are there and meet them
+  pub steps : now ≤ before + looks table side.Source (target_ids (board_of old mode)) numbers
   -- and no step is taken back
   pub rise : before ≤ now
 
@@ -181,8 +181,8 @@ pub record EndsLed (old new : Boards) (table : Names) (items_from items_to facts
   pub room : KeepsRoom old.follow new.follow (length facts_to) (length items_to)
   -- mode plain stays as it was
   pub plain : new.plain ≡ old.plain
-  -- it looks at these names but for those that facts leave, and at those near them on the other side
+  -- it looks at these names but for those that facts leave, and at those that meet them on the other side
   pub steps : now ≤ before + looks table side.Target old.follow.probe_ids items_to + looks table side.Target old.follow.probe_ids items_from
-      + looks table side.Source new.follow.target_ids facts_to
+      + looks table side.Source (target_ids new.follow) facts_to
   -- and no step is taken back
   pub rise : before ≤ now

@@ -4,9 +4,9 @@ ghost use Rattle.std.specs.List.{AllByRecursion};
 ghost use Rattle.cpe_name.specs.Eleven.{Values};
 ghost use Rattle.name_index.specs.declared.table.NameId.{NameId};
 ghost use Rattle.name_index.specs.Table.{Names, IsLive};
-ghost use Rattle.pair_board.specs.Board.{AreFlips, probe_times, target_times};
+ghost use Rattle.level_board.specs.Board.{AreFlips, probe_times, target_ids, target_times};
 ghost use Rattle.cpe_rows.specs.Prelude.{no_rows, Rows};
-ghost use Rattle.cpe_rows.specs.Verdict.{fact_truth, truth};
+ghost use Rattle.cpe_rows.specs.Verdict.{fact_truth};
 ghost use Rattle.cpe_rows.specs.declared.statement.Mode.{Mode};
 ghost use Rattle.cpe_rows.specs.declared.statement.Mode.TheVariants.{Plain, Follow};
 ghost use Rattle.numbered_names.specs.Shown.{names_at, times_in};
@@ -15,12 +15,12 @@ ghost use Rattle.kept_facts.specs.Lists.{IsWide};
 ghost use Rattle.kept_facts.specs.Kept.{AreLive, AreSettled, AreSound, board_of, FitBoards, KeepsRoom, ShowRows};
 ghost use Rattle.kept_facts.specs.Moved.{EndsLed, FactsAsked, FactsUnasked, ItemComes, ItemGoes, MakesRoom, MayCome, MayLead};
 
-use crate::lists::{arrive, ask, holds_one, leave, unask};
-use cpe_rows::Mode;
+use crate::lists::{arrive, ask, leave, truth_by, unask};
+use cpe_rows::{Mode, Truth};
 use cpe_steps::Steps;
 use cpe_values::Memory;
+use level_board::LevelBoard;
 use name_index::{NameId, NameTable};
-use pair_board::PairBoard;
 use std::alloc::Global;
 use std::marker::Model;
 use std::slice::from_ref;
@@ -36,8 +36,8 @@ pub struct Wanted {
 /// Two boards, one for each mode: the names by which facts are asked are its probes, and those that are there its targets.
 #[derive(Drop)]
 pub struct KeptFacts {
-    plain: PairBoard,
-    follow: PairBoard,
+    plain: LevelBoard,
+    follow: LevelBoard,
 }
 
 impl Model for KeptFacts {
@@ -56,8 +56,8 @@ impl KeptFacts {
         ensures settled { AreSettled result }
     {
         KeptFacts {
-            plain: PairBoard::new(alloc),
-            follow: PairBoard::new(alloc),
+            plain: LevelBoard::new(alloc),
+            follow: LevelBoard::new(alloc),
         }
     }
 
@@ -80,9 +80,9 @@ impl KeptFacts {
         follow: Wanted,
     ) -> Result<(), Memory>
         requires plain { length self.old.plain.probe_ids + plain.asked ≤ 536870912 }
-        requires plain_there { length self.old.plain.target_ids + plain.there ≤ 536870912 }
+        requires plain_there { length (target_ids self.old.plain) + plain.there ≤ 536870912 }
         requires follow { length self.old.follow.probe_ids + follow.asked ≤ 536870912 }
-        requires follow_there { length self.old.follow.target_ids + follow.there ≤ 536870912 }
+        requires follow_there { length (target_ids self.old.follow) + follow.there ≤ 536870912 }
         ensures { MakesRoom self.old self.new table.now plain follow result }
     {
         self.plain.reserve(table, plain.asked, plain.there)?;
@@ -191,15 +191,16 @@ impl KeptFacts {
         unask(&mut self.follow, table, facts_from, steps);
     }
 
-    /// The truth of a fact that is asked in a mode, by the numbers of the names to which it leads. It looks at nothing.
-    pub fn is_true(&self, mode: Mode, numbers: &[NameId]) -> bool
+    /// The truth of a fact that is asked in a mode, by the numbers of the names to which it leads: TRUE where an item is covered; else
+    /// UNKNOWN where one, which is known only in part, may be; else FALSE. It looks at nothing.
+    pub fn truth(&self, mode: Mode, numbers: &[NameId]) -> Truth
         ensures { AllByRecursion (λ (x : NameId). 1 ≤ probe_times (board_of self.now mode) x.0) numbers.now → (names : Names) (rows : Rows) (fact : Values)
-            → FitBoards self.now names → ShowRows names self.now rows → names_at names numbers.now ≡ leads rows.entries mode fact → truth result ≡ fact_truth rows mode fact }
+            → FitBoards self.now names → ShowRows names self.now rows → names_at names numbers.now ≡ leads rows.entries mode fact → result ≡ fact_truth rows mode fact }
     {
         asked_names::law::facts_are_asked();
         match mode {
-            Mode::Plain => holds_one(&self.plain, numbers),
-            Mode::Follow => holds_one(&self.follow, numbers),
+            Mode::Plain => truth_by(&self.plain, numbers),
+            Mode::Follow => truth_by(&self.follow, numbers),
         }
     }
 
@@ -213,7 +214,7 @@ impl KeptFacts {
         }
     }
 
-    /// The names asked in a mode whose answer differs from the known one, each once.
+    /// The names asked in a mode whose level differs from the known one, each once.
     pub fn flips(&self, mode: Mode) -> &[NameId]
         ensures value { result.now ≡ (board_of self.now mode).flips }
         ensures exact { AreFlips (board_of self.now mode) }
@@ -224,7 +225,7 @@ impl KeptFacts {
         }
     }
 
-    /// Makes the answers now the known ones. It takes no memory.
+    /// Makes the levels now the known ones. It takes no memory.
     pub fn settle(&mut self)
         ensures shows { (names : Names) (rows : Rows) → ShowRows names self.old rows → ShowRows names self.new rows }
         ensures fits { (names : Names) → FitBoards self.old names → FitBoards self.new names }

@@ -1,11 +1,11 @@
 // What the boards tell of facts. The functions do nothing: their clauses are the laws.
-ghost use Rattle.std.specs.Prelude.{◌≡◌, ◌≤◌, ◌<◌, ℕ, List, [], Bool, None, length, true};
+ghost use Rattle.std.specs.Prelude.{◌≡◌, ◌≤◌, ◌<◌, ℕ, List, [], None, length, true};
 ghost use Rattle.std.specs.List.{AllByRecursion};
 ghost use Rattle.cpe_name.specs.Eleven.{Values};
 ghost use Rattle.product_orders.specs.declared.products.Side.TheVariants as side;
 ghost use Rattle.name_index.specs.declared.table.NameId.{NameId};
 ghost use Rattle.name_index.specs.Table.{AreNames, Names, find_kept, Holds, Releases};
-ghost use Rattle.pair_board.specs.Board.{Board, IsOn, probe_times, target_times};
+ghost use Rattle.level_board.specs.Board.{Board, IsOn, probe_times, target_ids, target_times};
 ghost use Rattle.cpe_rows.specs.After.{after};
 ghost use Rattle.cpe_rows.specs.Accepted.{IsAccepted};
 ghost use Rattle.cpe_rows.specs.Lawful.{IsLawful};
@@ -13,19 +13,20 @@ ghost use Rattle.cpe_rows.specs.Rows.{Rows};
 ghost use Rattle.cpe_rows.specs.declared.entry.Entry.{Entry};
 ghost use Rattle.cpe_rows.specs.declared.test.CheckKey.{CheckKey};
 ghost use Rattle.cpe_rows.specs.declared.truth.Truth.{Truth};
-ghost use Rattle.cpe_rows.specs.Verdict.{fact_truth, truth};
+ghost use Rattle.cpe_rows.specs.Verdict.{fact_truth};
 ghost use Rattle.cpe_rows.specs.declared.statement.Mode.{Mode};
 ghost use Rattle.numbered_names.specs.Shown.{names_at};
-ghost use Rattle.asked_names.specs.Asked.{asked, is_one_covering, is_referred, leads, there};
-ghost use Rattle.kept_facts.specs.Lists.{looks};
+ghost use Rattle.asked_names.specs.Asked.{asked, is_referred, leads, there};
+ghost use Rattle.kept_facts.specs.Lists.{looks, truth_of_names};
 ghost use Rattle.kept_facts.specs.Kept.{AreKnown, AreLive, AreNowhere, AreSettled, AreSound, board_of, Boards, FitBoards, IsOneOf, KeepKnown, looks_by, SameBoards, ShowRows, ShowsRows};
 
 use cpe_rows::Edit;
 
-/// A fact is true exactly where one of the names to which it leads holds on the board of its mode.
+/// A fact has the truth that the names give to which it leads: TRUE where one of them covers one that is there for its mode; else UNKNOWN
+/// where one may cover one; else FALSE.
 pub fn facts_are_kept()
-    ensures { (rows : Rows) (mode : Mode) (names : Names) (fact : Values) (numbers : List NameId) (answer : Bool) → names_at names numbers ≡ leads rows.entries mode fact
-        → answer ≡ is_one_covering (names_at names numbers) (there rows mode) → fact_truth rows mode fact ≡ truth answer }
+    ensures { (rows : Rows) (mode : Mode) (names : Names) (fact : Values) (numbers : List NameId) → names_at names numbers ≡ leads rows.entries mode fact
+        → fact_truth rows mode fact ≡ truth_of_names (names_at names numbers) (there rows mode) }
 {}
 
 /// A fact keeps its truth where it leads to the same names, all of them asked before and after, and none of them is flipped.
@@ -74,9 +75,9 @@ pub fn looks_are_by_names()
     ensures asked { (names : Names) (board : Board) (rows : Rows) (mode : Mode) (numbers : List NameId) → AreNames names → IsOn board → ShowsRows names board rows mode
         → looks names side.Target board.probe_ids numbers ≡ looks_by side.Target (asked rows mode) (names_at names numbers) }
     ensures there { (names : Names) (board : Board) (rows : Rows) (mode : Mode) (numbers : List NameId) → AreNames names → IsOn board → ShowsRows names board rows mode
-        → looks names side.Source board.target_ids numbers ≡ looks_by side.Source (there rows mode) (names_at names numbers) }
+        → looks names side.Source (target_ids board) numbers ≡ looks_by side.Source (there rows mode) (names_at names numbers) }
     ensures few { (names : Names) (board : Board) (rows : Rows) (mode : Mode) → AreNames names → IsOn board → ShowsRows names board rows mode → length board.probe_ids ≤ length (asked rows mode) }
-    ensures few_there { (names : Names) (board : Board) (rows : Rows) (mode : Mode) → AreNames names → IsOn board → ShowsRows names board rows mode → length board.target_ids ≤ length (there rows mode) }
+    ensures few_there { (names : Names) (board : Board) (rows : Rows) (mode : Mode) → AreNames names → IsOn board → ShowsRows names board rows mode → length (target_ids board) ≤ length (there rows mode) }
 {}
 
 /// The boards of lawful rows keep few numbers, and few of each: far fewer than 32 bits count.
@@ -84,5 +85,5 @@ pub fn few_stand()
     ensures probes { (names : Names) (board : Board) (rows : Rows) (mode : Mode) (p : ℕ) → ShowsRows names board rows mode → IsLawful rows → probe_times board p ≤ 256000000 }
     ensures targets { (names : Names) (board : Board) (rows : Rows) (mode : Mode) (t : ℕ) → ShowsRows names board rows mode → IsLawful rows → target_times board t ≤ 256000000 }
     ensures probe_ids { (names : Names) (board : Board) (rows : Rows) (mode : Mode) → AreNames names → IsOn board → ShowsRows names board rows mode → IsLawful rows → length board.probe_ids ≤ 256000000 }
-    ensures target_ids { (names : Names) (board : Board) (rows : Rows) (mode : Mode) → AreNames names → IsOn board → ShowsRows names board rows mode → IsLawful rows → length board.target_ids ≤ 256000000 }
+    ensures target_ids { (names : Names) (board : Board) (rows : Rows) (mode : Mode) → AreNames names → IsOn board → ShowsRows names board rows mode → IsLawful rows → length (target_ids board) ≤ 256000000 }
 {}

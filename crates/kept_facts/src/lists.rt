@@ -2,24 +2,26 @@
 ghost use Rattle.std.specs.Prelude.{◌≡◌, ◌+◌, ◌≤◌, ◌<◌, ℕ, List, length};
 ghost use Rattle.std.specs.List.{AllByRecursion, list_any};
 ghost use Rattle.cpe_name.specs.Eleven.{Values};
+ghost use Rattle.cpe_relation.specs.Maybe.{maybe};
 ghost use Rattle.cpe_relation.specs.NameRelation.{covers};
 ghost use Rattle.product_orders.specs.declared.products.Side.TheVariants as side;
 ghost use Rattle.name_index.specs.declared.table.NameId.{NameId};
 ghost use Rattle.name_index.specs.Table.{Names};
-ghost use Rattle.pair_board.specs.Board.{FitsBoard, probe_times, target_times};
+ghost use Rattle.level_board.specs.Board.{FitsBoard, probe_times, target_ids, target_times};
+ghost use Rattle.cpe_rows.specs.Verdict.{truth};
 ghost use Rattle.numbered_names.specs.Shown.{name_at, names_at, Shows, times_in};
-ghost use Rattle.asked_names.specs.Asked.{is_one_covering};
 ghost use Rattle.kept_facts.specs.Kept.{AreLive};
-ghost use Rattle.kept_facts.specs.Lists.{Arrives, Asks, IsWide, Departs, Unasks, looks};
+ghost use Rattle.kept_facts.specs.Lists.{Arrives, Asks, IsWide, Departs, Unasks, looks, truth_of_names};
 
+use cpe_rows::{Truth, or_of};
 use cpe_steps::Steps;
+use level_board::{Level, LevelBoard};
 use name_index::{NameId, NameTable};
-use pair_board::PairBoard;
 use std::sync::ledger::Ledger;
 
-// Names come. It looks at each of them, and at those that are asked and near it, and takes no memory.
+// Names come. It looks at each of them, and at those that are asked and meet it, and takes no memory.
 pub(crate) fn arrive<L: Ledger>(
-    board: &mut PairBoard,
+    board: &mut LevelBoard,
     table: &NameTable,
     numbers: &[NameId],
     steps: &mut Steps<L>,
@@ -40,7 +42,7 @@ pub(crate) fn arrive<L: Ledger>(
 
 // Names go that are there. It looks as they do that come, and takes no memory.
 pub(crate) fn leave<L: Ledger>(
-    board: &mut PairBoard,
+    board: &mut LevelBoard,
     table: &NameTable,
     numbers: &[NameId],
     steps: &mut Steps<L>,
@@ -57,9 +59,9 @@ pub(crate) fn leave<L: Ledger>(
     }
 }
 
-// Names are asked. It looks at each of them, and at those that are there to which it is near, and takes no memory.
+// Names are asked. It looks at each of them, and at those that are there and meet it, and takes no memory.
 pub(crate) fn ask<L: Ledger>(
-    board: &mut PairBoard,
+    board: &mut LevelBoard,
     table: &NameTable,
     numbers: &[NameId],
     steps: &mut Steps<L>,
@@ -70,7 +72,7 @@ pub(crate) fn ask<L: Ledger>(
     requires room { length numbers.now ≤ board.old.probe_room }
     requires few { (p : ℕ) → probe_times board.old p + length numbers.now ≤ 4294967295 }
     ensures asks { Asks board.old board.new table.now numbers.now }
-    ensures steps { steps.new ≤ steps.old + looks table.now side.Source board.old.target_ids numbers.now }
+    ensures steps { steps.new ≤ steps.old + looks table.now side.Source (target_ids board.old) numbers.now }
     ensures rise { steps.old ≤ steps.new }
 {
     for id in numbers {
@@ -80,7 +82,7 @@ pub(crate) fn ask<L: Ledger>(
 
 // Names that are asked are so no longer. It takes no step and no memory.
 pub(crate) fn unask<L: Ledger>(
-    board: &mut PairBoard,
+    board: &mut LevelBoard,
     table: &NameTable,
     numbers: &[NameId],
     steps: &mut Steps<L>,
@@ -96,22 +98,30 @@ pub(crate) fn unask<L: Ledger>(
     }
 }
 
-// Whether a probe covers a target, by the names that these are.
-fn holds(board: &PairBoard, id: NameId) -> bool
-    ensures { 1 ≤ probe_times board.now id.0 → (names : Names) (there : List Values) → FitsBoard board.now names → Shows names (target_times board.now) there → result ≡ list_any (covers (name_at names id)) there }
+// What one name tells of a fact that leads to it, by the names that these are.
+fn truth_at(board: &LevelBoard, id: NameId) -> Truth
+    ensures { 1 ≤ probe_times board.now id.0 → (names : Names) (there : List Values) → FitsBoard board.now names → Shows names (target_times board.now) there
+        → result ≡ truth (list_any (covers (name_at names id)) there) (list_any (maybe (name_at names id)) there) }
 {
     numbered_names::law::lists_are_shown();
-    board.holds(id)
+    match board.level(id) {
+        Level::Covered => Truth::True,
+        Level::Maybe => Truth::Unknown,
+        Level::Free => Truth::False,
+    }
 }
 
-// Whether one of these names covers one that is there, where they are asked. It looks at nothing.
-pub(crate) fn holds_one(board: &PairBoard, numbers: &[NameId]) -> bool
-    ensures { AllByRecursion (λ (x : NameId). 1 ≤ probe_times board.now x.0) numbers.now → (names : Names) (there : List Values) → FitsBoard board.now names → Shows names (target_times board.now) there → result ≡ is_one_covering (names_at names numbers.now) there }
+// The truth of a fact that leads to these names, where they are asked. It looks at nothing.
+pub(crate) fn truth_by(board: &LevelBoard, numbers: &[NameId]) -> Truth
+    ensures { AllByRecursion (λ (x : NameId). 1 ≤ probe_times board.now x.0) numbers.now → (names : Names) (there : List Values) → FitsBoard board.now names → Shows names (target_times board.now) there
+        → result ≡ truth_of_names (names_at names numbers.now) there }
 {
+    let mut truth = Truth::False;
     for id in numbers {
-        if holds(board, *id) {
-            return true;
+        match truth_at(board, *id) {
+            Truth::True => return Truth::True,
+            one => truth = or_of(truth, one),
         }
     }
-    false
+    truth
 }

@@ -6,7 +6,7 @@ use Rattle.product_orders.specs.declared.products.Side.TheVariants as side
 use Rattle.product_orders.specs.Elements.{SameElements}
 use Rattle.name_index.specs.declared.table.NameId.{NameId}
 use Rattle.name_index.specs.Table.{AreNames, Names}
-use Rattle.pair_board.specs.Board.{IsOn, probe_times, target_times}
+use Rattle.level_board.specs.Board.{IsOn, probe_times, target_ids, target_times}
 use Rattle.cpe_rows.specs.After.{after}
 use Rattle.cpe_rows.specs.Rows.{Rows, has_id}
 use Rattle.cpe_rows.specs.declared.edit.Edit.TheVariants as edit
@@ -32,9 +32,9 @@ pub in_mode : (names : Names) (rows : Rows) (mode : Mode) (s : Statement) (numbe
 in_mode names rows mode s numbers own are = subst (λ (m : Mode). SameElements (names_at names numbers) (flat_map (leads rows.entries m) (fresh_facts m rows.statements s))) own are
 
 pub looks_there : (names : Names) (boards : Boards) (rows : Rows) (mode : Mode) (numbers : List NameId) → AreNames names → IsOn (board_of boards mode) → ShowRows names boards rows
-    → looks names side.Source (board_of boards mode).target_ids numbers ≡ looks_by side.Source (there rows mode) (names_at names numbers)
+    → looks names side.Source (target_ids (board_of boards mode)) numbers ≡ looks_by side.Source (there rows mode) (names_at names numbers)
 looks_there names boards rows mode numbers are on s =
-    looks_are names (target_times (board_of boards mode)) (there rows mode) (board_of boards mode).target_ids side.Source numbers are on.targets (shows_of names boards rows mode s).there
+    looks_are names (target_times (board_of boards mode)) (there rows mode) (target_ids (board_of boards mode)) side.Source numbers are on.targets (shows_of names boards rows mode s).there
 
 -- what is asked for a statement that came is asked
 pub asked_came : (names : Names) (boards : Boards) (rows : Rows) (mode : Mode) (s : Statement) (numbers : List NameId) → AreNames names → AreLive names numbers → s.mode ≡ mode → AreAskedFor names rows s numbers

@@ -8,7 +8,7 @@ use Rattle.name_index.specs.Table.{AreNames, Names, kept_at}
 use Rattle.cpe_rows.specs.Rows.{Rows}
 use Rattle.cpe_rows.specs.declared.statement.Mode.{Mode}
 use Rattle.cpe_rows.specs.declared.statement.Mode.TheVariants.{Plain, Follow}
-use Rattle.pair_board.specs.Rows.{number_at}
+use Rattle.level_board.specs.Rows.{number_at}
 use Rattle.numbered_names.specs.Shown.{names_at}
 use Rattle.asked_names.specs.Asked.{is_referred, leads}
 use Rattle.kept_facts.specs.Kept.{AreLive, AreSettled, AreSound, board_of, Boards, FitBoards, IsOneOf, KeepKnown, ShowRows}

@@ -8,7 +8,7 @@ use Rattle.cpe_rows.specs.Rows.{Rows}
 use Rattle.cpe_rows.specs.declared.entry.Entry.{Entry}
 use Rattle.cpe_rows.specs.declared.statement.Mode.TheVariants.{Follow}
 use Rattle.cpe_rows.specs.declared.statement.Statement.{Statement}
-use Rattle.pair_board.specs.Board.{probe_times}
+use Rattle.level_board.specs.Board.{probe_times}
 use Rattle.asked_names.specs.Asked.{is_referred}
 use Rattle.kept_facts.specs.Kept.{AreSound, Boards, FitBoards, KeepKnown, ShowRows}
 use Rattle.kept_facts.proofs.AskedOn.{facts_on}

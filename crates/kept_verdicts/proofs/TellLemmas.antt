@@ -9,8 +9,8 @@ use Rattle.cpe_rows.specs.Verdict.{fact_truth}
 use Rattle.cpe_rows.specs.declared.statement.Mode.{Mode}
 use Rattle.cpe_rows.specs.declared.statement.Mode.TheVariants.{Plain, Follow}
 use Rattle.cpe_rows.specs.declared.truth.Truth.{Truth}
-use Rattle.pair_board.specs.Board.{AreFlips, Board, IsFlipped, IsOn, probe_times, times_in as times_of}
-use Rattle.pair_board.specs.Rows.{number_at}
+use Rattle.level_board.specs.Board.{AreFlips, Board, IsFlipped, IsOn, probe_times, times_in as times_of}
+use Rattle.level_board.specs.Rows.{number_at}
 use Rattle.cpe_applicability.specs.Board.{ChangesTruth, Judged, State, is_used, same_mode}
 use Rattle.kept_verdicts.specs.Kept.{AreTruths}
 use Rattle.kept_verdicts.specs.Telling.{AreRightBut, IsRight, Stays}

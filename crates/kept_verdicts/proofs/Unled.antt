@@ -6,7 +6,7 @@ use Rattle.std.proofs.lemmas.Bool.{and_parts, lt-ltb, not-true, or_cases, or_lef
 use Rattle.std.proofs.lemmas.Option.{none-some}
 use Rattle.cpe_name.specs.Eleven.{Values}
 use Rattle.name_index.specs.Table.{IsLive, Names, kept_at}
-use Rattle.pair_board.specs.Board.{probe_times, target_times}
+use Rattle.level_board.specs.Board.{probe_times, target_times}
 use Rattle.cpe_rows.specs.Chains.{chain, ends, is_active, leads_to}
 use Rattle.cpe_rows.specs.Lawful.{are_different}
 use Rattle.cpe_rows.specs.Names.{is_same}

@@ -9,7 +9,7 @@ use Rattle.cpe_rows.specs.Verdict.{fact_truth}
 use Rattle.cpe_rows.specs.declared.entry.Entry.{Entry}
 use Rattle.cpe_rows.specs.declared.statement.Mode.{Mode}
 use Rattle.cpe_rows.specs.declared.statement.Mode.TheVariants.{Plain, Follow}
-use Rattle.pair_board.specs.Board.{probe_times}
+use Rattle.level_board.specs.Board.{probe_times}
 use Rattle.numbered_names.specs.Shown.{names_at}
 use Rattle.cpe_applicability.specs.Board.{Judged, State, is_used, same_mode, truth_at}
 use Rattle.followed_facts.specs.Followed.{among, ends_at, facts_at, Followed, has_end}

@@ -217,7 +217,7 @@ impl KeptVerdicts {
         reserved
     }
 
-    /// An item comes, of which these are the ends: it looks at it and at them, and at the facts that are near. It takes no memory.
+    /// An item comes, of which these are the ends: it looks at it and at them, and at the facts that meet them. It takes no memory.
     pub fn item_comes<L: Ledger>(
         &mut self,
         table: &NameTable,

@@ -28,7 +28,6 @@ ghost use Rattle.kept_verdicts.specs.Looks.{statement_looks};
 ghost use Rattle.kept_verdicts.specs.Putting.{AllFollowed, AreAskedFor, AreLast, AreUnused, HasLeads, IsAsked, OthersKept, StandsElse};
 
 use crate::kept::KeptVerdicts;
-use crate::tell::truth_of;
 use cpe_applicability::{Board, FactTruth};
 use cpe_registry::Registry;
 use cpe_rows::{Mode, Statement, Text, Truth};
@@ -425,7 +424,7 @@ fn truth_asked(facts: &KeptFacts, followed: &FollowedFacts, mode: Mode, fact: Na
     ensures { (names : Names) (rows : Rows) → FitBoards facts.now names → ShowRows names facts.now rows → IsAsked names facts.now followed.now rows.entries mode fact → result ≡ truth_by rows mode (name_at names fact) }
 {
     match mode {
-        Mode::Plain => truth_of(facts.is_true(mode, from_ref(&fact))),
+        Mode::Plain => facts.truth(mode, from_ref(&fact)),
         Mode::Follow => truth_followed(facts, followed, fact),
     }
 }
@@ -435,7 +434,7 @@ fn truth_followed(facts: &KeptFacts, followed: &FollowedFacts, fact: NameId) -> 
     ensures { (names : Names) (rows : Rows) → FitBoards facts.now names → ShowRows names facts.now rows → IsAsked names facts.now followed.now rows.entries Follow fact → result ≡ truth_by rows Follow (name_at names fact) }
 {
     match followed.ends_of(fact) {
-        Some(ends) => truth_of(facts.is_true(Mode::Follow, ends)),
+        Some(ends) => facts.truth(Mode::Follow, ends),
         None => Truth::Unknown,
     }
 }

@@ -4,27 +4,19 @@ ghost use Rattle.std.specs.List.{AllByRecursion};
 ghost use Rattle.name_index.specs.declared.table.NameId.{NameId};
 ghost use Rattle.name_index.specs.Table.{Names};
 ghost use Rattle.cpe_rows.specs.Prelude.{Rows};
-ghost use Rattle.cpe_rows.specs.Verdict.{truth};
 ghost use Rattle.cpe_rows.specs.declared.statement.Mode.TheVariants.{Plain, Follow};
 ghost use Rattle.followed_facts.specs.Followed.{among, has_end};
-ghost use Rattle.pair_board.specs.Board.{probe_times};
+ghost use Rattle.level_board.specs.Board.{probe_times};
 ghost use Rattle.kept_facts.specs.Kept.{FitBoards, ShowRows};
 ghost use Rattle.kept_verdicts.specs.Kept.{AreTruths};
 ghost use Rattle.kept_verdicts.specs.Telling.{AreAnswered, AreRightBut, IsAnswered, leads_to_one, SameRows, Stays};
 
 use cpe_applicability::Board;
-use cpe_rows::{Mode, Truth};
+use cpe_rows::Mode;
 use followed_facts::FollowedFacts;
 use kept_facts::KeptFacts;
 use name_index::NameId;
 use std::slice::from_ref;
-
-/// The truth of a fact, by whether something is covered.
-pub(crate) fn truth_of(covers: bool) -> Truth
-    ensures { result ≡ truth covers }
-{
-    if covers { Truth::True } else { Truth::False }
-}
 
 // Asks a fact anew that is followed.
 pub(crate) fn tell_followed(
@@ -38,8 +30,7 @@ pub(crate) fn tell_followed(
         → AreRightBut names board.old rows Follow (λ id. nat_eq fact.0 id || passes id) → AreRightBut names board.new rows Follow passes }
 {
     if let Some(ends) = followed.ends_of(fact) {
-        let covers = facts.is_true(Mode::Follow, ends);
-        board.fact_changed(fact, Mode::Follow, truth_of(covers));
+        board.fact_changed(fact, Mode::Follow, facts.truth(Mode::Follow, ends));
     }
 }
 
@@ -72,8 +63,8 @@ fn tell_plain(board: &mut Board, facts: &KeptFacts, numbers: &[NameId])
         → AreRightBut names board.old rows Plain (λ id. has_end numbers.now id || passes id) → AreRightBut names board.new rows Plain passes }
 {
     for number in numbers {
-        let covers = facts.is_true(Mode::Plain, from_ref(number));
-        board.fact_changed(*number, Mode::Plain, truth_of(covers));
+        let truth = facts.truth(Mode::Plain, from_ref(number));
+        board.fact_changed(*number, Mode::Plain, truth);
     }
 }
 

@@ -5,7 +5,7 @@ use Rattle.cpe_rows.specs.declared.edit.Edit.TheVariants as edit
 use Rattle.cpe_rows.specs.declared.statement.Mode.{Mode}
 use Rattle.cpe_rows.specs.declared.statement.Mode.TheVariants.{Follow, Plain}
 use Rattle.name_index.specs.Table.{Names}
-use Rattle.pair_board.specs.Board.{probe_times}
+use Rattle.level_board.specs.Board.{probe_times}
 use Rattle.numbered_names.specs.Shown.{names_at}
 use Rattle.numbered_names.proofs.Shown.{shows_order, shows_part}
 use Rattle.asked_names.specs.Asked.{asked}

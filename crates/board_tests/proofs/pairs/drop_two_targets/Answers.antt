@@ -1,9 +1,10 @@
-use Rattle.std.proofs.Common.{◌≡◌, ◌<◌, ◌≤◌, ℕ, Bool, true, false, List, Option, Some, None, refl, sym, ap, ◌∙◌, inl, inr, arith}
-use Rattle.std.specs.Prelude.{nat_lt}
+use Rattle.std.proofs.Common.{◌≡◌, ◌<◌, ◌≤◌, ℕ, List, Option, Some, None, refl, sym, ap, subst, ◌∙◌, inl, inr, arith}
 use Rattle.std.proofs.lemmas.Option.{same_Some}
-use Rattle.std.proofs.lemmas.Bool.{cases_eq, false_from_ne_true, true≢false}
-use Rattle.pair_board.specs.Rows.{Seen, differs, holds_now}
-use Rattle.pair_board.specs.Board.{Board, covered_count, probe_at, probe_times, target_times, times_in, was_in, find_times, or_none}
+use Rattle.std.proofs.lemmas.Bool.{cases_eq}
+use Rattle.level_board.specs.Rows.{Seen, differs, level_now, level_of}
+use Rattle.level_board.specs.declared.level.Level.TheVariants.{Covered, Free}
+use Rattle.level_board.specs.Board.{Board, HasLevel, probe_at, probe_times, target_times, times_in, was_in, find_times, or_none}
+use Rattle.board_tests.proofs.Levels.{is_covered, is_free}
 use Rattle.board_tests.proofs.pairs.drop_two_targets.Goals as goal
 
 same_times : (a b : Board) → b.targets ≡ a.targets → (t : ℕ) → target_times b t ≡ target_times a t
@@ -15,13 +16,13 @@ returns-clause-one_left g c =
     let more : 0 < target_times c.drop_target.new.self t = omega (arith, c.drop_target.ensures.changes.others t c.requires.apart, same_times c.add_target-2.new.self c.add_probe.new.self c.add_probe.ensures.changes.targets t, c.add_target-2.ensures.changes.times_now) in
     let p = c.args.probe.0 in
     let asked : 1 ≤ probe_times c.drop_target.new.self p = omega (arith, c.drop_target.ensures.changes.probes p, c.add_probe.ensures.changes.times_now, c.add_target-2.ensures.changes.probes p, c.add_target.ensures.changes.probes p, c.requires.no_probes p) in
-    (c.holds-one_left.ensures.probe asked c.args.table.now c.drop_target.ensures.changes.fits).1 (t, more, c.requires.covers_second)
+    is_covered c.drop_target.new.self c.args.table.now p c.level-one_left.result (c.level-one_left.ensures.probe asked c.args.table.now c.drop_target.ensures.changes.fits) (t, more, c.requires.covers_second)
 
 pub returns-clause-none_left : goal.returns-clause-none_left
 returns-clause-none_left g c =
     let p = c.args.probe.0 in
     let asked : 1 ≤ probe_times c.drop_target-2.new.self p = omega (arith, c.drop_target-2.ensures.changes.probes p, c.drop_target.ensures.changes.probes p, c.add_probe.ensures.changes.times_now, c.add_target-2.ensures.changes.probes p, c.add_target.ensures.changes.probes p, c.requires.no_probes p) in
-    false_from_ne_true c.holds.result (λ e. let h = (c.holds.ensures.probe asked c.args.table.now c.drop_target-2.ensures.changes.fits).0 e in none h.0 h.1)
+    is_free c.drop_target-2.new.self c.args.table.now p c.level.result (c.level.ensures.probe asked c.args.table.now c.drop_target-2.ensures.changes.fits) (λ h. none h.0 h.1) (λ h. none h.0 h.1)
   where
     none : (t : ℕ) → 0 < target_times c.drop_target-2.new.self t → ⊥
     none t more = elim (cases_eq t c.args.second.0) [
@@ -69,11 +70,6 @@ kept_there b p some = by (probe_at b p) refl
     by None e = absurd (omega (arith, some, ap times_in e))
     by (Some s) e = (s, e)
 
-other_answer : (a b : Bool) → a ≡ true → b ≡ false → differs a b ≡ true
-other_answer true false e f = refl
-other_answer true true e f = absurd cc
-other_answer false b e f = absurd cc
-
 pub returns-clause-flipped : goal.returns-clause-flipped
 returns-clause-flipped g c =
     let names = c.args.table.now in
@@ -85,13 +81,12 @@ returns-clause-flipped g c =
     let one : probe_times mid p ≡ 1 = omega (arith, c.add_probe.ensures.changes.times_now, fresh) in
     let t = kept_there mid p (omega (arith, one)) in
     let s = kept_there last p (omega (arith, one, c.drop_target.ensures.changes.probes p, c.drop_target-2.ensures.changes.probes p)) in
-    let counted : t.0.hits ≡ covered_count names p mid.target_ids = c.add_probe.ensures.changes.fits.counts p t.0 t.1 in
-    let known : t.0.was ≡ nat_lt 0 t.0.hits = same_Some t.0.was (nat_lt 0 t.0.hits) (sym (ap was_in t.1) ∙ c.add_probe.ensures.changes.was_new fresh ∙ ap (λ (n : ℕ). Some (nat_lt 0 n)) (sym counted)) in
+    let counted = c.add_probe.ensures.changes.fits in
+    let known : t.0.was ≡ level_now t.0 = same_Some t.0.was (level_now t.0) (sym (ap was_in t.1) ∙ c.add_probe.ensures.changes.was_new fresh ∙ (λ i. Some (level_of (sym (counted.counts p t.0 t.1) i) (sym (counted.maybes p t.0 t.1) i)))) in
     let more : 0 < target_times mid c.args.second.0 = omega (arith, same_times before mid c.add_probe.ensures.changes.targets c.args.second.0, c.add_target-2.ensures.changes.times_now) in
-    let held : nat_lt 0 t.0.hits ≡ true = (c.lawful.ensures.answers names p t.0 c.add_probe.ensures.changes.fits t.1).1 (c.args.second.0, more, c.requires.covers_second) in
+    let held : level_now t.0 ≡ Covered = is_covered mid names p (level_now t.0) (c.lawful.ensures.answers names p t.0 c.add_probe.ensures.changes.fits t.1) (c.args.second.0, more, c.requires.covers_second) in
     let stayed : s.0.was ≡ t.0.was = same_Some s.0.was t.0.was (sym (ap was_in s.1) ∙ c.drop_target-2.ensures.changes.was p ∙ c.drop_target.ensures.changes.was p ∙ ap was_in t.1) in
     let asked : 1 ≤ probe_times last p = omega (arith, one, c.drop_target.ensures.changes.probes p, c.drop_target-2.ensures.changes.probes p) in
-    let none : holds_now s.0 ≡ false =
-    false_from_ne_true (holds_now s.0) (λ e.
-    true≢false (sym ((c.holds.ensures.probe asked names c.drop_target-2.ensures.changes.fits).1 ((c.lawful-2.ensures.answers names p s.0 c.drop_target-2.ensures.changes.fits s.1).0 e)) ∙ returns-clause-none_left g c)) in
-    c.lawful-2.ensures.flips.whole p (s.0, s.1, other_answer s.0.was (holds_now s.0) (stayed ∙ known ∙ held) none)
+    let nothing = subst (HasLevel last names p) (returns-clause-none_left g c) (c.level.ensures.probe asked names c.drop_target-2.ensures.changes.fits) in
+    let none : level_now s.0 ≡ Free = is_free last names p (level_now s.0) (c.lawful-2.ensures.answers names p s.0 c.drop_target-2.ensures.changes.fits s.1) nothing.0 nothing.1 in
+    c.lawful-2.ensures.flips.whole p (s.0, s.1, λ i. differs ((stayed ∙ known ∙ held) i) (none i))

@@ -2,7 +2,7 @@ use Rattle.std.proofs.Common.{◌≤◌, ◌||◌, ℕ, Bool, false, List, refl,
 use Rattle.std.specs.List.{AllByRecursion}
 use Rattle.name_index.specs.declared.table.NameId.{NameId}
 use Rattle.cpe_rows.specs.declared.statement.Mode.TheVariants.{Plain, Follow}
-use Rattle.pair_board.specs.Board.{probe_times}
+use Rattle.level_board.specs.Board.{probe_times}
 use Rattle.cpe_applicability.specs.Board.{Judged}
 use Rattle.followed_facts.specs.Followed.{has_end}
 use Rattle.kept_verdicts.specs.Telling.{AreAnswered, leads_to_one}

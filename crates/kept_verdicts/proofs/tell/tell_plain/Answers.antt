@@ -5,7 +5,7 @@ use Rattle.name_index.specs.declared.table.NameId.{NameId}
 use Rattle.name_index.specs.Index.{name_id}
 use Rattle.name_index.specs.Table.{kept_at}
 use Rattle.cpe_rows.specs.declared.statement.Mode.TheVariants.{Plain}
-use Rattle.pair_board.specs.Board.{probe_times}
+use Rattle.level_board.specs.Board.{probe_times}
 use Rattle.numbered_names.specs.Shown.{names_at}
 use Rattle.followed_facts.specs.Followed.{has_end}
 use Rattle.kept_facts.proofs.Steps.{first_there}
@@ -21,13 +21,13 @@ loop-number-preserved c =
     let here = first_there numbers i (name_id 0) c.loop-number-test.true in
     record {
       stays = stay_both c.args.board.now c.loop-number.board c.fact_changed.new.self Plain c.loop-number.invariant.stays
-          (stay_one c.loop-number.board c.fact_changed.new.self Plain x.0 c.truth_of.result c.fact_changed.ensures.rows c.fact_changed.ensures.checks c.fact_changed.ensures.truths);
+          (stay_one c.loop-number.board c.fact_changed.new.self Plain x.0 c.truth-truth.result c.fact_changed.ensures.rows c.fact_changed.ensures.checks c.fact_changed.ensures.truths);
       right = λ names rows passes fits shows asked but.
           let so_far = c.loop-number.invariant.right names rows passes fits shows asked but in
           let on = subst (λ (ns : List NameId). AllByRecursion (λ (y : NameId). 1 ≤ probe_times c.args.facts.now.plain y.0) ns) here so_far.0 in (
             on.1,
-            told_one names rows Plain c.loop-number.board c.fact_changed.new.self x.0 c.truth_of.result (λ (id : ℕ). has_end rest id || passes id) c.fact_changed.ensures.truths c.fact_changed.ensures.rows
-                (λ used. c.truth_of.ensures ∙ c.is_true-covers.ensures
+            told_one names rows Plain c.loop-number.board c.fact_changed.new.self x.0 c.truth-truth.result (λ (id : ℕ). has_end rest id || passes id) c.fact_changed.ensures.truths c.fact_changed.ensures.rows
+                (λ used. c.truth-truth.ensures
                 (subst (λ (ns : List NameId). AllByRecursion (λ (y : NameId). 1 ≤ probe_times c.args.facts.now.plain y.0) ns) (sym c.from_ref.ensures.value) (on.0, tt))
                 names rows (kept_at names x.0).name fits shows (ap (names_at names) c.from_ref.ensures.value))
                 (right_same names rows Plain c.loop-number.board (λ (id : ℕ). has_end (drop i numbers) id || passes id) (λ (id : ℕ). nat_eq x.0 id || (has_end rest id || passes id))

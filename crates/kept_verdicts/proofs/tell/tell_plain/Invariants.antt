@@ -4,7 +4,7 @@ use Rattle.name_index.specs.declared.table.NameId.{NameId}
 use Rattle.name_index.specs.Table.{Names}
 use Rattle.cpe_rows.specs.Rows.{Rows}
 use Rattle.cpe_rows.specs.declared.statement.Mode.TheVariants.{Plain}
-use Rattle.pair_board.specs.Board.{probe_times}
+use Rattle.level_board.specs.Board.{probe_times}
 use Rattle.followed_facts.specs.Followed.{has_end}
 use Rattle.kept_facts.specs.Kept.{FitBoards, ShowRows}
 use Rattle.kept_verdicts.specs.Telling.{AreRightBut, Stays}

@@ -4,7 +4,7 @@ use Rattle.cpe_rows.specs.declared.edit.Edit.TheVariants as edit
 use Rattle.cpe_rows.specs.declared.statement.Mode.TheVariants.{Plain, Follow}
 use Rattle.name_index.specs.declared.table.NameId.{NameId}
 use Rattle.numbered_names.specs.Shown.{name_at, names_at, times_in}
-use Rattle.pair_board.specs.Board.{target_times}
+use Rattle.level_board.specs.Board.{target_times}
 use Rattle.kept_facts.specs.Lists.{Departs}
 use Rattle.kept_facts.specs.Kept.{Boards, KeepKnown, KeepsRoom, ShowRows}
 use Rattle.kept_facts.proofs.Boards.{left_room, goes, item_less, probes_known}

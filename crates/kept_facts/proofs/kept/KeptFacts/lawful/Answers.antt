@@ -1,5 +1,5 @@
 use Rattle.std.proofs.Common.{subst}
-use Rattle.pair_board.specs.Board.{AreAnswers, AreFlips, IsOn}
+use Rattle.level_board.specs.Board.{AreAnswers, AreFlips, IsOn}
 use Rattle.kept_facts.specs.Kept.{AreSound, Boards}
 use Rattle.kept_facts.proofs.Boards.{each_mode}
 use Rattle.kept_facts.proofs.kept.KeptFacts.lawful.Goals as goal

@@ -1,7 +1,7 @@
 use Rattle.std.proofs.Common.{◌≤◌, ℕ, ◌++◌, arith, refl, sym, ap, subst, ◌∙◌}
 use Rattle.std.specs.List.{flat_map}
 use Rattle.product_orders.specs.Elements.{SameElements}
-use Rattle.pair_board.specs.Board.{probe_times}
+use Rattle.level_board.specs.Board.{probe_times}
 use Rattle.cpe_rows.specs.After.{after}
 use Rattle.cpe_rows.specs.declared.edit.Edit.TheVariants as edit
 use Rattle.cpe_rows.specs.declared.statement.Mode.{Mode}

@@ -5,7 +5,7 @@ use Rattle.cpe_rows.specs.After.{after}
 use Rattle.cpe_rows.specs.Rows.{Rows}
 use Rattle.cpe_rows.specs.declared.edit.Edit.TheVariants as edit
 use Rattle.cpe_rows.specs.declared.statement.Mode.TheVariants.{Plain, Follow}
-use Rattle.pair_board.specs.Board.{target_times}
+use Rattle.level_board.specs.Board.{target_times}
 use Rattle.numbered_names.specs.Shown.{name_at, Shows}
 use Rattle.asked_names.specs.Asked.{asked, there}
 use Rattle.kept_facts.specs.Kept.{looks_by}

@@ -8,7 +8,7 @@ use Rattle.cpe_rows.specs.After.{after}
 use Rattle.cpe_rows.specs.Chains.{ends, leads_to}
 use Rattle.cpe_rows.specs.Rows.{Rows}
 use Rattle.cpe_rows.specs.declared.statement.Mode.TheVariants.{Follow}
-use Rattle.pair_board.specs.Board.{probe_times, target_times}
+use Rattle.level_board.specs.Board.{probe_times, target_times}
 use Rattle.numbered_names.specs.Shown.{different, names_at, near_names, times_in}
 use Rattle.asked_names.specs.Asked.{asked, facts_in, there}
 use Rattle.kept_facts.specs.Kept.{AreLive, ends_of_led, looks_by}
