@@ -1,8 +1,10 @@
 -- The tests of a certificate's levels tell exactly the good ones.
-use Rattle.std.proofs.Common.{◌≡◌, ◌⊎◌, inl, inr, List, [], ◌∷◌, Bool, false, ◌&&◌, ◌||◌, Option, Some, None, map, is_some, refl, sym, subst, rules}
+use Rattle.std.proofs.Common.{◌≡◌, ◌⊎◌, inl, inr, List, [], ◌∷◌, Bool, true, false, not, ◌&&◌, ◌||◌, Option, Some, None, map, is_some, refl, sym, ◌∙◌, subst, rules}
 use Rattle.std.specs.List.{list_any, list_all}
 use Rattle.std.proofs.lemmas.Bool.{and_parts, and_from, or_left, or_right, or_cases, true≢false}
 use Rattle.cpe_name.specs.Eleven.{Values}
+use Rattle.cpe_relation.specs.NameRelation.{covers}
+use Rattle.cpe_relation.specs.Maybe.{maybe}
 use Rattle.cpe_rows.specs.Reach.{Among}
 use Rattle.cpe_rows.specs.Rows.{Rows}
 use Rattle.cpe_rows.specs.Lawful.{IsLawful}
@@ -17,7 +19,7 @@ use Rattle.cpe_rows.specs.declared.test.Operator.{Operator}
 use Rattle.cpe_rows.proofs.Paths.{element_passes, some_element}
 use Rattle.cpe_explain.specs.Certificates.{given_truths}
 use Rattle.cpe_explain.specs.Good.{deciding, AreGood, GoodLogic, GoodPair, GoodFact, GoodCheck}
-use Rattle.cpe_explain.specs.Tested.{all_pass, is_of_all, is_of_one, is_settled, logic_passes, is_fit, fact_passes, check_passes}
+use Rattle.cpe_explain.specs.Tested.{all_pass, is_of_all, is_of_one, is_settled, logic_passes, is_fit, pair_passes, fact_passes, check_passes}
 use Rattle.cpe_explain.specs.declared.proof.Why.{Why}
 use Rattle.cpe_explain.specs.declared.proof.Why.TheOpen.{Why-F}
 use Rattle.cpe_explain.proofs.Elements.{Tells}
@@ -67,10 +69,17 @@ logic_tells good passes t operator negate xs (Why-F.Pair truth fact one) = never
 logic_tells good passes t operator negate xs (Why-F.Plain truth) = never (λ x. x)
 
 module _ (rows : Rows) (lawful : IsLawful rows) (mode : Mode) (name : Values) where
-  pair_tells : (truth : Truth) (fact one : List Values) → Tells (same_truth truth True && is_fit rows mode name fact one)
-      (GoodPair rows mode name truth fact one)
-  pair_tells True fact one = fit_tells rows lawful mode name fact one
-  pair_tells Unknown fact one = never (λ x. x)
+  not_tells : (t u : Truth) → Tells (not (same_truth t u)) (t ≡ u → ⊥)
+  not_tells t u = go (same_truth t u) refl where
+    go : (b : Bool) → same_truth t u ≡ b → Tells (not b) (t ≡ u → ⊥)
+    go true e = (λ h. absurd (true≢false (sym h)), λ f. absurd (f ((truth_tells t u).0 e)))
+    go false e = (λ h is. true≢false (sym ((truth_tells t u).1 is) ∙ e), λ f. refl)
+
+  pair_tells : (truth : Truth) (fact one : List Values) → Tells (pair_passes rows mode name truth fact one) (GoodPair rows mode name truth fact one)
+  pair_tells True fact one = fit_tells rows lawful covers mode name fact one
+  pair_tells Unknown fact one =
+      both (is_fit maybe rows mode name fact one) (not (same_truth (fact_truth rows mode name) True)) (fit_tells rows lawful maybe mode name fact one)
+      (not_tells (fact_truth rows mode name) True)
   pair_tells False fact one = never (λ x. x)
   pair_tells Error fact one = never (λ x. x)
 

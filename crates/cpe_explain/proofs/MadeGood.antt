@@ -2,6 +2,7 @@
 use Rattle.std.proofs.Common.{◌≡◌, List, [], ◌∷◌, ◌++◌, Bool, Option, Some, None, map, filter, flat_map, is_some, slice_get, refl, ap, sym, ◌∙◌, subst, inl, inr}
 use Rattle.cpe_name.specs.Eleven.{Values}
 use Rattle.cpe_relation.specs.NameRelation.{covers}
+use Rattle.cpe_relation.specs.Maybe.{maybe}
 use Rattle.cpe_rows.specs.Reach.{Among}
 use Rattle.cpe_rows.specs.Rows.{Rows}
 use Rattle.cpe_rows.specs.Chains.{ends}
@@ -10,7 +11,7 @@ use Rattle.cpe_rows.specs.Evaluation.{joined, negated, test_truth, test_truth_st
 use Rattle.cpe_rows.specs.Verdict.{truth, fact_truth, check_truth}
 use Rattle.cpe_rows.specs.declared.entry.Entry.{Entry}
 use Rattle.cpe_rows.specs.declared.truth.Truth.{Truth}
-use Rattle.cpe_rows.specs.declared.truth.Truth.TheVariants.{True, False}
+use Rattle.cpe_rows.specs.declared.truth.Truth.TheVariants.{True, False, Unknown}
 use Rattle.cpe_rows.specs.declared.statement.Mode.{Mode}
 use Rattle.cpe_rows.specs.declared.test.CheckKey.{CheckKey}
 use Rattle.cpe_rows.specs.declared.test.Operator.{Operator}
@@ -21,7 +22,7 @@ use Rattle.cpe_rows.specs.declared.test.Test.TheFolds.{fold-roll-Test, ind-Test,
 use Rattle.cpe_rows.specs.declared.test.Test.TheVariants as tests
 use Rattle.cpe_rows.proofs.Paths.{was_kept}
 use Rattle.cpe_explain.specs.Certificates.{truth_in, given_truth}
-use Rattle.cpe_explain.specs.Choices.{Fit, fits_at, fits, trace_to, pair_of, fact_why, why_step, why_of, chosen}
+use Rattle.cpe_explain.specs.Choices.{Fit, fits_at, fits, first_fit, trace_to, why_by, fact_why, why_step, why_of, chosen}
 use Rattle.cpe_explain.specs.Good.{GoodLogic, Fits, GoodFact, GoodCheck, good_step, GoodFor}
 use Rattle.cpe_explain.specs.Checks.{CertificatesGiveVerdicts, CertificatesAreGood}
 use Rattle.cpe_explain.specs.Leading.{followed}
@@ -81,17 +82,22 @@ module _ (rows : Rows) (mode : Mode) where
   abbrev es : List Entry
   es = followed rows mode
 
-  abbrev first_fit : Values → Option Fit
-  first_fit name = slice_get (fits es rows.items name) 0
+  abbrev first : (Values → Values → Bool) → Values → Option Fit
+  first relates name = first_fit relates es rows.items name
 
   -- ---- the truth
 
-  pair-given : (name : Values) (o : Option Fit) → given_truth (pair_of es name o) ≡ truth (is_some o)
-  pair-given name None = given-plain False
-  pair-given name (Some fit) = given-pair True (trace_to es fit.fact_end name) (trace_to es fit.item_end fit.item)
+  why-given : (name : Values) (o p : Option Fit) → given_truth (why_by es name o p) ≡ truth (is_some o) (is_some p)
+  why-given name (Some fit) p = given-pair True (trace_to es fit.fact_end name) (trace_to es fit.item_end fit.item)
+  why-given name None (Some fit) = given-pair Unknown (trace_to es fit.fact_end name) (trace_to es fit.item_end fit.item)
+  why-given name None None = given-plain False
+
+  firsts_tell : (name : Values) → truth (is_some (first covers name)) (is_some (first maybe name)) ≡ fact_truth rows mode name
+  firsts_tell name =
+      (λ j. truth (some_fit_is covers es name rows.items j) (some_fit_is maybe es name rows.items j)) ∙ sym (fact_is rows mode name)
 
   fact-given : (name : Values) → given_truth (fact_why rows mode name) ≡ fact_truth rows mode name
-  fact-given name = pair-given name (first_fit name) ∙ (ap truth (some_fit_is es name rows.items) ∙ sym (fact_is rows mode name))
+  fact-given name = why-given name (first covers name) (first maybe name) ∙ firsts_tell name
 
   abbrev found : Test → Truth
   found = test_truth (fact_truth rows mode) (check_truth rows)
@@ -132,15 +138,15 @@ module _ (rows : Rows) (mode : Mode) where
   -- ---- that it is good
 
   module _ (lawful : IsLawful rows) where
-    fit_shown : (name : Values) (fit : Fit) → Among (fits es rows.items name) fit
-        → Fits rows mode name (trace_to es fit.fact_end name) (trace_to es fit.item_end fit.item)
-    fit_shown name fit m =
-        let one = among_all (λ i. flat_map (fits_at (ends es name) i) (ends es i)) rows.items fit m in
-        let two = among_all (fits_at (ends es name) one.0) (ends es one.0) fit one.2 in
-        let three = among_map (λ (f : Values). record { item = one.0; item_end = two.0; fact_end = f }) (filter (λ f. covers f two.0) (ends es name))
+    fit_shown : (relates : Values → Values → Bool) (name : Values) (fit : Fit) → Among (fits relates es rows.items name) fit
+        → Fits relates rows mode name (trace_to es fit.fact_end name) (trace_to es fit.item_end fit.item)
+    fit_shown relates name fit m =
+        let one = among_all (λ i. flat_map (fits_at relates (ends es name) i) (ends es i)) rows.items fit m in
+        let two = among_all (fits_at relates (ends es name) one.0) (ends es one.0) fit one.2 in
+        let three = among_map (λ (f : Values). record { item = one.0; item_end = two.0; fact_end = f }) (filter (λ f. relates f two.0) (ends es name))
         fit two.2 in
-        let kept = was_kept (λ f. covers f two.0) (ends es name) three.0 three.1 in
-        subst (λ (x : Fit). Fits rows mode name (trace_to es x.fact_end name) (trace_to es x.item_end x.item)) three.2
+        let kept = was_kept (λ f. relates f two.0) (ends es name) three.0 three.1 in
+        subst (λ (x : Fit). Fits relates rows mode name (trace_to es x.fact_end name) (trace_to es x.item_end x.item)) three.2
         (let of_fact = good_trace rows lawful three.0 name mode kept.0 in
         let of_item = good_trace rows lawful two.0 one.0 mode two.1 in
         record {
@@ -152,18 +158,24 @@ module _ (rows : Rows) (mode : Mode) where
           item_trace = of_item.0;
           fact_ends = of_fact.1;
           item_ends = of_item.1;
-          covered = kept.1;
+          related = kept.1;
         })
 
     fact-good : (name : Values) → GoodFact rows mode name (out-Why (fact_why rows mode name))
-    fact-good name = go (first_fit name) refl where
-      go : (o : Option Fit) → first_fit name ≡ o → GoodFact rows mode name (out-Why (pair_of es name o))
-      go None e =
-          subst (GoodFact rows mode name) (sym (whys.outs-Plain False))
-          (refl, fact_is rows mode name ∙ ap truth (sym (some_fit_is es name rows.items) ∙ ap is_some e))
-      go (Some fit) e =
+    fact-good name = go (first covers name) (first maybe name) refl refl where
+      told : (o p : Option Fit) → first covers name ≡ o → first maybe name ≡ p → fact_truth rows mode name ≡ truth (is_some o) (is_some p)
+      told o p e f = sym (firsts_tell name) ∙ (λ j. truth (is_some (e j)) (is_some (f j)))
+
+      go : (o p : Option Fit) → first covers name ≡ o → first maybe name ≡ p → GoodFact rows mode name (out-Why (why_by es name o p))
+      go (Some fit) p e f =
           subst (GoodFact rows mode name) (sym (whys.outs-Pair True (trace_to es fit.fact_end name) (trace_to es fit.item_end fit.item)))
-          (fit_shown name fit (stands (fits es rows.items name) 0 fit e))
+          (fit_shown covers name fit (stands (fits covers es rows.items name) 0 fit e))
+      go None (Some fit) e f =
+          subst (GoodFact rows mode name) (sym (whys.outs-Pair Unknown (trace_to es fit.fact_end name) (trace_to es fit.item_end fit.item))) (
+            fit_shown maybe name fit (stands (fits maybe es rows.items name) 0 fit f),
+            λ t. let clash : Unknown ≡ True = sym (told None (Some fit) e f) ∙ t in let w : ⊥ = cc in w,
+          )
+      go None None e f = subst (GoodFact rows mode name) (sym (whys.outs-Plain False)) (refl, told None None e f)
 
     abbrev made : Test → Why
     made = why_of rows mode

@@ -1,14 +1,15 @@
 -- The truth of a good certificate is the verdict.
-use Rattle.std.proofs.Common.{◌≡◌, inl, inr, List, [], ◌∷◌, Bool, true, Option, Some, None, map, if◌then◌else◌, refl, ap, sym, ◌∙◌, subst, is_some}
+use Rattle.std.proofs.Common.{◌≡◌, inl, inr, List, [], ◌∷◌, Bool, true, false, Option, Some, None, map, if◌then◌else◌, refl, ap, sym, ◌∙◌, subst, is_some}
 use Rattle.std.specs.List.{list_any, list_all}
 use Rattle.cpe_name.specs.Eleven.{Values}
 use Rattle.cpe_relation.specs.NameRelation.{covers}
+use Rattle.cpe_relation.specs.Maybe.{maybe}
 use Rattle.cpe_rows.specs.Reach.{Among}
 use Rattle.cpe_rows.specs.Rows.{Rows}
 use Rattle.cpe_rows.specs.Truth.{same_truth, first_of}
 use Rattle.cpe_rows.specs.Chains.{ends}
 use Rattle.cpe_rows.specs.Evaluation.{joined, negated, test_truth, test_truth_step}
-use Rattle.cpe_rows.specs.Verdict.{truth, is_followed, fact_truth, check_truth}
+use Rattle.cpe_rows.specs.Verdict.{truth, is_followed, finds_item, fact_truth, check_truth}
 use Rattle.cpe_rows.specs.declared.truth.Truth.{Truth}
 use Rattle.cpe_rows.specs.declared.truth.Truth.TheVariants.{True, False, Error, Unknown}
 use Rattle.cpe_rows.specs.declared.statement.Mode.{Mode}
@@ -27,24 +28,30 @@ use Rattle.cpe_explain.specs.declared.proof.Why.{Why, out-Why}
 use Rattle.cpe_explain.specs.declared.proof.Why.TheOpen.{Why-F}
 use Rattle.cpe_explain.proofs.GoodLevels.{good-level, logic-map}
 use Rattle.cpe_explain.proofs.TraceEnds.{trace-ends}
-use Rattle.cpe_explain.proofs.Facts.{fact_is}
+use Rattle.cpe_explain.proofs.Facts.{found_is}
 
 -- ---- facts and checks
 
+unknown : (a b : Bool) → (truth a b ≡ True → ⊥) → b ≡ true → Unknown ≡ truth a b
+unknown true b h e = absurd (h refl)
+unknown false b h e = ap (truth false) (sym e)
+
 module _ (rows : Rows) (mode : Mode) (name : Values) where
-  met : (fact item : List Values) → Fits rows mode name fact item → list_any (is_followed (followed rows mode) name) rows.items ≡ true
-  met fact item fit =
+  met : (relates : Values → Values → Bool) (fact item : List Values) → Fits relates rows mode name fact item → finds_item relates rows mode name ≡ true
+  met relates fact item fit =
       let es = followed rows mode in
-      element_passes (is_followed es name) rows.items fit.start fit.is_item
-      (element_passes (λ f. list_any (covers f) (ends es fit.start)) (ends es name) fit.fact_end
+      found_is relates rows mode name
+      ∙ element_passes (is_followed relates es name) rows.items fit.start fit.is_item
+      (element_passes (λ f. list_any (relates f) (ends es fit.start)) (ends es name) fit.fact_end
       (trace-ends rows mode name fit.fact_end fact fit.fact_trace fit.fact_ends)
-      (element_passes (covers fit.fact_end) (ends es fit.start) fit.item_end
-      (trace-ends rows mode fit.start fit.item_end item fit.item_trace fit.item_ends) fit.covered))
+      (element_passes (relates fit.fact_end) (ends es fit.start) fit.item_end
+      (trace-ends rows mode fit.start fit.item_end item fit.item_trace fit.item_ends) fit.related))
 
   fact-right : (w : Why-F Why) → GoodFact rows mode name w → truth_in w ≡ fact_truth rows mode name
   fact-right (Why-F.Logic truth of) g = absurd g
-  fact-right (Why-F.Pair True fact item) g = sym (fact_is rows mode name ∙ ap truth (met fact item g))
-  fact-right (Why-F.Pair Unknown fact item) g = absurd g
+  fact-right (Why-F.Pair True fact item) g = ap (λ b. truth b (finds_item maybe rows mode name)) (sym (met covers fact item g))
+  fact-right (Why-F.Pair Unknown fact item) g =
+      unknown (finds_item covers rows mode name) (finds_item maybe rows mode name) g.1 (met maybe fact item g.0)
   fact-right (Why-F.Pair False fact item) g = absurd g
   fact-right (Why-F.Pair Error fact item) g = absurd g
   fact-right (Why-F.Plain truth) g = g.0 ∙ sym g.1

@@ -4,17 +4,19 @@ use Rattle.std.specs.List.{list_any}
 use Rattle.std.proofs.lemmas.Bool.{ltb-true, ltb-false}
 use Rattle.cpe_name.specs.Eleven.{Values}
 use Rattle.cpe_rows.specs.Reach.{Among, Leads, is_reached}
-use Rattle.cpe_rows.specs.Rows.{is_named}
+use Rattle.cpe_rows.specs.Rows.{Rows, is_named}
 use Rattle.cpe_rows.specs.Chains.{is_successor, successors_of, is_active, chain, ends}
+use Rattle.cpe_rows.specs.Lawful.{IsLawful}
 use Rattle.cpe_rows.specs.declared.entry.Entry.{Entry}
+use Rattle.cpe_rows.specs.declared.statement.Mode.{Mode}
 use Rattle.cpe_rows.proofs.NameTests.{same_is}
 use Rattle.cpe_rows.proofs.Paths.{element_passes, some_element, was_kept, is_kept, to_successor}
 use Rattle.cpe_rows.proofs.Reaches.{decided}
 use Rattle.cpe_explain.specs.Seen.{with_name}
-use Rattle.cpe_explain.specs.Leading.{next_of, is_end, some_end, AreEnds}
+use Rattle.cpe_explain.specs.Leading.{followed, next_of, is_end, some_end, AreEnds}
 use Rattle.cpe_explain.proofs.Elements.{same_tests, same_some, listed_tells, placed, stands, before_end, earlier_at, name_was, name_stays, name_comes, names_keep, names_stay, names_come, names_were}
 use Rattle.cpe_explain.proofs.TraceEnds.{mapped}
-use Rattle.cpe_explain.proofs.Links.{AreLinked, found_some, found_self, next_found, end_found, next_absent, end_absent, next_known}
+use Rattle.cpe_explain.proofs.Links.{AreLinked, linked, end_has_none, found_some, found_self, next_found, end_found, next_absent, end_absent, next_known}
 
 module _ (es : List Entry) where
   -- the name comes after these, the last first, of which the one furthest back comes after a start
@@ -225,3 +227,22 @@ module _ (es : List Entry) where
       subst (λ (m : List Values). AreMet starts m new_found (k + 1)) (sym is_met)
       (subst (λ (f : List Values). AreMet starts (fold with_name met (next_of es n)) f (k + 1)) (sym is_found)
       (one_more starts met found k so_far n at))
+
+-- a name that is an end is its own end alone
+module _ (rows : Rows) (lawful : IsLawful rows) (mode : Mode) (n : Values) (last : is_end (followed rows mode) n ≡ true) where
+  abbrev all : List Entry
+  all = followed rows mode
+
+  stays_there : (before : List Values) (m : Values) → Comes all (n ∷ []) before m → n ≡ m
+  stays_there [] m (inl e) = e
+  stays_there [] m (inr k) = absurd k
+  stays_there (a ∷ before) m c =
+      let e = stays_there before a c.1 in
+      absurd (subst (λ xs. Among xs m) (end_has_none all n last) (subst (λ x. Among (next_of all x) m) (sym e) c.0))
+
+  pub own_end : (passes : Values → Bool) → list_any passes (ends all n) ≡ passes n
+  own_end passes = same_tests (list_any passes (ends all n)) (passes n)
+      (λ h. let w = some_element passes (ends all n) h in
+      let c = end_comes all (linked rows mode lawful) n w.0 w.1 in
+      subst (λ x. passes x ≡ true) (sym (stays_there c.0 w.0 c.1)) w.2)
+      (λ h. element_passes passes (ends all n) n (comes_end all (linked rows mode lawful) n n [] (inl refl) last) h)

@@ -3,7 +3,6 @@ use Rattle.std.proofs.Common.{◌≡◌, inl, inr, List, [], ◌∷◌, Bool, tr
 use Rattle.std.specs.List.{list_any, last_or}
 use Rattle.std.proofs.lemmas.Bool.{and_parts, and_from, true≢false}
 use Rattle.cpe_name.specs.Eleven.{Values}
-use Rattle.cpe_relation.specs.NameRelation.{covers}
 use Rattle.cpe_rows.specs.Names.{is_same}
 use Rattle.cpe_rows.specs.Reach.{Among}
 use Rattle.cpe_rows.specs.Rows.{Rows, is_entry, is_named}
@@ -15,7 +14,7 @@ use Rattle.cpe_rows.proofs.NameTests.{same_is}
 use Rattle.cpe_explain.specs.Traces.{IsActive, Precedes, IsPath, IsTrace}
 use Rattle.cpe_explain.specs.Good.{Fits}
 use Rattle.cpe_explain.specs.Leading.{followed, next_of, is_end}
-use Rattle.cpe_explain.specs.Tested.{is_walk, first_passes, last_covers, is_fit}
+use Rattle.cpe_explain.specs.Tested.{is_walk, first_passes, last_relates, is_fit}
 use Rattle.cpe_explain.proofs.Elements.{Tells, same_some, listed_tells}
 use Rattle.cpe_explain.proofs.Links.{AreLinked, linked, found_some, found_self, next_found, end_found, next_absent, end_absent, next_known}
 
@@ -113,25 +112,25 @@ module _ (rows : Rows) (lawful : IsLawful rows) where
       ((listed_tells m rows.items).1 (subst (Among rows.items) ((same_is t.0 m).0 parts.0) t.1)) parts.1
 
   -- the last names
-  abbrev Meet : Option Values → Option Values → Type 0
-  Meet o p = (f : Values) × (i : Values) × (o ≡ Some f) × (p ≡ Some i) × (covers f i ≡ true)
+  abbrev Meet : (Values → Values → Bool) → Option Values → Option Values → Type 0
+  Meet relates o p = (f : Values) × (i : Values) × (o ≡ Some f) × (p ≡ Some i) × (relates f i ≡ true)
 
-  meet_tells : (o p : Option Values) → Tells (last_covers o p) (Meet o p)
-  meet_tells (Some f) (Some i) = (
+  meet_tells : (relates : Values → Values → Bool) (o p : Option Values) → Tells (last_relates relates o p) (Meet relates o p)
+  meet_tells relates (Some f) (Some i) = (
     λ h. (f, i, refl, refl, h),
-    λ x. (λ j. covers (same_some f x.0 x.2 j) (same_some i x.1 x.3 j)) ∙ x.4,
+    λ x. (λ j. relates (same_some f x.0 x.2 j) (same_some i x.1 x.3 j)) ∙ x.4,
   )
-  meet_tells (Some f) None = (λ h. absurd (true≢false (sym h)), λ x. let e : None ≡ Some x.1 = x.3 in absurd (let w : ⊥ = cc in w))
-  meet_tells None p = (λ h. absurd (true≢false (sym h)), λ x. let e : None ≡ Some x.0 = x.2 in absurd (let w : ⊥ = cc in w))
+  meet_tells relates (Some f) None = (λ h. absurd (true≢false (sym h)), λ x. let e : None ≡ Some x.1 = x.3 in absurd (let w : ⊥ = cc in w))
+  meet_tells relates None p = (λ h. absurd (true≢false (sym h)), λ x. let e : None ≡ Some x.0 = x.2 in absurd (let w : ⊥ = cc in w))
 
-  pub fit_tells : (mode : Mode) (name : Values) (fact one : List Values)
-      → Tells (is_fit rows mode name fact one) (Fits rows mode name fact one)
-  fit_tells mode name fact one =
+  pub fit_tells : (relates : Values → Values → Bool) (mode : Mode) (name : Values) (fact one : List Values)
+      → Tells (is_fit relates rows mode name fact one) (Fits relates rows mode name fact one)
+  fit_tells relates mode name fact one =
       let of_fact = trace_tells mode name fact in
-      let last = meet_tells (last_or None fact) (last_or None one) in (
+      let last = meet_tells relates (last_or None fact) (last_or None one) in (
         λ h.
-            let a = and_parts (traced rows mode name fact) (item_traced mode one && last_covers (last_or None fact) (last_or None one)) h in
-            let b = and_parts (item_traced mode one) (last_covers (last_or None fact) (last_or None one)) a.1 in
+            let a = and_parts (traced rows mode name fact) (item_traced mode one && last_relates relates (last_or None fact) (last_or None one)) h in
+            let b = and_parts (item_traced mode one) (last_relates relates (last_or None fact) (last_or None one)) a.1 in
             let i = item_to mode one b.0 in
             let m = last.0 b.1 in
             record {
@@ -143,12 +142,12 @@ module _ (rows : Rows) (lawful : IsLawful rows) where
               item_trace = i.2;
               fact_ends = m.2;
               item_ends = m.3;
-              covered = m.4;
+              related = m.4;
             },
         λ fit.
-            and_from (traced rows mode name fact) (item_traced mode one && last_covers (last_or None fact) (last_or None one))
+            and_from (traced rows mode name fact) (item_traced mode one && last_relates relates (last_or None fact) (last_or None one))
             (of_fact.1 fit.fact_trace)
-            (and_from (item_traced mode one) (last_covers (last_or None fact) (last_or None one))
+            (and_from (item_traced mode one) (last_relates relates (last_or None fact) (last_or None one))
             (item_from mode one (fit.start, fit.is_item, fit.item_trace)) (last.1
-            (fit.fact_end, fit.item_end, fit.fact_ends, fit.item_ends, fit.covered))),
+            (fit.fact_end, fit.item_end, fit.fact_ends, fit.item_ends, fit.related))),
       )

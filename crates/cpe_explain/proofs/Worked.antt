@@ -42,7 +42,7 @@ logic-good operator negate ts truth ws g =
     (raised (Test-F.Logic operator negate ts) (why.Logic truth ws)
     (subst (GoodLogic (GoodFor rows Plain) operator negate ts) (sym (whys.outs-Logic truth ws)) g))
 
-fits : Fits rows Plain fact (fact ∷ []) (one ∷ [])
+fits : Fits covers rows Plain fact (fact ∷ []) (one ∷ [])
 unfolding covers
 fits = record {
   start = one;
@@ -53,7 +53,7 @@ fits = record {
   item_trace = refl;
   fact_ends = refl;
   item_ends = refl;
-  covered = refl;
+  related = refl;
 }
 
 fact-good : GoodFor rows Plain (test.Fact fact) pair

@@ -4,6 +4,7 @@ use Rattle.std.specs.List.{list_any}
 use Rattle.std.specs.Option.{option_map_or}
 use Rattle.cpe_name.specs.Eleven.{Values}
 use Rattle.cpe_relation.specs.NameRelation.{covers}
+use Rattle.cpe_relation.specs.Maybe.{maybe}
 use Rattle.cpe_rows.specs.Names.{is_same}
 use Rattle.cpe_rows.specs.Rows.{Rows}
 use Rattle.cpe_rows.specs.Chains.{ends}
@@ -13,7 +14,8 @@ use Rattle.cpe_rows.specs.Verdict.{check_truth}
 use Rattle.cpe_rows.specs.declared.entry.Entry.{Entry}
 use Rattle.cpe_rows.specs.declared.statement.Mode.{Mode}
 use Rattle.cpe_rows.specs.declared.statement.Statement.{Statement}
-use Rattle.cpe_rows.specs.declared.truth.Truth.TheVariants.{True, False}
+use Rattle.cpe_rows.specs.declared.truth.Truth.{Truth}
+use Rattle.cpe_rows.specs.declared.truth.Truth.TheVariants.{True, False, Unknown}
 use Rattle.cpe_rows.specs.declared.test.Operator.{Operator}
 use Rattle.cpe_rows.specs.declared.test.Test.{Test}
 use Rattle.cpe_rows.specs.declared.test.Test.TheOpen.{Test-F}
@@ -48,14 +50,18 @@ pub record Fit : Type 0 where
   pub item_end : Values
   pub fact_end : Values
 
--- those ends of the fact that cover this end of the item
-abbrev pub fits_at : List Values → Values → Values → List Fit
-fits_at fact_ends item item_end =
-    map (λ f. record { item = item; item_end = item_end; fact_end = f }) (filter (λ f. covers f item_end) fact_ends)
+-- those ends of the fact that stand in the relation to this end of the item
+abbrev pub fits_at : (Values → Values → Bool) → List Values → Values → Values → List Fit
+fits_at relates fact_ends item item_end =
+    map (λ f. record { item = item; item_end = item_end; fact_end = f }) (filter (λ f. relates f item_end) fact_ends)
 
 -- all fits, by the item, then by its end, then by the fact's
-abbrev pub fits : List Entry → List Values → Values → List Fit
-fits entries items fact = flat_map (λ i. flat_map (fits_at (ends entries fact) i) (ends entries i)) items
+abbrev pub fits : (Values → Values → Bool) → List Entry → List Values → Values → List Fit
+fits relates entries items fact = flat_map (λ i. flat_map (fits_at relates (ends entries fact) i) (ends entries i)) items
+
+-- the first of them
+abbrev pub first_fit : (Values → Values → Bool) → List Entry → List Values → Values → Option Fit
+first_fit relates entries items fact = slice_get (fits relates entries items fact) 0
 
 -- ---- traces
 
@@ -74,14 +80,20 @@ trace_to entries to n = n ∷ way_to (length entries) entries to n
 
 -- ---- facts
 
--- a fit as a pair of traces; without one the fact is FALSE by no item
-abbrev pub pair_of : List Entry → Values → Option Fit → Why
-pair_of entries fact None = why.Plain False
-pair_of entries fact (Some fit) = why.Pair True (trace_to entries fit.fact_end fact) (trace_to entries fit.item_end fit.item)
+-- a fit as a pair of traces
+abbrev pub pair_of : List Entry → Values → Truth → Fit → Why
+pair_of entries fact truth fit = why.Pair truth (trace_to entries fit.fact_end fact) (trace_to entries fit.item_end fit.item)
+
+-- a fact is TRUE by the first fit, else UNKNOWN by the first of those where it may cover, and without one it is FALSE by no item
+abbrev pub why_by : List Entry → Values → Option Fit → Option Fit → Why
+why_by entries fact (Some fit) other = pair_of entries fact True fit
+why_by entries fact None (Some fit) = pair_of entries fact Unknown fit
+why_by entries fact None None = why.Plain False
 
 -- in mode plain no entry is followed, and each name is its one end
 abbrev pub fact_why : Rows → Mode → Values → Why
-fact_why rows mode fact = let entries = followed rows mode in pair_of entries fact (slice_get (fits entries rows.items fact) 0)
+fact_why rows mode fact =
+    let entries = followed rows mode in why_by entries fact (first_fit covers entries rows.items fact) (first_fit maybe entries rows.items fact)
 
 -- ---- the whole
 

@@ -4,6 +4,7 @@ use Rattle.std.specs.Prelude.{◌≡◌, ◌⊎◌, List, [], ◌∷◌, Bool, t
 use Rattle.std.specs.List.{list_all}
 use Rattle.cpe_name.specs.Eleven.{Values}
 use Rattle.cpe_relation.specs.NameRelation.{covers}
+use Rattle.cpe_relation.specs.Maybe.{maybe}
 use Rattle.cpe_rows.specs.Reach.{Among}
 use Rattle.cpe_rows.specs.Rows.{Rows}
 use Rattle.cpe_rows.specs.Evaluation.{joined, negated}
@@ -54,8 +55,8 @@ GoodLogic good operator negate children (Why-F.Plain truth) = ⊥
 
 -- ---- fact references
 
--- a trace of the fact's name and one of some item, of which the last name of the first covers that of the second
-pub record Fits (rows : Rows) (mode : Mode) (name : Values) (fact item : List Values) : Type 0 where
+-- a trace of the fact's name and one of some item, of which the last name of the first stands in the relation to that of the second
+pub record Fits (relates : Values → Values → Bool) (rows : Rows) (mode : Mode) (name : Values) (fact item : List Values) : Type 0 where
   pub start : Values
   pub fact_end : Values
   pub item_end : Values
@@ -64,14 +65,14 @@ pub record Fits (rows : Rows) (mode : Mode) (name : Values) (fact item : List Va
   pub item_trace : IsTrace rows mode start item
   pub fact_ends : EndsWith fact_end fact
   pub item_ends : EndsWith item_end item
-  pub covered : covers fact_end item_end ≡ true
+  pub related : relates fact_end item_end ≡ true
 
--- what a pair of traces shows: a fact is TRUE by an item, and by none it is FALSE
+-- what a pair of traces shows: a fact is TRUE by an item that it covers; it is UNKNOWN by one that it may cover, where none makes it TRUE
 abbrev pub GoodPair : Rows → Mode → Values → Truth → List Values → List Values → Type 0
-GoodPair rows mode name True fact item = Fits rows mode name fact item
+GoodPair rows mode name True fact item = Fits covers rows mode name fact item
 GoodPair rows mode name False fact item = ⊥
 GoodPair rows mode name Error fact item = ⊥
-GoodPair rows mode name Unknown fact item = ⊥
+GoodPair rows mode name Unknown fact item = Fits maybe rows mode name fact item × (fact_truth rows mode name ≡ True → ⊥)
 
 abbrev pub GoodFact : Rows → Mode → Values → Why-F Why → Type 0
 GoodFact rows mode name (Why-F.Logic truth of) = ⊥

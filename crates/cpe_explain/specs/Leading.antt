@@ -1,10 +1,10 @@
 -- Where names lead by the deprecations of entries: of all entries in mode follow, and of none in mode plain.
-use Rattle.std.specs.Prelude.{◌≡◌, List, [], map, find, Bool, Option, None, is_none}
+use Rattle.std.specs.Prelude.{◌≡◌, List, [], map, find, filter, filter_map, not, Bool, Option, None, is_none}
 use Rattle.std.specs.List.{list_any}
 use Rattle.std.specs.Option.{option_map_or}
 use Rattle.cpe_name.specs.Eleven.{Values}
 use Rattle.cpe_rows.specs.Rows.{Rows, is_named}
-use Rattle.cpe_rows.specs.Chains.{ends}
+use Rattle.cpe_rows.specs.Chains.{ends, is_active}
 use Rattle.cpe_rows.specs.Lawful.{IsLawful}
 use Rattle.cpe_rows.specs.declared.entry.Entry.{Entry}
 use Rattle.cpe_rows.specs.declared.entry.Deprecation.{Deprecation}
@@ -31,10 +31,14 @@ is_end entries n = is_none (deprecation_of entries n)
 abbrev pub some_end : List Entry → List Values → (Values → Bool) → Bool
 some_end entries names passes = list_any (λ n. list_any passes (ends entries n)) names
 
--- the rows are lawful, and these are the names of the entries that are followed
-pub record AreFollowed (rows : Rows) (mode : Mode) (names : List Values) : Type 0 where
+abbrev pub deprecated : List Entry → List Entry
+deprecated entries = filter (λ e. not (is_active e)) entries
+
+-- the rows are lawful, and these are the names and the deprecations of those entries from which deprecations lead on
+pub record AreFollowed (rows : Rows) (mode : Mode) (names : List Values) (deprecations : List Deprecation) : Type 0 where
   pub lawful : IsLawful rows
-  pub named : names ≡ map (λ (e : Entry). e.name) (followed rows mode)
+  pub named : names ≡ map (λ (e : Entry). e.name) (deprecated (followed rows mode))
+  pub led : deprecations ≡ filter_map (λ (e : Entry). e.deprecation) (followed rows mode)
 
 -- these are the ends of the names, whatever is asked of them
 abbrev pub AreEnds : List Entry → List Values → List Values → Type 0

@@ -3,6 +3,7 @@ pub mod Seen
 pub mod Traces
 pub mod Good
 pub mod Choices
+pub mod Relates
 pub mod Lent
 pub mod Checks
 pub mod Leading

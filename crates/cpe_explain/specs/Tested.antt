@@ -1,9 +1,10 @@
 -- The tests of a certificate, level by level. In lawful rows a certificate passes exactly where it is good.
-use Rattle.std.specs.Prelude.{◌&&◌, ◌||◌, List, [], ◌∷◌, Bool, true, false, Option, Some, None, is_some}
+use Rattle.std.specs.Prelude.{◌&&◌, ◌||◌, not, List, [], ◌∷◌, Bool, true, false, Option, Some, None, is_some}
 use Rattle.std.specs.List.{list_any, list_all, last_or}
 use Rattle.std.specs.Option.{option_map_or}
 use Rattle.cpe_name.specs.Eleven.{Values}
 use Rattle.cpe_relation.specs.NameRelation.{covers}
+use Rattle.cpe_relation.specs.Maybe.{maybe}
 use Rattle.cpe_rows.specs.Names.{is_same}
 use Rattle.cpe_rows.specs.Rows.{Rows}
 use Rattle.cpe_rows.specs.Truth.{same_truth}
@@ -11,7 +12,7 @@ use Rattle.cpe_rows.specs.Evaluation.{joined, negated}
 use Rattle.cpe_rows.specs.Verdict.{fact_truth, check_truth}
 use Rattle.cpe_rows.specs.declared.entry.Entry.{Entry}
 use Rattle.cpe_rows.specs.declared.truth.Truth.{Truth}
-use Rattle.cpe_rows.specs.declared.truth.Truth.TheVariants.{True, False}
+use Rattle.cpe_rows.specs.declared.truth.Truth.TheVariants.{True, False, Error, Unknown}
 use Rattle.cpe_rows.specs.declared.statement.Mode.{Mode}
 use Rattle.cpe_rows.specs.declared.test.CheckKey.{CheckKey}
 use Rattle.cpe_rows.specs.declared.test.Operator.{Operator}
@@ -37,17 +38,17 @@ abbrev pub first_passes : (Values → Bool) → List Values → Bool
 first_passes passes [] = false
 first_passes passes (n ∷ names) = passes n
 
--- the last name of the first covers that of the second
-abbrev pub last_covers : Option Values → Option Values → Bool
-last_covers (Some f) (Some i) = covers f i
-last_covers (Some f) None = false
-last_covers None i = false
+-- the last name of the first stands in the relation to that of the second
+abbrev pub last_relates : (Values → Values → Bool) → Option Values → Option Values → Bool
+last_relates relates (Some f) (Some i) = relates f i
+last_relates relates (Some f) None = false
+last_relates relates None i = false
 
-abbrev pub is_fit : Rows → Mode → Values → List Values → List Values → Bool
-is_fit rows mode name fact item =
+abbrev pub is_fit : (Values → Values → Bool) → Rows → Mode → Values → List Values → List Values → Bool
+is_fit relates rows mode name fact item =
     (first_passes (is_same name) fact && is_walk (followed rows mode) fact)
     && ((first_passes (λ n. list_any (is_same n) rows.items) item && is_walk (followed rows mode) item)
-    && last_covers (last_or None fact) (last_or None item))
+    && last_relates relates (last_or None fact) (last_or None item))
 
 -- ---- levels
 
@@ -73,9 +74,15 @@ logic_passes passes operator negate (Why-F.Logic truth of) = all_pass passes of 
 logic_passes passes operator negate (Why-F.Pair truth fact item) = false
 logic_passes passes operator negate (Why-F.Plain truth) = false
 
+abbrev pub pair_passes : Rows → Mode → Values → Truth → List Values → List Values → Bool
+pair_passes rows mode name True fact item = is_fit covers rows mode name fact item
+pair_passes rows mode name False fact item = false
+pair_passes rows mode name Error fact item = false
+pair_passes rows mode name Unknown fact item = is_fit maybe rows mode name fact item && not (same_truth (fact_truth rows mode name) True)
+
 abbrev pub fact_passes : Rows → Mode → Values → Why-F Why → Bool
 fact_passes rows mode name (Why-F.Logic truth of) = false
-fact_passes rows mode name (Why-F.Pair truth fact item) = same_truth truth True && is_fit rows mode name fact item
+fact_passes rows mode name (Why-F.Pair truth fact item) = pair_passes rows mode name truth fact item
 fact_passes rows mode name (Why-F.Plain truth) = same_truth truth False && same_truth (fact_truth rows mode name) False
 
 abbrev pub check_passes : Rows → CheckKey → Why-F Why → Bool

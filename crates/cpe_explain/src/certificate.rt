@@ -151,7 +151,7 @@ fn certificate_of<R: ExplainedRows>(
 /// The certificate of the statement at a place from 0. There is none exactly where the place is the number of statements or more.
 ///
 /// Of the children of a logical test the first that decides it is given, or else all are; a fact reference that is TRUE is shown by the
-/// first item that makes it so, and by the first of its ends and of the fact's. It takes no step.
+/// first item that makes it so, and by the first of its ends and of the fact's; one that is UNKNOWN in the same way by what it may cover. It takes no step.
 ///
 /// # Errors
 /// Only that memory ran out.

@@ -1,61 +1,24 @@
 // Whether a certificate shows the verdict of its statement.
-ghost use Rattle.std.specs.Prelude.{◌≡◌, ◌∷◌, [], IfOk, false, true, is_some, slice_get};
+ghost use Rattle.std.specs.Prelude.{◌≡◌, ◌∷◌, [], IfOk, false, true, is_some, map, slice_get};
 ghost use Rattle.std.specs.List.{list_all, list_any};
 ghost use Rattle.std.specs.Option.{option_copied, option_map_or};
 ghost use Rattle.cpe_rows.specs.Evaluation.{joined, negated};
 ghost use Rattle.cpe_rows.specs.Truth.{same_truth};
-ghost use Rattle.cpe_rows.specs.Verdict.{fact_truth};
 ghost use Rattle.cpe_explain.specs.Certificates.{given_truth, given_truths};
 ghost use Rattle.cpe_explain.specs.Good.{deciding};
 ghost use Rattle.cpe_explain.specs.Checks.{IsChecked};
-ghost use Rattle.cpe_explain.specs.Ground.{IsGround};
-ghost use Rattle.cpe_explain.specs.Tested.{is_of_all, is_of_one, is_settled, fact_passes, check_passes, test_passes};
+ghost use Rattle.cpe_explain.specs.Ground.{IsGround, AreLed};
+ghost use Rattle.cpe_explain.specs.Tested.{is_of_all, is_of_one, is_settled, check_passes, test_passes};
 ghost use Rattle.cpe_explain.specs.declared.proof.Why.{out-Why};
 
-use crate::ends::{Followed, item_names};
 use crate::found::{find_result, find_statement};
 use crate::name_set::NameSet;
 use crate::proof::{Checked, Proof, Why};
+use crate::references::{Ground, fact_passes};
 use crate::rows::PlainRows;
-use crate::trace::is_fit;
-use cpe_name::Wfn;
-use cpe_rows::{CheckKey, Mode, Operator, Test, Truth, and_of, not_of, or_of};
+use cpe_rows::{CheckKey, Operator, Test, Truth, and_of, not_of, or_of};
 use cpe_values::Memory;
 use std::alloc::Global;
-
-// What certificates of a statement are tested against: the rows, and the ends of all items.
-#[derive(Drop)]
-struct Ground<'a, R> {
-    followed: Followed<'a, R>,
-    item_ends: NameSet<'a>,
-}
-
-impl<'a, R: PlainRows> Ground<'a, R> {
-    fn new(alloc: Global, rows: &'a R, mode: Mode) -> Result<Ground<'a, R>, Memory>
-        ensures rows { IfOk result (λ it. R.rows it.followed.rows.now ≡ R.rows rows.now) }
-        ensures mode { IfOk result (λ it. it.followed.mode ≡ mode) }
-        ensures ground { IfOk result (λ it. IsGround (R.rows it.followed.rows.now) it.followed.mode it.followed.names it.item_ends) }
-    {
-        let followed = Followed::new(alloc, rows, mode)?;
-        let mut items = item_names(alloc, rows)?;
-        let item_ends = followed.ends_of(alloc, &mut items)?;
-        Ok(Ground {
-            followed,
-            item_ends,
-        })
-    }
-
-    // Whether no end of the name covers an end of an item, so that a reference to it is FALSE.
-    fn is_false(&self, alloc: Global, name: &'a Wfn) -> Result<bool, Memory>
-        requires { IsGround (R.rows self.now.followed.rows.now) self.now.followed.mode self.now.followed.names self.now.item_ends }
-        ensures { IfOk result (λ told. told ≡ same_truth (fact_truth (R.rows self.now.followed.rows.now) self.now.followed.mode name.now) Truth.False) }
-    {
-        let mut names = NameSet::new(alloc);
-        names.insert(name)?;
-        let ends = self.followed.ends_of(alloc, &mut names)?;
-        Ok(!ends.has_covering(&self.item_ends))
-    }
-}
 
 // ---- logical tests
 
@@ -168,32 +131,7 @@ fn given_at(given: &[Option<Why>], place: usize) -> Option<&Why>
     }
 }
 
-// ---- fact references and check references
-
-fn fact_passes<'a, R: PlainRows>(
-    alloc: Global,
-    ground: &Ground<'a, R>,
-    name: &'a Wfn,
-    why: &Why,
-) -> Result<bool, Memory>
-    requires { IsGround (R.rows ground.now.followed.rows.now) ground.now.followed.mode ground.now.followed.names ground.now.item_ends }
-    ensures { IfOk result (λ passed. passed ≡ fact_passes (R.rows ground.now.followed.rows.now) ground.now.followed.mode name.now (out-Why why.now)) }
-{
-    match why {
-        Why::Logic { .. } => Ok(false),
-        Why::Pair { truth, fact, item } => Ok(
-            is_truth(*truth, Truth::True)
-                && is_fit(&ground.followed, name, fact.as_slice(), item.as_slice()),
-        ),
-        Why::Plain(truth) => {
-            if is_truth(*truth, Truth::False) {
-                ground.is_false(alloc, name)
-            } else {
-                Ok(false)
-            }
-        }
-    }
-}
+// ---- check references
 
 fn check_passes<R: PlainRows>(rows: &R, key: &CheckKey, why: &Why) -> bool
     ensures { result ≡ check_passes (R.rows rows.now) key.now (out-Why why.now) }
@@ -211,11 +149,14 @@ fn check_passes<R: PlainRows>(rows: &R, key: &CheckKey, why: &Why) -> bool
 fn passes<'a, R: PlainRows>(
     alloc: Global,
     ground: &Ground<'a, R>,
+    led: &mut Option<NameSet<'a>>,
     test: &'a Test,
     why: Option<&Why>,
 ) -> Result<bool, Memory>
-    requires { IsGround (R.rows ground.now.followed.rows.now) ground.now.followed.mode ground.now.followed.names ground.now.item_ends }
-    ensures { IfOk result (λ passed. passed ≡ option_map_or (test_passes (R.rows ground.now.followed.rows.now) ground.now.followed.mode test.now) (option_copied why.entry) true) }
+    requires ground { IsGround (R.rows ground.now.followed.rows.now) ground.now.followed.mode ground.now.followed.names (map (λ d. d.now) ground.now.followed.deprecations.items) (map (λ i. i.now) ground.now.items.items) }
+    requires led { AreLed (R.rows ground.now.followed.rows.now) ground.now.followed.mode led.old }
+    ensures led { IfOk result (λ passed. AreLed (R.rows ground.now.followed.rows.now) ground.now.followed.mode led.new) }
+    ensures passed { IfOk result (λ passed. passed ≡ option_map_or (test_passes (R.rows ground.now.followed.rows.now) ground.now.followed.mode test.now) (option_copied why.entry) true) }
 {
     let Some(why) = why else {
         return Ok(true);
@@ -234,22 +175,23 @@ fn passes<'a, R: PlainRows>(
             }
             let mut k = 0;
             for child in of.as_slice() {
-                if !passes(alloc, ground, child, given_at(given.as_slice(), k))? {
+                if !passes(alloc, ground, led, child, given_at(given.as_slice(), k))? {
                     return Ok(false);
                 }
                 k += 1;
             }
             Ok(is_settled(*operator, *negate, *truth, given.as_slice()))
         }
-        Test::Fact(name) => fact_passes(alloc, ground, name.as_name(), why),
+        Test::Fact(name) => fact_passes(alloc, ground, led, name.as_name(), why),
         Test::Check(key) => Ok(check_passes(ground.followed.rows, key, why)),
     }
 }
 
 /// Tests a certificate by the rows alone, down the test of the statement that has its id.
 ///
-/// Once it meets all names to which the items lead, and keeps their ends; where the statement follows deprecations, it makes an index of
-/// the entries' names for that. Then each fact reference costs at most a pass over the items, or over these ends for each end of its own.
+/// It goes over the items once, and over the entries where the statement follows deprecations, but makes an index of none but the deprecated
+/// ones. A pair of names costs a pass over the items at most, and one of its ends and the items for each fact reference that no item is to
+/// make TRUE. Where deprecations lead from items is met at the first of these, once.
 ///
 /// # Errors
 /// Only that memory ran out.
@@ -261,7 +203,8 @@ pub fn check_proof<R: PlainRows>(alloc: Global, rows: &R, proof: &Proof) -> Resu
         return Ok(Checked::Absent);
     };
     let ground = Ground::new(alloc, rows, statement.mode)?;
-    if passes(alloc, &ground, &statement.test, Some(&proof.why))? {
+    let mut led = None;
+    if passes(alloc, &ground, &mut led, &statement.test, Some(&proof.why))? {
         Ok(Checked::Holds)
     } else {
         Ok(Checked::Fails)

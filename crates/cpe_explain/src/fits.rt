@@ -1,25 +1,24 @@
-// Why a fact reference has its truth: the first item that makes it TRUE, and where both lead.
-ghost use Rattle.std.specs.Prelude.{◌≡◌, ◌∷◌, [], IfOk, find, map, slice_get};
+// Why a fact reference has its truth: the first item that shows it, and where both lead.
+ghost use Rattle.std.specs.Prelude.{◌≡◌, ◌∷◌, [], IfOk, IfSome, None, find, map, slice_get};
 ghost use Rattle.std.specs.List.{flat_map};
 ghost use Rattle.std.specs.Option.{option_copied, option_map};
-ghost use Rattle.cpe_relation.specs.NameRelation.{covers};
+ghost use Rattle.cpe_relation.specs.Maybe.{maybe};
 ghost use Rattle.cpe_rows.specs.Chains.{ends};
-ghost use Rattle.cpe_rows.specs.declared.truth.Truth.TheVariants.{True};
-ghost use Rattle.cpe_explain.specs.Choices.{fact_why, fits_at, pair_of, trace_to};
+ghost use Rattle.cpe_explain.specs.Choices.{fact_why, first_fit, fits_at, pair_of, why_by};
 ghost use Rattle.cpe_explain.specs.Lent.{lent_fit};
 ghost use Rattle.cpe_explain.specs.Leading.{followed};
-ghost use Rattle.cpe_explain.specs.declared.proof.Why as why;
+ghost use Rattle.cpe_explain.specs.Relates.{related, shown};
 
 use crate::paths::trace;
 use crate::proof::Why;
+use crate::relates::Relates;
 use crate::rows::ExplainedRows;
 use cpe_name::Wfn;
-use cpe_relation::covers;
 use cpe_rows::{Mode, Truth};
 use cpe_values::Memory;
 use std::alloc::Global;
 
-/// An item, an end of it, and an end of a fact, which covers that.
+/// An item, an end of it, and an end of a fact.
 #[derive(Clone, Copy)]
 pub(crate) struct FitRef<'a> {
     item: &'a Wfn,
@@ -50,24 +49,29 @@ fn ends_in<'a, R: ExplainedRows>(
     }
 }
 
-// The first that covers a name.
-fn first_covering<'a>(names: &[&'a Wfn], name: &Wfn) -> Option<&'a Wfn>
-    ensures { option_copied result ≡ find (λ n. covers n name.now) (map (λ n. n.now) names.now) }
+// The first that stands so to a name.
+fn first_relating<'a>(relates: Relates, names: &[&'a Wfn], name: &Wfn) -> Option<&'a Wfn>
+    ensures { option_copied result ≡ find (λ n. related relates n name.now) (map (λ n. n.now) names.now) }
 {
-    for covering in names {
-        if covers(*covering, name) {
-            return Some(*covering);
+    for relating in names {
+        if relates.holds(*relating, name) {
+            return Some(*relating);
         }
     }
     None
 }
 
 // The first fit of an item.
-fn first_fit<'a>(fact_ends: &[&'a Wfn], item: &'a Wfn, item_ends: &[&'a Wfn]) -> Option<FitRef<'a>>
-    ensures { option_map lent_fit result ≡ slice_get (flat_map (fits_at (map (λ n. n.now) fact_ends.now) item.now) (map (λ n. n.now) item_ends.now)) 0 }
+fn fit_of<'a>(
+    relates: Relates,
+    fact_ends: &[&'a Wfn],
+    item: &'a Wfn,
+    item_ends: &[&'a Wfn],
+) -> Option<FitRef<'a>>
+    ensures { option_map lent_fit result ≡ slice_get (flat_map (fits_at (related relates) (map (λ n. n.now) fact_ends.now) item.now) (map (λ n. n.now) item_ends.now)) 0 }
 {
     for item_end in item_ends {
-        if let Some(fact_end) = first_covering(fact_ends, *item_end) {
+        if let Some(fact_end) = first_relating(relates, fact_ends, *item_end) {
             return Some(FitRef {
                 item,
                 item_end: *item_end,
@@ -84,33 +88,46 @@ fn pair<R: ExplainedRows>(
     rows: &R,
     mode: Mode,
     name: &Wfn,
+    truth: Truth,
     fit: &FitRef<'_>,
 ) -> Result<Why, Memory>
-    ensures { IfOk result (λ w. w ≡ why.Pair True (trace_to (followed (R.rows rows.now) mode) fit.now.fact_end.now name.now) (trace_to (followed (R.rows rows.now) mode) fit.now.item_end.now fit.now.item.now)) }
+    ensures { IfOk result (λ w. w ≡ pair_of (followed (R.rows rows.now) mode) name.now truth (lent_fit fit.now)) }
 {
     let fact = trace(alloc, rows, mode, name, fit.fact_end)?;
     let item = trace(alloc, rows, mode, fit.item, fit.item_end)?;
-    Ok(Why::Pair {
-        truth: Truth::True,
-        fact,
-        item,
-    })
+    Ok(Why::Pair { truth, fact, item })
 }
 
-// The pair of the first fit of an item.
+// The pair of the first fit of an item, if it has one.
 fn item_why<R: ExplainedRows>(
     alloc: Global,
     rows: &R,
     mode: Mode,
+    relates: Relates,
     name: &Wfn,
     item: &Wfn,
 ) -> Result<Why, Memory>
-    ensures { IfOk result (λ w. w ≡ pair_of (followed (R.rows rows.now) mode) name.now (slice_get (flat_map (fits_at (ends (followed (R.rows rows.now) mode) name.now) item.now) (ends (followed (R.rows rows.now) mode) item.now)) 0)) }
+    ensures { IfOk result (λ w. IfSome (slice_get (flat_map (fits_at (related relates) (ends (followed (R.rows rows.now) mode) name.now) item.now) (ends (followed (R.rows rows.now) mode) item.now)) 0) (λ fit. w ≡ pair_of (followed (R.rows rows.now) mode) name.now (shown relates) fit)) }
 {
     let fact_ends = ends_in(alloc, rows, mode, name)?;
     let item_ends = ends_in(alloc, rows, mode, item)?;
-    match first_fit(&fact_ends, item, &item_ends) {
-        Some(fit) => pair(alloc, rows, mode, name, &fit),
+    match fit_of(relates, &fact_ends, item, &item_ends) {
+        Some(fit) => pair(alloc, rows, mode, name, relates.truth(), &fit),
+        None => Ok(Why::Plain(Truth::False)),
+    }
+}
+
+// Why a fact reference that no item makes TRUE has its truth.
+fn other_why<R: ExplainedRows>(
+    alloc: Global,
+    rows: &R,
+    mode: Mode,
+    name: &Wfn,
+) -> Result<Why, Memory>
+    ensures { IfOk result (λ w. w ≡ why_by (followed (R.rows rows.now) mode) name.now None (first_fit maybe (followed (R.rows rows.now) mode) (R.rows rows.now).items name.now)) }
+{
+    match rows.first_item(alloc, Relates::MayCover, mode, name)? {
+        Some(item) => item_why(alloc, rows, mode, Relates::MayCover, name, item),
         None => Ok(Why::Plain(Truth::False)),
     }
 }
@@ -127,8 +144,8 @@ pub(crate) fn fact_why<R: ExplainedRows>(
 ) -> Result<Why, Memory>
     ensures { IfOk result (λ w. w ≡ fact_why (R.rows rows.now) mode name.now) }
 {
-    match rows.first_item(alloc, mode, name)? {
-        Some(item) => item_why(alloc, rows, mode, name, item),
-        None => Ok(Why::Plain(Truth::False)),
+    match rows.first_item(alloc, Relates::Covers, mode, name)? {
+        Some(item) => item_why(alloc, rows, mode, Relates::Covers, name, item),
+        None => other_why(alloc, rows, mode, name),
     }
 }

@@ -8,9 +8,7 @@ ghost use Rattle.cpe_rows.specs.Verdict.{check_truth};
 
 use crate::rows::PlainRows;
 use cpe_name::Wfn;
-use cpe_rows::{
-    CheckKey, MOST_CHECKS, MOST_ITEMS, MOST_STATEMENTS, Statement, Text, Truth, is_same,
-};
+use cpe_rows::{CheckKey, MOST_CHECKS, MOST_STATEMENTS, Statement, Text, Truth, is_same};
 
 /// The statement of an id.
 pub(crate) fn find_statement<'a, R: PlainRows>(rows: &'a R, id: &Text) -> Option<&'a Statement>
@@ -54,20 +52,9 @@ pub(crate) fn find_result<R: PlainRows>(rows: &R, key: &CheckKey) -> Truth
     Truth::Unknown
 }
 
-/// Whether a name is an item's.
-pub(crate) fn is_item<R: PlainRows>(rows: &R, name: &Wfn) -> bool
-    ensures { result ≡ list_any (is_same name.now) (R.rows rows.now).items }
+/// Whether a name is one of these.
+pub(crate) fn has_name(names: &[&Wfn], name: &Wfn) -> bool
+    ensures { result ≡ list_any (λ n. is_same name.now n.now) names.now }
 {
-    rows.lawful();
-    for k in 0..MOST_ITEMS {
-        match rows.item(k) {
-            Some(item) => {
-                if is_same(name, item) {
-                    return true;
-                }
-            }
-            None => return false,
-        }
-    }
-    false
+    names.iter().any(|other| is_same(name, *other))
 }

@@ -1,8 +1,8 @@
 //! Certificates: why a statement has its verdict (NIST IR 7698), in a form that is tested by the rows alone.
 //!
 //! A certificate goes down the test of a statement, level by level: where children decide a logical test, it has theirs; where a fact
-//! is TRUE, it names an item that the fact covers, and how deprecations lead to what is compared; where a fact is FALSE, or of a check,
-//! it says so, and the rows tell whether it is. [`check_proof`] tests one over any [`PlainRows`], and [`law::good_proofs_are_right`] says
+//! is TRUE, it names an item that the fact covers, and how deprecations lead to what is compared; where a fact is UNKNOWN, it names in the
+//! same way an item that the fact may cover; where a fact is FALSE, or of a check, it says so, and the rows tell whether it is. [`check_proof`] tests one over any [`PlainRows`], and [`law::good_proofs_are_right`] says
 //! that the truth of a good one is the verdict.
 #![tactic(auto)]
 
@@ -15,10 +15,13 @@ pub mod law;
 mod name_set;
 mod paths;
 mod proof;
+mod references;
+mod relates;
 mod rows;
 mod trace;
 
 pub use certificate::explain;
 pub use check::check_proof;
 pub use proof::{Checked, Proof, Why};
+pub use relates::Relates;
 pub use rows::{ExplainedRows, PlainRows};

@@ -2,12 +2,12 @@
 ghost use Rattle.std.specs.Prelude.{◌≡◌, ◌<◌, ◌^◌, [], fold, IsSome, OnOk, position, slice_get};
 ghost use Rattle.std.specs.List.{list_any};
 ghost use Rattle.std.specs.Option.{option_copied};
-ghost use Rattle.cpe_relation.specs.NameRelation.{covers};
 ghost use Rattle.cpe_rows.specs.Names.{is_same};
+ghost use Rattle.cpe_explain.specs.Relates.{related};
 ghost use Rattle.cpe_explain.specs.Seen.{with_name};
 
+use crate::relates::Relates;
 use cpe_name::Wfn;
-use cpe_relation::covers;
 use cpe_values::Memory;
 use indexmap::IndexSet;
 use std::alloc::Global;
@@ -62,6 +62,9 @@ impl<'a> NameSet<'a> {
     pub(crate) fn find(&self, name: &Wfn) -> Option<usize>
         ensures { result ≡ position (is_same name.now) self.now }
     {
+        if self.names.len() == 0 {
+            return None;
+        }
         self.names.get_index_of(&name)
     }
 
@@ -79,29 +82,42 @@ impl<'a> NameSet<'a> {
         }
     }
 
-    /// Whether the name covers one of them.
-    pub(crate) fn has_covered(&self, name: &Wfn) -> bool
-        ensures { result ≡ list_any (covers name.now) self.now }
+    /// Whether one of them stands so to the name.
+    pub(crate) fn has_relating(&self, relates: Relates, name: &Wfn) -> bool
+        ensures { result ≡ list_any (λ n. related relates n name.now) self.now }
     {
-        some_covered(self.names.as_slice(), name)
+        some_relating(self.names.as_slice(), relates, name)
     }
 
-    /// Whether one of them covers one of the others.
-    pub(crate) fn has_covering(&self, others: &NameSet<'_>) -> bool
-        ensures { result ≡ list_any (λ name. list_any (covers name) others.now) self.now }
+    // Whether the name stands so to one of them.
+    fn has_related(&self, relates: Relates, name: &Wfn) -> bool
+        ensures { result ≡ list_any (related relates name.now) self.now }
     {
-        some_covering(self.names.as_slice(), others)
+        some_related(self.names.as_slice(), relates, name)
+    }
+
+    /// Whether one of them stands so to one of the others.
+    pub(crate) fn has_met(&self, relates: Relates, others: &NameSet<'_>) -> bool
+        ensures { result ≡ list_any (λ n. list_any (related relates n) others.now) self.now }
+    {
+        some_met(self.names.as_slice(), relates, others)
     }
 }
 
-fn some_covered(names: &[&Wfn], name: &Wfn) -> bool
-    ensures { result ≡ list_any (λ other. covers name.now other.now) names.now }
+fn some_relating(names: &[&Wfn], relates: Relates, name: &Wfn) -> bool
+    ensures { result ≡ list_any (λ n. related relates n.now name.now) names.now }
 {
-    names.iter().any(|other| covers(name, *other))
+    names.iter().any(|other| relates.holds(*other, name))
 }
 
-fn some_covering(names: &[&Wfn], others: &NameSet<'_>) -> bool
-    ensures { result ≡ list_any (λ name. list_any (covers name.now) others.now) names.now }
+fn some_related(names: &[&Wfn], relates: Relates, name: &Wfn) -> bool
+    ensures { result ≡ list_any (λ n. related relates name.now n.now) names.now }
 {
-    names.iter().any(|name| others.has_covered(*name))
+    names.iter().any(|other| relates.holds(name, *other))
+}
+
+fn some_met(names: &[&Wfn], relates: Relates, others: &NameSet<'_>) -> bool
+    ensures { result ≡ list_any (λ n. list_any (related relates n.now) others.now) names.now }
+{
+    names.iter().any(|name| others.has_related(relates, *name))
 }

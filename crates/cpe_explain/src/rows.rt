@@ -4,7 +4,9 @@ ghost use Rattle.cpe_rows.specs.Prelude.{check_truth, ends, IsLawful, Rows};
 ghost use Rattle.cpe_rows.specs.Lent.{entry_lent};
 ghost use Rattle.cpe_rows.specs.Verdict.{fact_truth, is_followed};
 ghost use Rattle.cpe_explain.specs.Leading.{followed, next_of};
+ghost use Rattle.cpe_explain.specs.Relates.{related};
 
+use crate::relates::Relates;
 use cpe_name::Wfn;
 use cpe_rows::{CheckKey, EntryRef, Mode, Statement, Truth};
 use cpe_values::Memory;
@@ -26,6 +28,13 @@ pub trait PlainRows {
     fn item(&self, k: usize) -> Option<&Wfn>
         ensures { option_copied result ≡ slice_get (rows self.now).items k };
 
+    /// The items, in their order.
+    ///
+    /// # Errors
+    /// Only that memory ran out.
+    fn items(&self, alloc: Global) -> Result<Vec<&Wfn>, Memory>
+        ensures { IfOk result (λ names. map (λ n. n.now) names.items ≡ (rows self.now).items) };
+
     /// The statement at a place. There is none exactly where the place is the number of statements or more.
     fn statement(&self, k: usize) -> Option<&Statement>
         ensures { option_copied result ≡ slice_get (rows self.now).statements k };
@@ -45,12 +54,18 @@ pub trait ExplainedRows: PlainRows {
     fn find_fact(&self, alloc: Global, mode: Mode, name: &Wfn) -> Result<Truth, Memory>
         ensures { IfOk result (λ truth. truth ≡ fact_truth (Self.rows self.now) mode name.now) };
 
-    /// The first item by which a fact reference is TRUE, if there is one: some end of the name covers some end of the item.
+    /// The first item to which a name stands so, if there is one: some end of the name stands so to some end of the item.
     ///
     /// # Errors
     /// Only that memory ran out.
-    fn first_item(&self, alloc: Global, mode: Mode, name: &Wfn) -> Result<Option<&Wfn>, Memory>
-        ensures { IfOk result (λ item. option_copied item ≡ find (is_followed (followed (Self.rows self.now) mode) name.now) (Self.rows self.now).items) };
+    fn first_item(
+        &self,
+        alloc: Global,
+        relates: Relates,
+        mode: Mode,
+        name: &Wfn,
+    ) -> Result<Option<&Wfn>, Memory>
+        ensures { IfOk result (λ item. option_copied item ≡ find (is_followed (related relates) (followed (Self.rows self.now) mode) name.now) (Self.rows self.now).items) };
 
     /// What is kept for a check, or UNKNOWN.
     fn result_of(&self, key: &CheckKey) -> Truth

@@ -13,7 +13,7 @@ use Rattle.cpe_rows.specs.Reach.{Among}
 use Rattle.cpe_rows.specs.Chains.{successors_of}
 use Rattle.cpe_rows.specs.FactNames.{fact_names, fact_names_step}
 use Rattle.cpe_rows.specs.Formed.{IsFormedEntry, IsFormedStatement}
-use Rattle.cpe_rows.specs.Lawful.{IsLawful, is_entry_name, has_successors, is_item_name, is_lawful_statement}
+use Rattle.cpe_rows.specs.Lawful.{IsLawful, is_entry_name, has_successors, is_lawful_statement}
 use Rattle.cpe_rows.specs.Shape.{largest, depth_of, depth_step, is_sound as is_sound_test, sound_step as sound_test_step}
 use Rattle.cpe_rows.specs.Valid.{is_id, is_logic, is_statement_test}
 use Rattle.cpe_rows.specs.declared.entry.Entry.{Entry}
@@ -30,7 +30,7 @@ use Rattle.cpe_rows.specs.declared.truth.Truth.{Truth}
 use Rattle.cpe_rows.specs.declared.truth.Truth.TheVariants.{True, False, Error, Unknown}
 use Rattle.cpe_rows.proofs.NameTests.{same_is}
 use Rattle.cpe_rows.proofs.Paths.{some_element}
-use Rattle.cpe_explain.specs.Good.{AreGood, GoodLogic, GoodPair, GoodFact, GoodCheck, good_step, GoodFor, Good}
+use Rattle.cpe_explain.specs.Good.{AreGood, GoodLogic, Fits, GoodPair, GoodFact, GoodCheck, good_step, GoodFor, Good}
 use Rattle.cpe_explain.specs.Traces.{Precedes, IsPath, BeginsWith, IsTrace}
 use Rattle.cpe_explain.specs.declared.proof.Why.{Why, out-Why, roll-Why}
 use Rattle.cpe_explain.specs.declared.proof.Why.TheOpen.{Why-F}
@@ -97,10 +97,7 @@ module _ (rows : Rows) (lawful : IsLawful rows) (mode : Mode) where
     by_mode Follow (inr t) = subst AreKept (sym t.0) (one_kept n h)
 
   item_kept : (n : Values) → Among rows.items n → IsKept n
-  item_kept n m = (
-    (and_parts (is_lower n) (not (has_wildcards n)) (all_among is_item_name rows.items n lawful.item_names m)).0,
-    each_among IsName rows.items n lawful.formed.items m,
-  )
+  item_kept n m = (all_among is_lower rows.items n lawful.item_names m, each_among IsName rows.items n lawful.formed.items m)
 
   -- ---- levels
 
@@ -162,15 +159,19 @@ module _ (rows : Rows) (lawful : IsLawful rows) (mode : Mode) where
         small = omega (arith, one.small, rest.small);
       }
 
-  pair_small : (name : Values) (truth : Truth) (fact item : List Values) → IsKept name → GoodPair rows mode name truth fact item
-      → IsSmall 0 (roll-Why (Why-F.Pair truth fact item))
-  pair_small name True fact item h g =
+  fit_small : {relates : Values → Values → Bool} (name : Values) (truth : Truth) (fact item : List Values) → IsKept name
+      → Fits relates rows mode name fact item → IsSmall 0 (roll-Why (Why-F.Pair truth fact item))
+  fit_small name truth fact item h g =
       let f = trace_kept name fact h g.fact_trace in
       let i = trace_kept g.start item (item_kept g.start g.is_item) g.item_trace in
-      small_level 0 (Why-F.Pair True fact item) (and_from (are_named fact) (are_named item) f.0 i.0) (All-append IsName fact item f.1 i.1) (omega arith)
+      small_level 0 (Why-F.Pair truth fact item) (and_from (are_named fact) (are_named item) f.0 i.0) (All-append IsName fact item f.1 i.1) (omega arith)
+
+  pair_small : (name : Values) (truth : Truth) (fact item : List Values) → IsKept name → GoodPair rows mode name truth fact item
+      → IsSmall 0 (roll-Why (Why-F.Pair truth fact item))
+  pair_small name True fact item h g = fit_small name True fact item h g
   pair_small name False fact item h g = absurd g
   pair_small name Error fact item h g = absurd g
-  pair_small name Unknown fact item h g = absurd g
+  pair_small name Unknown fact item h g = fit_small name Unknown fact item h g.0
 
   fact_small : (name : Values) (w : Why-F Why) → IsKept name → GoodFact rows mode name w → IsSmall 0 (roll-Why w)
   fact_small name (Why-F.Logic truth of) h g = absurd g

@@ -12,7 +12,7 @@ returns-then-branch g c =
     let rows = g.R.PlainRows.rows c.args.rows.now in
     let s : Statement = c.in-Some.statement.now in
     let w = c.args.proof.now.why in
-    let said = sym (λ i. test_passes (c.in_ok-ground.ensures.rows i) (c.in_ok-ground.ensures.mode i) s.test w) ∙ (sym c.in_ok-passes.ensures
+    let said = sym (λ i. test_passes (c.in_ok-ground.ensures.rows i) (c.in_ok-ground.ensures.mode i) s.test w) ∙ (sym c.in_ok-passes.ensures.passed
     ∙ c.if-branch.true) in
     subst (λ (o : Option Statement). IsSaid rows w o Holds) c.in-Some.ensures ((told rows c.lawful.ensures s.mode s.test w).0 said)
 
@@ -21,7 +21,7 @@ returns g c =
     let rows = g.R.PlainRows.rows c.args.rows.now in
     let s : Statement = c.in-Some.statement.now in
     let w = c.args.proof.now.why in
-    let said = sym (λ i. test_passes (c.in_ok-ground.ensures.rows i) (c.in_ok-ground.ensures.mode i) s.test w) ∙ (sym c.in_ok-passes.ensures
+    let said = sym (λ i. test_passes (c.in_ok-ground.ensures.rows i) (c.in_ok-ground.ensures.mode i) s.test w) ∙ (sym c.in_ok-passes.ensures.passed
     ∙ c.if-branch.false) in
     subst (λ (o : Option Statement). IsSaid rows w o Fails) c.in-Some.ensures
     (λ good. true≢false (sym ((told rows c.lawful.ensures s.mode s.test w).1 good) ∙ said))

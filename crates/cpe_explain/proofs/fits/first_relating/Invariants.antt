@@ -1,0 +1,9 @@
+use Rattle.std.proofs.Common.{map}
+use Rattle.std.specs.Borrow.{Bor}
+use Rattle.cpe_name.specs.Eleven.{Values}
+use Rattle.cpe_explain.specs.Relates.{related}
+use Rattle.cpe_explain.proofs.Loops.{IsLeft}
+use Rattle.cpe_explain.proofs.fits.first_relating.Given as goal
+
+abbrev pub invariant-loop-relating : goal.invariant-loop-relating
+invariant-loop-relating l = IsLeft (λ (n : Values). related l.relates n l.name) (map (λ (n : Bor Values). n.now) l.names) l.relating-index

@@ -1,0 +1,27 @@
+use Rattle.std.proofs.Common.{not, ap, sym, ◌∙◌}
+use Rattle.cpe_relation.specs.NameRelation.{covers}
+use Rattle.cpe_relation.specs.Maybe.{maybe}
+use Rattle.cpe_rows.specs.Verdict.{finds_item}
+use Rattle.cpe_explain.proofs.Facts.{false_told, false_not}
+use Rattle.cpe_explain.proofs.references.Ground.is_false.Goals as goal
+
+pub returns-then-branch : goal.returns-then-branch
+returns-then-branch g c =
+    let it = c.args.self.now.followed in
+    let rows = g.R.PlainRows.rows it.rows.now in
+    let name = c.args.name.now in
+    record {
+      led = c.in_ok-is_met.ensures.led;
+      told = false_not (finds_item covers rows it.mode name) (finds_item maybe rows it.mode name) (sym c.in_ok-is_met.ensures.met ∙ c.if-branch.true);
+    }
+
+pub returns : goal.returns
+returns g c =
+    let it = c.args.self.now.followed in
+    let rows = g.R.PlainRows.rows it.rows.now in
+    let name = c.args.name.now in
+    record {
+      led = c.in_ok-is_met-2.ensures.led;
+      told = ap not c.in_ok-is_met-2.ensures.met
+          ∙ false_told (finds_item covers rows it.mode name) (finds_item maybe rows it.mode name) (sym c.in_ok-is_met.ensures.met ∙ c.if-branch.false);
+    }
