@@ -43,10 +43,13 @@ at_chain f xs es ns ks k read numbered view =
     ∙ ap (λ (e : List Entry). f (entries_at e (chain_in (nodes_of_entries e) k))) view
 
 module _ (es : List Entry) (n : Values) (k : ℕ) (place : position (is_named n) es ≡ Some k) (different : AreDifferent es) where
-  pub links_at : ChainsOfNodes → map row_of (entries_at es (chain_in (nodes_of_entries es) k)) ≡ map row_of (chain es n)
-  links_at chains =
+  pub entries_at_chain : ChainsOfNodes → entries_at es (chain_in (nodes_of_entries es) k) ≡ chain es n
+  entries_at_chain chains =
       let at = stands_at es n k place in
-      ap (map row_of) (sym (chains es k at.entry different at.here) ∙ ap (chain es) at.named)
+      sym (chains es k at.entry different at.here) ∙ ap (chain es) at.named
+
+  pub links_at : ChainsOfNodes → map row_of (entries_at es (chain_in (nodes_of_entries es) k)) ≡ map row_of (chain es n)
+  links_at chains = ap (map row_of) (entries_at_chain chains)
 
   pub ends_at : EndsOfNodes → active_names (entries_at es (chain_in (nodes_of_entries es) k)) ≡ ends es n
   ends_at ends_of =

@@ -5,7 +5,7 @@ ghost use Rattle.std.specs.Option.{option_copied};
 ghost use Rattle.cpe_rows.specs.Prelude.{chain as chain_of, ends, is_active, is_named, IsCause, IsDictionary, most, row_of, rows_found as found, state_of};
 ghost use Rattle.deprecation_graph.specs.Faults.{change_fault};
 ghost use Rattle.deprecation_graph.specs.Graph.{IsChange};
-ghost use Rattle.cpe_dictionary.specs.Numbers.{nodes_of_entries};
+ghost use Rattle.cpe_dictionary.specs.Numbers.{entries_at, nodes_of_entries};
 ghost use Rattle.cpe_dictionary.specs.Causes.{named_fault};
 ghost use Rattle.cpe_name.specs.Lower.{IsLower};
 ghost use Rattle.cpe_steps.specs.Within.{StepsWithin};
@@ -218,6 +218,24 @@ impl Dictionary<'_> {
             rows_at(alloc, &self.entries, &chain)?,
             active_names_at(alloc, &self.entries, &chain)?,
         ))
+    }
+
+    /// The numbers of the entries of the chain of a name, rising: none where it is no entry. It searches the chain alone.
+    ///
+    /// # Errors
+    /// Only that memory ran out.
+    pub(crate) fn chain_numbers(&self, alloc: Global, name: &Wfn) -> Result<Vec<u32>, Memory>
+        ensures { IfOk result (λ numbers. entries_at self.now numbers.items ≡ chain_of self.now name.now) }
+    {
+        cpe_rows::law::absent_names_stand_alone();
+        answers_by_number();
+        match self.number_of(name) {
+            Some(number) => match self.graph.chain(alloc, number) {
+                Ok(chain) => Ok(chain),
+                Err(_) => Err(Memory),
+            },
+            None => Ok(Vec::new(alloc)),
+        }
     }
 
     /// The name of the entry of a number.

@@ -1,13 +1,14 @@
 // A dictionary as it is kept beside a table of names.
-ghost use Rattle.std.specs.Prelude.{◌≡◌, ◌+◌, ◌++◌, ◌∷◌, [], ◌≤◌, IfOk, OnOk, OnErr, length, option_map, position, slice_get, false};
-ghost use Rattle.std.specs.List.{filter_map, list_any};
+ghost use Rattle.std.specs.Prelude.{◌≡◌, ◌+◌, ◌++◌, ◌∷◌, [], ◌≤◌, IfOk, OnOk, OnErr, length, map, option_map, position, slice_get, false};
+ghost use Rattle.std.specs.List.{cons_option, filter_map, list_any};
 ghost use Rattle.cpe_name.specs.Equal.{same_name};
-ghost use Rattle.cpe_rows.specs.Prelude.{is_named, IsDictionary, most};
+ghost use Rattle.cpe_rows.specs.Prelude.{chain, is_named, IsDictionary, most};
 ghost use Rattle.name_index.specs.Table.{IsLive, kept_at};
 ghost use Rattle.names_in_order.specs.InOrder.{AreInOrder, names_numbered};
 ghost use Rattle.cpe_rows.specs.declared.fault.Which.TheVariants as Which;
 ghost use Rattle.cpe_dictionary.specs.Kept.{details_written, entries_in, entries_of, entry_from, FitsTable, new_entry, rewritten, written};
 ghost use Rattle.cpe_rows.specs.Lent.{entry_lent};
+ghost use Rattle.cpe_dictionary.specs.Numbers.{entries_at};
 ghost use Rattle.cpe_dictionary.specs.Plans.{IsAllowed, numbered};
 
 use crate::by_number::{changes_by_number, edits_by_number};
@@ -16,6 +17,7 @@ use crate::entries::{Entries, details_at};
 use crate::entry_ref::lent;
 use crate::kept::{Details, rewrite};
 use crate::plans::Plan;
+use cpe_name::Wfn;
 use cpe_rows::{Deprecation, EntryRef, Note, Provenance, Text};
 use cpe_values::Memory;
 use deprecation_graph::DeprecationGraph;
@@ -118,6 +120,16 @@ fn numbers_at(alloc: Global, names: &GrowingNames, places: &[u32]) -> Result<Vec
     Ok(numbers)
 }
 
+// Puts what is lent last, if there is any.
+fn push_lent<'t>(found: Option<EntryRef<'t>>, lent: &mut Vec<EntryRef<'t>>) -> Result<(), Memory>
+    ensures { OnOk result (map entry_lent lent.new.items ≡ map entry_lent lent.old.items ++ cons_option (option_map entry_lent found.entry) []) }
+{
+    match found {
+        Some(entry) => Ok(lent.push(entry)?),
+        None => Ok(()),
+    }
+}
+
 impl KeptDictionary {
     /// The dictionary without entries. It takes no memory.
     pub fn new(alloc: Global) -> KeptDictionary
@@ -161,6 +173,40 @@ impl KeptDictionary {
             Some(id) => lent(table.name(id), details_at(&self.details, k)),
             None => None,
         }
+    }
+
+    /// The entries of the chain of a name, lent: none where it is no entry. It searches the chain alone.
+    ///
+    /// # Errors
+    /// Only that memory ran out.
+    pub fn chain_lent<'t>(
+        &'t self,
+        table: &'t NameTable,
+        alloc: Global,
+        name: &Wfn,
+    ) -> Result<Vec<EntryRef<'t>>, Memory>
+        requires { FitsTable table.now self.now }
+        ensures { IfOk result (λ links. map entry_lent links.items ≡ chain (entries_in table.now self.now) name.now) }
+    {
+        let numbers = self.with(table).chain_numbers(alloc, name)?;
+        self.lent_at(table, alloc, &numbers)
+    }
+
+    // The entries of these numbers, lent.
+    fn lent_at<'t>(
+        &'t self,
+        table: &'t NameTable,
+        alloc: Global,
+        numbers: &[u32],
+    ) -> Result<Vec<EntryRef<'t>>, Memory>
+        requires { FitsTable table.now self.now }
+        ensures { IfOk result (λ lent. map entry_lent lent.items ≡ entries_at (entries_in table.now self.now) numbers.now) }
+    {
+        let mut lent = Vec::with_capacity(alloc, numbers.len())?;
+        for number in numbers {
+            push_lent(self.entry_at(table, *number as usize), &mut lent)?;
+        }
+        Ok(lent)
     }
 
     /// The numbers in the table of the names of the entries of these numbers.

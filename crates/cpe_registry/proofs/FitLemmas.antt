@@ -8,13 +8,14 @@ use Rattle.cpe_name.specs.Eleven.{Values}
 use Rattle.name_index.specs.declared.table.NameId.{NameId}
 use Rattle.name_index.specs.Index.{name_id}
 use Rattle.name_index.specs.Table.{AreNames, find_kept, HasName, Holding, Holds, IsLive, Kept, kept_at, kept_or, Names, Releases}
-use Rattle.names_in_order.specs.InOrder.{AreInOrder, IsSafe, names_numbered, Roll}
+use Rattle.names_in_order.specs.InOrder.{AreInOrder, IsSafe, names_numbered}
 use Rattle.numbered_names.specs.Shown.{holds_in, Shows, times_named}
 use Rattle.cpe_rows.specs.Names.{is_same}
 use Rattle.cpe_rows.specs.Rows.{is_named}
 use Rattle.cpe_rows.specs.declared.entry.Entry.{Entry}
 use Rattle.cpe_dictionary.specs.Kept.{entries_in, entries_of, FitsTable, IsKept, names_of, Stored}
 use Rattle.cpe_dictionary.proofs.EntryLemmas.{names_are}
+use Rattle.items_in_order.specs.InOrder.{AreItems, ItemRoll}
 use Rattle.cpe_registry.specs.Registered.{AreFitting}
 use Rattle.cpe_registry.proofs.HeldLemmas.{second_stands, third_stands}
 
@@ -81,7 +82,7 @@ is_safe old new id numbers list names live r among shows = by (find_kept new id)
     by None e = inr (none e)
     by (Some k) e = inl (subst IsSome (sym e) refl)
 
-module _ (old new : Names) (s : Stored) (r : Roll) (id : ℕ) (others : List Values) (names : AreNames old) (live : IsLive old id) (gone : Releases old new id) (fit : AreFitting old s r)
+module _ (old new : Names) (s : Stored) (r : ItemRoll) (id : ℕ) (others : List Values) (names : AreNames old) (live : IsLive old id) (gone : Releases old new id) (fit : AreFitting old s r)
     (shows : Shows new (holds_in new) (others ++ (names_of (entries_in old s) ++ names_numbered old r.numbers))) where
   pub safe_entries : IsSafe new s.names.numbers id
   safe_entries =
@@ -115,24 +116,24 @@ either (Err e) f g ok err = g err
 
 -- ---- what stays where the table changes
 
-pub record Stays (old new : Names) (s : Stored) (r : Roll) : Type 0 where
+pub record Stays (old new : Names) (s : Stored) (r : ItemRoll) : Type 0 where
   pub fitting : AreFitting new s r
   pub entries : entries_in new s ≡ entries_in old s
   pub items : names_numbered new r.numbers ≡ names_numbered old r.numbers
 
-pub stays_by : (old new : Names) (s : Stored) (r : Roll) → AreFitting old s r → AreInOrder new s.names.held s.names.numbers → names_numbered new s.names.numbers ≡ names_numbered old s.names.numbers
-    → AreInOrder new r.held r.numbers → names_numbered new r.numbers ≡ names_numbered old r.numbers → Stays old new s r
+pub stays_by : (old new : Names) (s : Stored) (r : ItemRoll) → AreFitting old s r → AreInOrder new s.names.held s.names.numbers → names_numbered new s.names.numbers ≡ names_numbered old s.names.numbers
+    → AreItems new r.targets r.numbers → names_numbered new r.numbers ≡ names_numbered old r.numbers → Stays old new s r
 stays_by old new s r fit order names item_order item_names = record {
   fitting = record { entries = fits_still old new s order names fit.entries; items = item_order };
   entries = same_entries old new s names;
   items = item_names;
 }
 
-pub stays_same : (old new : Names) (s : Stored) (r : Roll) → AreFitting old s r → new ≡ old → Stays old new s r
+pub stays_same : (old new : Names) (s : Stored) (r : ItemRoll) → AreFitting old s r → new ≡ old → Stays old new s r
 stays_same old new s r fit same = subst (λ (t : Names). Stays old t s r) (sym same) (record { fitting = fit; entries = refl; items = refl })
 
 -- the list of what is held, by the names that stay
-pub shows_still : (old new : Names) (s : Stored) (r : Roll) (front : List Values) → Stays old new s r → Shows new (holds_in new) (front ++ (names_of (entries_in old s) ++ names_numbered old r.numbers))
+pub shows_still : (old new : Names) (s : Stored) (r : ItemRoll) (front : List Values) → Stays old new s r → Shows new (holds_in new) (front ++ (names_of (entries_in old s) ++ names_numbered old r.numbers))
     → Shows new (holds_in new) (front ++ (names_of (entries_in new s) ++ names_numbered new r.numbers))
 shows_still old new s r front stays shows =
     let list : front ++ (names_of (entries_in new s) ++ names_numbered new r.numbers) ≡ front ++ (names_of (entries_in old s) ++ names_numbered old r.numbers) = λ k. front ++ (names_of (stays.entries k) ++ stays.items k) in

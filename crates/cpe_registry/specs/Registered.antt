@@ -5,22 +5,23 @@ use Rattle.cpe_name.specs.Eleven.{Values}
 use Rattle.cpe_rows.specs.declared.entry.Entry.{Entry}
 use Rattle.name_index.specs.declared.table.NameId.{NameId}
 use Rattle.name_index.specs.Table.{IsLive, Names, kept_at}
-use Rattle.names_in_order.specs.InOrder.{AreInOrder, Roll, names_numbered}
+use Rattle.names_in_order.specs.InOrder.{names_numbered}
 use Rattle.numbered_names.specs.Shown.{Shows, holds_in}
 use Rattle.cpe_dictionary.specs.Kept.{entries_in, FitsTable, names_of, Stored}
+use Rattle.items_in_order.specs.InOrder.{AreItems, ItemRoll}
 
 pub record Registered : Type 0 where
   pub table : Names
   pub entries : List Entry
   pub items : List Values
 
-abbrev pub registered : Names → Stored → Roll → Registered
+abbrev pub registered : Names → Stored → ItemRoll → Registered
 registered table s r = record { table = table; entries = entries_in table s; items = names_numbered table r.numbers }
 
 -- dictionary and items fit the table
-pub record AreFitting (table : Names) (s : Stored) (r : Roll) : Type 0 where
+pub record AreFitting (table : Names) (s : Stored) (r : ItemRoll) : Type 0 where
   pub entries : FitsTable table s
-  pub items : AreInOrder table r.held r.numbers
+  pub items : AreItems table r.targets r.numbers
 
 -- the name of a number
 abbrev pub name_in : Names → NameId → Values

@@ -7,7 +7,7 @@ ghost use Rattle.name_index.specs.Table.{IsLive};
 ghost use Rattle.cpe_registry.specs.Registered.{name_in};
 
 use crate::registry::Registry;
-use cpe_rows::{EditFault, MOST_ITEMS, Which, has_wildcards};
+use cpe_rows::{EditFault, MOST_ITEMS, Which};
 use name_index::NameId;
 
 impl Registry {
@@ -25,9 +25,6 @@ impl Registry {
         requires { IsLive self.now.table id.0 }
         ensures { result ≡ first_some (item_causes self.now.items (name_in self.now.table id)) }
     {
-        if has_wildcards(self.name(id)) {
-            return Some(EditFault::Wildcards);
-        }
         if self.has_item(id) {
             return Some(EditFault::Exists);
         }

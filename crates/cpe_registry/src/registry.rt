@@ -1,10 +1,10 @@
 // One table of names, and the entries and items that keep numbers of it.
-ghost use Rattle.std.specs.Prelude.{◌≡◌, ◌+◌, ◌++◌, ◌∷◌, [], ◌<◌, ◌≤◌, ℕ, IfOk, IfSome, IsNone, List, None, OnErr, OnOk, false, length, option_map, position, slice_get, true};
+ghost use Rattle.std.specs.Prelude.{◌≡◌, ◌+◌, ◌++◌, ◌∷◌, [], ◌<◌, ◌≤◌, ℕ, IfOk, IfSome, IsNone, List, None, OnErr, OnOk, false, length, map, option_map, position, slice_get, true};
 ghost use Rattle.std.specs.List.{filter_map, list_any};
 ghost use Rattle.cpe_name.specs.Lower.{IsLower};
 ghost use Rattle.cpe_name.specs.Eleven.{Values};
 ghost use Rattle.cpe_rows.specs.Names.{is_same};
-ghost use Rattle.cpe_rows.specs.Prelude.{is_named, IsDictionary, most, without_first};
+ghost use Rattle.cpe_rows.specs.Prelude.{chain, is_named, IsDictionary, most, without_first};
 ghost use Rattle.cpe_rows.specs.declared.fault.Which.TheVariants as limit;
 ghost use Rattle.name_index.specs.Table.{AreNames, HasName, Holds, IsLive, kept_at, Releases};
 ghost use Rattle.cpe_dictionary.specs.Kept.{new_entry, rewritten, written};
@@ -13,12 +13,12 @@ ghost use Rattle.cpe_dictionary.specs.Plans.{IsAllowed, numbered};
 ghost use Rattle.cpe_registry.specs.Registered.{AreHeld, name_in};
 
 use cpe_dictionary::{Dictionary, KeptDictionary, Plan};
-use cpe_inventory::{ItemSlots, Items};
+use cpe_inventory::ItemSlots;
 use cpe_name::Wfn;
 use cpe_rows::{Deprecation, EntryRef, Note, Provenance, Text};
 use cpe_values::Memory;
+use items_in_order::{ItemNames, Items};
 use name_index::{NameId, NameTable};
-use names_in_order::ChangingNames;
 use std::alloc::Global;
 use std::marker::Model;
 
@@ -28,7 +28,7 @@ use std::marker::Model;
 pub struct Registry {
     pub(crate) table: NameTable,
     pub(crate) dictionary: KeptDictionary,
-    items: ChangingNames,
+    items: ItemNames,
 }
 
 impl Model for Registry {
@@ -53,7 +53,7 @@ impl Registry {
         Registry {
             table: NameTable::new(alloc),
             dictionary: KeptDictionary::new(alloc),
-            items: ChangingNames::new(alloc),
+            items: ItemNames::new(alloc),
         }
     }
 
@@ -90,6 +90,16 @@ impl Registry {
         ensures { option_map entry_lent result ≡ slice_get self.now.entries k }
     {
         self.dictionary.entry_at(&self.table, k)
+    }
+
+    /// The entries of the chain of a name, lent: none where it is no entry. It searches the chain alone.
+    ///
+    /// # Errors
+    /// Only that memory ran out.
+    pub fn chain_lent(&self, alloc: Global, name: &Wfn) -> Result<Vec<EntryRef<'_>>, Memory>
+        ensures { IfOk result (λ links. map entry_lent links.items ≡ chain self.now.entries name.now) }
+    {
+        self.dictionary.chain_lent(&self.table, alloc, name)
     }
 
     /// The items by their slots, of which there are at most twice as many.
@@ -157,6 +167,7 @@ impl Registry {
         ensures err { OnErr result (self.new ≡ self.old) }
     {
         names_in_order::law::orders_stay();
+        items_in_order::law::items_stay();
         numbered_names::law::tables_are_lists();
         self.table.hold_moved(name)
     }
@@ -172,6 +183,7 @@ impl Registry {
     {
         self.table.lawful();
         names_in_order::law::orders_stay();
+        items_in_order::law::items_stay();
         numbered_names::law::tables_are_lists();
         self.table.release(id);
     }

@@ -16,10 +16,11 @@ stays c =
     let r = c.self.inside.items in
     let name = c.args.name in
     let law = c.orders_stay.ensures in
+    let item_law = c.items_stay.ensures in
     let fit = c.self.invariant in
     either_if (λ (id : NameId). Holds old new id.0 name) c.hold_moved.result
     (λ id h. stays_by old new s r fit (law.held old new id.0 name s.names.held s.names.numbers h fit.entries.order) (law.held_names old new id.0 name s.names.held s.names.numbers h fit.entries.order)
-    (law.held old new id.0 name r.held r.numbers h fit.items) (law.held_names old new id.0 name r.held r.numbers h fit.items))
+    (item_law.held old new id.0 name r.targets r.numbers h fit.items) (item_law.held_names old new id.0 name r.targets r.numbers h fit.items))
     (λ same. stays_same old new s r fit same) c.hold_moved.ensures.held c.hold_moved.ensures.err
 
 pub invariant_of-self : goal.invariant_of-self

@@ -9,10 +9,10 @@ pub invariant_of-result : goal.invariant_of-result
 invariant_of-result c =
     let none : Roll = record { held = []; numbers = [] } in
     let empty : Stored = record { names = none; details = []; nodes = [] } in
-    let fit : AreFitting [] empty none =
+    let fit : AreFitting [] empty c.new-3.result =
     record {
       entries = record { order = c.orders_stay.ensures.empty []; even = refl; kept = record { lawful = c.rows_stay_lawful.ensures.start.dictionary; few = omega arith; numbered = refl } };
-      items = c.orders_stay.ensures.empty [];
+      items = c.new-3.ensures.order [];
     } in
     subst (λ (t : Names). AreFitting t c.new-2.result c.new-3.result) (sym c.new.ensures)
-    (subst (λ (s : Stored). AreFitting [] s c.new-3.result) (sym c.new-2.ensures) (subst (λ (r : Roll). AreFitting [] empty r) (sym c.new-3.ensures) fit))
+    (subst (λ (s : Stored). AreFitting [] s c.new-3.result) (sym c.new-2.ensures) fit)

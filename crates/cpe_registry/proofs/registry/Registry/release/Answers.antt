@@ -16,6 +16,7 @@ stays c =
     let r = c.self.inside.items in
     let id = c.args.id in
     let law = c.orders_stay.ensures in
+    let item_law = c.items_stay.ensures in
     let fit = c.self.invariant in
     let live = subst (λ (x : Registered). IsLive x.table id.0) (sym c.self.view_is) c.requires.live in
     let now = subst (λ (x : Registered). (others : List Values) × AreHeld x (name_in x.table id ∷ others)) (sym c.self.view_is) c.requires.held in
@@ -24,7 +25,7 @@ stays c =
     let safe = safe_entries old new s r id.0 now.0 c.lawful.ensures live gone fit shows in
     let item_safe = safe_items old new s r id.0 now.0 c.lawful.ensures live gone fit shows in
     stays_by old new s r fit (law.released old new id.0 s.names.held s.names.numbers gone safe fit.entries.order) (law.released_names old new id.0 s.names.held s.names.numbers gone safe fit.entries.order)
-    (law.released old new id.0 r.held r.numbers gone item_safe fit.items) (law.released_names old new id.0 r.held r.numbers gone item_safe fit.items)
+    (item_law.released old new id.0 r.targets r.numbers gone item_safe fit.items) (item_law.released_names old new id.0 r.targets r.numbers gone item_safe fit.items)
 
 pub invariant_of-self : goal.invariant_of-self
 invariant_of-self c = (stays (goal.at.invariant_of-self c).After-release).fitting
