@@ -34,7 +34,7 @@ refusals rows (Err fault) = 1
 abbrev pub found_by : Reply → ℕ
 found_by (Lookup name state) = 0
 found_by (Search name rows) = length rows
-found_by (Items name items) = 0
+found_by (Items name items maybe) = 0
 found_by (Chain name links ends) = 0
 found_by (Show name entry) = 0
 found_by (Verdict id truth) = 0

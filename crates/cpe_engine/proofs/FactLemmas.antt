@@ -1,4 +1,4 @@
--- Fact references and the items that make them TRUE.
+-- Fact references and the items that show their truth.
 use Rattle.std.proofs.Common.{inl, inr, not, eqb-true, ℕ, ◌≡◌, ◌||◌, List, [], Bool, true, false, Option, Some, None, find, is_some, refl, ap, sym, ◌∙◌}
 use Rattle.std.specs.List.{list_any}
 use Rattle.std.specs.Prelude.{count_by}
@@ -8,16 +8,20 @@ use Rattle.std.specs.Option.{option_copied, option_map_or}
 use Rattle.std.specs.Borrow.{Bor}
 use Rattle.cpe_name.specs.Eleven.{Values}
 use Rattle.cpe_relation.specs.NameRelation.{covers}
+use Rattle.cpe_relation.specs.Maybe.{maybe}
 use Rattle.cpe_rows.specs.Rows.{Rows}
 use Rattle.cpe_rows.specs.Chains.{successors_of}
 use Rattle.cpe_rows.specs.declared.entry.Entry.{Entry}
 use Rattle.cpe_rows.specs.declared.entry.Deprecation.{Deprecation}
 use Rattle.cpe_rows.specs.Truth.{same_truth}
-use Rattle.cpe_rows.specs.Verdict.{fact_truth, is_followed, truth}
+use Rattle.cpe_rows.specs.Verdict.{fact_truth, finds_item, is_followed, truth}
 use Rattle.cpe_rows.specs.declared.statement.Mode.{Mode}
-use Rattle.cpe_rows.specs.declared.truth.Truth.TheVariants.{False}
+use Rattle.cpe_rows.specs.declared.truth.Truth.TheVariants.{True, False}
 use Rattle.cpe_explain.specs.Leading.{followed}
-use Rattle.cpe_explain.proofs.Facts.{fact_is}
+use Rattle.cpe_explain.specs.Relates.{related, is_ruled_out}
+use Rattle.cpe_explain.specs.declared.relates.Relates.{Relates}
+use Rattle.cpe_explain.specs.declared.relates.Relates.TheVariants.{Covers, MayCover}
+use Rattle.cpe_explain.proofs.Facts.{found_is}
 use Rattle.cpe_explain.proofs.Firsts.{some_found}
 
 or_nothing : (b : Bool) → (b || false) ≡ b
@@ -25,33 +29,55 @@ or_nothing true = refl
 or_nothing false = refl
 
 -- in mode plain names are compared as they stand
-pub plain_is : (fact : Values) (items : List Values) → find (covers fact) items ≡ find (is_followed [] fact) items
-plain_is fact items =
-    ap (λ (p : Values → Bool). find p items) (λ j i. sym (or_nothing (covers fact i || false) ∙ or_nothing (covers fact i)) j)
+pub plain_is : (relates : Values → Values → Bool) (fact : Values) (items : List Values) → find (relates fact) items ≡ find (is_followed relates [] fact) items
+plain_is relates fact items =
+    ap (λ (p : Values → Bool). find p items) (λ j i. sym (or_nothing (relates fact i || false) ∙ or_nothing (relates fact i)) j)
 
-is_false : (b : Bool) → same_truth (truth b) False ≡ true → b ≡ false
-is_false true h = let w : ⊥ = cc in absurd w
-is_false false h = refl
+-- what a truth rules out
+none_covered : (a b : Bool) → not (same_truth (truth a b) True) ≡ true → a ≡ false
+none_covered true b h = let w : ⊥ = cc in absurd w
+none_covered false b h = refl
+
+none_maybe : (a b : Bool) → same_truth (truth a b) False ≡ true → b ≡ false
+none_maybe true b h = let w : ⊥ = cc in absurd w
+none_maybe false true h = let w : ⊥ = cc in absurd w
+none_maybe false false h = refl
+
+abbrev related_of : Relates → Bool → Bool → Bool
+related_of Covers a b = a
+related_of MayCover a b = b
+
+none_related : (relates : Relates) (a b : Bool) → is_ruled_out relates (truth a b) ≡ true → related_of relates a b ≡ false
+none_related Covers a b h = none_covered a b h
+none_related MayCover a b h = none_maybe a b h
 
 none_is : {A : Type 0} (o : Option A) → is_some o ≡ false → o ≡ None
 none_is None h = refl
 none_is (Some x) h = let w : ⊥ = cc in absurd w
 
+copied_some : (o : Option (Bor Values)) → is_some o ≡ is_some (option_copied o)
+copied_some None = refl
+copied_some (Some x) = refl
+
 module _ (rows : Rows) (mode : Mode) (fact : Values) where
-  pub false_is : same_truth (fact_truth rows mode fact) False ≡ true → find (is_followed (followed rows mode) fact) rows.items ≡ None
-  false_is h =
-      let p = is_followed (followed rows mode) fact in
-      none_is (find p rows.items) (some_found p rows.items ∙ is_false (list_any p rows.items) (ap (λ t. same_truth t False) (sym (fact_is rows mode fact)) ∙ h))
+  abbrev met : (Values → Values → Bool) → Values → Bool
+  met relates = is_followed relates (followed rows mode) fact
 
-  copied_some : (o : Option (Bor Values)) → is_some o ≡ is_some (option_copied o)
-  copied_some None = refl
-  copied_some (Some x) = refl
+  not_found : (relates : Relates) → related_of relates (finds_item covers rows mode fact) (finds_item maybe rows mode fact) ≡ false
+      → finds_item (related relates) rows mode fact ≡ false
+  not_found Covers h = h
+  not_found MayCover h = h
 
-  pub found_truth : (o : Option (Bor Values)) → option_copied o ≡ find (is_followed (followed rows mode) fact) rows.items
-      → truth (is_some o) ≡ fact_truth rows mode fact
-  found_truth o e =
-      let p = is_followed (followed rows mode) fact in
-      ap truth (copied_some o ∙ (ap is_some e ∙ some_found p rows.items)) ∙ sym (fact_is rows mode fact)
+  pub ruled_out : (relates : Relates) → is_ruled_out relates (fact_truth rows mode fact) ≡ true → find (met (related relates)) rows.items ≡ None
+  ruled_out relates h =
+      none_is (find (met (related relates)) rows.items) (some_found (met (related relates)) rows.items
+      ∙ (sym (found_is (related relates) rows mode fact)
+      ∙ not_found relates (none_related relates (finds_item covers rows mode fact) (finds_item maybe rows mode fact) h)))
+
+  pub found_told : (relates : Values → Values → Bool) (o : Option (Bor Values)) → option_copied o ≡ find (met relates) rows.items
+      → is_some o ≡ finds_item relates rows mode fact
+  found_told relates o e =
+      copied_some o ∙ (ap is_some e ∙ (some_found (met relates) rows.items ∙ sym (found_is relates rows mode fact)))
 
 -- what stands in the place of an entry's name, if there is one
 abbrev pub next_in : Option Entry → List Values

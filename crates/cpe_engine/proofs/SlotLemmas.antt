@@ -1,13 +1,6 @@
 -- Items by their slots, of which some may be empty.
-use Rattle.std.proofs.Common.{◌⊎◌, inl, inr, IfSome, ◌≡◌, ℕ, zero, suc, ◌+◌, ◌-◌, ◌<◌, ◌≤◌, List, [], ◌∷◌, Bool, true, false, cond, Option, Some, None, find, filter_map, drop, get_or, length, slice_get, refl, ap, sym, ◌∙◌, arith}
-use Rattle.std.specs.List.{list_any}
-use Rattle.std.specs.Option.{unwrap_or}
+use Rattle.std.proofs.Common.{◌≡◌, ℕ, zero, suc, ◌+◌, ◌-◌, ◌<◌, ◌≤◌, List, [], ◌∷◌, ◌++◌, Bool, true, false, cond, Option, Some, None, find, filter_map, drop, get_or, length, slice_get, refl, ap, sym, ◌∙◌, arith}
 use Rattle.std.proofs.lemmas.List.{drop_all}
-use Rattle.cpe_name.specs.Eleven.{Values}
-use Rattle.cpe_rows.specs.Names.{is_same}
-use Rattle.cpe_rows.specs.Reach.{Among}
-use Rattle.cpe_rows.proofs.NameTests.{same_is}
-use Rattle.cpe_rows.proofs.Paths.{element_passes}
 
 module _ {A : Type 0} where
   abbrev pub held : List (Option A) → List A
@@ -95,32 +88,26 @@ module _ {A : Type 0} where
   full_at (Some x ∷ slots) zero e = refl
   full_at (Some x ∷ slots) (suc k) e = full_at slots k (omega (arith, e))
 
--- ---- what is found is there
+  -- those that are held from a slot on are still to be put
+  abbrev pub IsPut : List A → List (Option A) → ℕ → Type 0
+  IsPut put slots i = put ++ held (drop i slots) ≡ held slots
 
-among_find : (p : Values → Bool) (xs : List Values) (n : Values) → find p xs ≡ Some n → Among xs n
-among_find p [] n e = absurd (let w : ⊥ = cc in w)
-among_find p (x ∷ xs) n e = go (p x) e (among_find p xs n) where
-  go : (b : Bool) → cond b (Some x) (find p xs) ≡ Some n → (find p xs ≡ Some n → Among xs n) → (x ≡ n) ⊎ Among xs n
-  go true k later = inl (ap (λ (o : Option Values). unwrap_or o x) k)
-  go false k later = inr (later k)
+  put_then : (put rest : List A) (x : A) → (put ++ x ∷ []) ++ rest ≡ put ++ (x ∷ rest)
+  put_then [] rest x = refl
+  put_then (y ∷ put) rest x = ap (λ (ys : List A). y ∷ ys) (put_then put rest x)
 
-among_at : (xs : List Values) (k : ℕ) (n : Values) → slice_get xs k ≡ Some n → Among xs n
-among_at [] k n e = absurd (let w : ⊥ = cc in w)
-among_at (x ∷ xs) zero n e = inl (ap (λ (o : Option Values). unwrap_or o x) e)
-among_at (x ∷ xs) (suc k) n e = inr (among_at xs k n e)
+  put_all : (put : List A) → put ++ [] ≡ put
+  put_all [] = refl
+  put_all (y ∷ put) = ap (λ (ys : List A). y ∷ ys) (put_all put)
 
-is_there : (xs : List Values) (n : Values) → Among xs n → list_any (is_same n) xs ≡ true
-is_there xs n m = element_passes (is_same n) xs n m ((same_is n n).1 refl)
+  pub put_here : (put : List A) (slots : List (Option A)) (i : ℕ) (x : A) → IsPut put slots i → i < length slots → get_or slots i None ≡ Some x
+      → IsPut (put ++ x ∷ []) slots (i + 1)
+  put_here put slots i x so_far h e =
+      put_then put (held (drop (i + 1) slots)) x ∙ (sym (ap (λ (ys : List A). put ++ ys) (held_some slots i x h e)) ∙ so_far)
 
-some_is : (xs : List Values) (o : Option Values) → ((n : Values) → o ≡ Some n → Among xs n) → IfSome o (λ n. list_any (is_same n) xs ≡ true)
-some_is xs None h = tt
-some_is xs (Some n) h = is_there xs n (h n refl)
+  pub put_over : (put : List A) (slots : List (Option A)) (i : ℕ) → IsPut put slots i → i < length slots → get_or slots i None ≡ None
+      → IsPut put slots (i + 1)
+  put_over put slots i so_far h e = sym (ap (λ (ys : List A). put ++ ys) (held_none slots i h e)) ∙ so_far
 
--- what was found of the held items is one of the items
-pub found_held : (p : Values → Bool) (slots : List (Option Values)) (xs : List Values) (o : Option Values) → held slots ≡ xs → o ≡ find p (held slots)
-    → IfSome o (λ n. list_any (is_same n) xs ≡ true)
-found_held p slots xs o e f = some_is xs o (λ n k. among_find p xs n (sym (f ∙ ap (find p) e) ∙ k))
-
-pub at_held : (slots : List (Option Values)) (k : ℕ) (xs : List Values) (o : Option Values) → held slots ≡ xs → o ≡ slice_get (held slots) k
-    → IfSome o (λ n. list_any (is_same n) xs ≡ true)
-at_held slots k xs o e f = some_is xs o (λ n h. among_at xs k n (sym (f ∙ ap (λ (ys : List Values). slice_get ys k) e) ∙ h))
+  pub put_done : (put : List A) (slots : List (Option A)) (i : ℕ) → IsPut put slots i → length slots ≤ i → put ≡ held slots
+  put_done put slots i so_far h = sym (put_all put) ∙ (sym (ap (λ (ys : List A). put ++ ys) (held_past slots i h)) ∙ so_far)

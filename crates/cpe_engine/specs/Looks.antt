@@ -1,8 +1,9 @@
 -- How many looks at names an answer may take, or an edit, which keeps the verdicts. A statement's verdict is kept, so that to ask for it is no
 -- look; but a name that comes, goes or is asked then, of an item, of a fact reference, or of their ends where deprecations lead, is looked at,
--- and the names on the other side to whose product it is near are looked at for it.
+-- and the names on the other side whose product its own meets are looked at for it.
 use Rattle.std.specs.Prelude.{ℕ, map}
 use Rattle.names_in_order.specs.Places.{near_count}
+use Rattle.items_in_order.specs.InOrder.{met_count}
 use Rattle.cpe_rows.specs.After.{after}
 use Rattle.cpe_rows.specs.Rows.{Rows}
 use Rattle.cpe_rows.specs.declared.entry.Entry.{Entry}
@@ -12,11 +13,11 @@ use Rattle.cpe_rows.specs.declared.edit.Query.{Query}
 use Rattle.cpe_rows.specs.declared.edit.Query.TheVariants.{Search, Items}
 use Rattle.kept_verdicts.specs.Looks.{item_looks, lead_looks, statement_looks}
 
--- for a search as many as entries have a product to which the asked one is near, for items as many as such items, and for each other query
--- none
+-- for a search as many as entries have a product to which the asked one is near, for items as many as have a product that the asked one
+-- meets, and for each other query none
 abbrev pub looks : Rows → Query → ℕ
 looks rows (Search asked active_only) = near_count asked (map (λ (e : Entry). e.name) rows.entries)
-looks rows (Items asked) = near_count asked rows.items
+looks rows (Items asked) = met_count asked rows.items
 looks rows query = 0
 
 -- for an item as many as it and its ends take, for a statement as many as its fact references take, for a change of a deprecation as many

@@ -1,8 +1,8 @@
 // The engine, its edits and its answers.
-ghost use Rattle.std.specs.Prelude.{◌≡◌, ◌+◌, ◌≤◌, IfOk, length, position, slice_get, true};
+ghost use Rattle.std.specs.Prelude.{◌≡◌, ◌+◌, ◌≤◌, IfOk, length, map, position, slice_get, true};
 ghost use Rattle.std.specs.List.{filter_map, list_any};
 ghost use Rattle.std.specs.Option.{option_map};
-ghost use Rattle.cpe_rows.specs.Prelude.{answer, Applied, changes, has_key, is_named, is_valid_edit, IsLawful, no_rows, verdict};
+ghost use Rattle.cpe_rows.specs.Prelude.{answer, Applied, chain, changes, has_key, is_named, is_valid_edit, IsLawful, no_rows, verdict};
 ghost use Rattle.cpe_rows.specs.Counts.{counts_of};
 ghost use Rattle.cpe_rows.specs.Names.{is_lower};
 ghost use Rattle.cpe_rows.specs.Valid.{is_valid_query};
@@ -101,6 +101,16 @@ impl Engine {
         self.parts.registry.entry_at(k)
     }
 
+    /// The entries of the chain of a name, lent: none where it is no entry. It searches the chain alone.
+    ///
+    /// # Errors
+    /// Only that memory ran out.
+    pub fn chain_lent(&self, alloc: Global, name: &Wfn) -> Result<Vec<EntryRef<'_>>, Memory>
+        ensures { IfOk result (λ links. map entry_lent links.items ≡ chain self.now.entries name.now) }
+    {
+        self.parts.registry.chain_lent(alloc, name)
+    }
+
     /// The place from 0 of the entry of this name. It is found by the hash.
     pub fn place_of(&self, name: &Wfn) -> Option<u32>
         ensures { result ≡ position (is_named name.now) self.now.entries }
@@ -196,7 +206,7 @@ impl Engine {
 
     /// The answer to a query. That there is no entry or statement of a name or id is an answer too. The name or id is moved
     /// into it. A step is a look at a name through an index: a search takes at most as many as there are entries to whose product
-    /// the asked one is near, a query for items as many as there are such items, and each other query none. A verdict is kept,
+    /// the asked one is near, a query for items as many as there are items whose product it meets, and each other query none. A verdict is kept,
     /// and none is evaluated.
     ///
     /// The query is in order ([`Query::valid`]).
@@ -216,7 +226,7 @@ impl Engine {
         match query {
             Query::Lookup(name) => Ok(self.lookup(name)),
             Query::Search { name, active_only } => self.search(alloc, name, active_only, steps),
-            Query::Items(name) => self.items_covered(alloc, name, steps),
+            Query::Items(name) => self.items_met(alloc, name, steps),
             Query::Chain(name) => self.chain(alloc, name),
             Query::Show(name) => self.show(alloc, name),
             Query::Verdict(id) => Ok(self.verdict_of(id)),
@@ -258,7 +268,7 @@ impl Engine {
         }
     }
 
-    fn items_covered<L: Ledger>(
+    fn items_met<L: Ledger>(
         &self,
         alloc: Global,
         name: Wfn,
@@ -269,8 +279,12 @@ impl Engine {
         ensures steps { StepsWithin steps.old steps.new (looks self.now (Query.Items name)) }
     {
         cpe_rows::law::names_are_equal();
-        match self.parts.registry.items().covered(alloc, &name, steps) {
-            Ok(rows) => Ok(Reply::Items { name, rows }),
+        match self.parts.registry.items().met(alloc, &name, steps) {
+            Ok(met) => Ok(Reply::Items {
+                name,
+                rows: met.covered,
+                maybe: met.maybe,
+            }),
             Err(memory) => Err(let_go(name, memory)),
         }
     }

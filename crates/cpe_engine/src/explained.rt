@@ -1,26 +1,22 @@
 // An engine as rows of which certificates are made, and by which they are tested.
-ghost use Rattle.std.specs.Prelude.{◌≡◌, ◌∷◌, [], IfOk, IfSome, None, Some, find, length, map, slice_get, true};
+ghost use Rattle.std.specs.Prelude.{◌≡◌, ◌∷◌, [], IfOk, IfSome, None, find, length, map, slice_get, true};
 ghost use Rattle.std.specs.List.{filter_map, list_any};
 ghost use Rattle.std.specs.Option.{option_copied, option_map_or};
-ghost use Rattle.cpe_relation.specs.NameRelation.{covers};
 ghost use Rattle.cpe_rows.specs.Chains.{successors_of};
-ghost use Rattle.cpe_rows.specs.Names.{is_same};
 ghost use Rattle.cpe_rows.specs.Prelude.{ends, Rows};
-ghost use Rattle.cpe_rows.specs.Truth.{same_truth};
-ghost use Rattle.cpe_rows.specs.Verdict.{fact_truth, is_followed, truth};
-ghost use Rattle.cpe_rows.specs.declared.truth.Truth.TheVariants.{False};
+ghost use Rattle.cpe_rows.specs.Verdict.{fact_truth, finds_item, is_followed, truth};
 ghost use Rattle.name_index.specs.Table.{IsLive, Names};
 ghost use Rattle.numbered_names.specs.Shown.{name_at, names_at};
 ghost use Rattle.cpe_registry.specs.Registered.{AreLive, name_in};
 ghost use Rattle.kept_verdicts.specs.Kept.{Stands};
 ghost use Rattle.cpe_explain.specs.Leading.{followed};
+ghost use Rattle.cpe_explain.specs.Relates.{related};
 
 use crate::engine::Engine;
-use cpe_explain::{ExplainedRows, PlainRows};
+use cpe_explain::{ExplainedRows, PlainRows, Relates};
 use cpe_inventory::ItemSlots;
 use cpe_name::Wfn;
 use cpe_registry::Registry;
-use cpe_relation::covers;
 use cpe_rows::{CheckKey, Deprecation, EntryRef, Mode, Statement, Truth};
 use cpe_values::Memory;
 use kept_verdicts::KeptVerdicts;
@@ -30,7 +26,7 @@ use std::alloc::Global;
 // ---- items by their slots
 
 // The item at a place, where some slots may be empty.
-fn nth_item<'s>(slots: &'s ItemSlots<'_>, k: usize) -> Option<&'s Wfn>
+fn nth_item<'t>(slots: &ItemSlots<'t>, k: usize) -> Option<&'t Wfn>
     ensures { option_copied result ≡ slice_get (filter_map (λ slot. slot) slots.now) k }
 {
     let mut left = k;
@@ -46,7 +42,7 @@ fn nth_item<'s>(slots: &'s ItemSlots<'_>, k: usize) -> Option<&'s Wfn>
 }
 
 // The same, where it is known how many items there are: where no slot is empty it is found in one step.
-fn item_of<'s>(slots: &'s ItemSlots<'_>, count: usize, k: usize) -> Option<&'s Wfn>
+fn item_of<'t>(slots: &ItemSlots<'t>, count: usize, k: usize) -> Option<&'t Wfn>
     requires { count ≡ length (filter_map (λ slot. slot) slots.now) }
     ensures { option_copied result ≡ slice_get (filter_map (λ slot. slot) slots.now) k }
 {
@@ -56,13 +52,26 @@ fn item_of<'s>(slots: &'s ItemSlots<'_>, count: usize, k: usize) -> Option<&'s W
     nth_item(slots, k)
 }
 
-// The first item that a name covers.
-fn first_covered<'s>(slots: &'s ItemSlots<'_>, name: &Wfn) -> Option<&'s Wfn>
-    ensures { option_copied result ≡ find (covers name.now) (filter_map (λ slot. slot) slots.now) }
+// The items in their slots, of which there are so many.
+fn items_in<'t>(alloc: Global, slots: &ItemSlots<'t>, count: usize) -> Result<Vec<&'t Wfn>, Memory>
+    ensures { IfOk result (λ names. map (λ n. n.now) names.items ≡ filter_map (λ slot. slot) slots.now) }
+{
+    let mut names = Vec::with_capacity(alloc, count)?;
+    for slot in 0..slots.len() {
+        if let Some(item) = slots.at(slot) {
+            names.push(item)?;
+        }
+    }
+    Ok(names)
+}
+
+// The first item to which a name stands so.
+fn first_related<'t>(slots: &ItemSlots<'t>, relates: Relates, name: &Wfn) -> Option<&'t Wfn>
+    ensures { option_copied result ≡ find (related relates name.now) (filter_map (λ slot. slot) slots.now) }
 {
     for slot in 0..slots.len() {
         if let Some(item) = slots.at(slot) {
-            if covers(name, item) {
+            if relates.holds(name, item) {
                 return Some(item);
             }
         }
@@ -118,44 +127,48 @@ fn ends_of<'a>(registry: &'a Registry, alloc: Global, name: &'a Wfn) -> Result<V
     }
 }
 
-fn covers_one(name: &Wfn, others: &[&Wfn]) -> bool
-    ensures { result ≡ list_any (λ other. covers name.now other.now) others.now }
+fn relates_to_one(relates: Relates, name: &Wfn, others: &[&Wfn]) -> bool
+    ensures { result ≡ list_any (λ other. related relates name.now other.now) others.now }
 {
-    others.iter().any(|other| covers(name, *other))
+    others.iter().any(|other| relates.holds(name, *other))
 }
 
-fn one_covers(names: &[&Wfn], others: &[&Wfn]) -> bool
-    ensures { result ≡ list_any (λ name. list_any (λ other. covers name.now other.now) others.now) names.now }
+fn one_relates(relates: Relates, names: &[&Wfn], others: &[&Wfn]) -> bool
+    ensures { result ≡ list_any (λ name. list_any (λ other. related relates name.now other.now) others.now) names.now }
 {
-    names.iter().any(|name| covers_one(*name, others))
+    names
+        .iter()
+        .any(|name| relates_to_one(relates, *name, others))
 }
 
-// Whether one of these covers an end of an item.
+// Whether one of these stands so to an end of an item.
 fn is_met(
     registry: &Registry,
     alloc: Global,
+    relates: Relates,
     fact_ends: &[&Wfn],
     item: &Wfn,
 ) -> Result<bool, Memory>
-    ensures { IfOk result (λ met. met ≡ list_any (λ name. list_any (covers name) (ends registry.now.entries item.now)) (map (λ n. n.now) fact_ends.now)) }
+    ensures { IfOk result (λ met. met ≡ list_any (λ name. list_any (related relates name) (ends registry.now.entries item.now)) (map (λ n. n.now) fact_ends.now)) }
 {
     let item_ends = ends_of(registry, alloc, item)?;
-    Ok(one_covers(fact_ends, &item_ends))
+    Ok(one_relates(relates, fact_ends, &item_ends))
 }
 
-// The first item of which some end of the name covers an end.
-fn first_followed<'s>(
+// The first item to an end of which some end of the name stands so.
+fn first_followed<'t>(
     registry: &Registry,
     alloc: Global,
-    slots: &'s ItemSlots<'_>,
+    slots: &ItemSlots<'t>,
+    relates: Relates,
     name: &Wfn,
-) -> Result<Option<&'s Wfn>, Memory>
-    ensures { IfOk result (λ item. option_copied item ≡ find (is_followed registry.now.entries name.now) (filter_map (λ slot. slot) slots.now)) }
+) -> Result<Option<&'t Wfn>, Memory>
+    ensures { IfOk result (λ item. option_copied item ≡ find (is_followed (related relates) registry.now.entries name.now) (filter_map (λ slot. slot) slots.now)) }
 {
     let fact_ends = ends_of(registry, alloc, name)?;
     for slot in 0..slots.len() {
         if let Some(item) = slots.at(slot) {
-            if is_met(registry, alloc, &fact_ends, item)? {
+            if is_met(registry, alloc, relates, &fact_ends, item)? {
                 return Ok(Some(item));
             }
         }
@@ -184,61 +197,58 @@ fn kept_truth(registry: &Registry, verdicts: &KeptVerdicts, mode: Mode, name: &W
     }
 }
 
-fn truth_of(is_met: bool) -> Truth
-    ensures { result ≡ truth is_met }
+fn truth_of(is_covered: bool, may_be: bool) -> Truth
+    ensures { result ≡ truth is_covered may_be }
 {
-    if is_met { Truth::True } else { Truth::False }
+    if is_covered {
+        return Truth::True;
+    }
+    if may_be { Truth::Unknown } else { Truth::False }
 }
 
 // ---- the engine
 
 impl Engine {
-    // A name of an item, as the table keeps it.
-    fn kept_name(&self, name: &Wfn) -> Option<&Wfn>
-        requires { list_any (is_same name.now) self.now.items ≡ true }
-        ensures { option_copied result ≡ Some name.now }
-    {
-        match self.parts.registry.find(name) {
-            Some(id) => Some(self.parts.registry.name(id)),
-            None => None,
-        }
-    }
-
-    // The item that was found, if one was.
-    fn kept_item(&self, found: Option<&Wfn>) -> Option<&Wfn>
-        requires { IfSome (option_copied found) (λ name. list_any (is_same name) self.now.items ≡ true) }
-        ensures { option_copied result ≡ option_copied found.entry }
-    {
-        match found {
-            Some(name) => self.kept_name(name),
-            None => None,
-        }
-    }
-
     /// The item at a place from 0. There is none exactly where the place is the number of items or more. It takes no memory. Where no
     /// slot is empty it is found in one step, and else it goes over the slots before it.
     pub fn item_at(&self, k: usize) -> Option<&Wfn>
         ensures { option_copied result ≡ slice_get self.now.items k }
     {
         let slots = self.item_slots();
-        self.kept_item(item_of(&slots, self.items_len(), k))
+        item_of(&slots, self.items_len(), k)
     }
 
-    // The first item that a name covers.
-    fn first_plain(&self, name: &Wfn) -> Option<&Wfn>
-        ensures { option_copied result ≡ find (covers name.now) self.now.items }
+    /// The items, in their order. It goes over their slots once.
+    ///
+    /// # Errors
+    /// Only that memory ran out.
+    pub fn all_items(&self, alloc: Global) -> Result<Vec<&Wfn>, Memory>
+        ensures { IfOk result (λ names. map (λ n. n.now) names.items ≡ self.now.items) }
     {
         let slots = self.item_slots();
-        self.kept_item(first_covered(&slots, name))
+        items_in(alloc, &slots, self.items_len())
     }
 
-    // The first item to an end of which a name leads.
-    fn first_by_ends(&self, alloc: Global, name: &Wfn) -> Result<Option<&Wfn>, Memory>
-        ensures { IfOk result (λ item. option_copied item ≡ find (is_followed self.now.entries name.now) self.now.items) }
+    // The first item to which a name stands so.
+    fn first_plain(&self, relates: Relates, name: &Wfn) -> Option<&Wfn>
+        ensures { option_copied result ≡ find (related relates name.now) self.now.items }
     {
         let slots = self.item_slots();
-        let found = first_followed(&self.parts.registry, alloc, &slots, name)?;
-        Ok(self.kept_item(found))
+        first_related(&slots, relates, name)
+    }
+
+    // The first item to an end of which some end of the name stands so.
+    fn first_by_ends(
+        &self,
+        alloc: Global,
+        relates: Relates,
+        name: &Wfn,
+    ) -> Result<Option<&Wfn>, Memory>
+        ensures { IfOk result (λ item. option_copied item ≡ find (is_followed (related relates) self.now.entries name.now) self.now.items) }
+    {
+        let slots = self.item_slots();
+        let found = first_followed(&self.parts.registry, alloc, &slots, relates, name)?;
+        Ok(found)
     }
 }
 
@@ -250,39 +260,56 @@ impl Engine {
         kept_truth(&self.parts.registry, &self.parts.verdicts, mode, name)
     }
 
-    // Whether it is kept that a fact reference is FALSE: then no item makes it TRUE.
-    fn is_kept_false(&self, mode: Mode, name: &Wfn) -> bool
-        ensures { result ≡ true → find (is_followed (followed self.now mode) name.now) self.now.items ≡ None }
+    // Whether it is kept that a fact reference has a truth by which its name stands so to no item.
+    fn is_ruled_out(&self, relates: Relates, mode: Mode, name: &Wfn) -> bool
+        ensures { result ≡ true → find (is_followed (related relates) (followed self.now mode) name.now) self.now.items ≡ None }
     {
         match self.told_truth(mode, name) {
-            Some(truth) => is_false(truth),
+            Some(truth) => relates.is_ruled_out(truth),
             None => false,
         }
     }
 
-    // The first item by which a fact reference is TRUE.
-    fn sought_item(&self, alloc: Global, mode: Mode, name: &Wfn) -> Result<Option<&Wfn>, Memory>
-        ensures { IfOk result (λ item. option_copied item ≡ find (is_followed (followed self.now mode) name.now) self.now.items) }
+    // The first item to which a name stands so in a mode.
+    fn sought_item(
+        &self,
+        alloc: Global,
+        relates: Relates,
+        mode: Mode,
+        name: &Wfn,
+    ) -> Result<Option<&Wfn>, Memory>
+        ensures { IfOk result (λ item. option_copied item ≡ find (is_followed (related relates) (followed self.now mode) name.now) self.now.items) }
     {
         match mode {
-            Mode::Plain => Ok(self.first_plain(name)),
-            Mode::Follow => self.first_by_ends(alloc, name),
+            Mode::Plain => Ok(self.first_plain(relates, name)),
+            Mode::Follow => self.first_by_ends(alloc, relates, name),
         }
     }
 
-    // The truth of a fact reference, by whether an item makes it TRUE.
+    // Whether a name stands so to an item.
+    fn is_found(
+        &self,
+        alloc: Global,
+        relates: Relates,
+        mode: Mode,
+        name: &Wfn,
+    ) -> Result<bool, Memory>
+        ensures { IfOk result (λ found. found ≡ finds_item (related relates) self.now mode name.now) }
+    {
+        let item = self.sought_item(alloc, relates, mode, name)?;
+        Ok(item.is_some())
+    }
+
+    // The truth of a fact reference, by whether an item shows it.
     fn sought_truth(&self, alloc: Global, mode: Mode, name: &Wfn) -> Result<Truth, Memory>
         ensures { IfOk result (λ truth. truth ≡ fact_truth self.now mode name.now) }
     {
-        let item = self.sought_item(alloc, mode, name)?;
-        Ok(truth_of(item.is_some()))
+        if self.is_found(alloc, Relates::Covers, mode, name)? {
+            return Ok(Truth::True);
+        }
+        let may_be = self.is_found(alloc, Relates::MayCover, mode, name)?;
+        Ok(truth_of(false, may_be))
     }
-}
-
-fn is_false(truth: Truth) -> bool
-    ensures { result ≡ same_truth truth False }
-{
-    truth == Truth::False
 }
 
 fn successors_of(deprecation: Option<&Deprecation>) -> &[Wfn]
@@ -319,6 +346,10 @@ impl PlainRows for Engine {
         self.item_at(k)
     }
 
+    fn items(&self, alloc: Global) -> Result<Vec<&Wfn>, Memory> {
+        self.all_items(alloc)
+    }
+
     fn statement(&self, k: usize) -> Option<&Statement> {
         match self.statement_at(k) {
             Some((statement, _)) => Some(statement),
@@ -339,11 +370,17 @@ impl ExplainedRows for Engine {
         }
     }
 
-    fn first_item(&self, alloc: Global, mode: Mode, name: &Wfn) -> Result<Option<&Wfn>, Memory> {
-        if self.is_kept_false(mode, name) {
+    fn first_item(
+        &self,
+        alloc: Global,
+        relates: Relates,
+        mode: Mode,
+        name: &Wfn,
+    ) -> Result<Option<&Wfn>, Memory> {
+        if self.is_ruled_out(relates, mode, name) {
             return Ok(None);
         }
-        self.sought_item(alloc, mode, name)
+        self.sought_item(alloc, relates, mode, name)
     }
 
     fn result_of(&self, key: &CheckKey) -> Truth {

@@ -2,9 +2,9 @@ use Rattle.std.proofs.Common.{◌≡◌, ◌<◌, ◌≤◌, Bool, List, ℕ, le
 use Rattle.std.specs.Borrow.{Bor}
 use Rattle.std.specs.List.{list_any}
 use Rattle.cpe_name.specs.Eleven.{Values}
-use Rattle.cpe_relation.specs.NameRelation.{covers}
 use Rattle.cpe_rows.specs.Chains.{ends}
 use Rattle.cpe_rows.specs.Verdict.{is_followed}
+use Rattle.cpe_explain.specs.Relates.{related}
 use Rattle.cpe_engine.proofs.SlotLemmas.{left_here, left_next, left_over, left_none}
 use Rattle.cpe_engine.proofs.explained.first_followed.Goals as goal
 use Rattle.cpe_engine.proofs.explained.first_followed.Goals.{in-Some+in_ok-is_met+else-branch, in_default}
@@ -17,8 +17,8 @@ returns-then-branch c =
     let less : i < length c.args.slots.now = subst (λ (m : ℕ). i < m) c.len-slot-end.ensures c.loop-slot-test.true in
     let are : map (λ (n : Bor Values). n.now) c.deref.result.now ≡ ends es c.args.name.now
     = ap (map (λ (n : Bor Values). n.now)) c.deref.ensures.value ∙ c.in_ok-fact_ends.ensures in
-    let met = c.in_ok-is_met.ensures ∙ ap (λ (fs : List Values). list_any (λ f. list_any (covers f) (ends es item)) fs) are in
-    sym (left_here (is_followed es c.args.name.now) c.args.slots.now i item c.loop-slot.invariant less (sym c.in-Some.ensures)
+    let met = c.in_ok-is_met.ensures ∙ ap (λ (fs : List Values). list_any (λ f. list_any (related c.args.relates f) (ends es item)) fs) are in
+    sym (left_here (is_followed (related c.args.relates) es c.args.name.now) c.args.slots.now i item c.loop-slot.invariant less (sym c.in-Some.ensures)
     (sym met ∙ c.if-branch.true))
 
 pub loop-slot-preserved : goal.loop-slot-preserved
@@ -31,14 +31,14 @@ loop-slot-preserved c =
           let item = w.in-Some.item.now in
           let are : map (λ (n : Bor Values). n.now) w.deref.result.now ≡ ends es c.args.name.now
           = ap (map (λ (n : Bor Values). n.now)) w.deref.ensures.value ∙ c.in_ok-fact_ends.ensures in
-          let met = w.in_ok-is_met.ensures ∙ ap (λ (fs : List Values). list_any (λ f. list_any (covers f) (ends es item)) fs) are in
-          left_next (is_followed es c.args.name.now) c.args.slots.now i item c.loop-slot.invariant less (sym w.in-Some.ensures)
+          let met = w.in_ok-is_met.ensures ∙ ap (λ (fs : List Values). list_any (λ f. list_any (related c.args.relates f) (ends es item)) fs) are in
+          left_next (is_followed (related c.args.relates) es c.args.name.now) c.args.slots.now i item c.loop-slot.invariant less (sym w.in-Some.ensures)
           (sym met ∙ w.if-branch.false)
-      | in_default w ↦ left_over (is_followed es c.args.name.now) c.args.slots.now i c.loop-slot.invariant less (sym w.in_default.ensures)
+      | in_default w ↦ left_over (is_followed (related c.args.relates) es c.args.name.now) c.args.slots.now i c.loop-slot.invariant less (sym w.in_default.ensures)
     ]
 
 pub returns : goal.returns
 returns c =
     let i : ℕ = c.loop-slot.slot in
-    sym (left_none (is_followed c.args.registry.now.entries c.args.name.now) c.args.slots.now i c.loop-slot.invariant (subst (λ (m : ℕ). m
+    sym (left_none (is_followed (related c.args.relates) c.args.registry.now.entries c.args.name.now) c.args.slots.now i c.loop-slot.invariant (subst (λ (m : ℕ). m
     ≤ i) c.len-slot-end.ensures c.loop-slot-test.false))
