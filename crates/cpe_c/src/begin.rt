@@ -7,7 +7,7 @@ ghost use Rattle.cpe_c.specs.Beginning.{answers_lines, begins, Opens, words_of};
 
 use crate::speaking::Speaking;
 use crate::talk::{Phase, Talk};
-use cpe_command::{NameCommand, RecordCommand};
+use cpe_command::{Command, NameCommand, read_word};
 use cpe_cover::Names;
 use cpe_engine::Engine;
 use cpe_ranges::Advisories;
@@ -39,36 +39,19 @@ fn speaking_of(alloc: Global, word: &[u8], second: &[u8]) -> Option<Speaking>
     }
 }
 
+// The same of the command that one word names.
 fn of_one_word(alloc: Global, word: &[u8]) -> Option<Speaking>
     ensures { result ≡ begins (command_of (word.now ∷ [])) }
 {
-    if are_equal(word, b"unbind") {
-        Some(Speaking::Name(NameCommand::Unbind))
-    } else if are_equal(word, b"compare") {
-        Some(Speaking::Compare)
-    } else if are_equal(word, b"resolve") {
-        Some(Speaking::Records(RecordCommand::Resolve, Engine::new(alloc)))
-    } else if are_equal(word, b"evaluate") {
-        Some(Speaking::Records(RecordCommand::Evaluate, Engine::new(alloc)))
-    } else if are_equal(word, b"watch") {
-        Some(Speaking::Records(RecordCommand::Watch, Engine::new(alloc)))
-    } else if are_equal(word, b"convert") {
-        Some(Speaking::Convert)
-    } else if are_equal(word, b"explain") {
-        Some(Speaking::Records(RecordCommand::Explain, Engine::new(alloc)))
-    } else if are_equal(word, b"check") {
-        Some(Speaking::Records(RecordCommand::Check, Engine::new(alloc)))
-    } else if are_equal(word, b"advise") {
-        Some(Speaking::Advise(Advisories::new(alloc)))
-    } else if are_equal(word, b"save") {
-        Some(Speaking::Records(RecordCommand::Save, Engine::new(alloc)))
-    } else if are_equal(word, b"load") {
-        // A snapshot has no lines.
-        None
-    } else if are_equal(word, b"cover") {
-        Some(Speaking::Cover(Names::new(alloc)))
-    } else {
-        None
+    match read_word(word)? {
+        Command::Name(command) => Some(Speaking::Name(command)),
+        Command::Compare => Some(Speaking::Compare),
+        Command::Records(command) => Some(Speaking::Records(command, Engine::new(alloc))),
+        Command::Convert => Some(Speaking::Convert),
+        Command::Advise => Some(Speaking::Advise(Advisories::new(alloc))),
+        Command::Cover => Some(Speaking::Cover(Names::new(alloc))),
+        // A snapshot has no lines, and what is made is read from none.
+        Command::Load | Command::Make(_) | Command::Drill(_) => None,
     }
 }
 

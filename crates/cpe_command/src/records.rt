@@ -1,5 +1,5 @@
 // What a line of a record says.
-ghost use Rattle.std.specs.Prelude.{◌≡◌, ◌++◌, [], ℕ, List, true, None, IfOk, OnErr};
+ghost use Rattle.std.specs.Prelude.{◌≡◌, ◌++◌, [], ℕ, List, true, None, IfOk, OnErr, OnOk};
 ghost use Rattle.std.specs.Option.{option_map};
 ghost use Rattle.cpe_steps.specs.Within.{StepsWithin};
 ghost use Rattle.cpe_session.specs.Pages.{IsBeforeOrAfter, IsSaid};
@@ -22,8 +22,9 @@ use cpe_engine::Engine;
 use cpe_explain::Proof;
 use cpe_io::{Sink, SinkFault};
 use cpe_members::RecordFault;
+use cpe_name::Wfn;
 use cpe_records::{Record, read_record};
-use cpe_replies::{RecordReason, push_reply};
+use cpe_replies::{RecordReason, push_chain_lent, push_reply};
 use cpe_rows::{Edit, EditFault, Query};
 use cpe_session::{Line, Page, Speaker};
 use cpe_steps::Steps;
@@ -214,8 +215,57 @@ fn make_edit<L: Ledger>(
 }
 
 // Puts the answer to a query after what is gathered.
-#[inline(never)]
 fn say_answer<L: Ledger>(
+    alloc: Global,
+    engine: &Engine,
+    page: &mut Page,
+    query: Query,
+    steps: &mut Steps<L>,
+) -> Result<Option<RecordReason>, AllocError>
+    requires { is_valid_query query ≡ true }
+    ensures said { IfOk result (λ refused. (refused ≡ None) × (page.new ≡ page.old ++ reply_text (answer engine.now query))) }
+    ensures counts { StepsWithin steps.old steps.new (looks engine.now query) }
+{
+    match query {
+        Query::Chain(name) => say_chain(alloc, engine, page, name),
+        other => say_reply(alloc, engine, page, other, steps),
+    }
+}
+
+// The same for a query for a chain. The names that it has are lent, and none is copied.
+#[inline(never)]
+fn say_chain(
+    alloc: Global,
+    engine: &Engine,
+    page: &mut Page,
+    name: Wfn,
+) -> Result<Option<RecordReason>, AllocError>
+    ensures { IfOk result (λ refused. (refused ≡ None) × (page.new ≡ page.old ++ reply_text (answer engine.now (Query.Chain name)))) }
+{
+    let said = push_chain_of(alloc, engine, page, &name);
+    drop(name);
+    said?;
+    Ok(None)
+}
+
+// Puts the lines of a chain after what is gathered.
+fn push_chain_of(
+    alloc: Global,
+    engine: &Engine,
+    page: &mut Page,
+    name: &Wfn,
+) -> Result<(), AllocError>
+    ensures { OnOk result (page.new ≡ page.old ++ reply_text (answer engine.now (Query.Chain name.now))) }
+{
+    match engine.chain_lent(alloc, name) {
+        Ok(links) => push_chain_lent(alloc, page, name, &links),
+        Err(_) => Err(AllocError),
+    }
+}
+
+// The same for each query.
+#[inline(never)]
+fn say_reply<L: Ledger>(
     alloc: Global,
     engine: &Engine,
     page: &mut Page,

@@ -1,3 +1,4 @@
+pub mod Chains
 pub mod Replies
 pub mod Reasons
 pub mod Proofs

@@ -60,10 +60,16 @@ shown name None = codes "show " ++ name_text name ++ codes " absent\n"
 abbrev pub verdict_line : List ℕ → Option Truth → List ℕ
 verdict_line id truth = found_line (codes "verdict " ++ id) (option_map truth_word truth)
 
+-- how many items the name covers, these items, and those that it may cover
+abbrev pub items_text : Values → List Values → List Values → List ℕ
+items_text name covered maybe =
+    count_line (codes "items ") name (length covered) ++ flat_map (name_line (codes "item ")) covered
+    ++ flat_map (name_line (codes "maybe ")) maybe
+
 abbrev pub reply_text : Reply → List ℕ
 reply_text (Lookup name state) = found_line (codes "lookup " ++ name_text name) (option_map state_word state)
 reply_text (Search name rows) = count_line (codes "search ") name (length rows) ++ flat_map (row_line (codes "entry ")) rows
-reply_text (Items name items) = count_line (codes "items ") name (length items) ++ flat_map (name_line (codes "item ")) items
+reply_text (Items name items maybe) = items_text name items maybe
 reply_text (Chain name links ends) = chain_line name (length links) (length ends) ++ flat_map (row_line (codes "step ")) links ++ flat_map (name_line (codes "end ")) ends
 reply_text (Show name entry) = shown name entry
 reply_text (Verdict id truth) = verdict_line id truth

@@ -2,12 +2,14 @@
 //! said of them, and the reasons why a line is refused.
 #![tactic(auto)]
 
+mod chain;
 mod change;
 mod proof;
 mod reason;
 mod reply;
 mod row;
 
+pub use chain::push_chain_lent;
 pub use change::push_change;
 pub use proof::{push_checked, push_proof};
 pub use reason::{RecordReason, push_record_fault};

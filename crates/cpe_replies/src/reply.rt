@@ -24,9 +24,10 @@ pub fn push_reply(alloc: Global, page: &mut Page, reply: &Reply) -> Result<(), A
             push_count(alloc, page, b"search ", name, rows.len())?;
             push_rows(alloc, page, b"entry ", rows.as_slice())
         }
-        Reply::Items { name, rows } => {
+        Reply::Items { name, rows, maybe } => {
             push_count(alloc, page, b"items ", name, rows.len())?;
-            push_names(alloc, page, b"item ", rows.as_slice())
+            push_names(alloc, page, b"item ", rows.as_slice())?;
+            push_names(alloc, page, b"maybe ", maybe.as_slice())
         }
         Reply::Chain { name, links, ends } => {
             push_chain(alloc, page, name, links.len(), ends.len())?;
@@ -54,7 +55,7 @@ fn push_count(
     page.push(b"\n")
 }
 
-fn push_chain(
+pub(crate) fn push_chain(
     alloc: Global,
     page: &mut Page,
     name: &Wfn,

@@ -1,5 +1,5 @@
 // Names and entries in short, as lines.
-ghost use Rattle.std.specs.Prelude.{◌≡◌, ◌++◌, OnOk};
+ghost use Rattle.std.specs.Prelude.{◌≡◌, ◌++◌, IfOk, OnOk};
 ghost use Rattle.std.specs.List.{flat_map};
 ghost use Rattle.cpe_replies.specs.Replies.{state_word, name_text, name_line, row_line};
 
@@ -8,6 +8,7 @@ use cpe_members::kind_word;
 use cpe_name::Wfn;
 use cpe_rows::{Row, State};
 use cpe_session::Page;
+use cpe_values::Memory;
 use std::alloc::{AllocError, Global};
 
 /// Puts the formatted string of a name after what is gathered.
@@ -33,22 +34,64 @@ pub(crate) fn push_state(page: &mut Page, state: State) -> Result<(), AllocError
     page.push(state_word(state).as_bytes())
 }
 
-fn push_name_line(alloc: Global, page: &mut Page, word: &[u8], name: &Wfn) -> Result<(), AllocError>
+// Puts the line of a name after what a buffer holds.
+#[tactic(auto, unfolding(crate::specs::Replies::name_text))]
+fn append_name_line(buffer: Vec<u8>, word: &[u8], name: &Wfn) -> Result<Vec<u8>, Memory>
+    ensures { IfOk result (λ line. line.items ≡ buffer.items ++ name_line word.now name.now) }
+{
+    let mut before = buffer;
+    before.extend_from_slice(word)?;
+    let mut line = append_fs(before, name)?;
+    line.extend_from_slice(b"\n")?;
+    Ok(line)
+}
+
+pub(crate) fn push_name_line(
+    alloc: Global,
+    page: &mut Page,
+    word: &[u8],
+    name: &Wfn,
+) -> Result<(), AllocError>
     ensures { OnOk result (page.new ≡ page.old ++ name_line word.now name.now) }
 {
-    page.push(word)?;
-    push_name(alloc, page, name)?;
-    page.push(b"\n")
+    page.with_bytes(alloc, |bytes| append_name_line(bytes, word, name))
+}
+
+// Puts the line of a name and of the state of its entry after what a buffer holds.
+#[tactic(auto, unfolding(crate::specs::Replies::name_text))]
+fn append_state_line(
+    buffer: Vec<u8>,
+    word: &[u8],
+    name: &Wfn,
+    state: State,
+) -> Result<Vec<u8>, Memory>
+    ensures { IfOk result (λ line. line.items ≡ buffer.items ++ row_line word.now (record { name = name.now; state = state })) }
+{
+    let mut before = buffer;
+    before.extend_from_slice(word)?;
+    let mut line = append_fs(before, name)?;
+    line.extend_from_slice(b" ")?;
+    line.extend_from_slice(state_word(state).as_bytes())?;
+    line.extend_from_slice(b"\n")?;
+    Ok(line)
+}
+
+pub(crate) fn push_state_line(
+    alloc: Global,
+    page: &mut Page,
+    word: &[u8],
+    name: &Wfn,
+    state: State,
+) -> Result<(), AllocError>
+    ensures { OnOk result (page.new ≡ page.old ++ row_line word.now (record { name = name.now; state = state })) }
+{
+    page.with_bytes(alloc, |bytes| append_state_line(bytes, word, name, state))
 }
 
 fn push_row_line(alloc: Global, page: &mut Page, word: &[u8], row: &Row) -> Result<(), AllocError>
     ensures { OnOk result (page.new ≡ page.old ++ row_line word.now row.now) }
 {
-    page.push(word)?;
-    push_name(alloc, page, &row.name)?;
-    page.push(b" ")?;
-    push_state(page, row.state)?;
-    page.push(b"\n")
+    push_state_line(alloc, page, word, &row.name, row.state)
 }
 
 /// A line for each name.

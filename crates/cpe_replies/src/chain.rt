@@ -1,0 +1,112 @@
+// The answer to a query for a chain whose entries are lent, as lines.
+ghost use Rattle.std.specs.Prelude.{◌≡◌, ◌++◌, List, OnOk, codes, filter, length, map};
+ghost use Rattle.std.specs.List.{flat_map};
+ghost use Rattle.std.specs.Option.{option_copied, option_map_or};
+ghost use Rattle.cpe_rows.specs.Answers.{row_of};
+ghost use Rattle.cpe_rows.specs.Chains.{chain as chain_of, ends, is_active};
+ghost use Rattle.cpe_rows.specs.Lent.{entry_lent};
+ghost use Rattle.cpe_rows.specs.declared.entry.Deprecation.{Deprecation};
+ghost use Rattle.cpe_rows.specs.declared.entry.Entry.{Entry};
+ghost use Rattle.cpe_rows.specs.declared.reply.Reply.TheVariants as reply;
+ghost use Rattle.cpe_replies.specs.Chains.{end_line, lent_text, step_line};
+ghost use Rattle.cpe_replies.specs.Replies.{reply_text};
+
+use crate::reply::push_chain;
+use crate::row::{push_name_line, push_state_line};
+use cpe_name::Wfn;
+use cpe_rows::{Deprecation, EntryRef, State};
+use cpe_session::Page;
+use std::alloc::{AllocError, Global};
+
+/// Puts the lines of the answer to a query for a chain after what is gathered. The entries are those of the chain of the name.
+///
+/// # Errors
+/// Only that memory ran out. What is gathered may be lost then.
+pub fn push_chain_lent(
+    alloc: Global,
+    page: &mut Page,
+    name: &Wfn,
+    links: &[EntryRef<'_>],
+) -> Result<(), AllocError>
+    ensures { (entries : List Entry) → map entry_lent links.now ≡ chain_of entries name.now
+        → OnOk result (page.new ≡ page.old ++ reply_text (reply.Chain name.now (map row_of (chain_of entries name.now)) (ends entries name.now))) }
+{
+    cpe_rows::law::absent_names_stand_alone();
+    push_links(alloc, page, name, links)
+}
+
+// The same of any entries. Where there are none the name is its own end.
+fn push_links(
+    alloc: Global,
+    page: &mut Page,
+    name: &Wfn,
+    links: &[EntryRef<'_>],
+) -> Result<(), AllocError>
+    ensures { OnOk result (page.new ≡ page.old ++ lent_text name.now links.now) }
+{
+    if links.is_empty() {
+        push_chain(alloc, page, name, 0, 1)?;
+        push_name_line(alloc, page, b"end ", name)
+    } else {
+        push_chain(alloc, page, name, links.len(), count_active(links))?;
+        push_steps(alloc, page, links)?;
+        push_active(alloc, page, links)
+    }
+}
+
+// How many of the entries are active.
+fn count_active(links: &[EntryRef<'_>]) -> usize
+    ensures { result ≡ length (filter (λ e. is_active (entry_lent e)) links.now) }
+{
+    links
+        .iter()
+        .filter(|link| link.deprecation.is_none())
+        .count()
+}
+
+fn state_of(deprecation: Option<&Deprecation>) -> State
+    ensures { result ≡ option_map_or (λ (d : Deprecation). State.Deprecated d.kind) (option_copied deprecation.entry) State.Active }
+{
+    match deprecation {
+        Some(deprecation) => State::Deprecated(deprecation.kind),
+        None => State::Active,
+    }
+}
+
+// The line of an entry of the chain.
+fn push_step(alloc: Global, page: &mut Page, link: EntryRef<'_>) -> Result<(), AllocError>
+    ensures { OnOk result (page.new ≡ page.old ++ step_line (entry_lent link.entry)) }
+{
+    push_state_line(alloc, page, b"step ", link.name, state_of(link.deprecation))
+}
+
+// A line for each entry.
+fn push_steps(alloc: Global, page: &mut Page, links: &[EntryRef<'_>]) -> Result<(), AllocError>
+    ensures { OnOk result (page.new ≡ page.old ++ flat_map (λ e. step_line (entry_lent e)) links.now) }
+{
+    for link in links {
+        push_step(alloc, page, *link)?;
+    }
+    Ok(())
+}
+
+// The line of the end that an entry is, if it is active.
+fn push_end(alloc: Global, page: &mut Page, link: EntryRef<'_>) -> Result<(), AllocError>
+    ensures { OnOk result (page.new ≡ page.old ++ end_line (entry_lent link.entry)) }
+{
+    if link.deprecation.is_none() {
+        push_name_line(alloc, page, b"end ", link.name)
+    } else {
+        Ok(())
+    }
+}
+
+// A line for each active entry.
+fn push_active(alloc: Global, page: &mut Page, links: &[EntryRef<'_>]) -> Result<(), AllocError>
+    ensures { OnOk result (page.new ≡ page.old ++ flat_map (λ e. end_line (entry_lent e)) links.now) }
+{
+    for link in links {
+        push_end(alloc, page, *link)?;
+    }
+    Ok(())
+}
