@@ -79,7 +79,7 @@ makes_tables() {
     echo "left out the records: $(grep -c '^refused ' examples/inventory.out) lines refused" > "$room/wanted.said"
     affected '' 1 "$samples/table.out" "$room/wanted.said" examples/inventory.out
     sed '$d' examples/inventory.out > "$room/torn.out"
-    echo 'affected.sh: torn.out: no whole table of verdicts: there are 2 of 3 verdicts' > "$room/wanted.said"
+    echo 'affected.sh: torn.out: no whole table of verdicts: there are 3 of 4 verdicts' > "$room/wanted.said"
     affected ', of a run that was torn off' 2 /dev/null "$room/wanted.said" "$room/torn.out"
     sed '$d' "$samples/machines.out" > "$room/torn.out"
     echo 'affected.sh: torn.out: no whole table of verdicts: cpe evaluate, or a fleet, has not come to its end' > "$room/wanted.said"

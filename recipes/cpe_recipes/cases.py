@@ -3,7 +3,8 @@
 A machine is asked for those statements alone whose verdict may be another than that of a machine without items: those with a
 fact, or an end of it, of the vendor and product of some end of the machine's items, or of no plain vendor or product. Of a range
 that is so only where it is TRUE or UNKNOWN there, since where all versions are outside it is FALSE as without items. A statement
-is asked over those items alone that may fit its facts, and once for all machines that have the same ones.
+is asked over those items alone that may fit its facts, and once for all machines that have the same ones. An item whose vendor or
+product is a pattern may fit every fact.
 """
 from __future__ import annotations
 
@@ -18,6 +19,8 @@ from .feeds import Json, record_text
 from .said import Fatal
 
 Product = tuple[str, str]
+# In place of the products of items that have a pattern there.
+_OPEN: Product = ("", "")
 # An item or several, and results of checks, over which a statement is asked.
 Items = tuple[str, ...]
 Results = tuple[tuple[str, bool], ...]
@@ -101,8 +104,8 @@ class Index:
     def concerned(self, leads: Iterable[Lead], decided: Decided) -> list[int]:
         """The places of the statements that may have another verdict than without these items, in order."""
         found = set(self._of_all_products)
-        for product in {names.product_of(end) for lead in leads for end in lead.ends}:
-            found.update(self._by_product.get(product, ()))
+        for product in {_product_of(end) for lead in leads for end in lead.ends}:
+            found.update(range(len(self._products)) if product == _OPEN else self._by_product.get(product, ()))
         for key in [*(key for key, is_inside in decided.truths.items() if is_inside), *decided.unsure]:
             found.update(self._by_range.get(key, ()))
         return sorted(found)
@@ -112,7 +115,7 @@ class Index:
         products, is_all = self._products[place]
         if is_all:
             return all_items
-        found = [by_product[product] for product in products if product in by_product]
+        found = [by_product[product] for product in (*products, _OPEN) if product in by_product]
         # (mostly it is one product)
         return found[0] if len(found) == 1 else tuple(sorted({item for items in found for item in items}))
 
@@ -129,8 +132,14 @@ def items_by_product(ends: Iterable[tuple[str, Iterable[str]]]) -> dict[Product,
     found: dict[Product, set[str]] = {}
     for item, ends_of_item in ends:
         for end in ends_of_item:
-            found.setdefault(names.product_of(end), set()).add(item)
+            found.setdefault(_product_of(end), set()).add(item)
     return {product: tuple(sorted(items)) for product, items in found.items()}
+
+
+def _product_of(end: str) -> Product:
+    """The vendor and product of an end."""
+    product = names.product_of(end)
+    return _OPEN if any(map(names.has_special, product)) else product
 
 
 class Cases:

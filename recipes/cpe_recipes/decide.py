@@ -6,6 +6,9 @@ For each range and machine, where the name of the range covers an item of the ma
 2. else TRUE where the version of some end is in the range, by the order of `cpe advise`, and FALSE where that of none is;
 3. where the order can't be trusted (versions.py says when), there is no answer, and it is said: the check stays UNKNOWN.
 
+An end that is known in part, since its name has a pattern, may be covered by the name of the range. Then the answer is FALSE where
+all versions that its pattern begins with are outside, and else there is none.
+
     python3 decide.py --ranges FILE.. --records FILE.. --machines FILE [--matches FILE..] [--letters FILE]
 
 The ranges are those of `advisories.sh --ranges`, the records have the entries and deprecations by which names lead on, the
@@ -24,7 +27,7 @@ from .feeds import FeedFault, FormFault, name_of, pages, read_feed, record_text,
 from .machines import Machine, read_machines
 from .program import Program
 from .said import Fatal, Output, Said
-from .versions import Letters, Standing, read_letters, standing
+from .versions import Letters, Standing, is_outside_from, read_letters, standing, sure_beginning
 from .words import MANY, ONE, read_words
 
 USAGE = "decide.py --ranges FILE.. --records FILE.. --machines FILE [--matches FILE..] [--letters FILE]"
@@ -58,8 +61,7 @@ class Leads:
 
 
 def leads_of(program: Program, records: Sequence[str], items: Iterable[str], facts: Iterable[str]) -> Leads:
-    """Where these names lead by these records. A name with specials is no item, and is refused as one. (What is refused of the
-    records is told where they are evaluated.)"""
+    """Where these names lead by these records. (What is refused of the records is told where they are evaluated.)"""
     asked = [*((name, True) for name in dict.fromkeys(items)), *((name, False) for name in dict.fromkeys(facts))]
     reasons: dict[int, str] = {}
     chains: list[tuple[str, bool, list[str]]] = []
@@ -135,24 +137,31 @@ class Decider:
         self._program, self._letters = program, letters
         self._stands: dict[str, dict[str, Stand]] = {}
         ends = {end: None for item in items if item in leads.found for end in leads.found[item].ends}
+        sure = [end for end in ends if not names.is_known_in_part(end)]
         near = _Near(ends)
         plain: list[Range] = []
         odd: list[tuple[Range, Lead, str]] = []
+        asked_of_patterns: list[tuple[Range, Lead]] = []
         for one in ranges:
             lead = leads.found.get(one.criteria)
-            if lead is None or not any(near.ends(fact) for fact in lead.ends):
+            near_ends = [end for fact in lead.ends for end in near.ends(fact)] if lead is not None else []
+            if lead is None or not near_ends:
                 continue
             # (by its name as cpe writes it, of which vendor and product can be told)
             asked = _asked(replace(one, criteria=lead.name), letters)
+            if any(map(names.is_known_in_part, near_ends)):
+                asked_of_patterns.append((asked, lead))
             reason = _oddness(lead, asked)
             if reason:
                 odd.append((asked, lead, reason))
             else:
                 plain.append(asked)
         if plain:
-            self._ask_advise(list(ends), plain)
+            self._ask_advise(sure, plain)
         if odd:
             self._ask_compare(near, odd)
+        if asked_of_patterns:
+            self._ask_items([end for end in ends if names.is_known_in_part(end)], asked_of_patterns)
 
     def stands(self, end: str) -> Mapping[str, Stand]:
         """How this end stands to the ranges that cover it, by the ids of their checks."""
@@ -193,19 +202,73 @@ class Decider:
                 self._put(end, key, reason)
 
 
+    def _ask_items(self, ends: Sequence[str], ranges: Sequence[tuple[Range, Lead]]) -> None:
+        """Puts how ends that are known in part stand to the ranges whose facts may cover them."""
+        facts = dict.fromkeys(fact for _, lead in ranges for fact in lead.ends)
+        _, may_be = items_met(self._program, ends, facts)
+        for one, lead in ranges:
+            for end in dict.fromkeys(end for fact in lead.ends for end in may_be[fact]):
+                self._put(end, one.key, False if self._is_outside(end, one) else "it is known in part")
+
+    def _is_outside(self, end: str, one: Range) -> bool:
+        """Whether an end that is known in part is outside a range, whichever it is."""
+        parts, product = names.components(end), names.product_of(end)
+        if not all(map(names.is_plain, product)) or self._letters.has(product) and names.product_of(one.criteria) != product:
+            return False
+        version = _End.of(end, self._letters).version
+        if version is not None:
+            return standing(version, parts[names.UPDATE], one)[0] is Standing.OUTSIDE
+        text = names.beginning(parts[names.VERSION])
+        if text is None:
+            return False
+        known = sure_beginning(text)
+        return is_outside_from(self._letters.rewritten(product, known) if self._letters.has(product) else known, one)
+
+
+Met = dict[str, list[str]]
+
+
+def items_met(program: Program, items: Iterable[str], facts: Iterable[str]) -> tuple[Met, Met]:
+    """Of each of these facts the items that it covers, and those that are known in part and that it may cover."""
+    asked = list(facts)
+    records = [record_text({"do": "item", "name": item}) for item in items]
+    records += [record_text({"do": "items", "name": fact}) for fact in asked]
+    covered: list[list[str]] = []
+    may_be: list[list[str]] = []
+    for line in program.lines(["resolve"], records):
+        word, _, rest = line.partition(" ")
+        if word == "items":
+            covered.append([])
+            may_be.append([])
+        elif word in ("item", "maybe") and covered:
+            (covered if word == "item" else may_be)[-1].append(rest)
+        else:
+            raise Fatal(f"cpe resolve wrote {line}")
+    if len(covered) != len(asked):
+        raise Fatal(f"cpe resolve answered {len(covered)} of {len(asked)} questions for items")
+    return dict(zip(asked, covered)), dict(zip(asked, may_be))
+
+
 class _Near:
-    """Ends by vendor and product."""
+    """Ends by vendor and product. One whose vendor or product is a pattern is near to every fact."""
 
     def __init__(self, ends: Iterable[str]) -> None:
         self._all = list(ends)
+        self._patterns: list[str] = []
         self._by_product: dict[tuple[str, str], list[str]] = {}
         for end in self._all:
-            self._by_product.setdefault(names.product_of(end), []).append(end)
+            product = names.product_of(end)
+            if any(map(names.has_special, product)):
+                self._patterns.append(end)
+            else:
+                self._by_product.setdefault(product, []).append(end)
 
     def ends(self, fact: str) -> list[str]:
         """Those that this name may cover; all where its vendor or product isn't plain."""
         product = names.product_of(fact)
-        return self._by_product.get(product, []) if all(map(names.is_plain, product)) else self._all
+        if not all(map(names.is_plain, product)):
+            return self._all
+        return [*self._by_product.get(product, ()), *self._patterns]
 
 
 @dataclass(frozen=True)

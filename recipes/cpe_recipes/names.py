@@ -11,6 +11,7 @@ VENDOR, PRODUCT, VERSION, UPDATE = 1, 2, 3, 4
 _COMPONENT = re.compile(r"(?:[^:\\]|\\.)+")
 _QUOTED = re.compile(r"\\(.)")
 _SPECIAL = re.compile(r"(?:[^*?\\]|\\.)*[*?]")
+_BEGINNING = re.compile(r"((?:[^*?\\]|\\.)+)[*?]+")
 _BARE = re.compile(r"[A-Za-z0-9_.\-]")
 
 
@@ -35,6 +36,22 @@ def body(component: str) -> str | None:
     if not is_plain(component):
         return None
     return _QUOTED.sub(r"\1", component) if "\\" in component else component
+
+
+def has_special(component: str) -> bool:
+    """Whether a component is a pattern: a text with a `*` or `?` that isn't quoted."""
+    return component != ANY and _SPECIAL.match(component) is not None
+
+
+def is_known_in_part(name: str) -> bool:
+    """Whether a name has a pattern. An item of such a name is known in part alone: which it is isn't told."""
+    return any(map(has_special, components(name)))
+
+
+def beginning(component: str) -> str | None:
+    """What a pattern begins with, without its quoting; None where anything may stand there."""
+    match = _BEGINNING.fullmatch(component)
+    return body(match[1]) if match else None
 
 
 def spelled(text: str) -> str:

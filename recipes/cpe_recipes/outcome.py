@@ -20,13 +20,15 @@ MOST_ALIKE = 20
 @dataclass
 class Found:
     """What came of a machine: where its items lead, what is decided of its ranges, the verdicts that were asked for by the
-    places of statements, why some are UNKNOWN, and where it was asked for which items make others TRUE."""
+    places of statements, why some are UNKNOWN, as which items that are known in part may be meant (`partly`), and where it was asked
+    for which items make others TRUE."""
 
     machine: Machine
     leads: list[Lead]
     decided: Decided = field(default_factory=Decided)
     truths: dict[int, str] = field(default_factory=dict)
     supposed: dict[int, str] = field(default_factory=dict)
+    partly: dict[int, list[str]] = field(default_factory=dict)
     deciding: dict[int, list[str]] | None = None
 
     def has_items(self) -> bool:
@@ -56,6 +58,7 @@ class Hanging:
         for place in self._parts.get(advisory, ()):
             if place in one.supposed:
                 reasons[one.supposed[place]] = None
+            reasons.update(dict.fromkeys(one.partly.get(place, ())))
             for key in self._known.statements[place].checks:
                 if key in one.decided.unsure:
                     unsure = one.decided.unsure[key]

@@ -5,7 +5,7 @@ advisories that could be other than FALSE on some machine, as one page of the sa
 advisory goes on where a vulnerable match of it
 
 - has a vendor and product that an item of a machine has, or leads to by the dictionary of --records, or may go on as there; or
-- has a vendor or product that isn't plain, or a name that is none;
+- has a vendor or product that isn't plain, or a name that is none, or where an item has a pattern in its vendor or product;
 
 and where there is something in it that `advisories.sh` has to tell. The others name products that aren't here: they are
 FALSE on every machine, and how many they are is remarked.
@@ -73,6 +73,9 @@ def products_of(leads: Leads, items: Iterable[str], records: Sequence[str]) -> s
 
 def cut(program: Program, page: Page, wanted: set[Product]) -> Iterator[str]:
     """The advisories of a page that go on."""
+    if any(names.has_special(part) for product in wanted for part in product):
+        yield from (record_text(record) for record in page.records)
+        return
     named = [_vulnerable(record) for record in page.records]
     asked = list(dict.fromkeys(name for found in named if found is not None for name in found))
     lookups = (record_text({"do": "lookup", "name": name}) for name in asked)

@@ -18,6 +18,9 @@ An item that no entry of the dictionary has leads nowhere, though entries of its
 for under that one too; where the verdict would be another so, it is UNKNOWN. An item under a removed name leads nowhere either;
 where the verdict would be another if it led to itself, it is UNKNOWN.
 
+An item that is known in part, since its name has a pattern, may be what a fact names; where a verdict hangs on that it is UNKNOWN,
+and the item is told (partly.py). Of a range it is FALSE where all that the item may be is outside; decide.py says when.
+
 An item that knows less than an advisory asks for is FALSE, and remarked as `perhaps`; perhaps.py says when.
 
 The status is 0 where every verdict came and nothing was left out, 1 where something was, which is said, and 2 where there is no
@@ -36,6 +39,7 @@ from .deciding import Deciding
 from .feeds import FeedFault, Page, name_of, pages, read_feed, text_lines
 from .machines import Machine, read_lists, read_machines
 from .outcome import MOST_ALIKE, Found, Hanging, json_of, machines_with_verdicts, perhaps, tell_items, tell_perhaps
+from .partly import Partly
 from .perhaps import Pairs, facts_of
 from .program import Candidate, Program
 from .progress import Progress
@@ -125,8 +129,10 @@ class Scan:
                 reasons = {name: f"{name} was removed from the dictionary" for name in one.removed()}
                 asked[-1].append(self._asked_so(restored, _leads_in(restored.leads, one.machine.items), reasons))
         self._ask([here] if restored is None else [here, restored])
-        for done, (one, of_machine) in enumerate(zip(found, asked)):
+        for one, of_machine in zip(found, asked):
             self._put(one, of_machine)
+        Partly(self._program, self._known, self._leads).put(found)
+        for done, one in enumerate(found):
             if self._deciding is not None:
                 self._progress.count("asking which items decide", done, len(found))
                 one.deciding = self._deciding.reasons([lead.name for lead in one.leads], one.decided, one.places_of("TRUE"))

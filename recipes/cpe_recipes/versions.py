@@ -19,6 +19,7 @@ from .feeds import FeedFault, name_of, read_feed, text_lines
 from .said import Fatal
 
 _PIECE = re.compile(r"[0-9]+|[a-z]+")
+_LAST_PIECE = re.compile(r"(?:[0-9]+|[a-z]+)$")
 _LETTERED = re.compile(r"(?P<word>[a-z]{1,2})[0-9]*")
 # What comes after z is za. (Other words of two letters mostly stand before a release: rc, tp.)
 _LETTER = re.compile(r"[a-z]|z[a-z]")
@@ -121,6 +122,31 @@ def standing(version: str, update: str | None, one: Range) -> tuple[Standing, st
         if False in meets and not unsure:
             unsure = why
     return (Standing.UNSURE, unsure) if unsure else (Standing.INSIDE, "")
+
+
+def sure_beginning(text: str) -> str:
+    """What is sure of a version that begins with a text: all but its last run of digits or letters, which may go on."""
+    return _LAST_PIECE.sub("", text.lower())
+
+
+def is_outside_from(beginning: str, one: Range) -> bool:
+    """Whether each version that has the pieces of this text first is outside the range, in all orders that a vendor may mean."""
+    bounds = ((one.start, LESS), (one.end, GREATER))
+    return any(bound is not None and _orders_from(beginning, bound) == {outside} for bound, outside in bounds)
+
+
+def _orders_from(beginning: str, bound: str) -> Orders:
+    """The orders of a version with these first pieces to a bound."""
+    here, there = pieces(beginning), pieces(bound)
+    place = 0
+    while place < min(len(here), len(there)) and here[place].same(there[place]):
+        place += 1
+    left, right = here[place:], there[place:]
+    if not left or not there or left[0].is_word:
+        return _ANY_ORDER
+    if right:
+        return _ANY_ORDER if right[0].is_word else frozenset({_numbers(left[0].text, right[0].text)})
+    return _ANY_ORDER if all(piece.is_zero() for piece in left) else _longer(left)[0]
 
 
 @dataclass(frozen=True)

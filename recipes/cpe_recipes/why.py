@@ -110,7 +110,8 @@ def level(why: Json, test: Json, known: Known, depth: int) -> Iterator[str]:
         yield from logic(why, test, known, depth)
     elif "fact" in why or "item" in why:
         fact, item = names_at(why, "fact"), names_at(why, "item")
-        yield f"{space}{truth}, since item {led(item, known)}, which the fact {led(fact, known)} covers"
+        covers = "covers" if truth == "TRUE" else "may cover, is known in part"
+        yield f"{space}{truth}, since item {led(item, known)}, which the fact {led(fact, known)} {covers}"
     else:
         yield f"{space}{plain(truth, test)}"
 

@@ -130,9 +130,37 @@ class Decisions(unittest.TestCase):
 
     def test_what_is_no_item_is_refused_with_the_reason(self):
         leads = leads_of(Program(), [], ["cpe:/a:acme:p:1.%02", "cpe:/a:acme:%zz", "CPE:/A:Acme:P:1.0"], ["cpe:2.3:a:acme:*:*:*:*:*:*:*:*:*", "x"])
-        self.assertEqual(leads.refused, {"cpe:/a:acme:p:1.%02": "wildcards", "cpe:/a:acme:%zz": "name name 13", "x": "name name 0"})
+        self.assertEqual(leads.refused, {"cpe:/a:acme:%zz": "name name 13", "x": "name name 0"})
+        self.assertEqual(leads.found["cpe:/a:acme:p:1.%02"].ends, (name("p", "1.*"),))
         self.assertEqual(leads.found["CPE:/A:Acme:P:1.0"].ends, (name("p", "1.0"),))
         self.assertFalse(leads.found["CPE:/A:Acme:P:1.0"].is_entry)
+
+    def test_an_item_that_is_known_in_part_is_outside_where_all_that_it_may_be_is(self):
+        open_ = "it is known in part"
+        for version, wanted in (("0.9.*", False), ("1.*", open_), ("1.5.*", open_), ("2*", open_), ("2.1?", open_), ("2.1.?", False), ("3.*", False), ("*1", open_)):
+            self.assertEqual(self.one(version, "1.0", "2.0", end_excluded=True), wanted, version)
+        for version, update, wanted in (("0.9", "sp*", False), ("1.5", "sp*", open_), ("2.0", "sp*", open_), ("2.1", "sp*", False)):
+            self.assertEqual(self.one(version, "1.0", "2.0", update=update), wanted, (version, update))
+        self.assertEqual(self.one("1.1.1*", None, "1.1.1u", product="lettered"), open_)
+        self.assertIs(self.one("3.0*", None, "1.1.1u", product="lettered"), False)
+        one = Range("KEY", name("p"), "1.0", "2.0")
+        for item in (name("p*", "3.0"), name("q*", "3.0"), name("?p", "1.5", vendor="?cme")):
+            self.assertEqual(self.decided([item], one), ({}, {"KEY": open_}), item)
+        self.assertEqual(self.decided([name("p", "1.5", vendor="emca"), name("q", "1.*")], one), ({}, {}))
+
+    def test_beside_an_item_that_is_in_it_one_that_is_known_in_part_is_nothing(self):
+        one = Range("KEY", name("p"), "1.0", "2.0")
+        self.assertEqual(self.decided([name("p", "1.*"), name("p", "1.5")], one), ({"KEY": True}, {}))
+        self.assertEqual(self.decided([name("p", "1.*"), name("p", "2.5")], one), ({}, {"KEY": "it is known in part"}))
+        self.assertEqual(self.decided([name("p", "3.*"), name("p", "2.5")], one), ({"KEY": False}, {}))
+        self.assertEqual(self.decided([name("p", "1.*")], one, listed={"KEY": [name("p", "1.5")]}), ({}, {"KEY": "it is known in part"}))
+
+    def test_ranges_that_are_not_asked_for_may_be_of_items_that_are_known_in_part(self):
+        odd = Range("KEY", "cpe:2.3:a:acme:*:1*:*:*:*:*:*:*:*", None, "2.0")
+        self.assertEqual(self.decided([name("p", "1.*")], odd), ({}, {"KEY": "it is known in part"}))
+        old, new = name("old"), name("p")
+        records = [entry(old), entry(new), deprecate(old, new)]
+        self.assertEqual(self.decided([name("p", "1.*")], Range("KEY", old, "1.0"), records=records), ({}, {"KEY": "it is known in part"}))
 
     def test_this_recipe_orders_versions_as_cpe_does(self):
         draw = random.Random(18)

@@ -43,6 +43,12 @@ class Sessions(RecipeCase):
             session.ask(Asked("c", ["cpe:/a:openssl:openssl:3"], [(key, "FALSE")])).lines, ["c ranged FALSE", "c named FALSE"]
         )
 
+    def test_an_item_that_is_known_in_part_leaves_open_what_hangs_on_it(self):
+        part = "cpe:/a:openssl:openssl:1.1.1%02"
+        session = self.session()
+        self.assertEqual(session.ask(Asked("a", [part], [('key "1"', "FALSE")])).lines, ["a ranged FALSE", "a named UNKNOWN"])
+        self.assertEqual(session.ask(Asked("b", [part, OPENSSL])).lines, ["b ranged UNKNOWN", "b named TRUE"])
+
     def test_what_is_no_item_is_left_out_of_its_machine(self):
         session = self.session()
         told = session.ask(Asked("a", ["cpe:/a:x%zz", "CPE:/A:OpenSSL:OpenSSL:1.1.1t", OPENSSL, 'cpe:/"\\']))
@@ -51,7 +57,7 @@ class Sessions(RecipeCase):
 
     def test_a_machine_without_items_has_no_verdicts(self):
         session = self.session()
-        for items in ([], ["cpe:/a:x%zz", "cpe:/a:x%02"]):
+        for items in ([], ["cpe:/a:x%zz", "cpe:/a:%02"]):
             told = session.ask(Asked("a", items))
             self.assertEqual((told.lines, told.has_items, len(told.left_out)), (["a no items"], False, len(items)))
         self.assertEqual(session.ask(Asked("b", [OPENSSL])).lines, ["b ranged UNKNOWN", "b named TRUE"])

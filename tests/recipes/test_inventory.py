@@ -93,12 +93,17 @@ class Lists(RecipeCase):
 
     @needs_cpe
     def test_where_all_items_are_refused_nothing_is_written(self):
-        status, lines, said = self.recipe("inventory", self.file("list", "cpe:/a:x%02\n"))
+        status, lines, said = self.recipe("inventory", self.file("list", "cpe:/a:%02\n"))
         self.assertEqual((status, lines), (2, []))
         self.assertEqual(
             said,
-            ['left out line 1 of list: wildcards: {"do":"item","name":"cpe:/a:x%02"}', "inventory.sh: no item in any of these"],
+            ['left out line 1 of list: name name 10: {"do":"item","name":"cpe:/a:%02"}', "inventory.sh: no item in any of these"],
         )
+
+    @needs_cpe
+    def test_a_name_that_is_known_in_part_is_an_item(self):
+        status, lines, said = self.recipe("inventory", self.file("list", "cpe:/a:x:y:1.%02\ncpe:2.3:a:X:Y:1.*:*:*:*:*:*:*:*\n"))
+        self.assertEqual((status, lines, said), (0, [ITEM % "cpe:/a:x:y:1.%02"], []))
 
     @needs_cpe
     def test_a_file_whose_name_begins_with_a_hyphen(self):

@@ -103,9 +103,12 @@ class Drawn:
         records = [statement(f"S{k}", self.child(2), negate=self.draw.random() < 0.2) for k in range(12)]
         return Known(entries, records, self.ranges, {}, {})
 
-    def machines(self):
-        versions = ["1.0", "1.1", "2.0", "1.0b", "-"]
-        return [Machine(f"m{k}", [self.name(versions) for _ in range(self.draw.randint(1, 4))]) for k in range(6)]
+    def machines(self, versions):
+        machines = [Machine(f"m{k}", [self.name(versions) for _ in range(self.draw.randint(1, 4))]) for k in range(6)]
+        # (one whose product or vendor is known in part)
+        if "1.*" in versions:
+            machines[0].items.append(self.draw.choice([name("v", "p*", "1.0"), name("?w", "q", "1.*")]))
+        return machines
 
 
 @unittest.skipUnless(os.environ.get("CPE"), "CPE names no program")
@@ -114,7 +117,7 @@ class Verdicts(unittest.TestCase):
         spared = differing = 0
         for seed in range(25):
             drawn = Drawn(seed)
-            known, machines = drawn.known(), drawn.machines()
+            known, machines = drawn.known(), drawn.machines(["1.0", "1.1", "2.0", "1.0b", "-"] + ["1.*", "?.0"] * (seed % 2))
             made, found = scanned(known, machines)
             made_all, found_all = scanned(known, machines, is_all_asked=True)
             for one, other in zip(found, found_all):
@@ -178,12 +181,12 @@ class Verdicts(unittest.TestCase):
     def test_what_a_dictionary_or_a_name_hides_is_told(self):
         gone = name("v", "gone", "1.0")
         known = self.known(statement("CVE-1", {"fact": gone}), entries=[entry(gone), deprecate(gone)])
-        items = [gone, "cpe:/a:v:p:1.%02", name("v", "p", "1.0"), "cpe:/a:v:p:1.0"]
+        items = [gone, "cpe:/a:v:%02", name("v", "p", "1.0"), "cpe:/a:v:p:1.0"]
         made, found = scanned(known, [Machine("a", items), Machine("bare"), Machine("bad", ["cpe:/x"])])
         said = Heard()
         made.tell_items(found, said)
         wanted = [
-            "left out a: wildcards: cpe:/a:v:p:1.%02",
+            "left out a: name name 12: cpe:/a:v:%02",
             f"remark under a removed name a {gone}",
             "left out bare: no items",
             "left out bad: name name 5: cpe:/x",
@@ -261,6 +264,43 @@ class Verdicts(unittest.TestCase):
         tell_perhaps(rows * 30, said)
         self.assertEqual(said.told[:20], [f"remark perhaps a machine CVE-1 {name('v', 'p')} {name('v', 'p', '1.0')}"] * 20)
         self.assertEqual(said.told[20:], ["remark perhaps: 10 more, which --json and perhaps.sh list"])
+
+    def test_an_item_that_is_known_in_part_is_what_an_unknown_hangs_on(self):
+        part, whole = name("v", "p", "1.*"), name("v", "p", "1.5")
+        known = self.known(statement("CVE-1", {"fact": whole}), statement("CVE-2", {"fact": name("v", "q")}, {"fact": name("v", "r")}))
+        machines = [
+            Machine("a", ["cpe:/a:V:P:1.%02"]), Machine("b", [part, whole]), Machine("c", [name("v", "p", "2.0")]),
+            Machine("d", [name("v", "?q", "1.0"), name("v", "r?"), name("v", "r", "1")]), Machine("e", [name("v", "?q", "1.0")]),
+        ]
+        made, found = scanned(known, machines)
+        self.assertEqual([list(truths(known, made, one).values()) for one in found], [
+            ["UNKNOWN", "FALSE"], ["TRUE", "FALSE"], ["FALSE", "FALSE"], ["FALSE", "TRUE"], ["FALSE", "UNKNOWN"],
+        ])
+        hanging = Hanging(known, found)
+        self.assertEqual(hanging.on("CVE-1", "a"), [f"{part} is known in part, and may be {whole}"])
+        may_be = [f"{name('v', '?q', '1.0')} is known in part, and may be {name('v', product)}" for product in "qr"]
+        self.assertEqual((hanging.on("CVE-2", "e"), hanging.on("CVE-1", "b")), (may_be, []))
+        about = affected.About({}, Suppressed([]), hanging)
+        row = json_of(known, found, machines_with_verdicts(known, made.bare, found), about, [])["machines"][0]["verdicts"]
+        self.assertEqual(row, [{"id": "CVE-1", "verdict": "UNKNOWN", "hangsOn": [f"{part} is known in part, and may be {whole}"]}])
+
+    def test_an_item_that_is_known_in_part_follows_names(self):
+        old, new = name("v", "p", "1.5"), name("w", "p", "1.5")
+        known = self.known(statement("CVE-1", {"fact": old}), entries=[entry(old), entry(new), deprecate(old, new)])
+        made, found = scanned(known, [Machine("new", [name("w", "p", "1.*")]), Machine("old", [name("v", "p", "1.*")])])
+        self.assertEqual([truths(known, made, one)["CVE-1"] for one in found], ["UNKNOWN", "UNKNOWN"])
+        hanging = Hanging(known, found)
+        self.assertEqual(hanging.on("CVE-1", "new"), [f"{name('w', 'p', '1.*')} is known in part, and may be {old}"])
+        why = f"{name('v', 'p', '1.*')} is not in the dictionary, and may be {name('w', 'p', '1.*')}"
+        self.assertEqual(hanging.on("CVE-1", "old"), [why])
+
+    def test_a_range_that_an_item_known_in_part_may_be_in(self):
+        one = Range("KEY", name("v", "p"), "1.0", "2.0", end_excluded=True)
+        known = self.known(statement("CVE-1", ranged(one)), ranges=[one])
+        items = {"in": ["1.*"], "out": ["3.*"], "beside": ["1.*", "1.5"], "not": ["1.*", "3.0"]}
+        made, found = scanned(known, [Machine(it, [name("v", "p", version) for version in versions]) for it, versions in items.items()])
+        self.assertEqual([truths(known, made, one)["CVE-1"] for one in found], ["UNKNOWN", "FALSE", "TRUE", "UNKNOWN"])
+        self.assertEqual(Hanging(known, found).on("CVE-1", "in"), [f"{name('v', 'p', '1.*')}: it is known in part"])
 
     def test_a_check_that_stays_open_is_what_an_unknown_hangs_on(self):
         check = {"check": {"system": "NVD", "href": "cpeMatch", "id": "BAD"}}

@@ -1,4 +1,5 @@
 """What decides between two versions."""
+import random
 import sys
 import unittest
 from pathlib import Path
@@ -7,7 +8,9 @@ sys.path.insert(0, str(Path(__file__).resolve().parents[2] / "recipes"))
 
 from cpe_recipes.advisories import Range  # noqa: E402
 from cpe_recipes.said import Fatal  # noqa: E402
-from cpe_recipes.versions import Letters, Standing, letters_of, orders, pieces, read_letters, standing  # noqa: E402
+from cpe_recipes.versions import (  # noqa: E402
+    Letters, Standing, is_outside_from, letters_of, orders, pieces, read_letters, standing, sure_beginning,
+)
 
 INSIDE, OUTSIDE, UNSURE = Standing
 TABLE = Path(__file__).resolve().parents[2] / "recipes" / "letters.txt"
@@ -15,6 +18,34 @@ TABLE = Path(__file__).resolve().parents[2] / "recipes" / "letters.txt"
 
 def between(start, end, **excluded):
     return Range("KEY", "cpe:2.3:a:v:p:*:*:*:*:*:*:*:*", start, end, **excluded)
+
+
+class Beginnings(unittest.TestCase):
+    def test_the_last_run_may_go_on(self):
+        for text, sure in (("1.2", "1."), ("1.2.", "1.2."), ("1.2RC1", "1.2rc"), ("2", ""), ("", ""), ("1.1.1k", "1.1.1")):
+            self.assertEqual(sure_beginning(text), sure, text)
+
+    def test_what_is_outside_whatever_follows(self):
+        one = between("1.5", "2.3")
+        for text in ("1.4.", "0.", "2.4.", "2.3.1.", "3."):
+            self.assertTrue(is_outside_from(text, one), text)
+        for text in ("", "1.", "1.5.", "2.", "2.3.", "2.3.0.", "2.3-1.", "2.3+1.", "2.3rc", "x.", "1.6."):
+            self.assertFalse(is_outside_from(text, one), text)
+        self.assertFalse(is_outside_from("3.", between("none", "none")))
+        self.assertFalse(is_outside_from("3.", between(None, "a.b")))
+        self.assertTrue(is_outside_from("1.", between("2.0", None)))
+
+    def test_each_version_that_begins_so_is_outside(self):
+        draw = random.Random(7)
+        bits = ["0", "1", "2", "10", ".", ".", "-", "a", "rc"]
+        told = 0
+        for _ in range(3000):
+            begin, rest, bound = ("".join(draw.choice(bits) for _ in range(draw.randint(1, 4))) for _ in range(3))
+            one = between(None, bound) if draw.random() < 0.5 else between(bound, None)
+            if is_outside_from(sure_beginning(begin), one):
+                told += 1
+                self.assertIs(standing(begin + rest, None, one)[0], OUTSIDE, (begin, rest, bound))
+        self.assertGreater(told, 150)
 
 
 class Orders(unittest.TestCase):

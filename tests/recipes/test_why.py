@@ -25,6 +25,12 @@ class Text(RecipeCase):
         wanted = ["s is TRUE", "  AND is TRUE, by all 1 of:", pair.format(" (NAME_CORRECTION)")]
         self.assertEqual(self.lines(why, test, {MYSQL: "NAME_CORRECTION"}), wanted)
 
+    def test_pair_of_an_item_that_is_known_in_part(self):
+        part = fs("oracle", "mysql", "5.*")
+        why = {"of": [{"fact": [MYSQL, ORACLE], "item": [part], "truth": "UNKNOWN"}], "truth": "UNKNOWN"}
+        wanted = f"    UNKNOWN, since item {part}, which the fact {MYSQL} leads to {ORACLE} may cover, is known in part"
+        self.assertEqual(self.lines(why)[-1], wanted)
+
     def test_what_decides(self):
         why = {"of": [None, {"truth": "FALSE"}, None], "truth": "TRUE"}
         test = {"op": "AND", "negate": True, "of": [{"check": KEY}, {"fact": MYSQL}, {"check": KEY}]}
