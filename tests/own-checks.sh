@@ -640,7 +640,7 @@ inventory() {
         function spoil(n) {
             refused(statement(n), "exists")
             refused(name("item", 2 * n), "exists")
-            refused("{\"do\":\"item\",\"name\":\"cpe:/a:v:p" n "%02\"}", "wildcards")
+            refused("{\"do\":\"entry\",\"name\":\"cpe:/a:v:p" n "%02\"}", "wildcards")
             refused(name("drop-item", 2 * n + 1), "unknown")
             refused(id("drop-statement", n + count), "unknown")
             refused("{\"do\":\"drop-check\"," key(3) "}", "unknown")
@@ -1040,16 +1040,22 @@ names_that_ask() {
 # as_records WORD [MORE]: each name as a record of this kind.
 as_records() { sed -e 's/\\/\\\\/g' -e "s/.*/{\"do\":\"$1\",\"name\":\"&\"${2-}}/"; }
 
+# Of each line of compare the relation of the names, or MAYBE where the source may cover the target.
+relations() {
+    awk '{ print $0 ~ / UNDEFINED/ && $0 !~ / (SUBSET|DISJOINT)/ ? "MAYBE" : $1 }'
+}
+
 # Searches, those for active entries alone, and questions for items find what comparisons with all names find. Each fifth name is
 # deprecated. Items are those whose product begins with the letter a, so that all items with a text begin with a body that is asked
-# for; and two more, of any product and of none.
+# for; two more, of any product and of none; and some that are known in part.
 finds_what_comparisons_find() {
     what='searches and items beside comparisons with all names'
     needs "$what" awk paste || return
     names_of_short_products > "$room/names"
     names_that_ask > "$room/asked"
     awk -F : '$5 ~ /^a/' "$room/names" > "$room/items"
-    printf 'cpe:2.3:a:acme:*:2:*:*:*:*:*:*:*\ncpe:2.3:a:nova:-:2:*:*:*:*:*:*:*\n' >> "$room/items"
+    printf 'cpe:2.3:a:%s:*:*:*:*:*:*:*\n' 'acme:*:2' 'nova:-:2' 'acme:a*:2' 'acme:?b:2' 'nova:*a7*:1' 'n*:ab:2' 'zeta:ab:?1' 'zeta:aB7:2*' \
+        'zeta:\*\*:2?' >> "$room/items"
     {
         as_records entry < "$room/names"
         as_records item < "$room/items"
@@ -1060,7 +1066,7 @@ finds_what_comparisons_find() {
     } > "$room/questions"
     for kept in names items; do
         awk 'NR == FNR { name[++n] = $0; next } { for (i = 1; i <= n; i++) print $0 " " name[i] }' "$room/$kept" "$room/asked" > "$room/pairs"
-        limited "$program" compare < "$room/pairs" | cut -d ' ' -f 1 | paste -d ' ' - "$room/pairs" > "$room/compared.$kept"
+        limited "$program" compare < "$room/pairs" | relations | paste -d ' ' - "$room/pairs" > "$room/compared.$kept"
     done
     {
         for word in search active; do
@@ -1077,7 +1083,8 @@ finds_what_comparisons_find() {
 answers_by_comparison() {
     awk -v word="$1" '
         NR == FNR { place[$0] = NR; next }
-        $2 != asked { tell(); asked = $2; count = 0 }
+        $2 != asked { tell(); asked = $2; count = perhaps = 0 }
+        $1 == "MAYBE" { maybe[++perhaps] = "maybe " tolower($3) }
         $1 == "EQUAL" || $1 == "SUPERSET" {
             state = place[$3] % 5 == 0 ? "NAME_REMOVAL" : "active"
             if (word == "items") found[++count] = "item " tolower($3)
@@ -1088,6 +1095,7 @@ answers_by_comparison() {
             if (asked == "") return
             print (word == "items" ? "items " : "search ") tolower(asked) " " count
             for (i = 1; i <= count; i++) print found[i]
+            for (i = 1; i <= perhaps; i++) print maybe[i]
         }' "$room/names" "$room/compared.$2"
 }
 

@@ -3,7 +3,7 @@
     python3 tests/proofs.py PROGRAM [--changes N]
 
 Some rows are kept here as records say, by a second reading of NIST IR 7697 and 7698 that knows simple names alone: each attribute is ANY
-or a plain text. `explain` has to write the certificates that are made here, and `check` to say of each that it holds. Then one token of a
+or a plain text, and those of an item may have patterns too. `explain` has to write the certificates that are made here, and `check` to say of each that it holds. Then one token of a
 good certificate is changed, N times (1,000): `check` may say `holds` only where the changed one is good by the test that stands here, and
 has to say so there. The status is 0 where nothing failed.
 """
@@ -25,8 +25,22 @@ def fs(vendor, product, version='*', update='*'):
     return f'cpe:2.3:a:{vendor}:{product}:{version}:{update}:*:*:*:*:*:*'
 
 
+def pairs(source, target):
+    return list(zip(source.split(':')[2:], target.split(':')[2:]))
+
+
+def is_pattern(component):
+    return component != '*' and not {'*', '?'}.isdisjoint(component)
+
+
 def covers(source, target):
-    return all(one in ('*', other) for one, other in zip(source.split(':')[2:], target.split(':')[2:]))
+    return all(one in ('*', other) and not is_pattern(other) for one, other in pairs(source, target))
+
+
+def may_cover(source, target):
+    """Whether it covers it wherever the target is known, which it isn't everywhere."""
+    is_known = all(one in ('*', other) for one, other in pairs(source, target) if not is_pattern(other))
+    return is_known and any(is_pattern(other) for _, other in pairs(source, target))
 
 
 # ---- rows
@@ -74,12 +88,20 @@ class Rows:
     def result(self, key):
         return self.results.get((key['system'], key['href'], key['id']), 'UNKNOWN')
 
-    def fits(self, mode, fact):
+    def fits(self, mode, fact, relates=covers):
         for item in self.items:
             for end in self.ends(mode, item):
                 for other in self.ends(mode, fact):
-                    if covers(other, end):
+                    if relates(other, end):
                         yield item, end, other
+
+    def first_fit(self, mode, fact):
+        """With the truth that it makes; what is covered comes before what may be."""
+        for truth, relates in (('TRUE', covers), ('UNKNOWN', may_cover)):
+            fit = next(self.fits(mode, fact, relates), None)
+            if fit is not None:
+                return truth, fit
+        return 'FALSE', None
 
 
 # ---- the certificate that is made
@@ -108,11 +130,11 @@ def why(rows, mode, test):
         return {'of': of, 'truth': joined(test['op'], test.get('negate', False), truths)}
     if 'check' in test:
         return {'truth': rows.result(test['check'])}
-    fit = next(rows.fits(mode, test['fact']), None)
+    truth, fit = rows.first_fit(mode, test['fact'])
     if fit is None:
-        return {'truth': 'FALSE'}
+        return {'truth': truth}
     item, end, other = fit
-    return {'fact': way(rows, mode, test['fact'], other), 'item': way(rows, mode, item, end), 'truth': 'TRUE'}
+    return {'fact': way(rows, mode, test['fact'], other), 'item': way(rows, mode, item, end), 'truth': truth}
 
 
 def line(record):
@@ -153,8 +175,10 @@ def is_good(rows, mode, test, given):
     if 'fact' in given or 'item' in given:
         fact, item = given['fact'], given['item']
         begins = item[0] in rows.items and is_trace(rows, mode, item[0], item) and is_trace(rows, mode, test['fact'], fact)
+        if truth == 'UNKNOWN':
+            return begins and may_cover(fact[-1], item[-1]) and rows.first_fit(mode, test['fact'])[0] != 'TRUE'
         return truth == 'TRUE' and begins and covers(fact[-1], item[-1])
-    return truth == 'FALSE' and next(rows.fits(mode, test['fact']), None) is None
+    return truth == 'FALSE' and rows.first_fit(mode, test['fact'])[0] == 'FALSE'
 
 
 def has_form(given, depth=1):
@@ -188,15 +212,17 @@ def says_of(rows, text):
 
 def sample():
     a, b, c, d, e = (fs('v', 'p', version) for version in 'abcde')
+    old, new = fs('u', 'r', '0'), fs('v', 's', '2')
     key = {'system': 'oval', 'href': 'debian.xml', 'id': 'def:1'}
     other = {**key, 'id': 'def:2'}
     date = {'date': '2024-01-01'}
-    records = [{'do': 'entry', 'name': name} for name in (a, b, c, d, e)]
+    records = [{'do': 'entry', 'name': name} for name in (a, b, c, d, e, old, new)]
     records += [
         {'do': 'deprecate', 'name': b, 'kind': 'ADDITIONAL_INFORMATION', 'successors': [d, e], **date},
         {'do': 'deprecate', 'name': c, 'kind': 'NAME_REMOVAL', 'successors': [], **date},
         {'do': 'deprecate', 'name': a, 'kind': 'ADDITIONAL_INFORMATION', 'successors': [c, b], **date},
-        *({'do': 'item', 'name': name} for name in (c, a, fs('w', 'q', '1'), e)),
+        {'do': 'deprecate', 'name': old, 'kind': 'NAME_CORRECTION', 'successors': [new], **date},
+        *({'do': 'item', 'name': name} for name in (c, a, fs('w', 'q', '1'), e, fs('u', 'r', '1.*'), fs('u', 'r', '?2'), fs('v', 's?', '2'))),
         {'do': 'check', **key, 'result': 'ERROR'},
     ]
     tests = {
@@ -206,6 +232,10 @@ def sample():
         'removed': ('follow', {'op': 'OR', 'negate': True, 'of': [{'fact': c}, {'fact': fs('x', '*')}]}),
         'first': ('plain', {'op': 'AND', 'of': [{'check': key}, {'fact': d}, {'fact': b}]}),
         'deep': ('plain', {'op': 'OR', 'of': [{'op': 'AND', 'of': [{'op': 'OR', 'negate': True, 'of': [{'fact': d}]}, {'fact': a}]}, {'fact': d}]}),
+        'part': ('plain', {'op': 'OR', 'of': [{'fact': fs('u', 'r', '1.5')}, {'fact': fs('x', '*')}]}),
+        'part-led': ('follow', {'op': 'AND', 'of': [{'fact': old}, {'fact': fs('w', 'q')}]}),
+        'part-beside': ('plain', {'op': 'OR', 'negate': True, 'of': [{'fact': fs('v', 's')}, {'fact': fs('w', 'q')}, {'fact': fs('u', 'r')}]}),
+        'part-and-error': ('plain', {'op': 'AND', 'of': [{'fact': fs('u', '*')}, {'op': 'OR', 'of': [{'check': key}, {'fact': old}]}]}),
         'vendor': ('follow', {'op': 'AND', 'of': [{'fact': fs('w', '*')}, {'check': key}, {'fact': fs('*', '*')}]}),
     }
     return records + [{'do': 'statement', 'id': id, 'mode': mode, 'test': test} for id, (mode, test) in tests.items()]

@@ -442,8 +442,11 @@ impl Asked<'_> {
     }
 }
 
+fn has_specials(text: &[u8]) -> bool {
+    text != b"*" && matches!(Asked::new(text), Some(Asked::Like { .. }))
+}
+
 fn has_wildcards(name: &[u8], ends: &[u32; 11]) -> bool {
-    let has_specials = |text| text != b"*" && matches!(Asked::new(text), Some(Asked::Like { .. }));
     name.iter().any(|c| matches!(c, b'*' | b'?')) && (0..11).any(|n| has_specials(component(name, ends, n)))
 }
 
@@ -1079,28 +1082,43 @@ fn statement_of(record: &Value, buffers: &mut Buffers) -> Result<Statement, Refu
     Ok(Statement { id, _title: title, follows, facts, test })
 }
 
-/// Names one after the other, with the places of their components.
+/// Names one after the other, with the places of their components; and of those that are known in part which these are, a bit for each.
 #[derive(Default)]
 struct Names {
     bytes: Vec<u8>,
     rows: Vec<(usize, [u32; 11])>,
+    in_part: Vec<(usize, [u32; 11], u16)>,
 }
 
 impl Names {
     fn push(&mut self, name: &[u8]) {
-        self.rows.push((self.bytes.len(), ends_of(name)));
+        let ends = ends_of(name);
+        if has_wildcards(name, &ends) {
+            let specials = (0..11).filter(|&n| has_specials(component(name, &ends, n))).fold(0, |bits, n| bits | 1 << n);
+            self.in_part.push((self.bytes.len(), ends, specials));
+        } else {
+            self.rows.push((self.bytes.len(), ends));
+        }
         self.bytes.extend_from_slice(name);
     }
 
-    fn is_covered(&self, name: &[u8], plain: &mut Vec<u8>) -> bool {
+    /// TRUE where the name covers one of these, else UNKNOWN where it may cover one.
+    fn truth(&self, name: &[u8], plain: &mut Vec<u8>) -> Truth {
         let ends = ends_of(name);
         let mut asked: Vec<_> = (0..11).filter_map(|n| Some((n, Asked::new(component(name, &ends, n))?))).collect();
         // (what comes later tells more names apart)
         asked.reverse();
-        self.rows.iter().any(|(start, ends)| {
-            let name = &self.bytes[*start..*start + ends[10] as usize];
-            asked.iter().all(|(n, it)| it.fits(component(name, ends, *n), plain))
-        })
+        let mut fits = |start: usize, ends: &[u32; 11], specials: u16| {
+            let name = &self.bytes[start..start + ends[10] as usize];
+            asked.iter().all(|(n, it)| specials & 1 << n != 0 || it.fits(component(name, ends, *n), plain))
+        };
+        if self.rows.iter().any(|(start, ends)| fits(*start, ends, 0)) {
+            TRUE
+        } else if self.in_part.iter().any(|(start, ends, specials)| fits(*start, ends, *specials)) {
+            UNKNOWN
+        } else {
+            FALSE
+        }
     }
 }
 
@@ -1130,9 +1148,6 @@ impl Inventory {
     }
 
     fn add_item(&mut self, name: &[u8]) -> Result<(), Refusal> {
-        if has_wildcards(name, &ends_of(name)) {
-            return Err(For(b" wildcards"));
-        }
         if self.item_numbers.contains_key(name) {
             return Err(For(b" exists"));
         }
@@ -1187,21 +1202,27 @@ impl Inventory {
 
     fn put_items(&self, buffers: &mut Buffers, out: &mut Vec<u8>) {
         let Buffers { name, plain, .. } = buffers;
-        let is_covered = |item: &&Box<[u8]>| {
+        let (mut found, mut perhaps) = (Vec::new(), Vec::new());
+        for item in self.items.values() {
             let mut alone = Names::default();
             alone.push(item);
-            alone.is_covered(name, plain)
-        };
-        let found: Vec<_> = self.items.values().filter(is_covered).collect();
+            match alone.truth(name, plain) {
+                TRUE => found.push(item),
+                UNKNOWN => perhaps.push(item),
+                _ => {}
+            }
+        }
         out.extend_from_slice(b"items ");
         out.extend_from_slice(name);
         out.push(b' ');
         decimal(out, found.len() as u64);
         out.push(b'\n');
-        for item in found {
-            out.extend_from_slice(b"item ");
-            out.extend_from_slice(item);
-            out.push(b'\n');
+        for (word, items) in [(&b"item "[..], found), (&b"maybe "[..], perhaps)] {
+            for item in items {
+                out.extend_from_slice(word);
+                out.extend_from_slice(item);
+                out.push(b'\n');
+            }
         }
     }
 
@@ -1216,14 +1237,14 @@ impl Inventory {
         covered
     }
 
-    fn truth(&self, test: &Test, is_fact: &mut impl FnMut(&[u8]) -> bool) -> Truth {
+    fn truth(&self, test: &Test, fact: &mut impl FnMut(&[u8]) -> Truth) -> Truth {
         match test {
-            Test::Fact(name) => if is_fact(name) { TRUE } else { FALSE },
+            Test::Fact(name) => fact(name),
             Test::Check(key) => self.checks.get(key).copied().unwrap_or(UNKNOWN),
             Test::Logic { is_or, negate, of } => {
                 let mut found = TRUE;
                 for child in of {
-                    let truth = self.truth(child, is_fact);
+                    let truth = self.truth(child, fact);
                     found = found.min(if *is_or { not(truth) } else { truth });
                     if found == FALSE {
                         break;
@@ -1238,10 +1259,14 @@ impl Inventory {
         let Buffers { plain, marks, .. } = buffers;
         self.truth(&statement.test, &mut |name| {
             if !statement.follows {
-                return covered.items.is_covered(name, plain);
+                return covered.items.truth(name, plain);
             }
-            let mut found = false;
-            dictionary.each_end(name, marks, |end| found = found || covered.ends.is_covered(end, plain));
+            let mut found = FALSE;
+            dictionary.each_end(name, marks, |end| {
+                if found != TRUE {
+                    found = found.max(covered.ends.truth(end, plain));
+                }
+            });
             found
         })
     }
