@@ -24,6 +24,8 @@ FEW, MANY = 8_000, 80_000
 DRILLED = (8_000, 80_000, 800_000)
 # Items and statements beside those that are near the edits.
 SMALL, LARGE = (10_000, 1_000), (1_000_000, 100_000)
+# Products with items of so many versions each, of which one in so many is known in part; and items whose product is a pattern.
+PARTLY, VERSIONS, ONE_IN, PATTERNS = 1_000, 20, 10, 1_000
 # The names that are near: products, the facts of each, and how often an item of each comes and goes.
 PRODUCTS, FACTS, TIMES = 100, 5, 500
 EDITS = 50_000
@@ -262,11 +264,11 @@ def deprecation(number, verb, kind):
 def untouching():
     """Kinds of edits that touch no verdict; of each the lines, the same as they are refused, and the reason of that."""
     entries = [[make_lines.record(b"entry", fs(b"f%d" % number, version)) for number in range(EDITS)] for version in (b"1.0", b"1.*")]
-    name, spoilt = [lambda number, version=version: fs(b"t%d" % (number % 1_000), version) for version in (b"1.0", b"1.0*")]
+    name, missing = [lambda number, version=version: fs(b"t%d" % (number % 1_000), version) for version in (b"1.0", b"9.0")]
     yield (
         "an item comes or goes",
         pairs(lambda it: item(name(it)), lambda it: item(name(it), b"drop-item")),
-        (pairs(lambda it: item(spoilt(it)), lambda it: item(spoilt(it))), b"wildcards"),
+        (pairs(lambda it: item(missing(it), b"drop-item"), lambda it: item(missing(it), b"drop-item")), b"unknown"),
     )
     yield (
         "a result that no statement asks for",
@@ -399,6 +401,63 @@ def measure_load(program, rounds):
         yield "the load by that", "", load / again, 1.3
 
 
+# ---- items that are known in part
+
+
+def versions_of(product, one_in):
+    """The names of the items of a product, of which one in so many is known in part; none where that is 0."""
+    for number in range(VERSIONS):
+        is_in_part = one_in and number % one_in == 3
+        yield fs(product, b"%d.*" % number if is_in_part else b"%d.0" % number)
+
+
+def partly_parts(one_in):
+    """Items, statements of three facts on them, and items that go, every other of them."""
+    names = [list(versions_of(b"p%d" % it, one_in)) for it in range(PARTLY)]
+    statements = []
+    for number in range(PARTLY):
+        facts = [fs(b"p%d" % number, version) for version in (b"%d.0" % (number % VERSIONS), b"2*", b"3.5")]
+        of = b",".join(b'{"fact":%s}' % make_lines.spelled(it) for it in facts)
+        statements.append(b'{"do":"statement","id":"s%d","test":{"op":"AND","of":[%s]}}' % (number, of))
+    gone = [item(name, b"drop-item") for of_product in names for name in of_product[::2]]
+    return text(item(name) for of_product in names for name in of_product), text(statements), text(gone)
+
+
+def partly_known(program, one_in):
+    """The microseconds of a line of watch and of evaluate, and of a question for the items of a product."""
+    items, statements, gone = partly_parts(one_in)
+    count = PARTLY * VERSIONS
+    with Session(program, "watch") as session:
+        watched = session.accepts(items + statements + gone) / (count + PARTLY + count // 2) * 1e6
+    with Session(program, "evaluate") as session:
+        session.accepts(items + statements)
+        evaluated = session.ends()[1] / (count + PARTLY) * 1e6
+    with Session(program, "resolve") as session:
+        session.accepts(items)
+        asked = session.accepts(text(make_lines.record(b"items", fs(b"p%d" % it, b"*")) for it in range(PARTLY))) / PARTLY * 1e6
+    return [watched, evaluated, asked]
+
+
+def patterned(program, patterns):
+    """The microseconds of a statement of one fact beside so many items whose product is a pattern."""
+    with Session(program, "watch") as session:
+        session.accepts(base_lines(*SMALL) + text(item(fs(b"x%d*" % it, b"1.0")) for it in range(patterns)))
+        lines = text(put(1_000_000 + it, fs(b"p%d" % it, b"1.0")) for it in range(LOADED))
+        return [session.accepts(lines) / LOADED * 1e6]
+
+
+def measure_partly(program, rounds):
+    found = [best(rounds, lambda one_in=one_in: partly_known(program, one_in)) for one_in in (0, ONE_IN)]
+    for number, what in enumerate(("a line of watch", "a line of evaluate", "a question for the items of a product")):
+        none, some = (figures[number] for figures in found)
+        yield f"{what}: {PARTLY * VERSIONS:,} items, none known in part", "us", none, None
+        yield f"the same: one in {ONE_IN} known in part", "us", some, None
+        yield "the one by the other", "", some / none, 1.5
+    for count in (0, PATTERNS):
+        (took,) = best(rounds, lambda count=count: patterned(program, count))
+        yield f"a statement of one fact, beside {count:,} items whose product is a pattern", "us", took, None
+
+
 # ---- drill
 
 
@@ -426,6 +485,7 @@ PARTS = {
     "table": measure_table,
     "verdicts": measure_verdicts,
     "load": measure_load,
+    "partly": measure_partly,
     "drill": measure_drill,
 }
 
