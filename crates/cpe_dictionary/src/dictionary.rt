@@ -18,7 +18,9 @@ use crate::entries::Entries;
 use crate::kept::{entry_of, state_of};
 use crate::search::wanted_at;
 use cpe_name::Wfn;
-use cpe_rows::{Deprecation, EditFault, Entry, List, MOST_ENTRIES, Note, Row, State, Which};
+use cpe_rows::{
+    BoxedName, Deprecation, EditFault, Entry, List, MOST_ENTRIES, Note, Row, State, Which,
+};
 use cpe_steps::Steps;
 use cpe_values::Memory;
 use deprecation_graph::{DeprecationGraph, GraphFault};
@@ -271,13 +273,20 @@ impl Dictionary<'_> {
         ensures { IsCause result (option_map (λ e. EditFault.TooWide e.name) (slice_get self.now number)) }
     {
         match self.entries.get_index(number as usize) {
-            Some((name, _)) => match name.copy(self.alloc) {
+            Some((name, _)) => match boxed_copy(self.alloc, name) {
                 Ok(name) => EditFault::TooWide(name),
                 Err(_) => EditFault::Memory,
             },
             None => unreachable!(),
         }
     }
+}
+
+// A name again, in memory of its own.
+fn boxed_copy(alloc: Global, name: &Wfn) -> Result<BoxedName, Memory>
+    ensures { IfOk result (λ b. b ≡ name.now) }
+{
+    BoxedName::new(alloc, name.copy(alloc)?)
 }
 
 // A name that is no entry has no chain, and is its own end.

@@ -1,6 +1,7 @@
 // Names in records.
-ghost use Rattle.std.specs.Prelude.{◌≡◌, Ok, MatchResult, map, IfOk, is_some};
+ghost use Rattle.std.specs.Prelude.{◌≡◌, None, Ok, MatchResult, map, IfOk, is_some};
 ghost use Rattle.std.specs.List.{list_all};
+ghost use Rattle.serde_json.specs.Find.{as_str};
 ghost use Rattle.serde_json.specs.View.{view};
 ghost use Rattle.cpe_uri.specs.EitherBinding.{read_any, SaysFault};
 ghost use Rattle.cpe_members.specs.Gives.{Gives, all_from};
@@ -120,7 +121,36 @@ fn named_in(
 ) -> Result<Wfn, RecordFault>
     ensures { Gives result (named_in format member spot (view source.now)) }
 {
-    match name_in(alloc, format, member, source) {
+    match source.as_str() {
+        Some(text) => named_by(alloc, spot, text),
+        None => object_named(alloc, format, member, spot, source),
+    }
+}
+
+// The name that has this text as its URI or formatted string, in lower case; or its spot with the place at which the text goes wrong.
+fn named_by(alloc: Global, spot: NameSpot, text: &str) -> Result<Wfn, RecordFault>
+    ensures { Gives result (at_spot spot (text_name text.now)) }
+{
+    match unbound(alloc, text.as_bytes()) {
+        Ok(name) => Ok(lowered(name)),
+        Err(UriFault::At(place)) => Err(RecordFault::Name(spot, place)),
+        Err(UriFault::Memory) => Err(RecordFault::Memory),
+    }
+}
+
+// The same of a value that is no text. It has a frame of its own, which isn't cleared where a text stands.
+#[inline(never)]
+fn object_named(
+    alloc: Global,
+    format: Format,
+    member: Member,
+    spot: NameSpot,
+    source: &Value,
+) -> Result<Wfn, RecordFault>
+    requires { as_str (view source.now) ≡ None }
+    ensures { Gives result (named_in format member spot (view source.now)) }
+{
+    match object_in(alloc, format, member, source) {
         Ok(found) => at_spot(spot, found),
         Err(fault) => Err(fault),
     }

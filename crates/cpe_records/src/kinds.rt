@@ -100,7 +100,9 @@ fn mode_at(source: &Value) -> Result<Mode, RecordFault>
     }
 }
 
-// The fault, and the name is let go. Where it is let go beside other facts, its eleven values hide them from the proof.
+// The fault, and the name is let go. Where it is let go beside other facts, its eleven values hide them from the proof; and where the
+// code for that stands among the rest, the name is moved there value by value.
+#[inline(never)]
 fn refused<T>(_name: Wfn, fault: RecordFault) -> Result<T, RecordFault>
     ensures { result ≡ Err fault }
 {

@@ -120,7 +120,7 @@ fn push_edit_fault(alloc: Global, page: &mut Page, fault: &EditFault) -> Result<
         EditFault::UnknownSuccessor(place) => push_place(page, b"unknown-successor ", *place),
         EditFault::RepeatedSuccessor(place) => push_place(page, b"repeated-successor ", *place),
         EditFault::Cycle(place) => push_place(page, b"cycle ", *place),
-        EditFault::TooWide(name) => push_too_wide(alloc, page, name),
+        EditFault::TooWide(name) => push_too_wide(alloc, page, name.as_name()),
         EditFault::Full(which) => push_full(page, *which),
         EditFault::Memory => Ok(()),
     }
