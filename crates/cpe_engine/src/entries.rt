@@ -58,7 +58,7 @@ impl Parts {
             provenance,
             deprecation: _,
         } = entry;
-        match self.registry.hold(name) {
+        match self.registry.hold_moved(name) {
             Ok(id) => Ok(Numbered::Entry {
                 id,
                 title,

@@ -18,7 +18,6 @@ use cpe_registry::Registry;
 use cpe_rows::Test;
 use cpe_values::Memory;
 use name_index::NameId;
-use std::alloc::Global;
 
 /// Holds the names of all fact references of a test, in their order, and puts their numbers last.
 ///
@@ -26,7 +25,6 @@ use std::alloc::Global;
 /// Only that memory ran out. What was held by then has its number among those.
 pub(crate) fn hold_facts(
     registry: &mut Registry,
-    alloc: Global,
     test: &Test,
     ids: &mut Vec<NameId>,
 ) -> Result<(), Memory>
@@ -40,22 +38,17 @@ pub(crate) fn hold_facts(
     match test {
         Test::Logic { of, .. } => {
             for child in of.as_slice() {
-                hold_facts(registry, alloc, child, ids)?;
+                hold_facts(registry, child, ids)?;
             }
             Ok(())
         }
-        Test::Fact(name) => hold_fact(registry, alloc, name.as_name(), ids),
+        Test::Fact(name) => hold_fact(registry, name.as_name(), ids),
         Test::Check(_) => Ok(()),
     }
 }
 
 // Holds one name, and puts its number last.
-fn hold_fact(
-    registry: &mut Registry,
-    alloc: Global,
-    name: &Wfn,
-    ids: &mut Vec<NameId>,
-) -> Result<(), Memory>
+fn hold_fact(registry: &mut Registry, name: &Wfn, ids: &mut Vec<NameId>) -> Result<(), Memory>
     requires live { AreLive registry.old.table ids.old.items }
     requires lower { is_lower name.now ≡ true }
     requires few { AreFew registry.old.table 1 }
@@ -68,8 +61,7 @@ fn hold_fact(
     numbered_names::law::tables_are_lists();
     kept_verdicts::law::verdicts_stand();
     reserve_one(ids)?;
-    let copy = name.copy(alloc)?;
-    let id = registry.hold(copy)?;
+    let id = registry.hold(name)?;
     put_last(ids, id);
     Ok(())
 }

@@ -46,7 +46,7 @@ impl Parts {
         numbered_names::law::tables_are_lists();
         kept_verdicts::law::verdicts_stand();
         asked_names::law::lawful_rows_ask_few();
-        let id = self.registry.hold(name)?;
+        let id = self.registry.hold_moved(name)?;
         Ok(Numbered::Item(id))
     }
 

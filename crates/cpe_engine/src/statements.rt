@@ -76,7 +76,7 @@ impl Parts {
     {
         asked_names::law::lawful_rows_ask_few();
         let mut ids = Vec::new(alloc);
-        match hold_facts(&mut self.registry, alloc, &statement.test, &mut ids) {
+        match hold_facts(&mut self.registry, &statement.test, &mut ids) {
             Ok(()) => Ok(Numbered::PutStatement { statement, ids }),
             Err(memory) => {
                 drop(statement);

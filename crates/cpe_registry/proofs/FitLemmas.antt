@@ -132,6 +132,14 @@ stays_by old new s r fit order names item_order item_names = record {
 pub stays_same : (old new : Names) (s : Stored) (r : ItemRoll) → AreFitting old s r → new ≡ old → Stays old new s r
 stays_same old new s r fit same = subst (λ (t : Names). Stays old t s r) (sym same) (record { fitting = fit; entries = refl; items = refl })
 
+-- a hold leaves all as it was but the table
+pub stays_held : {E : Type 0} (old new : Names) (s : Stored) (r : ItemRoll) (name : Values) (result : Result NameId E) → AreFitting old s r
+    → ((id : ℕ) → Holds old new id name → AreInOrder new s.names.held s.names.numbers) → ((id : ℕ) → Holds old new id name → names_numbered new s.names.numbers ≡ names_numbered old s.names.numbers)
+    → ((id : ℕ) → Holds old new id name → AreItems new r.targets r.numbers) → ((id : ℕ) → Holds old new id name → names_numbered new r.numbers ≡ names_numbered old r.numbers)
+    → IfOk result (λ id. Holds old new id.0 name) → OnErr result (new ≡ old) → Stays old new s r
+stays_held old new s r name result fit order names item_order item_names held same = either_if (λ (id : NameId). Holds old new id.0 name) result
+    (λ id h. stays_by old new s r fit (order id.0 h) (names id.0 h) (item_order id.0 h) (item_names id.0 h)) (λ e. stays_same old new s r fit e) held same
+
 -- the list of what is held, by the names that stay
 pub shows_still : (old new : Names) (s : Stored) (r : ItemRoll) (front : List Values) → Stays old new s r → Shows new (holds_in new) (front ++ (names_of (entries_in old s) ++ names_numbered old r.numbers))
     → Shows new (holds_in new) (front ++ (names_of (entries_in new s) ++ names_numbered new r.numbers))

@@ -151,11 +151,32 @@ impl Registry {
 
 impl Registry {
     /// The number of a name in lower case, which is held once more: besides entries and items, until it is one of them or
-    /// [released](Registry::release). It is moved, and found by its hash.
+    /// [released](Registry::release). It is found by its hash, and copied only where it is new.
     ///
     /// # Errors
     /// Only that memory ran out; all is then as it was.
-    pub fn hold(&mut self, name: Wfn) -> Result<NameId, Memory>
+    pub fn hold(&mut self, name: &Wfn) -> Result<NameId, Memory>
+        requires lower { IsLower name.now }
+        requires few { (id : ℕ) → HasName self.old.table id name.now → (kept_at self.old.table id).holds < 4294967295 }
+        ensures live { IfOk result (λ id. IsLive self.new.table id.0) }
+        ensures named { IfOk result (λ id. name_in self.new.table id ≡ name.now) }
+        ensures held { IfOk result (λ id. Holds self.old.table self.new.table id.0 name.now) }
+        ensures entries { self.new.entries ≡ self.old.entries }
+        ensures items { self.new.items ≡ self.old.items }
+        ensures others { (others : List Values) → AreHeld self.old others → OnOk result (AreHeld self.new (name.now ∷ others)) }
+        ensures err { OnErr result (self.new ≡ self.old) }
+    {
+        names_in_order::law::orders_stay();
+        items_in_order::law::items_stay();
+        numbered_names::law::tables_are_lists();
+        self.table.hold(name)
+    }
+
+    /// The same by moving the name: it isn't copied.
+    ///
+    /// # Errors
+    /// Only that memory ran out; all is then as it was.
+    pub fn hold_moved(&mut self, name: Wfn) -> Result<NameId, Memory>
         requires lower { IsLower name }
         requires few { (id : ℕ) → HasName self.old.table id name → (kept_at self.old.table id).holds < 4294967295 }
         ensures live { IfOk result (λ id. IsLive self.new.table id.0) }

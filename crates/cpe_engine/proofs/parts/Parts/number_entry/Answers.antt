@@ -4,8 +4,8 @@ use Rattle.cpe_engine.specs.Parts.{rows_in}
 use Rattle.cpe_engine.proofs.PartsLemmas.{by_hold, few_holds}
 use Rattle.cpe_engine.proofs.parts.Parts.number_entry.Goals as goal
 
-pub hold-requires-clause-few : goal.hold-requires-clause-few
-hold-requires-clause-few c id has =
+pub hold_moved-requires-clause-few : goal.hold_moved-requires-clause-few
+hold_moved-requires-clause-few c id has =
     let table = c.args.self.now.registry.table in
     let rows = rows_in c.args.self.now in
     few_holds table rows (c.lawful_rows_ask_few.ensures.kept rows c.requires.kept.lawful) (λ k. c.lists_are_shown.ensures.few table (holds_in table) (names_kept rows) k c.requires.kept.are.held) id
@@ -14,7 +14,7 @@ pub returns-in-Ok-clause-are : goal.returns-in-Ok-clause-are
 returns-in-Ok-clause-are c =
     let p = c.args.self.now in
     let rows = rows_in p in
-    let r = c.hold.new.self in
+    let r = c.hold_moved.new.self in
     let h = c.in-Ok.ensures in
     let id = c.in-Ok.id in
     let are = c.requires.kept.are in
