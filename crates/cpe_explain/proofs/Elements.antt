@@ -1,9 +1,8 @@
 -- Elements of lists: tests over them, their places, and lists in which no name stands twice.
-use Rattle.std.proofs.Common.{◌≡◌, ◌↔◌, ◌⊎◌, inl, inr, ℕ, zero, suc, ◌<◌, List, [], ◌∷◌, ◌++◌, Bool, true, false, ◌||◌, Some, None, map, fold, slice_get, if◌then◌else◌, cond, not, ltb, position, ◌+◌, refl, ap, sym, ◌∙◌, subst, arith}
+use Rattle.std.proofs.Common.{◌≡◌, ◌↔◌, ◌⊎◌, inl, inr, ℕ, zero, suc, ◌<◌, List, [], ◌∷◌, ◌++◌, Bool, true, false, ◌||◌, Some, None, map, fold, slice_get, if◌then◌else◌, cond, not, ◌+◌, refl, ap, sym, ◌∙◌, subst, arith}
 use Rattle.std.specs.Borrow.{Bor}
 use Rattle.std.specs.List.{list_any, position_or_len}
 use Rattle.std.specs.Option.{unwrap_or}
-use Rattle.std.proofs.lemmas.List.{length-map}
 use Rattle.indexmap.specs.IndexSet.{insert_key}
 use Rattle.cpe_name.specs.Eleven.{Values}
 use Rattle.cpe_name.specs.Equal.{same_name}
@@ -53,10 +52,7 @@ pub first_map : {A B : Type 0} (p : B → Bool) (f : A → B) (xs : List A) → 
 first_map p f [] = refl
 first_map p f (x ∷ xs) = let rest = first_map p f xs in λ i. cond (not (p (f x))) (1 + rest i) 0
 
-pub position_map : {A B : Type 0} (p : B → Bool) (f : A → B) (xs : List A) → position p (map f xs) ≡ position (λ x. p (f x)) xs
-position_map p f xs = let first = first_map p f xs in let len = length-map xs f in λ i. cond (ltb (first i) (len i)) (Some (first i)) None
-
-map_last : {A B : Type 0} (f : A → B) (xs : List A) (y : A) → map f (xs ++ y ∷ []) ≡ map f xs ++ f y ∷ []
+pub map_last : {A B : Type 0} (f : A → B) (xs : List A) (y : A) → map f (xs ++ y ∷ []) ≡ map f xs ++ f y ∷ []
 map_last f [] y = refl
 map_last f (x ∷ xs) y = ap (λ ys. f x ∷ ys) (map_last f xs y)
 
@@ -145,10 +141,6 @@ seen_insert ks k =
       go true = refl
       go false = map_last (λ (r : Bor Values). r.now) ks k
 
-pub seen_position : (ks : List (Bor Values)) (n : Values) → position (λ (k : Bor Values). same_name n k.now) ks ≡ position (is_same n) (seen ks)
-unfolding is_same
-seen_position ks n = sym (position_map (is_same n) (λ (r : Bor Values). r.now) ks)
-
 pub names_keep : (ns xs : List Values) (k : ℕ) (x : Values) → slice_get ns k ≡ Some x → slice_get (fold with_name ns xs) k ≡ Some x
 names_keep ns [] k x e = e
 names_keep ns (y ∷ xs) k x e = names_keep (with_name ns y) xs k x (name_keeps ns y k x e)
@@ -168,10 +160,3 @@ names_were ns (y ∷ xs) m k = elim (names_were (with_name ns y) xs m k) [
   | inl h ↦ elim (name_was ns y m h) [ inl g ↦ inl g | inr e ↦ inr (inl e) ]
   | inr h ↦ inr (inr h)
 ]
-
--- whatever is asked of them, they are the names that were put
-pub names_any : (p : Values → Bool) (xs : List Values) → list_any p (fold with_name [] xs) ≡ list_any p xs
-names_any p xs = same_tests (list_any p (fold with_name [] xs)) (list_any p xs)
-    (λ h. let w = some_element p (fold with_name [] xs) h in
-    elim (names_were [] xs w.0 w.1) [ inl k ↦ absurd k | inr k ↦ element_passes p xs w.0 k w.2 ])
-    (λ h. let w = some_element p xs h in element_passes p (fold with_name [] xs) w.0 (names_come [] xs w.0 w.1) w.2)

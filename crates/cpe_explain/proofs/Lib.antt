@@ -10,7 +10,6 @@ pub mod Facts
 pub mod Levels
 pub mod Told
 pub mod Loops
-pub mod Places
 pub mod Given
 pub mod Children
 pub mod Firsts

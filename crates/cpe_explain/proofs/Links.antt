@@ -1,6 +1,6 @@
 -- Entries whose names are different, and whose successors are entries.
 use Rattle.std.proofs.Common.{◌≡◌, List, [], ◌∷◌, Bool, true, false, Option, Some, None, is_none, ◌||◌, cond, find, refl, ap, sym, ◌∙◌, subst, inl, inr}
-use Rattle.std.specs.List.{list_any, list_all}
+use Rattle.std.specs.List.{list_any}
 use Rattle.std.specs.Option.{option_map_or}
 use Rattle.std.proofs.lemmas.Bool.{true≢false}
 use Rattle.cpe_name.specs.Eleven.{Values}
@@ -15,12 +15,7 @@ use Rattle.cpe_rows.specs.declared.statement.Mode.TheVariants.{Plain, Follow}
 use Rattle.cpe_rows.proofs.Lists.{each_element}
 use Rattle.cpe_rows.proofs.NameTests.{same_is}
 use Rattle.cpe_rows.proofs.Paths.{element_passes, same_entry}
-use Rattle.cpe_rows.proofs.ChangedEntries.{AreNamed}
-use Rattle.cpe_explain.specs.Leading.{followed, deprecation_of, next_of, is_end}
-
-pub record AreLinked (es : List Entry) : Type 0 where
-  pub named : AreNamed es
-  pub to_entries : list_all (has_successors es) es ≡ true
+use Rattle.cpe_explain.specs.Leading.{followed, deprecation_of, next_of, is_end, AreLinked}
 
 pub linked : (rows : Rows) (mode : Mode) → IsLawful rows → AreLinked (followed rows mode)
 linked rows Plain h = record { named = refl; to_entries = refl }

@@ -1,12 +1,14 @@
 -- Loops that go over rows by their places, up to the most rows that there may be.
-use Rattle.std.proofs.Common.{◌≡◌, ℕ, zero, suc, ◌+◌, ◌-◌, ◌≤◌, List, [], ◌∷◌, ◌++◌, Bool, true, false, cond, ◌||◌, Some, None, find, take, drop, length, slice_get, refl, ap, sym, ◌∙◌, add-one, arith}
+use Rattle.std.proofs.Common.{◌≡◌, ℕ, zero, suc, ◌+◌, ◌-◌, ◌≤◌, ◌<◌, List, [], ◌∷◌, ◌++◌, Bool, true, false, cond, ◌||◌, Some, None, find, map, take, drop, length, slice_get, refl, ap, sym, ◌∙◌, add-one, arith}
 use Rattle.std.specs.List.{list_any, last_or}
 use Rattle.std.proofs.lemmas.Bool.Decides.{nat_tests}
+use Rattle.std.proofs.lemmas.Option.{slice_get_within}
 use Rattle.cpe_rows.specs.Rows.{Rows}
 use Rattle.cpe_rows.specs.Lawful.{IsLawful}
+use Rattle.cpe_rows.specs.declared.entry.Entry.{Entry}
 use Rattle.cpe_rows.specs.declared.fault.Which.TheVariants as limit
 use Rattle.cpe_rows.proofs.Limited.{each_within}
-use Rattle.cpe_explain.proofs.Elements.{same_some}
+use Rattle.cpe_explain.proofs.Elements.{same_some, map_last}
 
 module _ {A : Type 0} where
   pub drop_at : (xs : List A) (k : ℕ) (x : A) → slice_get xs k ≡ Some x → drop k xs ≡ x ∷ drop (k + 1) xs
@@ -76,6 +78,22 @@ module _ {A : Type 0} where
     pub any_next : (x : A) → AnyLeft → slice_get xs k ≡ Some x → p x ≡ false → list_any p (drop (k + 1) xs) ≡ list_any p xs
     any_next x left e h = sym (ap (list_any p) (drop_at xs k x e) ∙ ap (λ b. b || list_any p (drop (k + 1) xs)) h) ∙ left
 
+-- those that stand elsewhere are listed up to a place
+module _ {A B : Type 0} (f : A → B) (xs : List B) where
+  abbrev pub AreListed : List A → ℕ → Type 0
+  AreListed listed k = map f listed ≡ take k xs
+
+  pub one_listed : (listed more : List A) (k : ℕ) (a : A) → AreListed listed k → slice_get xs k ≡ Some (f a) → more ≡ listed ++ a ∷ []
+      → AreListed more (k + 1)
+  one_listed listed more k a so_far at e =
+      ap (map f) e ∙ (map_last f listed a ∙ (ap (λ ys. ys ++ f a ∷ []) so_far ∙ sym (take_at xs k (f a) at)))
+
+  pub all_listed : (listed : List A) (k : ℕ) → AreListed listed k → slice_get xs k ≡ None → xs ≡ map f listed
+  all_listed listed k so_far past = sym (so_far ∙ take_past xs k past)
+
+pub nearer : {A : Type 0} (xs : List A) (k : ℕ) (x : A) → slice_get xs k ≡ Some x → length xs - (k + 1) < length xs - k
+nearer xs k x at = omega (arith, slice_get_within xs k x at)
+
 module _ (rows : Rows) (lawful : IsLawful rows) where
   pub few_entries : length rows.entries ≤ 2000000
   few_entries = grind (arith, nat_tests, each_within rows lawful.within limit.Entries)
@@ -88,3 +106,6 @@ module _ (rows : Rows) (lawful : IsLawful rows) where
 
   pub few_checks : length rows.checks ≤ 100000
   few_checks = grind (arith, nat_tests, each_within rows lawful.within limit.Checks)
+
+  pub few_before : (k : ℕ) (e : Entry) → slice_get rows.entries k ≡ Some e → k < 2000000
+  few_before k e at = omega (arith, few_entries, slice_get_within rows.entries k e at)

@@ -4,19 +4,17 @@ use Rattle.std.specs.List.{list_any}
 use Rattle.std.proofs.lemmas.Bool.{ltb-true, ltb-false}
 use Rattle.cpe_name.specs.Eleven.{Values}
 use Rattle.cpe_rows.specs.Reach.{Among, Leads, is_reached}
-use Rattle.cpe_rows.specs.Rows.{Rows, is_named}
+use Rattle.cpe_rows.specs.Rows.{is_named}
 use Rattle.cpe_rows.specs.Chains.{is_successor, successors_of, is_active, chain, ends}
-use Rattle.cpe_rows.specs.Lawful.{IsLawful}
 use Rattle.cpe_rows.specs.declared.entry.Entry.{Entry}
-use Rattle.cpe_rows.specs.declared.statement.Mode.{Mode}
 use Rattle.cpe_rows.proofs.NameTests.{same_is}
 use Rattle.cpe_rows.proofs.Paths.{element_passes, some_element, was_kept, is_kept, to_successor}
 use Rattle.cpe_rows.proofs.Reaches.{decided}
 use Rattle.cpe_explain.specs.Seen.{with_name}
-use Rattle.cpe_explain.specs.Leading.{followed, next_of, is_end, some_end, AreEnds}
+use Rattle.cpe_explain.specs.Leading.{next_of, is_end, AreEnds, AreLinked}
 use Rattle.cpe_explain.proofs.Elements.{same_tests, same_some, listed_tells, placed, stands, before_end, earlier_at, name_was, name_stays, name_comes, names_keep, names_stay, names_come, names_were}
 use Rattle.cpe_explain.proofs.TraceEnds.{mapped}
-use Rattle.cpe_explain.proofs.Links.{AreLinked, linked, end_has_none, found_some, found_self, next_found, end_found, next_absent, end_absent, next_known}
+use Rattle.cpe_explain.proofs.Links.{found_some, found_self, next_found, end_found, next_absent, end_absent, next_known}
 
 module _ (es : List Entry) where
   -- the name comes after these, the last first, of which the one furthest back comes after a start
@@ -93,17 +91,6 @@ module _ (es : List Entry) where
           subst (ComesLast (n ∷ [])) u.2 (names.0, names.1, end_found es u.0.name u.0 (found_self es ok u.0 c.0) ∙ a.1)
       go false absent (inl e) = ([], inl e, subst (λ x. is_end es x ≡ true) e (end_absent es n absent))
       go false absent (inr h) = absurd h
-
-    -- what comes of some names comes of one of them
-    of_one : (starts before : List Values) (m : Values) → Comes starts before m → (n : Values) × Among starts n × Comes (n ∷ []) before m
-    of_one starts [] m c = (m, c, inl refl)
-    of_one starts (a ∷ before) m c = let rest = of_one starts before a c.1 in (rest.0, rest.1, (c.0, rest.2))
-
-    of_many : (starts : List Values) (n : Values) → Among starts n → (before : List Values) (m : Values) → Comes (n ∷ []) before m
-        → Comes starts before m
-    of_many starts n k [] m (inl e) = subst (Among starts) e k
-    of_many starts n k [] m (inr h) = absurd h
-    of_many starts n k (a ∷ before) m c = (c.0, of_many starts n k before a c.1)
 
   -- ---- the walk
 
@@ -193,31 +180,28 @@ module _ (es : List Entry) where
       ];
     }
 
-  module _ (ok : AreLinked es) (starts met found : List Values) (k : ℕ) (all : AreMet starts met found k) (past : slice_get met k ≡ None) where
-    all_met : (before : List Values) (m : Values) → Comes starts before m → Among met m
+  module _ (ok : AreLinked es) (n : Values) (met found : List Values) (k : ℕ) (all : AreMet (n ∷ []) met found k) (past : slice_get met k ≡ None) where
+    all_met : (before : List Values) (m : Values) → Comes (n ∷ []) before m → Among met m
     all_met [] m c = all.begun m c
     all_met (a ∷ before) m c =
         let at = placed met a (all_met before a c.1) in
         all.closed at.0 a m (before_end met at.0 k a at.1 past) at.1 c.0
 
-    are_found : (before : List Values) (m : Values) → Comes starts before m → is_end es m ≡ true → Among found m
+    are_found : (before : List Values) (m : Values) → Comes (n ∷ []) before m → is_end es m ≡ true → Among found m
     are_found before m c last =
         let at = placed met m (all_met before m c) in
         all.done at.0 m (before_end met at.0 k m at.1 past) at.1 last
 
     -- once all are done, the ends are those of the definition
-    pub ends_met : AreEnds es starts found
-    ends_met passes = same_tests (list_any passes found) (some_end es starts passes)
+    pub ends_met : AreEnds es n found
+    ends_met passes = same_tests (list_any passes found) (list_any passes (ends es n))
         (λ h. let w = some_element passes found h in
         let last = all.kept w.0 w.1 in
         let path = all.led w.0 last.0 in
-        let one = of_one ok starts path.0 w.0 path.1 in
-        element_passes (λ n. list_any passes (ends es n)) starts one.0 one.1
-        (element_passes passes (ends es one.0) w.0 (comes_end ok one.0 w.0 path.0 one.2 last.1) w.2))
-        (λ h. let n = some_element (λ n. list_any passes (ends es n)) starts h in
-        let w = some_element passes (ends es n.0) n.2 in
-        let c = end_comes ok n.0 w.0 w.1 in
-        element_passes passes found w.0 (are_found c.0 w.0 (of_many ok starts n.0 n.1 c.0 w.0 c.1) c.2) w.2)
+        element_passes passes (ends es n) w.0 (comes_end ok n w.0 path.0 path.1 last.1) w.2)
+        (λ h. let w = some_element passes (ends es n) h in
+        let c = end_comes ok n w.0 w.1 in
+        element_passes passes found w.0 (are_found c.0 w.0 c.1 c.2) w.2)
 
   pub visited : (starts met found : List Values) (k : ℕ) → AreMet starts met found k → (n : Values) → slice_get met k ≡ Some n
       → (new_met new_found : List Values)
@@ -227,22 +211,3 @@ module _ (es : List Entry) where
       subst (λ (m : List Values). AreMet starts m new_found (k + 1)) (sym is_met)
       (subst (λ (f : List Values). AreMet starts (fold with_name met (next_of es n)) f (k + 1)) (sym is_found)
       (one_more starts met found k so_far n at))
-
--- a name that is an end is its own end alone
-module _ (rows : Rows) (lawful : IsLawful rows) (mode : Mode) (n : Values) (last : is_end (followed rows mode) n ≡ true) where
-  abbrev all : List Entry
-  all = followed rows mode
-
-  stays_there : (before : List Values) (m : Values) → Comes all (n ∷ []) before m → n ≡ m
-  stays_there [] m (inl e) = e
-  stays_there [] m (inr k) = absurd k
-  stays_there (a ∷ before) m c =
-      let e = stays_there before a c.1 in
-      absurd (subst (λ xs. Among xs m) (end_has_none all n last) (subst (λ x. Among (next_of all x) m) (sym e) c.0))
-
-  pub own_end : (passes : Values → Bool) → list_any passes (ends all n) ≡ passes n
-  own_end passes = same_tests (list_any passes (ends all n)) (passes n)
-      (λ h. let w = some_element passes (ends all n) h in
-      let c = end_comes all (linked rows mode lawful) n w.0 w.1 in
-      subst (λ x. passes x ≡ true) (sym (stays_there c.0 w.0 c.1)) w.2)
-      (λ h. element_passes passes (ends all n) n (comes_end all (linked rows mode lawful) n n [] (inl refl) last) h)

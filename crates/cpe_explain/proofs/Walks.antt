@@ -13,10 +13,10 @@ use Rattle.cpe_rows.specs.declared.statement.Mode.TheVariants.{Plain, Follow}
 use Rattle.cpe_rows.proofs.NameTests.{same_is}
 use Rattle.cpe_explain.specs.Traces.{IsActive, Precedes, IsPath, IsTrace}
 use Rattle.cpe_explain.specs.Good.{Fits}
-use Rattle.cpe_explain.specs.Leading.{followed, next_of, is_end}
+use Rattle.cpe_explain.specs.Leading.{followed, next_of, is_end, AreLinked}
 use Rattle.cpe_explain.specs.Tested.{is_walk, first_passes, last_relates, is_fit}
 use Rattle.cpe_explain.proofs.Elements.{Tells, same_some, listed_tells}
-use Rattle.cpe_explain.proofs.Links.{AreLinked, linked, found_some, found_self, next_found, end_found, next_absent, end_absent, next_known}
+use Rattle.cpe_explain.proofs.Links.{linked, found_some, found_self, next_found, end_found, next_absent, end_absent, next_known}
 
 module _ (es : List Entry) (ok : AreLinked es) where
   to_path : (names : List Values) (n : Values) → list_any (is_named n) es ≡ true → is_walk es (n ∷ names) ≡ true → IsPath es (n ∷ names)

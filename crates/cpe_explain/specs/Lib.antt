@@ -7,6 +7,5 @@ pub mod Relates
 pub mod Lent
 pub mod Checks
 pub mod Leading
-pub mod Ground
 pub mod Tested
 pub mod Worked

@@ -1,5 +1,5 @@
 // Whether a certificate shows the verdict of its statement.
-ghost use Rattle.std.specs.Prelude.{◌≡◌, ◌∷◌, [], IfOk, false, true, is_some, map, slice_get};
+ghost use Rattle.std.specs.Prelude.{◌≡◌, ◌∷◌, [], IfOk, false, true, is_some, slice_get};
 ghost use Rattle.std.specs.List.{list_all, list_any};
 ghost use Rattle.std.specs.Option.{option_copied, option_map_or};
 ghost use Rattle.cpe_rows.specs.Evaluation.{joined, negated};
@@ -7,16 +7,13 @@ ghost use Rattle.cpe_rows.specs.Truth.{same_truth};
 ghost use Rattle.cpe_explain.specs.Certificates.{given_truth, given_truths};
 ghost use Rattle.cpe_explain.specs.Good.{deciding};
 ghost use Rattle.cpe_explain.specs.Checks.{IsChecked};
-ghost use Rattle.cpe_explain.specs.Ground.{IsGround, AreLed};
 ghost use Rattle.cpe_explain.specs.Tested.{is_of_all, is_of_one, is_settled, check_passes, test_passes};
 ghost use Rattle.cpe_explain.specs.declared.proof.Why.{out-Why};
 
-use crate::found::{find_result, find_statement};
-use crate::name_set::NameSet;
 use crate::proof::{Checked, Proof, Why};
-use crate::references::{Ground, fact_passes};
+use crate::references::fact_passes;
 use crate::rows::PlainRows;
-use cpe_rows::{CheckKey, Operator, Test, Truth, and_of, not_of, or_of};
+use cpe_rows::{CheckKey, Mode, Operator, Test, Truth, and_of, not_of, or_of};
 use cpe_values::Memory;
 use std::alloc::Global;
 
@@ -139,24 +136,21 @@ fn check_passes<R: PlainRows>(rows: &R, key: &CheckKey, why: &Why) -> bool
     match why {
         Why::Logic { .. } => false,
         Why::Pair { .. } => false,
-        Why::Plain(truth) => is_truth(*truth, find_result(rows, key)),
+        Why::Plain(truth) => is_truth(*truth, rows.result_of(key)),
     }
 }
 
 // ---- the whole
 
 // Whether what is given for a test is good for it; nothing is for any.
-fn passes<'a, R: PlainRows>(
+fn passes<R: PlainRows>(
     alloc: Global,
-    ground: &Ground<'a, R>,
-    led: &mut Option<NameSet<'a>>,
-    test: &'a Test,
+    rows: &R,
+    mode: Mode,
+    test: &Test,
     why: Option<&Why>,
 ) -> Result<bool, Memory>
-    requires ground { IsGround (R.rows ground.now.followed.rows.now) ground.now.followed.mode ground.now.followed.names (map (λ d. d.now) ground.now.followed.deprecations.items) (map (λ i. i.now) ground.now.items.items) }
-    requires led { AreLed (R.rows ground.now.followed.rows.now) ground.now.followed.mode led.old }
-    ensures led { IfOk result (λ passed. AreLed (R.rows ground.now.followed.rows.now) ground.now.followed.mode led.new) }
-    ensures passed { IfOk result (λ passed. passed ≡ option_map_or (test_passes (R.rows ground.now.followed.rows.now) ground.now.followed.mode test.now) (option_copied why.entry) true) }
+    ensures { IfOk result (λ passed. passed ≡ option_map_or (test_passes (R.rows rows.now) mode test.now) (option_copied why.entry) true) }
 {
     let Some(why) = why else {
         return Ok(true);
@@ -175,23 +169,22 @@ fn passes<'a, R: PlainRows>(
             }
             let mut k = 0;
             for child in of.as_slice() {
-                if !passes(alloc, ground, led, child, given_at(given.as_slice(), k))? {
+                if !passes(alloc, rows, mode, child, given_at(given.as_slice(), k))? {
                     return Ok(false);
                 }
                 k += 1;
             }
             Ok(is_settled(*operator, *negate, *truth, given.as_slice()))
         }
-        Test::Fact(name) => fact_passes(alloc, ground, led, name.as_name(), why),
-        Test::Check(key) => Ok(check_passes(ground.followed.rows, key, why)),
+        Test::Fact(name) => fact_passes(alloc, rows, mode, name.as_name(), why),
+        Test::Check(key) => Ok(check_passes(rows, key, why)),
     }
 }
 
 /// Tests a certificate by the rows alone, down the test of the statement that has its id.
 ///
-/// It goes over the items once, and over the entries where the statement follows deprecations, but makes an index of none but the deprecated
-/// ones. A pair of names costs a pass over the items at most, and one of its ends and the items for each fact reference that no item is to
-/// make TRUE. Where deprecations lead from items is met at the first of these, once.
+/// It makes nothing of the rows. A level takes as long as its children, a pair what the rows take to find the deprecation of each name of
+/// its traces, and an item by its name. The rows are asked for the truth of a fact reference where no item is to make it TRUE.
 ///
 /// # Errors
 /// Only that memory ran out.
@@ -199,12 +192,16 @@ pub fn check_proof<R: PlainRows>(alloc: Global, rows: &R, proof: &Proof) -> Resu
     ensures { IfOk result (λ checked. IsChecked (R.rows rows.now) proof.now checked) }
 {
     rows.lawful();
-    let Some(statement) = find_statement(rows, &proof.id) else {
+    let Some(statement) = rows.statement_of(&proof.id) else {
         return Ok(Checked::Absent);
     };
-    let ground = Ground::new(alloc, rows, statement.mode)?;
-    let mut led = None;
-    if passes(alloc, &ground, &mut led, &statement.test, Some(&proof.why))? {
+    if passes(
+        alloc,
+        rows,
+        statement.mode,
+        &statement.test,
+        Some(&proof.why),
+    )? {
         Ok(Checked::Holds)
     } else {
         Ok(Checked::Fails)

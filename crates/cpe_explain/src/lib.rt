@@ -8,10 +8,10 @@
 
 mod certificate;
 mod check;
-mod ends;
 mod fits;
 mod found;
 pub mod law;
+mod listed;
 mod name_set;
 mod paths;
 mod proof;

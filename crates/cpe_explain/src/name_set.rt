@@ -1,8 +1,7 @@
 // Different names that stand elsewhere, in the order in which they came.
-ghost use Rattle.std.specs.Prelude.{◌≡◌, ◌<◌, ◌^◌, [], fold, IsSome, OnOk, position, slice_get};
+ghost use Rattle.std.specs.Prelude.{◌≡◌, ◌<◌, ◌^◌, [], fold, IsSome, OnOk, slice_get};
 ghost use Rattle.std.specs.List.{list_any};
 ghost use Rattle.std.specs.Option.{option_copied};
-ghost use Rattle.cpe_rows.specs.Names.{is_same};
 ghost use Rattle.cpe_explain.specs.Relates.{related};
 ghost use Rattle.cpe_explain.specs.Seen.{with_name};
 
@@ -13,7 +12,7 @@ use indexmap::IndexSet;
 use std::alloc::Global;
 use std::marker::Model;
 
-/// Names, each found by its hash and by its place. Contracts see the list of them.
+/// Names, each found by its place. Contracts see the list of them.
 #[derive(Drop)]
 pub(crate) struct NameSet<'a> {
     names: IndexSet<&'a Wfn>,
@@ -58,16 +57,6 @@ impl<'a> NameSet<'a> {
         Ok(())
     }
 
-    /// The place of a name, if it is there.
-    pub(crate) fn find(&self, name: &Wfn) -> Option<usize>
-        ensures { result ≡ position (is_same name.now) self.now }
-    {
-        if self.names.len() == 0 {
-            return None;
-        }
-        self.names.get_index_of(&name)
-    }
-
     /// The name at a place, if there is one.
     pub(crate) fn get(&self, place: usize) -> Option<&'a Wfn>
         ensures name { option_copied result ≡ slice_get self.now place }
@@ -80,13 +69,6 @@ impl<'a> NameSet<'a> {
             Some(name) => Some(*name),
             None => None,
         }
-    }
-
-    /// Whether one of them stands so to the name.
-    pub(crate) fn has_relating(&self, relates: Relates, name: &Wfn) -> bool
-        ensures { result ≡ list_any (λ n. related relates n name.now) self.now }
-    {
-        some_relating(self.names.as_slice(), relates, name)
     }
 
     // Whether the name stands so to one of them.
@@ -102,12 +84,6 @@ impl<'a> NameSet<'a> {
     {
         some_met(self.names.as_slice(), relates, others)
     }
-}
-
-fn some_relating(names: &[&Wfn], relates: Relates, name: &Wfn) -> bool
-    ensures { result ≡ list_any (λ n. related relates n.now name.now) names.now }
-{
-    names.iter().any(|other| relates.holds(*other, name))
 }
 
 fn some_related(names: &[&Wfn], relates: Relates, name: &Wfn) -> bool

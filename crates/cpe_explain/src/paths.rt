@@ -19,6 +19,16 @@ fn has_end<R: ExplainedRows>(alloc: Global, rows: &R, name: &Wfn, to: &Wfn) -> R
     Ok(has_name(&ends, to))
 }
 
+// The names that stand in the place of a deprecated entry's; none stands in that of another name.
+fn next_names<'a, R: ExplainedRows>(rows: &'a R, name: &Wfn) -> &'a [Wfn]
+    ensures { result.now ≡ next_of (R.rows rows.now).entries name.now }
+{
+    match rows.deprecation_of(name) {
+        Some(deprecation) => deprecation.successors.as_slice(),
+        None => &[],
+    }
+}
+
 // The first that has an end.
 fn find_leading<'a, R: ExplainedRows>(
     alloc: Global,
@@ -56,7 +66,7 @@ fn path<R: ExplainedRows>(
     let mut names = alone(alloc, from)?;
     let mut last = from;
     for _ in 0..rows.entries_len() {
-        match find_leading(alloc, rows, rows.successors(last), to)? {
+        match find_leading(alloc, rows, next_names(rows, last), to)? {
             Some(next) => {
                 names.push(next.copy(alloc)?)?;
                 last = next;

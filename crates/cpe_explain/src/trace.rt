@@ -1,17 +1,68 @@
 // Traces: names from one to one of its ends.
-ghost use Rattle.std.specs.Prelude.{◌≡◌, map};
+ghost use Rattle.std.specs.Prelude.{◌≡◌};
 ghost use Rattle.std.specs.List.{list_any, last_or};
+ghost use Rattle.std.specs.Option.{option_copied};
 ghost use Rattle.cpe_rows.specs.Names.{is_same};
-ghost use Rattle.cpe_explain.specs.Leading.{followed as followed_entries, AreFollowed};
+ghost use Rattle.cpe_explain.specs.Leading.{followed, deprecation_of, is_end, next_of};
 ghost use Rattle.cpe_explain.specs.Relates.{related};
 ghost use Rattle.cpe_explain.specs.Tested.{is_walk, first_passes, last_relates, is_fit};
 
-use crate::ends::Followed;
-use crate::found::has_name;
 use crate::relates::Relates;
 use crate::rows::PlainRows;
 use cpe_name::Wfn;
-use cpe_rows::is_same;
+use cpe_rows::{Deprecation, Mode, is_same};
+
+// ---- where names lead
+
+// The deprecation of the entry of a name, if it is followed.
+fn deprecation_in<'a, R: PlainRows>(rows: &'a R, mode: Mode, name: &Wfn) -> Option<&'a Deprecation>
+    ensures { option_copied result ≡ deprecation_of (followed (R.rows rows.now) mode) name.now }
+{
+    match mode {
+        Mode::Plain => None,
+        Mode::Follow => rows.deprecation_of(name),
+    }
+}
+
+// Whether the second name stands in the place of the first.
+fn is_next<R: PlainRows>(rows: &R, mode: Mode, name: &Wfn, next: &Wfn) -> bool
+    ensures { result ≡ list_any (is_same next.now) (next_of (followed (R.rows rows.now) mode) name.now) }
+{
+    match deprecation_in(rows, mode, name) {
+        Some(deprecation) => deprecation
+            .successors
+            .as_slice()
+            .iter()
+            .any(|successor| is_same(next, successor)),
+        None => false,
+    }
+}
+
+// Whether no name stands in the place of this one, and it wasn't removed.
+fn is_end<R: PlainRows>(rows: &R, mode: Mode, name: &Wfn) -> bool
+    ensures { result ≡ is_end (followed (R.rows rows.now) mode) name.now }
+{
+    deprecation_in(rows, mode, name).is_none()
+}
+
+// Whether each name stands in the place of the one before, and none in that of the last.
+fn is_walk<R: PlainRows>(rows: &R, mode: Mode, names: &[Wfn]) -> bool
+    ensures { result ≡ is_walk (followed (R.rows rows.now) mode) names.now }
+{
+    let [first, rest @ ..] = names else {
+        return false;
+    };
+    let mut last = first;
+    for name in rest {
+        if !is_next(rows, mode, last, name) {
+            return false;
+        }
+        last = name;
+    }
+    is_end(rows, mode, last)
+}
+
+// ---- fits
 
 fn begins_with(names: &[Wfn], name: &Wfn) -> bool
     ensures { result ≡ first_passes (is_same name.now) names.now }
@@ -22,41 +73,13 @@ fn begins_with(names: &[Wfn], name: &Wfn) -> bool
     }
 }
 
-// Whether the rows have an item of this name.
-fn is_item<R: PlainRows>(followed: &Followed<'_, R>, items: &[&Wfn], name: &Wfn) -> bool
-    requires { map (λ i. i.now) items.now ≡ (R.rows followed.now.rows.now).items }
-    ensures { result ≡ list_any (is_same name.now) (R.rows followed.now.rows.now).items }
-{
-    let _rows = followed.rows;
-    has_name(items, name)
-}
-
-fn begins_at_item<R: PlainRows>(followed: &Followed<'_, R>, items: &[&Wfn], names: &[Wfn]) -> bool
-    requires { map (λ i. i.now) items.now ≡ (R.rows followed.now.rows.now).items }
-    ensures { result ≡ first_passes (λ n. list_any (is_same n) (R.rows followed.now.rows.now).items) names.now }
+fn begins_at_item<R: PlainRows>(rows: &R, names: &[Wfn]) -> bool
+    ensures { result ≡ first_passes (λ n. list_any (is_same n) (R.rows rows.now).items) names.now }
 {
     match names.first() {
-        Some(first) => is_item(followed, items, first),
+        Some(first) => rows.has_item(first),
         None => false,
     }
-}
-
-// Whether each name stands in the place of the one before, and none in that of the last.
-fn is_walk<R: PlainRows>(followed: &Followed<'_, R>, names: &[Wfn]) -> bool
-    requires { AreFollowed (R.rows followed.now.rows.now) followed.now.mode followed.now.names (map (λ d. d.now) followed.now.deprecations.items) }
-    ensures { result ≡ is_walk (followed_entries (R.rows followed.now.rows.now) followed.now.mode) names.now }
-{
-    let [first, rest @ ..] = names else {
-        return false;
-    };
-    let mut last = first;
-    for name in rest {
-        if !followed.is_next(last, name) {
-            return false;
-        }
-        last = name;
-    }
-    followed.is_end(last)
 }
 
 fn last_relates(relates: Relates, fact: &[Wfn], item: &[Wfn]) -> bool
@@ -73,20 +96,18 @@ fn last_relates(relates: Relates, fact: &[Wfn], item: &[Wfn]) -> bool
 
 /// Whether these are a trace of the fact's name and one of an item, of which the last name of the first stands so to that of the second.
 pub(crate) fn is_fit<R: PlainRows>(
-    followed: &Followed<'_, R>,
-    items: &[&Wfn],
+    rows: &R,
+    mode: Mode,
     relates: Relates,
     name: &Wfn,
     fact: &[Wfn],
     item: &[Wfn],
 ) -> bool
-    requires followed { AreFollowed (R.rows followed.now.rows.now) followed.now.mode followed.now.names (map (λ d. d.now) followed.now.deprecations.items) }
-    requires items { map (λ i. i.now) items.now ≡ (R.rows followed.now.rows.now).items }
-    ensures { result ≡ is_fit (related relates) (R.rows followed.now.rows.now) followed.now.mode name.now fact.now item.now }
+    ensures { result ≡ is_fit (related relates) (R.rows rows.now) mode name.now fact.now item.now }
 {
     begins_with(fact, name)
-        && is_walk(followed, fact)
-        && begins_at_item(followed, items, item)
-        && is_walk(followed, item)
+        && is_walk(rows, mode, fact)
+        && begins_at_item(rows, item)
+        && is_walk(rows, mode, item)
         && last_relates(relates, fact, item)
 }

@@ -1,6 +1,6 @@
 -- What comes to items in an order, what goes, and which of them are met.
-use Rattle.std.proofs.Common.{◌≡◌, ℕ, ◌≤◌, Bool, true, false, cond, List, [], ◌∷◌, ◌++◌, length, count_by, slice_get, refl, sym, ap, ◌∙◌, arith, eq-eqb}
-use Rattle.std.specs.List.{filter, list_any, sum_by}
+use Rattle.std.proofs.Common.{◌≡◌, ℕ, ◌≤◌, Bool, true, false, cond, List, [], ◌∷◌, ◌++◌, length, count_by, slice_get, Some, refl, sym, ap, ◌∙◌, arith, eq-eqb}
+use Rattle.std.specs.List.{filter, find, list_any, sum_by}
 use Rattle.std.proofs.lemmas.List.{length-map}
 use Rattle.std.proofs.lemmas.List.Sums.{sum_by-cons}
 use Rattle.cpe_name.specs.Eleven.{Values}
@@ -98,3 +98,13 @@ none_items table targets numbers none fits is = record {
   same = λ f. ap (λ (xs : List (ℕ × ℕ)). sum_by f (ids (xs ++ targets.loose))) none.plain ∙ ap (λ (xs : List (ℕ × ℕ)). sum_by f (ids xs)) none.loose ∙ sym (ap (sum_by f) is);
   live = λ k x at. absurd (none-some x (sym (ap (λ (xs : List NameId). slice_get xs k) is) ∙ at));
 }
+
+-- ---- the first that passes
+
+pub first_found : {A : Type 0} (p : A → Bool) (xs : List A) → slice_get (filter p xs) 0 ≡ find p xs
+first_found p [] = refl
+first_found p (x ∷ xs) = by (p x) (first_found p xs)
+  where
+    by : (b : Bool) → slice_get (filter p xs) 0 ≡ find p xs → slice_get (cond b (x ∷ filter p xs) (filter p xs)) 0 ≡ cond b (Some x) (find p xs)
+    by true rest = refl
+    by false rest = rest

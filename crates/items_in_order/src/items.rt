@@ -1,13 +1,14 @@
 // The items of an inventory, beside the table of their names.
-ghost use Rattle.std.specs.Prelude.{◌≡◌, IfOk, filter, length};
+ghost use Rattle.std.specs.Prelude.{◌≡◌, IfOk, filter, find, length, slice_get};
 ghost use Rattle.std.specs.List.{list_any};
+ghost use Rattle.std.specs.Option.{option_copied};
 ghost use Rattle.cpe_inventory.specs.Slots.{names_kept};
 ghost use Rattle.cpe_name.specs.Lower.{IsLower};
 ghost use Rattle.cpe_relation.specs.Maybe.{maybe};
 ghost use Rattle.cpe_relation.specs.NameRelation.{covers};
 ghost use Rattle.cpe_rows.specs.Names.{is_same};
 ghost use Rattle.cpe_steps.specs.Within.{StepsWithin};
-ghost use Rattle.names_in_order.specs.InOrder.{names_numbered};
+ghost use Rattle.names_in_order.specs.InOrder.{AreLive, names_numbered};
 ghost use Rattle.items_in_order.specs.InOrder.{AreItems, met_count};
 
 use crate::names::ItemNames;
@@ -63,6 +64,17 @@ fn names_of(alloc: Global, table: &NameTable, ids: &[NameId]) -> Result<List<Wfn
     Ok(found)
 }
 
+// The name of the first of these numbers, if there is one.
+fn first_name<'t>(table: &'t NameTable, ids: &[NameId]) -> Option<&'t Wfn>
+    requires { AreLive table.now ids.now }
+    ensures { option_copied result ≡ slice_get (names_numbered table.now ids.now) 0 }
+{
+    match ids.first() {
+        Some(id) => Some(table.name(*id)),
+        None => None,
+    }
+}
+
 impl<'t> Items<'t> {
     /// Items beside the table of their names.
     pub fn new(table: &'t NameTable, names: &'t ItemNames) -> Items<'t>
@@ -110,5 +122,30 @@ impl<'t> Items<'t> {
             covered,
             maybe: maybes,
         })
+    }
+
+    /// The first item that a name in lower case covers (NIST IR 7696), if there is one. It looks only at items whose product that of
+    /// the name meets, counts no steps, and copies nothing.
+    ///
+    /// # Errors
+    /// Only that memory ran out.
+    pub fn first_covered(&self, alloc: Global, name: &Wfn) -> Result<Option<&'t Wfn>, Memory>
+        requires { IsLower name.now }
+        ensures { IfOk result (λ item. option_copied item ≡ find (covers name.now) self.now) }
+    {
+        let ids = self.names.met_uncounted(alloc, self.table, name)?;
+        Ok(first_name(self.table, &ids.covered))
+    }
+
+    /// The first item that a name in lower case may cover, if there is one, as [`first_covered`](Items::first_covered).
+    ///
+    /// # Errors
+    /// Only that memory ran out.
+    pub fn first_maybe(&self, alloc: Global, name: &Wfn) -> Result<Option<&'t Wfn>, Memory>
+        requires { IsLower name.now }
+        ensures { IfOk result (λ item. option_copied item ≡ find (maybe name.now) self.now) }
+    {
+        let ids = self.names.met_uncounted(alloc, self.table, name)?;
+        Ok(first_name(self.table, &ids.maybe))
     }
 }

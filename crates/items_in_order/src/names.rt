@@ -1,5 +1,5 @@
 // The numbers of items in an order, of which any may go, by product.
-ghost use Rattle.std.specs.Prelude.{◌≡◌, ◌≢◌, ◌≤◌, ◌+◌, ◌++◌, ◌∷◌, [], ℕ, IfOk, IfSome, OnOk, OnErr, cond, filter, is_some, length, slice_get, None, Some, false, true};
+ghost use Rattle.std.specs.Prelude.{◌≡◌, ◌≢◌, ◌≤◌, ◌<◌, ◌+◌, ◌++◌, ◌∷◌, [], ℕ, IfOk, IfSome, OnOk, OnErr, cond, filter, is_some, length, slice_get, None, Some, false, true};
 ghost use Rattle.std.specs.List.{IsDistinct, list_any};
 ghost use Rattle.cpe_name.specs.Equal.{same_name};
 ghost use Rattle.cpe_name.specs.Lower.{IsLower};
@@ -19,8 +19,8 @@ use cpe_values::Memory;
 use name_index::{NameId, NameTable};
 use names_in_order::{MarkedNumbers, PushNumber};
 use std::alloc::Global;
-use std::marker::Model;
-use std::sync::ledger::Ledger;
+use std::marker::{Brand, Model};
+use std::sync::ledger::{Blank, Ledger};
 use target_index::{Met, TargetIndex};
 
 /// Different names in the order in which they came, by their numbers in a table that others use, too. Any of them may go. Contracts see
@@ -131,6 +131,28 @@ fn find_met<L: Ledger>(
     })
 }
 
+// The same of names, over a ledger for this call alone: nobody reads its steps.
+fn met_over<L: Ledger>(
+    alloc: Global,
+    table: &NameTable,
+    names: &ItemNames,
+    name: &Wfn,
+    blank: Blank,
+) -> Result<Met, Memory>
+    requires order { AreItems table.now names.now.targets names.now.numbers }
+    requires lower { IsLower name.now }
+    requires ledger { blank.name ≡ L.name }
+    requires parts { blank.parts ≡ L.parts }
+    requires some { 0 < blank.parts }
+    ensures live { IfOk result (λ m. AreLive table.now m.covered.items) }
+    ensures live_maybe { IfOk result (λ m. AreLive table.now m.maybe.items) }
+    ensures covered { IfOk result (λ m. names_numbered table.now m.covered.items ≡ filter (covers name.now) (names_numbered table.now names.now.numbers)) }
+    ensures maybe { IfOk result (λ m. names_numbered table.now m.maybe.items ≡ filter (maybe name.now) (names_numbered table.now names.now.numbers)) }
+{
+    let mut steps = Steps::<L>::new(blank);
+    names.met(alloc, table, name, &mut steps)
+}
+
 impl ItemNames {
     /// No names. It takes no memory.
     pub fn new(alloc: Global) -> ItemNames
@@ -224,6 +246,23 @@ impl ItemNames {
         ensures steps { StepsWithin steps.old steps.new (met_count name.now (names_numbered table.now self.now.numbers)) }
     {
         find_met(alloc, table, &self.targets, &self.numbers, name, steps)
+    }
+
+    // The same, for a caller that counts no steps.
+    pub(crate) fn met_uncounted(
+        &self,
+        alloc: Global,
+        table: &NameTable,
+        name: &Wfn,
+    ) -> Result<Met, Memory>
+        requires order { AreItems table.now self.now.targets self.now.numbers }
+        requires lower { IsLower name.now }
+        ensures live { IfOk result (λ m. AreLive table.now m.covered.items) }
+        ensures live_maybe { IfOk result (λ m. AreLive table.now m.maybe.items) }
+        ensures covered { IfOk result (λ m. names_numbered table.now m.covered.items ≡ filter (covers name.now) (names_numbered table.now self.now.numbers)) }
+        ensures maybe { IfOk result (λ m. names_numbered table.now m.maybe.items ≡ filter (maybe name.now) (names_numbered table.now self.now.numbers)) }
+    {
+        met_over::<Brand>(alloc, table, self, name, Blank::new(1))
     }
 
     /// No number stands twice. It does nothing, and tells a proof so.

@@ -1,5 +1,4 @@
 use Rattle.std.proofs.Common.{◌≡◌, map, drop}
-use Rattle.cpe_explain.specs.Ground.{AreLed}
 use Rattle.cpe_explain.specs.Tested.{all_pass, test_passes}
 use Rattle.cpe_explain.proofs.check.+passes.Given as goal
 
@@ -7,8 +6,6 @@ abbrev pub invariant-loop-child : goal.invariant-loop-child
 invariant-loop-child g l = record {
   place : l.k ≡ l.child-index;
   left :
-      all_pass (map (test_passes (g.R.PlainRows.rows l.ground.followed.rows.now) l.ground.followed.mode) (drop l.child-index l.child-items))
-      (drop l.k l.given)
-      ≡ all_pass (map (test_passes (g.R.PlainRows.rows l.ground.followed.rows.now) l.ground.followed.mode) l.child-items) l.given;
-  led : AreLed (g.R.PlainRows.rows l.ground.followed.rows.now) l.ground.followed.mode l.led;
+      all_pass (map (test_passes (g.R.PlainRows.rows l.rows) l.mode) (drop l.child-index l.child-items)) (drop l.k l.given)
+      ≡ all_pass (map (test_passes (g.R.PlainRows.rows l.rows) l.mode) l.child-items) l.given;
 }

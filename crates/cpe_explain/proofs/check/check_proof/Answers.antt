@@ -2,7 +2,6 @@ use Rattle.std.proofs.Common.{Option, sym, subst, ◌∙◌}
 use Rattle.std.proofs.lemmas.Bool.{true≢false}
 use Rattle.cpe_rows.specs.declared.statement.Statement.{Statement}
 use Rattle.cpe_explain.specs.Checks.{IsSaid}
-use Rattle.cpe_explain.specs.Tested.{test_passes}
 use Rattle.cpe_explain.specs.declared.proof.Checked.TheVariants.{Holds, Fails}
 use Rattle.cpe_explain.proofs.Told.{told}
 use Rattle.cpe_explain.proofs.check.check_proof.Goals as goal
@@ -12,16 +11,14 @@ returns-then-branch g c =
     let rows = g.R.PlainRows.rows c.args.rows.now in
     let s : Statement = c.in-Some.statement.now in
     let w = c.args.proof.now.why in
-    let said = sym (λ i. test_passes (c.in_ok-ground.ensures.rows i) (c.in_ok-ground.ensures.mode i) s.test w) ∙ (sym c.in_ok-passes.ensures.passed
-    ∙ c.if-branch.true) in
+    let said = sym c.in_ok-passes.ensures ∙ c.if-branch.true in
     subst (λ (o : Option Statement). IsSaid rows w o Holds) c.in-Some.ensures ((told rows c.lawful.ensures s.mode s.test w).0 said)
 
-pub returns : goal.returns
-returns g c =
+pub returns-else-branch : goal.returns-else-branch
+returns-else-branch g c =
     let rows = g.R.PlainRows.rows c.args.rows.now in
     let s : Statement = c.in-Some.statement.now in
     let w = c.args.proof.now.why in
-    let said = sym (λ i. test_passes (c.in_ok-ground.ensures.rows i) (c.in_ok-ground.ensures.mode i) s.test w) ∙ (sym c.in_ok-passes.ensures.passed
-    ∙ c.if-branch.false) in
+    let said = sym c.in_ok-passes.ensures ∙ c.if-branch.false in
     subst (λ (o : Option Statement). IsSaid rows w o Fails) c.in-Some.ensures
     (λ good. true≢false (sym ((told rows c.lawful.ensures s.mode s.test w).1 good) ∙ said))

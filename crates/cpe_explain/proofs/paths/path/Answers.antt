@@ -18,7 +18,7 @@ returns-in-None g c =
     let es = (g.R.PlainRows.rows c.args.rows.now).entries in
     let to = c.args.to.now in
     let none : find (has_end es to) (next_of es c.loop.last.now) ≡ None
-    = ap (find (has_end es to)) (sym c.successors.ensures) ∙ (sym c.in_ok-next.ensures ∙ ap option_copied c.in-None.is) in
+    = ap (find (has_end es to)) (sym c.next_names.ensures) ∙ (sym c.in_ok-next.ensures ∙ ap option_copied c.in-None.is) in
     on_none es to (trace_to es to c.args.from.now) c.loop.names (length es) c.loop.counter c.loop.last.now c.loop.invariant none
 
 pub loop-preserved : goal.loop-preserved
@@ -28,7 +28,7 @@ loop-preserved g c =
     let k : ℕ = c.loop.counter in
     let next : Values = c.in-Some.next.now in
     let found : find (has_end es to) (next_of es c.loop.last.now) ≡ Some next
-    = ap (find (has_end es to)) (sym c.successors.ensures) ∙ (sym c.in_ok-next.ensures ∙ ap option_copied c.in-Some.is) in
+    = ap (find (has_end es to)) (sym c.next_names.ensures) ∙ (sym c.in_ok-next.ensures ∙ ap option_copied c.in-Some.is) in
     let less : k < length es = subst (λ (m : ℕ). k < m) c.entries_len-end.ensures c.loop-test.true in
     ap (λ (ns : List Values). ns ++ way_to (length es - (k + 1)) es to next)
     (c.in_ok-push-in-Some.ensures.ok ∙ ap (λ (m : Values). c.loop.names ++ m ∷ []) c.in_ok-copy-in-Some.ensures)

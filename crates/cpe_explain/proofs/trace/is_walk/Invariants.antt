@@ -5,5 +5,5 @@ use Rattle.cpe_explain.proofs.trace.is_walk.Given as goal
 
 abbrev pub invariant-loop-name : goal.invariant-loop-name
 invariant-loop-name g l =
-    is_walk (followed (g.R.PlainRows.rows l.followed.rows.now) l.followed.mode) (l.last ∷ drop l.name-index l.rest)
-    ≡ is_walk (followed (g.R.PlainRows.rows l.followed.rows.now) l.followed.mode) l.names
+    is_walk (followed (g.R.PlainRows.rows l.rows) l.mode) (l.last ∷ drop l.name-index l.rest)
+    ≡ is_walk (followed (g.R.PlainRows.rows l.rows) l.mode) l.names
