@@ -18,6 +18,8 @@ import run
 MOST_OF_EVALUATE, MOST_OF_MAKING, MOST_GROWTH = 3.0, 3.0, 1.3
 STATEMENTS = 1000
 FEW, MANY = 10_000, 100_000
+# Many statements share the near names: a thousand certificates take less than what reading 100,000 items differs by from run to run.
+NEAR_STATEMENTS = 20_000
 NEAR = 5
 PROOF = b'{"do":"proof",'
 
@@ -27,13 +29,13 @@ def fs(product, version=b"*"):
 
 
 def near_lines(far):
-    """Statements of three facts, each with a few items near it, and so many items that are near none."""
+    """Statements of three facts, each with a few items near it, and before these items so many that are near no fact."""
     for number in range(far):
         yield make_lines.record(b"item", fs(b"far%d" % number, b"1"))
     for number in range(STATEMENTS):
         for version in range(NEAR):
             yield make_lines.record(b"item", fs(b"near%d" % number, b"%d" % version))
-    for number in range(STATEMENTS):
+    for number in range(NEAR_STATEMENTS):
         facts = b",".join(b'{"fact":%s}' % make_lines.spelled(fs(b"near%d" % ((number + step) % STATEMENTS))) for step in range(3))
         yield b'{"do":"statement","id":"s%d","test":{"op":"AND","of":[%s]}}' % (number, facts)
 
@@ -53,13 +55,13 @@ def with_proofs(program, path):
     return file_of(f"{path.stem}-proofs.txt", [*path.read_bytes().rstrip(b"\n").split(b"\n"), *proofs])
 
 
-def measured(program, path, rounds):
+def measured(program, path, statements, rounds):
     """What evaluate, making and checking take in seconds: the first as a whole, the others beside reading the records."""
     best = run.best_times({word: [program, word] for word in ("resolve", "evaluate", "explain")}, path, rounds)
     check = run.best_times({"check": [program, "check"]}, with_proofs(program, path), rounds)["check"]
     found = best["evaluate"], best["explain"], best["explain"] - best["resolve"], check - best["resolve"]
     print(f"{path.name:<28}{best['resolve']:>9.3f}{found[0]:>10.3f}{found[1]:>9.3f}{check:>9.3f}"
-          f"{found[2] / STATEMENTS * 1e6:>12.1f}{found[3] / STATEMENTS * 1e6:>12.1f}", flush=True)
+          f"{found[2] / statements * 1e6:>12.1f}{found[3] / statements * 1e6:>12.1f}", flush=True)
     return found
 
 
@@ -84,9 +86,10 @@ def main():
     print(f"load before: {os.getloadavg()[0]:.1f} on {os.cpu_count()} processors")
     print(f"\nseconds, best of {given.rounds}, output to /dev/null; behind them microseconds a certificate, beside reading the records")
     print(f"{'input':<28}{'resolve':>9}{'evaluate':>10}{'explain':>9}{'check':>9}{'making':>12}{'checking':>12}")
-    table, whole, making, checking = measured(program, run.made("evaluated", STATEMENTS), given.rounds)
-    few = measured(program, file_of(f"near-{FEW}.txt", near_lines(FEW)), given.rounds)
-    many = measured(program, file_of(f"near-{MANY}.txt", near_lines(MANY)), given.rounds)
+    # (a run over few rows is short, and bears noise worse)
+    table, whole, making, checking = measured(program, run.made("evaluated", STATEMENTS), STATEMENTS, 20 * given.rounds)
+    few = measured(program, file_of(f"near-{FEW}.txt", near_lines(FEW)), NEAR_STATEMENTS, given.rounds)
+    many = measured(program, file_of(f"near-{MANY}.txt", near_lines(MANY)), NEAR_STATEMENTS, given.rounds)
     targets = [
         ("certificates: of the time of cpe evaluate", MOST_OF_EVALUATE, whole / table),
         ("checking: of the time of making", MOST_OF_MAKING, checking / making),

@@ -55,6 +55,23 @@ costs-lines command s None = refl
 costs-lines command s (Some []) = refl
 costs-lines command s (Some (x ∷ xs)) = refl
 
+-- a record is no certificate
+checked_says : (number : ℕ) (rows : Rows) (text : List ℕ) (r : Record) → record_of text ≡ Ok r → (proof : Result (Option Proof) ProofFault) → proof_of text ≡ proof
+    → by_proof rows proof (by_record Check number rows (record_of text)) ≡ by_record Check number rows (Ok r)
+checked_says number rows text r read (Ok None) is = ap (by_record Check number rows) read
+checked_says number rows text r read (Ok (Some p)) is = let refused = no_record text (λ none. let wrong : ⊥ = cc in wrong) in absurd (cc)
+checked_says number rows text r read (Err fault) is = let refused = no_record text (λ none. let wrong : ⊥ = cc in wrong) in absurd (cc)
+
+-- so its line says what it does
+pub record_says : (command : RecordCommand) (number : ℕ) (rows : Rows) (text : List ℕ) (r : Record) → record_of text ≡ Ok r
+    → by_proof rows (proof_in command text) (by_record command number rows (record_of text)) ≡ by_record command number rows (Ok r)
+record_says Resolve number rows text r read = ap (by_record Resolve number rows) read
+record_says Evaluate number rows text r read = ap (by_record Evaluate number rows) read
+record_says Watch number rows text r read = ap (by_record Watch number rows) read
+record_says Explain number rows text r read = ap (by_record Explain number rows) read
+record_says Check number rows text r read = checked_says number rows text r read (proof_of text) refl
+record_says Save number rows text r read = ap (by_record Save number rows) read
+
 -- but one the commands write nothing of an edit
 pub quiet_edit : (command : RecordCommand) (number : ℕ) (rows : Rows) (e : edit.Edit) → (command ≡ Resolve) ⊎ (command ≡ Evaluate) ⊎ (command ≡ Explain) ⊎ (command ≡ Check) ⊎ (command ≡ Save)
     → edit_text command number rows e ≡ (λ next. [])

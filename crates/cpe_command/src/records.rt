@@ -1,5 +1,5 @@
 // What a line of a record says.
-ghost use Rattle.std.specs.Prelude.{◌≡◌, ◌++◌, [], ℕ, List, true, None, IfOk, OnErr, OnOk};
+ghost use Rattle.std.specs.Prelude.{◌≡◌, ◌++◌, [], ℕ, List, true, None, Err, IfOk, OnErr, OnOk};
 ghost use Rattle.std.specs.Option.{option_map};
 ghost use Rattle.cpe_steps.specs.Within.{StepsWithin};
 ghost use Rattle.cpe_session.specs.Pages.{IsBeforeOrAfter, IsSaid};
@@ -8,11 +8,9 @@ ghost use Rattle.cpe_rows.specs.Answers.{answer};
 ghost use Rattle.cpe_rows.specs.Valid.{is_valid_edit, is_valid_query};
 ghost use Rattle.cpe_engine.specs.Looks.{edit_looks, looks};
 ghost use Rattle.cpe_replies.specs.Replies.{reply_text};
-ghost use Rattle.cpe_replies.specs.Reasons.{reason_text};
-ghost use Rattle.cpe_records.specs.Reading.{record_of};
-ghost use Rattle.cpe_drill.specs.Looks.{record_looks};
+ghost use Rattle.cpe_replies.specs.Reasons.{reason_text, record_fault_text};
 ghost use Rattle.proof_lines.specs.Gives.{Gives};
-ghost use Rattle.cpe_command.specs.Records.{by_record, by_step, edit_text, proof_in, query_text, record_session};
+ghost use Rattle.cpe_command.specs.Records.{by_proof, by_step, edit_text, proof_in, query_text, record_session};
 
 use crate::changes::say_changes;
 use crate::proofs::{pour_certificates, say_checked};
@@ -75,11 +73,11 @@ impl Speaker for RecordCommand {
         line: &Line<'_>,
         steps: &mut Steps<L>,
     ) -> Result<Option<RecordReason>, AllocError> {
-        match self.proof_in(alloc, line.text) {
-            Ok(Some(proof)) => say_checked(alloc, state, page, proof),
-            Ok(None) => self.say_record(alloc, state, page, line, steps),
-            Err(ProofFault::Memory) => Err(AllocError),
-            Err(fault) => Ok(Some(RecordReason::Unproved(fault))),
+        match read_record(alloc, line.text) {
+            Ok(Record::Edit(edit)) => self.say_edit(alloc, state, page, line.number, edit, steps),
+            Ok(Record::Query(query)) => self.say_query(alloc, state, page, query, steps),
+            Err(RecordFault::Memory) => Err(AllocError),
+            Err(fault) => self.say_unread(alloc, state, page, line.text, fault),
         }
     }
 
@@ -116,25 +114,24 @@ impl RecordCommand {
         }
     }
 
-    // Applies or answers the record of a line, or tells why it is none.
-    fn say_record<L: Ledger>(
+    // Tells what the rows say of a line that is no record but a certificate, where the command takes any; or why it is no record.
+    #[inline(never)]
+    fn say_unread(
         &self,
         alloc: Global,
-        state: &mut Engine,
+        engine: &Engine,
         page: &mut Page,
-        line: &Line<'_>,
-        steps: &mut Steps<L>,
+        text: &[u8],
+        fault: RecordFault,
     ) -> Result<Option<RecordReason>, AllocError>
-        ensures said { IfOk result (λ refused. IsSaid (by_record self.now line.now.number state.old (record_of line.now.text.now))
-            state.old state.new page.old page.new (option_map reason_text refused)) }
-        ensures err { OnErr result (IsBeforeOrAfter (by_record self.now line.now.number state.old (record_of line.now.text.now)) state.old state.new) }
-        ensures counts { StepsWithin steps.old steps.new (record_looks state.old (record_of line.now.text.now)) }
+        ensures { IfOk result (λ refused. IsSaid (by_proof engine.now (proof_in self.now text.now) (Err (record_fault_text fault)))
+            engine.now engine.now page.old page.new (option_map reason_text refused)) }
     {
-        match read_record(alloc, line.text) {
-            Ok(Record::Edit(edit)) => self.say_edit(alloc, state, page, line.number, edit, steps),
-            Ok(Record::Query(query)) => self.say_query(alloc, state, page, query, steps),
-            Err(RecordFault::Memory) => Err(AllocError),
-            Err(fault) => Ok(Some(RecordReason::Unread(fault))),
+        match self.proof_in(alloc, text) {
+            Ok(Some(proof)) => say_checked(alloc, engine, page, proof),
+            Ok(None) => Ok(Some(RecordReason::Unread(fault))),
+            Err(ProofFault::Memory) => Err(AllocError),
+            Err(fault) => Ok(Some(RecordReason::Unproved(fault))),
         }
     }
 

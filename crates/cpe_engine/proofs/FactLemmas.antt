@@ -1,8 +1,10 @@
 -- Fact references and the items that show their truth.
-use Rattle.std.proofs.Common.{inl, inr, not, eqb-true, ℕ, ◌≡◌, ◌||◌, List, [], Bool, true, false, Option, Some, None, find, is_some, refl, ap, sym, ◌∙◌}
-use Rattle.std.specs.List.{list_any}
+use Rattle.std.proofs.Common.{inl, inr, not, cond, ltb, eqb-true, ℕ, ◌≡◌, ◌≤◌, ◌||◌, List, [], Bool, true, false, Option, Some, None, find, is_some, length, position, slice_get, refl, ap, sym, ◌∙◌}
+use Rattle.std.specs.List.{list_any, position_or_len}
 use Rattle.std.specs.Prelude.{count_by}
-use Rattle.std.proofs.lemmas.Bool.{cases_Bool}
+use Rattle.std.proofs.lemmas.Bool.{cases_Bool, ltb-false}
+use Rattle.std.proofs.lemmas.List.Folds.{find_at}
+use Rattle.std.proofs.lemmas.Option.{same_Some, slice_get_past}
 use Rattle.kept_verdicts.proofs.UseLemmas.{none_counted}
 use Rattle.std.specs.Option.{option_copied, option_map_or}
 use Rattle.std.specs.Borrow.{Bor}
@@ -10,7 +12,6 @@ use Rattle.cpe_name.specs.Eleven.{Values}
 use Rattle.cpe_relation.specs.NameRelation.{covers}
 use Rattle.cpe_relation.specs.Maybe.{maybe}
 use Rattle.cpe_rows.specs.Rows.{Rows}
-use Rattle.cpe_rows.specs.Chains.{successors_of}
 use Rattle.cpe_rows.specs.declared.entry.Entry.{Entry}
 use Rattle.cpe_rows.specs.declared.entry.Deprecation.{Deprecation}
 use Rattle.cpe_rows.specs.Truth.{same_truth}
@@ -79,13 +80,23 @@ module _ (rows : Rows) (mode : Mode) (fact : Values) where
   found_told relates o e =
       copied_some o ∙ (ap is_some e ∙ (some_found (met relates) rows.items ∙ sym (found_is relates rows mode fact)))
 
--- what stands in the place of an entry's name, if there is one
-abbrev pub next_in : Option Entry → List Values
-next_in o = option_map_or (λ (d : Deprecation). d.successors) (option_map_or (λ (e : Entry). e.deprecation) o None) []
+-- ---- the entry of a name, by its place
 
-pub successors_in : (o : Option Entry) → option_map_or successors_of o [] ≡ next_in o
-successors_in None = refl
-successors_in (Some e) = refl
+abbrev pub deprecation_in : Option Entry → Option Deprecation
+deprecation_in o = option_map_or (λ (e : Entry). e.deprecation) o None
+
+module _ {A : Type 0} (p : A → Bool) (xs : List A) where
+  pub place_found : (k : ℕ) → position p xs ≡ Some k → find p xs ≡ slice_get xs k
+  place_found k h = find_at p xs ∙ ap (slice_get xs) (go (ltb (position_or_len p xs) (length xs)) h) where
+    go : (b : Bool) → cond b (Some (position_or_len p xs)) None ≡ Some k → position_or_len p xs ≡ k
+    go true e = same_Some (position_or_len p xs) k e
+    go false e = absurd (let w : ⊥ = cc in w)
+
+  pub none_found : position p xs ≡ None → find p xs ≡ None
+  none_found h = find_at p xs ∙ slice_get_past xs (position_or_len p xs) (go (ltb (position_or_len p xs) (length xs)) refl h) where
+    go : (b : Bool) → ltb (position_or_len p xs) (length xs) ≡ b → cond b (Some (position_or_len p xs)) None ≡ None → length xs ≤ position_or_len p xs
+    go true e f = absurd (let w : ⊥ = cc in w)
+    go false e f = ltb-false (position_or_len p xs) (length xs) e
 
 -- a statement uses what some use
 pub use_some : {X : Type 0} (p : X → Bool) (xs : List X) → (count_by p xs ≡ 0 → ⊥) → list_any p xs ≡ true

@@ -1,5 +1,5 @@
 -- Items by their slots, of which some may be empty.
-use Rattle.std.proofs.Common.{◌≡◌, ℕ, zero, suc, ◌+◌, ◌-◌, ◌<◌, ◌≤◌, List, [], ◌∷◌, ◌++◌, Bool, true, false, cond, Option, Some, None, find, filter_map, drop, get_or, length, slice_get, refl, ap, sym, ◌∙◌, arith}
+use Rattle.std.proofs.Common.{◌≡◌, ℕ, zero, suc, ◌+◌, ◌-◌, ◌<◌, ◌≤◌, List, [], ◌∷◌, Bool, true, false, cond, Option, Some, None, find, filter_map, drop, get_or, length, slice_get, refl, ap, sym, ◌∙◌, arith}
 use Rattle.std.proofs.lemmas.List.{drop_all}
 
 module _ {A : Type 0} where
@@ -87,27 +87,3 @@ module _ {A : Type 0} where
   full_at (None ∷ slots) k e = let few = held_few slots in absurd (omega (arith, e, few))
   full_at (Some x ∷ slots) zero e = refl
   full_at (Some x ∷ slots) (suc k) e = full_at slots k (omega (arith, e))
-
-  -- those that are held from a slot on are still to be put
-  abbrev pub IsPut : List A → List (Option A) → ℕ → Type 0
-  IsPut put slots i = put ++ held (drop i slots) ≡ held slots
-
-  put_then : (put rest : List A) (x : A) → (put ++ x ∷ []) ++ rest ≡ put ++ (x ∷ rest)
-  put_then [] rest x = refl
-  put_then (y ∷ put) rest x = ap (λ (ys : List A). y ∷ ys) (put_then put rest x)
-
-  put_all : (put : List A) → put ++ [] ≡ put
-  put_all [] = refl
-  put_all (y ∷ put) = ap (λ (ys : List A). y ∷ ys) (put_all put)
-
-  pub put_here : (put : List A) (slots : List (Option A)) (i : ℕ) (x : A) → IsPut put slots i → i < length slots → get_or slots i None ≡ Some x
-      → IsPut (put ++ x ∷ []) slots (i + 1)
-  put_here put slots i x so_far h e =
-      put_then put (held (drop (i + 1) slots)) x ∙ (sym (ap (λ (ys : List A). put ++ ys) (held_some slots i x h e)) ∙ so_far)
-
-  pub put_over : (put : List A) (slots : List (Option A)) (i : ℕ) → IsPut put slots i → i < length slots → get_or slots i None ≡ None
-      → IsPut put slots (i + 1)
-  put_over put slots i so_far h e = sym (ap (λ (ys : List A). put ++ ys) (held_none slots i h e)) ∙ so_far
-
-  pub put_done : (put : List A) (slots : List (Option A)) (i : ℕ) → IsPut put slots i → length slots ≤ i → put ≡ held slots
-  put_done put slots i so_far h = sym (put_all put) ∙ (sym (ap (λ (ys : List A). put ++ ys) (held_past slots i h)) ∙ so_far)

@@ -2,7 +2,7 @@
 ghost use Rattle.std.specs.Prelude.{◌≡◌, ◌∷◌, [], IfOk, IfSome, None, find, length, map, slice_get, true};
 ghost use Rattle.std.specs.List.{filter_map, list_any};
 ghost use Rattle.std.specs.Option.{option_copied, option_map_or};
-ghost use Rattle.cpe_rows.specs.Chains.{successors_of};
+ghost use Rattle.cpe_name.specs.Lower.{IsLower};
 ghost use Rattle.cpe_rows.specs.Prelude.{ends, Rows};
 ghost use Rattle.cpe_rows.specs.Verdict.{fact_truth, finds_item, is_followed, truth};
 ghost use Rattle.name_index.specs.Table.{IsLive, Names};
@@ -17,8 +17,9 @@ use cpe_explain::{ExplainedRows, PlainRows, Relates};
 use cpe_inventory::ItemSlots;
 use cpe_name::Wfn;
 use cpe_registry::Registry;
-use cpe_rows::{CheckKey, Deprecation, EntryRef, Mode, Statement, Truth};
+use cpe_rows::{CheckKey, Deprecation, EntryRef, Mode, Statement, Text, Truth};
 use cpe_values::Memory;
+use items_in_order::Items;
 use kept_verdicts::KeptVerdicts;
 use name_index::NameId;
 use std::alloc::Global;
@@ -52,17 +53,20 @@ fn item_of<'t>(slots: &ItemSlots<'t>, count: usize, k: usize) -> Option<&'t Wfn>
     nth_item(slots, k)
 }
 
-// The items in their slots, of which there are so many.
-fn items_in<'t>(alloc: Global, slots: &ItemSlots<'t>, count: usize) -> Result<Vec<&'t Wfn>, Memory>
-    ensures { IfOk result (λ names. map (λ n. n.now) names.items ≡ filter_map (λ slot. slot) slots.now) }
+// The first item to which a name in lower case stands so. It is found by the name's product.
+fn first_by_product<'t>(
+    items: &Items<'t>,
+    alloc: Global,
+    relates: Relates,
+    name: &Wfn,
+) -> Result<Option<&'t Wfn>, Memory>
+    requires { IsLower name.now }
+    ensures { IfOk result (λ item. option_copied item ≡ find (related relates name.now) items.now) }
 {
-    let mut names = Vec::with_capacity(alloc, count)?;
-    for slot in 0..slots.len() {
-        if let Some(item) = slots.at(slot) {
-            names.push(item)?;
-        }
+    match relates {
+        Relates::Covers => items.first_covered(alloc, name),
+        Relates::MayCover => items.first_maybe(alloc, name),
     }
-    Ok(names)
 }
 
 // The first item to which a name stands so.
@@ -218,23 +222,23 @@ impl Engine {
         item_of(&slots, self.items_len(), k)
     }
 
-    /// The items, in their order. It goes over their slots once.
-    ///
-    /// # Errors
-    /// Only that memory ran out.
-    pub fn all_items(&self, alloc: Global) -> Result<Vec<&Wfn>, Memory>
-        ensures { IfOk result (λ names. map (λ n. n.now) names.items ≡ self.now.items) }
+    // The first item to which a name stands so. It goes over the items only where the name isn't in lower case, as that of each fact of
+    // a statement is.
+    fn first_plain(
+        &self,
+        alloc: Global,
+        relates: Relates,
+        name: &Wfn,
+    ) -> Result<Option<&Wfn>, Memory>
+        ensures { IfOk result (λ item. option_copied item ≡ find (related relates name.now) self.now.items) }
     {
+        if name.is_lower() {
+            let items = self.parts.registry.items();
+            let found = first_by_product(&items, alloc, relates, name)?;
+            return Ok(found);
+        }
         let slots = self.item_slots();
-        items_in(alloc, &slots, self.items_len())
-    }
-
-    // The first item to which a name stands so.
-    fn first_plain(&self, relates: Relates, name: &Wfn) -> Option<&Wfn>
-        ensures { option_copied result ≡ find (related relates name.now) self.now.items }
-    {
-        let slots = self.item_slots();
-        first_related(&slots, relates, name)
+        Ok(first_related(&slots, relates, name))
     }
 
     // The first item to an end of which some end of the name stands so.
@@ -281,7 +285,7 @@ impl Engine {
         ensures { IfOk result (λ item. option_copied item ≡ find (is_followed (related relates) (followed self.now mode) name.now) self.now.items) }
     {
         match mode {
-            Mode::Plain => Ok(self.first_plain(relates, name)),
+            Mode::Plain => self.first_plain(alloc, relates, name),
             Mode::Follow => self.first_by_ends(alloc, relates, name),
         }
     }
@@ -312,22 +316,13 @@ impl Engine {
     }
 }
 
-fn successors_of(deprecation: Option<&Deprecation>) -> &[Wfn]
-    ensures { result.now ≡ option_map_or (λ d. d.successors) (option_copied deprecation.entry) [] }
-{
-    match deprecation {
-        Some(deprecation) => deprecation.successors.as_slice(),
-        None => &[],
-    }
-}
-
-// The successors of the entry at a place.
-fn successors_at(engine: &Engine, place: usize) -> &[Wfn]
-    ensures { result.now ≡ option_map_or successors_of (slice_get engine.now.entries place) [] }
+// The deprecation of the entry at a place.
+fn deprecation_at(engine: &Engine, place: usize) -> Option<&Deprecation>
+    ensures { option_copied result ≡ option_map_or (λ e. e.deprecation) (slice_get engine.now.entries place) None }
 {
     match engine.entry_at(place) {
-        Some(entry) => successors_of(entry.deprecation),
-        None => &[],
+        Some(entry) => entry.deprecation,
+        None => None,
     }
 }
 
@@ -346,10 +341,6 @@ impl PlainRows for Engine {
         self.item_at(k)
     }
 
-    fn items(&self, alloc: Global) -> Result<Vec<&Wfn>, Memory> {
-        self.all_items(alloc)
-    }
-
     fn statement(&self, k: usize) -> Option<&Statement> {
         match self.statement_at(k) {
             Some((statement, _)) => Some(statement),
@@ -360,16 +351,38 @@ impl PlainRows for Engine {
     fn check(&self, k: usize) -> Option<(&CheckKey, Truth)> {
         self.check_at(k)
     }
-}
 
-impl ExplainedRows for Engine {
+    fn statement_of(&self, id: &Text) -> Option<&Statement> {
+        self.parts.verdicts.find(id)
+    }
+
+    fn result_of(&self, key: &CheckKey) -> Truth {
+        match self.parts.verdicts.check(key) {
+            Some(truth) => truth,
+            None => Truth::Unknown,
+        }
+    }
+
+    fn has_item(&self, name: &Wfn) -> bool {
+        self.parts.registry.items().has(name)
+    }
+
+    fn deprecation_of(&self, name: &Wfn) -> Option<&Deprecation> {
+        match self.place_of(name) {
+            Some(place) => deprecation_at(self, place as usize),
+            None => None,
+        }
+    }
+
     fn find_fact(&self, alloc: Global, mode: Mode, name: &Wfn) -> Result<Truth, Memory> {
         match self.told_truth(mode, name) {
             Some(truth) => Ok(truth),
             None => self.sought_truth(alloc, mode, name),
         }
     }
+}
 
+impl ExplainedRows for Engine {
     fn first_item(
         &self,
         alloc: Global,
@@ -383,22 +396,8 @@ impl ExplainedRows for Engine {
         self.sought_item(alloc, relates, mode, name)
     }
 
-    fn result_of(&self, key: &CheckKey) -> Truth {
-        match self.parts.verdicts.check(key) {
-            Some(truth) => truth,
-            None => Truth::Unknown,
-        }
-    }
-
     fn entries_len(&self) -> usize {
         Engine::entries_len(self)
-    }
-
-    fn successors(&self, name: &Wfn) -> &[Wfn] {
-        match self.place_of(name) {
-            Some(place) => successors_at(self, place as usize),
-            None => &[],
-        }
     }
 
     fn ends<'a>(&'a self, alloc: Global, name: &'a Wfn) -> Result<Vec<&'a Wfn>, Memory> {

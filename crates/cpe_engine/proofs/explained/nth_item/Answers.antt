@@ -1,4 +1,4 @@
-use Rattle.std.proofs.Common.{◌<◌, ◌≤◌, ◌+◌, ℕ, length, sym, subst, ◌∙◌}
+use Rattle.std.proofs.Common.{◌<◌, ◌≤◌, ◌+◌, ℕ, length, sym, subst}
 use Rattle.cpe_engine.proofs.SlotLemmas.{IsNth, nth_here, nth_next, nth_over, nth_none}
 use Rattle.cpe_engine.proofs.explained.nth_item.Goals as goal
 use Rattle.cpe_engine.proofs.explained.nth_item.Goals.{in-Some+else-left-eq0, in_default}

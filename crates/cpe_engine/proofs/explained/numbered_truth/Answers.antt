@@ -1,4 +1,4 @@
-use Rattle.std.proofs.Common.{ap, ◌∙◌, sym}
+use Rattle.std.proofs.Common.{◌∙◌}
 use Rattle.cpe_applicability.specs.Board.{uses}
 use Rattle.cpe_engine.proofs.FactLemmas.{use_some}
 use Rattle.cpe_engine.proofs.explained.numbered_truth.Goals as goal
