@@ -4,6 +4,11 @@ mod RowLemmas
 mod LoopLemmas
 mod EditLemmas
 mod MeantLemmas
+mod PartsRead
+mod ReadLemmas
+mod EntriesLemmas
+mod OtherLemmas
+mod SnapshotLemmas
 mod TextLemmas
 mod WithinLemmas
 mod WriteLemmas

@@ -1,4 +1,5 @@
 pub mod Plain
 pub mod Begun
 pub mod Meant
+pub mod Read
 pub mod Within

@@ -1,17 +1,36 @@
 -- The deprecations that are meant by rows with places.
-use Rattle.std.specs.Prelude.{List, [], ◌∷◌, Option, None}
+use Rattle.std.specs.Prelude.{◌≡◌, ℕ, List, [], ◌∷◌, Option, None, map, slice_get}
+use Rattle.std.specs.Option.{option_map}
+use Rattle.cpe_name.specs.Eleven.{Values}
+use Rattle.cpe_rows.specs.Rows.{Rows}
 use Rattle.cpe_rows.specs.declared.entry.Deprecation.{Deprecation}
 use Rattle.cpe_rows.specs.declared.entry.Entry.{Entry}
+use Rattle.cpe_engine.specs.Adopting.{with_deprecations}
 use Rattle.cpe_snapshot.specs.States.{IsMeantDeprecation}
+use Rattle.cpe_snapshot.specs.declared.rows.PlacedDeprecation.{PlacedDeprecation}
 use Rattle.cpe_snapshot.specs.declared.rows.PlacedEntry.{PlacedEntry}
-
--- one for each of these entries, by the names at the places in all of them
-abbrev pub AreMeantDeprecations : List PlacedEntry → List PlacedEntry → List (Option Deprecation) → Type 0
-AreMeantDeprecations all [] [] = Unit {0}
-AreMeantDeprecations all [] (d ∷ ds) = ⊥
-AreMeantDeprecations all (p ∷ ps) [] = ⊥
-AreMeantDeprecations all (p ∷ ps) (d ∷ ds) = IsMeantDeprecation all p.deprecation d × AreMeantDeprecations all ps ds
 
 -- the entry as an active one
 abbrev pub active_placed : PlacedEntry → Entry
 active_placed p = record { name = p.name; title = p.title; provenance = p.provenance; deprecation = None }
+
+-- an entry without what deprecates it: its place can be told already
+abbrev pub undeprecated : Entry → PlacedEntry
+undeprecated e = record { name = e.name; title = e.title; provenance = e.provenance; deprecation = None }
+
+-- the name of the entry at this place, if there is one
+abbrev pub name_in : List Entry → ℕ → Option Values
+name_in entries k = option_map (λ e. e.name) (slice_get entries k)
+
+-- one for each of these, by the names at the places in all entries
+abbrev pub AreMeantDeprecations : List PlacedEntry → List (Option PlacedDeprecation) → List (Option Deprecation) → Type 0
+AreMeantDeprecations entries [] [] = Unit {0}
+AreMeantDeprecations entries [] (d ∷ ds) = ⊥
+AreMeantDeprecations entries (p ∷ ps) [] = ⊥
+AreMeantDeprecations entries (p ∷ ps) (d ∷ ds) = IsMeantDeprecation entries p d × AreMeantDeprecations entries ps ds
+
+-- rows whose entries have those that are meant
+pub record AreGiven (old : Rows) (placed : List (Option PlacedDeprecation)) (new : Rows) : Type 0 where
+  pub deprecations : List (Option Deprecation)
+  pub are_meant : AreMeantDeprecations (map undeprecated old.entries) placed deprecations
+  pub are_given : new ≡ with_deprecations old deprecations

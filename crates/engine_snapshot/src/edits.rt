@@ -1,7 +1,7 @@
 // The edits by which an engine adopts rows. Each puts one row, and is taken where the rows that are meant are lawful.
-ghost use Rattle.std.specs.Prelude.{◌≡◌, ◌∷◌, [], IfErr, List as Items, None, OnOk, map};
+ghost use Rattle.std.specs.Prelude.{◌≡◌, ◌∷◌, [], IfErr, List as Items, None, OnOk, map, true};
 ghost use Rattle.std.specs.List.{AllByRecursion};
-ghost use Rattle.cpe_rows.specs.Prelude.{after, IsLawful};
+ghost use Rattle.cpe_rows.specs.Prelude.{after, is_valid_edit, IsLawful};
 ghost use Rattle.cpe_rows.specs.declared.entry.Entry.{Entry as EntryRow};
 ghost use Rattle.cpe_rows.specs.declared.test.CheckKey.{CheckKey as KeyRow};
 ghost use Rattle.cpe_rows.specs.declared.truth.Truth.{Truth as TruthRow};
@@ -35,20 +35,38 @@ fn fault_of(fault: EditFault) -> AdoptFault
     }
 }
 
-// Makes an edit.
-fn make<L: Ledger>(engine: &mut Engine, edit: Edit, steps: &mut Steps<L>) -> Result<(), AdoptFault>
+/// Makes an edit that is in order.
+pub(crate) fn make_valid<L: Ledger>(
+    engine: &mut Engine,
+    edit: Edit,
+    steps: &mut Steps<L>,
+) -> Result<(), AdoptFault>
+    requires { is_valid_edit edit ≡ true }
     ensures ok { OnOk result (engine.new ≡ after engine.old edit) }
     ensures unlawful { IfErr result (λ f. f ≡ AdoptFault.Unlawful → IsTaken engine.old edit → ⊥) }
 {
-    if !edit.valid() {
-        return Err(refuse(edit));
-    }
     match engine.apply(edit, steps) {
         Ok(changes) => {
             drop(changes);
             Ok(())
         }
         Err(fault) => Err(fault_of(fault)),
+    }
+}
+
+/// Makes an edit.
+pub(crate) fn make<L: Ledger>(
+    engine: &mut Engine,
+    edit: Edit,
+    steps: &mut Steps<L>,
+) -> Result<(), AdoptFault>
+    ensures ok { OnOk result (engine.new ≡ after engine.old edit) }
+    ensures unlawful { IfErr result (λ f. f ≡ AdoptFault.Unlawful → IsTaken engine.old edit → ⊥) }
+{
+    if edit.valid() {
+        make_valid(engine, edit, steps)
+    } else {
+        Err(refuse(edit))
     }
 }
 
@@ -107,7 +125,7 @@ fn refuse_key(key: CheckKey) -> AdoptFault
 }
 
 // Puts this result last, of a key for which none is kept.
-fn add_check<L: Ledger>(
+pub(crate) fn add_check<L: Ledger>(
     engine: &mut Engine,
     kept: KeptResult,
     steps: &mut Steps<L>,

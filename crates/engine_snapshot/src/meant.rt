@@ -1,27 +1,56 @@
-// The rows that rows with places mean.
-ghost use Rattle.std.specs.Prelude.{◌≡◌, ◌∷◌, List as Items, IfErr, IfOk, Option as Perhaps, Some, map};
-ghost use Rattle.cpe_rows.specs.Rows.{Rows};
-ghost use Rattle.cpe_rows.specs.Lawful.{IsLawful};
+// The deprecations that are meant by places of entries, once an engine has these entries as active ones.
+ghost use Rattle.std.specs.Prelude.{◌≡◌, IfErr, IfOk, List as Items, None, Option as Perhaps, Some, is_none, length, map};
+ghost use Rattle.std.specs.List.{list_all};
+ghost use Rattle.cpe_name.specs.Eleven.{Values};
+ghost use Rattle.cpe_rows.specs.Prelude.{IsLawful};
 ghost use Rattle.cpe_rows.specs.declared.entry.Deprecation.{Deprecation as DeprecationRow};
-ghost use Rattle.cpe_snapshot.specs.States.{AreMeant, IsMeantDeprecation};
-ghost use Rattle.engine_snapshot.specs.Meant.{active_placed, AreMeantDeprecations};
-ghost use Rattle.engine_snapshot.specs.Plain.{AreParted, parted_state};
+ghost use Rattle.cpe_engine.specs.Adopting.{IsBare, with_deprecations};
+ghost use Rattle.cpe_snapshot.specs.States.{AreNamed, IsMeantDeprecation};
+ghost use Rattle.engine_snapshot.specs.Meant.{AreGiven, AreMeantDeprecations, name_in, undeprecated};
 
-use crate::rows::PartedRows;
-use cpe_rows::{Deprecation, Entry, List};
-use cpe_snapshot::{LoadFault, PlacedDeprecation, PlacedEntry, PlacedRows, names_at};
-use cpe_values::Memory;
+use crate::boxed::BoxedDeprecation;
+use cpe_engine::{AdoptFault, Engine};
+use cpe_name::Wfn;
+use cpe_rows::{Deprecation, List};
+use cpe_snapshot::{LoadFault, PlacedDeprecation};
 use std::alloc::Global;
+
+// The name of the entry at this place, as a copy.
+fn name_at(alloc: Global, engine: &Engine, place: u32) -> Result<Wfn, LoadFault>
+    ensures named { IfOk result (λ n. name_in engine.now.entries place ≡ Some n) }
+    ensures refused { IfErr result (λ f. f ≡ LoadFault.NotSnapshot → name_in engine.now.entries place ≡ None) }
+{
+    match engine.entry_at(place as usize) {
+        Some(entry) => match entry.name.copy(alloc) {
+            Ok(name) => Ok(name),
+            Err(_) => Err(LoadFault::Memory),
+        },
+        None => Err(LoadFault::NotSnapshot),
+    }
+}
+
+// The names of the entries at these places, one by one, as copies.
+fn names_at(alloc: Global, engine: &Engine, places: &[u32]) -> Result<List<Wfn>, LoadFault>
+    ensures named { IfOk result (λ ns. AreNamed (map undeprecated engine.now.entries) places.now ns) }
+    ensures refused { IfErr result (λ f. f ≡ LoadFault.NotSnapshot → (ns : Items Values) → AreNamed (map undeprecated engine.now.entries) places.now ns → ⊥) }
+{
+    let mut names = List::with_room(alloc, places.len())?;
+    for place in places {
+        let name = name_at(alloc, engine, *place)?;
+        names.push(name)?;
+    }
+    Ok(names)
+}
 
 fn deprecation_of(
     alloc: Global,
-    entries: &[PlacedEntry],
+    engine: &Engine,
     placed: &PlacedDeprecation,
 ) -> Result<Deprecation, LoadFault>
-    ensures meant { IfOk result (λ d. IsMeantDeprecation entries.now (Some placed.now) (Some d)) }
-    ensures refused { IfErr result (λ f. f ≡ LoadFault.NotSnapshot → (d : DeprecationRow) → IsMeantDeprecation entries.now (Some placed.now) (Some d) → ⊥) }
+    ensures meant { IfOk result (λ d. IsMeantDeprecation (map undeprecated engine.now.entries) (Some placed.now) (Some d)) }
+    ensures refused { IfErr result (λ f. f ≡ LoadFault.NotSnapshot → (d : DeprecationRow) → IsMeantDeprecation (map undeprecated engine.now.entries) (Some placed.now) (Some d) → ⊥) }
 {
-    let successors = names_at(alloc, entries, placed.successors.as_slice())?;
+    let successors = names_at(alloc, engine, placed.successors.as_slice())?;
     Ok(Deprecation {
         kind: placed.kind,
         successors,
@@ -31,14 +60,14 @@ fn deprecation_of(
 // The deprecation of an entry, if it has one, by the names at its places.
 fn meant_at(
     alloc: Global,
-    entries: &[PlacedEntry],
-    placed: &Option<PlacedDeprecation>,
+    engine: &Engine,
+    placed: &Option<BoxedDeprecation>,
 ) -> Result<Option<Deprecation>, LoadFault>
-    ensures meant { IfOk result (λ d. IsMeantDeprecation entries.now placed.now d) }
-    ensures refused { IfErr result (λ f. f ≡ LoadFault.NotSnapshot → (d : Perhaps DeprecationRow) → IsMeantDeprecation entries.now placed.now d → ⊥) }
+    ensures meant { IfOk result (λ d. IsMeantDeprecation (map undeprecated engine.now.entries) placed.now d) }
+    ensures refused { IfErr result (λ f. f ≡ LoadFault.NotSnapshot → (d : Perhaps DeprecationRow) → IsMeantDeprecation (map undeprecated engine.now.entries) placed.now d → ⊥) }
 {
     match placed {
-        Some(placed) => match deprecation_of(alloc, entries, placed) {
+        Some(placed) => match deprecation_of(alloc, engine, placed.as_placed()) {
             Ok(deprecation) => Ok(Some(deprecation)),
             Err(fault) => Err(fault),
         },
@@ -49,70 +78,86 @@ fn meant_at(
 // The deprecations of all entries.
 fn deprecations_of(
     alloc: Global,
-    entries: &[PlacedEntry],
+    engine: &Engine,
+    all: &[Option<BoxedDeprecation>],
 ) -> Result<List<Option<Deprecation>>, LoadFault>
-    ensures meant { IfOk result (λ ds. AreMeantDeprecations entries.now entries.now ds) }
-    ensures refused { IfErr result (λ f. f ≡ LoadFault.NotSnapshot → (ds : Items (Perhaps DeprecationRow)) → AreMeantDeprecations entries.now entries.now ds → ⊥) }
+    ensures meant { IfOk result (λ ds. AreMeantDeprecations (map undeprecated engine.now.entries) all.now ds) }
+    ensures refused { IfErr result (λ f. f ≡ LoadFault.NotSnapshot → (ds : Items (Perhaps DeprecationRow)) → AreMeantDeprecations (map undeprecated engine.now.entries) all.now ds → ⊥) }
 {
-    let mut deprecations = List::with_room(alloc, entries.len())?;
-    for entry in entries {
-        let deprecation = meant_at(alloc, entries, &entry.deprecation)?;
+    let mut deprecations = List::with_room(alloc, all.len())?;
+    for placed in all {
+        let deprecation = meant_at(alloc, engine, placed)?;
         deprecations.push(deprecation)?;
     }
     Ok(deprecations)
 }
 
-// The entry as an active one.
-fn active_of(placed: PlacedEntry) -> Entry
-    ensures { result ≡ active_placed placed }
+// The same, where the places are let go.
+fn named(
+    alloc: Global,
+    engine: &Engine,
+    all: List<Option<BoxedDeprecation>>,
+) -> Result<List<Option<Deprecation>>, LoadFault>
+    ensures meant { IfOk result (λ ds. AreMeantDeprecations (map undeprecated engine.now.entries) all ds) }
+    ensures refused { IfErr result (λ f. f ≡ LoadFault.NotSnapshot → (ds : Items (Perhaps DeprecationRow)) → AreMeantDeprecations (map undeprecated engine.now.entries) all ds → ⊥) }
 {
-    let PlacedEntry {
-        name,
-        title,
-        provenance,
-        deprecation: _,
-    } = placed;
-    Entry {
-        name,
-        title,
-        provenance,
-        deprecation: None,
+    let deprecations = deprecations_of(alloc, engine, all.as_slice());
+    drop(all);
+    deprecations
+}
+
+fn are_none(all: &[Option<BoxedDeprecation>]) -> bool
+    ensures { result ≡ list_all is_none all.now }
+{
+    all.iter().all(|placed| placed.is_none())
+}
+
+// Lets an engine go that has some of the rows.
+fn let_go(engine: Engine, fault: LoadFault) -> LoadFault
+    ensures { result ≡ fault }
+{
+    drop(engine);
+    fault
+}
+
+// The engine with these deprecations.
+fn deprecate_all(
+    engine: Engine,
+    deprecations: List<Option<Deprecation>>,
+) -> Result<Engine, LoadFault>
+    requires bare { IsBare engine }
+    requires even { length deprecations ≡ length engine.entries }
+    ensures ok { IfOk result (λ e. e ≡ with_deprecations engine deprecations) }
+    ensures refused { IfErr result (λ f. f ≡ LoadFault.NotSnapshot → IsLawful (with_deprecations engine deprecations) → ⊥) }
+{
+    match engine.deprecate_all(deprecations) {
+        Ok(engine) => Ok(engine),
+        Err(AdoptFault::Unlawful) => Err(LoadFault::NotSnapshot),
+        Err(AdoptFault::Memory) => Err(LoadFault::Memory),
     }
 }
 
-// The entries as active ones.
-fn active_entries(alloc: Global, entries: List<PlacedEntry>) -> Result<List<Entry>, Memory>
-    ensures { IfOk result (λ es. es ≡ map active_placed entries) }
-{
-    let mut active = List::with_room(alloc, entries.len())?;
-    for entry in entries.into_vec() {
-        active.push(active_of(entry))?;
-    }
-    Ok(active)
-}
-
-/// The rows that are meant, their entries taken apart.
+/// The engine, whose entries are active, with the deprecations that these mean, one or none for each entry. Where there is none at all
+/// nothing is done.
 ///
 /// # Errors
-/// `NotSnapshot` where some place has no entry, so that no rows are meant, or memory runs out.
-pub(crate) fn rows_meant(alloc: Global, placed: PlacedRows) -> Result<PartedRows, LoadFault>
-    ensures parted { IfOk result (λ p. AreParted p) }
-    ensures meant { IfOk result (λ p. AreMeant placed (parted_state p)) }
-    ensures refused { IfErr result (λ f. f ≡ LoadFault.NotSnapshot → (rows : Rows) → AreMeant placed rows → ⊥) }
+/// `NotSnapshot` where some place has no entry, or the rows aren't lawful; or memory runs out.
+pub(crate) fn give_all(
+    alloc: Global,
+    engine: Engine,
+    all: List<Option<BoxedDeprecation>>,
+) -> Result<Engine, LoadFault>
+    requires bare { IsBare engine }
+    requires even { length all ≡ length engine.entries }
+    ensures ok { IfOk result (AreGiven engine all) }
+    ensures refused { IfErr result (λ f. f ≡ LoadFault.NotSnapshot → (ds : Items (Perhaps DeprecationRow)) → AreMeantDeprecations (map undeprecated engine.entries) all ds → IsLawful (with_deprecations engine ds) → ⊥) }
 {
-    let PlacedRows {
-        entries,
-        items,
-        statements,
-        results,
-    } = placed;
-    let deprecations = deprecations_of(alloc, entries.as_slice())?;
-    let entries = active_entries(alloc, entries)?;
-    Ok(PartedRows {
-        entries,
-        deprecations,
-        items,
-        statements,
-        checks: results,
-    })
+    if are_none(all.as_slice()) {
+        drop(all);
+        return Ok(engine);
+    }
+    match named(alloc, &engine, all) {
+        Ok(deprecations) => deprecate_all(engine, deprecations),
+        Err(fault) => Err(let_go(engine, fault)),
+    }
 }

@@ -1,14 +1,18 @@
-// An engine that is read from its snapshot.
-ghost use Rattle.std.specs.Prelude.{◌≡◌, IfErr, IfOk};
+// An engine that is read from its snapshot, row by row.
+ghost use Rattle.std.specs.Prelude.{◌≡◌, IfErr, IfOk, OnOk};
 ghost use Rattle.cpe_rows.specs.Rows.{Rows};
 ghost use Rattle.cpe_rows.specs.Lawful.{IsLawful};
+ghost use Rattle.cpe_snapshot.specs.Reading.{entry_at, many};
 ghost use Rattle.cpe_snapshot.specs.States.{Snap};
+ghost use Rattle.engine_snapshot.specs.Read.{AreEntriesLoaded, NoEntries, Others, with_others};
 
-use crate::adopting::adopt_parted;
+use crate::boxed::BoxedDeprecation;
 use crate::law;
-use crate::meant::rows_meant;
-use cpe_engine::{AdoptFault, Engine};
-use cpe_snapshot::{LoadFault, read_rows};
+use crate::loops::{read_entries, read_items, read_results, read_statements};
+use crate::meant::give_all;
+use cpe_engine::Engine;
+use cpe_rows::List;
+use cpe_snapshot::{Cursor, Head, LoadFault, read_head};
 use cpe_steps::Steps;
 use std::alloc::Global;
 use std::sync::ledger::Ledger;
@@ -16,7 +20,68 @@ use std::sync::ledger::Ledger;
 // No snapshot has more bytes: 24 more than rows may weigh.
 const MOST_BYTES: usize = 536_870_936;
 
-/// An engine that keeps the rows whose snapshot these bytes are, all of the bytes.
+// Lets an engine go that has some of the rows.
+fn let_go(engine: Engine, fault: LoadFault) -> LoadFault
+    ensures { result ≡ fault }
+{
+    drop(engine);
+    fault
+}
+
+// The same with deprecations that it has not got.
+fn let_both_go(
+    engine: Engine,
+    deprecations: List<Option<BoxedDeprecation>>,
+    fault: LoadFault,
+) -> LoadFault
+    ensures { result ≡ fault }
+{
+    drop(deprecations);
+    let_go(engine, fault)
+}
+
+// An engine with the entries that stand next. They come as active ones, and then their deprecations all at once: one may lead to an entry
+// behind it.
+fn load_entries<L: Ledger>(
+    alloc: Global,
+    cursor: &mut Cursor<'_>,
+    count: u32,
+    steps: &mut Steps<L>,
+) -> Result<Engine, LoadFault>
+    ensures loaded { IfOk result (AreEntriesLoaded (many entry_at count cursor.old) cursor.new) }
+    ensures refused { IfErr result (λ f. f ≡ LoadFault.NotSnapshot → NoEntries (many entry_at count cursor.old)) }
+{
+    let mut engine = Engine::new(alloc);
+    let mut deprecations = List::new(alloc);
+    match read_entries(alloc, cursor, count, &mut engine, &mut deprecations, steps) {
+        Ok(()) => give_all(alloc, engine, deprecations),
+        Err(fault) => Err(let_both_go(engine, deprecations, fault)),
+    }
+}
+
+// Reads what isn't an entry, to the end of the bytes, and puts it.
+fn read_others<L: Ledger>(
+    alloc: Global,
+    cursor: &mut Cursor<'_>,
+    head: Head,
+    engine: &mut Engine,
+    steps: &mut Steps<L>,
+) -> Result<(), LoadFault>
+    ensures ok { OnOk result ((others : Others head cursor.old) × (engine.new ≡ with_others engine.old others)) }
+    ensures refused { IfErr result (λ f. f ≡ LoadFault.NotSnapshot → (others : Others head cursor.old) → IsLawful (with_others engine.old others) → ⊥) }
+{
+    read_items(alloc, cursor, head.items, engine, steps)?;
+    read_statements(alloc, cursor, head.statements, engine, steps)?;
+    read_results(alloc, cursor, head.results, engine, steps)?;
+    if cursor.is_done() {
+        Ok(())
+    } else {
+        Err(LoadFault::NotSnapshot)
+    }
+}
+
+/// An engine that keeps the rows whose snapshot these bytes are, all of the bytes. Each row is put as it is read: beside the engine stand
+/// the bytes, and of each entry that is deprecated the places of its successors.
 ///
 /// # Errors
 /// No lawful rows have this snapshot, or memory runs out.
@@ -29,16 +94,14 @@ pub fn read_snapshot<L: Ledger>(
     ensures refused { IfErr result (λ f. f ≡ LoadFault.NotSnapshot → (rows : Rows) → IsLawful rows → Snap rows bytes.now → ⊥) }
 {
     law::snapshots_are_within();
-    cpe_snapshot::law::snapshots_are_clear();
-    cpe_snapshot::law::states_have_snapshots();
     if bytes.len() > MOST_BYTES {
         return Err(LoadFault::NotSnapshot);
     }
-    let placed = read_rows(alloc, bytes)?;
-    let rows = rows_meant(alloc, placed)?;
-    match adopt_parted(alloc, rows, steps) {
-        Ok(engine) => Ok(engine),
-        Err(AdoptFault::Unlawful) => Err(LoadFault::NotSnapshot),
-        Err(AdoptFault::Memory) => Err(LoadFault::Memory),
+    let mut cursor = Cursor::new(bytes);
+    let head = read_head(&mut cursor)?;
+    let mut engine = load_entries(alloc, &mut cursor, head.entries, steps)?;
+    match read_others(alloc, &mut cursor, head, &mut engine, steps) {
+        Ok(()) => Ok(engine),
+        Err(fault) => Err(let_go(engine, fault)),
     }
 }

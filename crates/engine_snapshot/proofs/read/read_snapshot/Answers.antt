@@ -1,24 +1,31 @@
-use Rattle.std.proofs.Common.{ap, sym, subst, ◌∙◌}
+use Rattle.std.proofs.Common.{ap, arith, sym, ◌∙◌}
 use Rattle.std.specs.Prelude.{Err}
 use Rattle.std.proofs.lemmas.Result.{err_from_is_err_and}
-use Rattle.cpe_rows.specs.Lawful.{IsLawful}
-use Rattle.cpe_snapshot.specs.States.{AreMeant}
-use Rattle.cpe_snapshot.specs.declared.rows.PlacedRows.{PlacedRows}
-use Rattle.engine_snapshot.specs.Plain.{parted_state}
+use Rattle.cpe_snapshot.specs.Reading.{head_at}
 use Rattle.engine_snapshot.proofs.EditLemmas.{refused_with}
+use Rattle.engine_snapshot.proofs.SnapshotLemmas.{has_entries, has_head, has_others, is_snap}
 use Rattle.engine_snapshot.proofs.read.read_snapshot.Goals as goal
 
-pub returns-in_err-rows-clause-refused : goal.returns-in_err-rows-clause-refused
-returns-in_err-rows-clause-refused g c =
-    let bytes = c.args.bytes.now in
-    let p = err_from_is_err_and c.from_residual-in_err-rows.result c.from_residual-in_err-rows.ensures.1 in
-    refused_with c.from_residual-in_err-rows.result c.in_err-rows.field-0.0 _ (p.1 ∙ ap Err p.2)
-    (λ is rows lawful snap. c.in_err-rows.ensures.refused is rows
-    (subst (λ (q : PlacedRows). AreMeant q rows) (c.snapshots_are_clear.ensures.clear snap.0 c.in_ok-placed.placed bytes snap.2 c.in_ok-placed.ensures) snap.1))
+pub returns-in_err-head-clause-refused : goal.returns-in_err-head-clause-refused
+returns-in_err-head-clause-refused g c =
+    let p = err_from_is_err_and c.from_residual.result c.from_residual.ensures.1 in
+    refused_with c.from_residual.result c.in_err-head.field-0.0 _ (p.1 ∙ ap Err p.2)
+    (λ is rows lawful snap. has_head c.args.bytes.now rows snap (ap head_at (sym c.new-cursor.ensures) ∙ c.in_err-head.ensures.1))
 
-pub returns-in-Err-Unlawful-clause-refused : goal.returns-in-Err-Unlawful-clause-refused
-returns-in-Err-Unlawful-clause-refused g c =
-    let bytes = c.args.bytes.now in
-    let read = parted_state c.in_ok-rows.rows in
-    λ is rows lawful snap. c.in-Err-Unlawful.ensures.unlawful c.in-Err-Unlawful.field-0-is
-    (subst IsLawful (c.states_have_snapshots.ensures.clear rows read bytes snap (c.in_ok-placed.placed, c.in_ok-rows.ensures.meant, c.in_ok-placed.ensures)) lawful)
+pub returns-in_err-engine-clause-refused : goal.returns-in_err-engine-clause-refused
+returns-in_err-engine-clause-refused g c =
+    let r = c.from_residual-in_err-engine in
+    let p = err_from_is_err_and r.result r.ensures.1 in
+    refused_with r.result c.in_err-engine.field-0.0 _ (p.1 ∙ ap Err p.2)
+    (λ is rows lawful snap. has_entries c.args.bytes.now rows snap c.in_ok-head.head c.read_head.new.cursor (ap head_at (sym c.new-cursor.ensures) ∙ c.in_ok-head.ensures) lawful
+    (c.in_err-engine.ensures.refused is))
+
+pub returns-in-Ok-clause-loaded : goal.returns-in-Ok-clause-loaded
+returns-in-Ok-clause-loaded g c =
+    is_snap c.args.bytes.now c.in_ok-head.head c.read_head.new.cursor c.load_entries.new.cursor c.in_ok-engine.engine c.read_others.new.engine c.in-Ok.ensures.ok.0
+    (λ i. omega (arith, c.type_inv.bytes i)) (ap head_at (sym c.new-cursor.ensures) ∙ c.in_ok-head.ensures) c.in_ok-engine.ensures.loaded c.in-Ok.ensures.ok.1
+
+pub returns-in-Err-clause-refused : goal.returns-in-Err-clause-refused
+returns-in-Err-clause-refused g c =
+    λ is rows lawful snap. has_others c.args.bytes.now rows snap c.in_ok-head.head c.read_head.new.cursor (ap head_at (sym c.new-cursor.ensures) ∙ c.in_ok-head.ensures)
+    c.load_entries.new.cursor c.in_ok-engine.engine c.in_ok-engine.ensures.loaded lawful (c.in-Err.ensures.refused (sym c.let_go.ensures ∙ is))

@@ -1,0 +1,7 @@
+use Rattle.std.proofs.Common.{map, take}
+use Rattle.cpe_snapshot.specs.States.{AreNamed}
+use Rattle.engine_snapshot.specs.Meant.{undeprecated}
+use Rattle.engine_snapshot.proofs.meant.names_at.Given as goal
+
+abbrev pub invariant-loop-place : goal.invariant-loop-place
+invariant-loop-place l = AreNamed (map undeprecated l.engine.entries) (take l.place-index l.places) l.names

@@ -1,0 +1,80 @@
+-- Rows that are read from bytes, and put one after the other.
+use Rattle.std.specs.Prelude.{◌≡◌, ℕ, List, [], ◌∷◌, map, Option, Some}
+use Rattle.cpe_name.specs.Eleven.{Values}
+use Rattle.cpe_rows.specs.Lawful.{IsLawful}
+use Rattle.cpe_rows.specs.Rows.{Rows}
+use Rattle.cpe_rows.specs.declared.entry.Entry.{Entry}
+use Rattle.cpe_rows.specs.declared.statement.Statement.{Statement}
+use Rattle.cpe_snapshot.specs.Reading.{many, name_at, result_at, statement_at}
+use Rattle.cpe_snapshot.specs.States.{AreMeantEntries, pair_of}
+use Rattle.cpe_snapshot.specs.declared.fault.LoadFault.{LoadFault}
+use Rattle.cpe_snapshot.specs.declared.fault.LoadFault.TheVariants.{NotSnapshot}
+use Rattle.cpe_snapshot.specs.declared.load.Head.{Head}
+use Rattle.cpe_snapshot.specs.declared.rows.KeptResult.{KeptResult}
+use Rattle.cpe_snapshot.specs.declared.rows.PlacedDeprecation.{PlacedDeprecation}
+use Rattle.cpe_snapshot.specs.declared.rows.PlacedEntry.{PlacedEntry}
+use Rattle.engine_snapshot.specs.Begun.{with_checks, with_entries, with_items, with_statements}
+use Rattle.engine_snapshot.specs.Meant.{active_placed}
+use Rattle.engine_snapshot.specs.Plain.{entries_alone}
+
+-- ---- more rows behind those that are there
+
+-- entries as active ones
+abbrev pub with_placed : Rows → List PlacedEntry → Rows
+with_placed rows ps = with_entries rows (map active_placed ps)
+
+abbrev pub with_results : Rows → List KeptResult → Rows
+with_results rows ks = with_checks rows (map pair_of ks)
+
+-- ---- one row
+
+-- no rows that fit begin with this one
+abbrev pub NotAfter : {A : Type 0} → (Rows → List A → Rows) → (Rows → Type 0) → Rows → A → LoadFault → Type 0
+NotAfter {A} put Fits rows x f = f ≡ NotSnapshot → (more : List A) → Fits (put rows (x ∷ more)) → ⊥
+
+-- ---- so many
+
+-- what is read are rows, and these are put
+pub record ArePut {A : Type 0} (put : Rows → List A → Rows) (read : Option (List A × List ℕ)) (left : List ℕ) (old new : Rows) : Type 0 where
+  pub rows : List A
+  pub are_read : read ≡ Some (rows, left)
+  pub are_put : new ≡ put old rows
+
+-- no rows are read that fit once they are put
+abbrev pub NonePut : {A : Type 0} → (Rows → List A → Rows) → (Rows → Type 0) → Option (List A × List ℕ) → Rows → LoadFault → Type 0
+NonePut {A} put Fits read rows f = f ≡ NotSnapshot → (xs : List A) (left : List ℕ) → read ≡ Some (xs, left) → Fits (put rows xs) → ⊥
+
+-- entries, with their deprecations
+pub record AreEntriesPut (read : Option (List PlacedEntry × List ℕ)) (left : List ℕ) (old new : Rows) (deprecations : List (Option PlacedDeprecation)) : Type 0 where
+  pub are_put : ArePut with_placed read left old new
+  pub deprecations_are : deprecations ≡ map (λ p. p.deprecation) are_put.rows
+
+-- ---- all entries
+
+-- what is read are entries with places, and the rows are the entries that they mean
+pub record AreEntriesLoaded (read : Option (List PlacedEntry × List ℕ)) (left : List ℕ) (rows : Rows) : Type 0 where
+  pub placed : List PlacedEntry
+  pub entries : List Entry
+  pub are_read : read ≡ Some (placed, left)
+  pub are_meant : AreMeantEntries placed placed entries
+  pub are_rows : rows ≡ entries_alone entries
+
+-- no entries are read that mean lawful ones
+abbrev pub NoEntries : Option (List PlacedEntry × List ℕ) → Type 0
+NoEntries read = (placed : List PlacedEntry) (left : List ℕ) (entries : List Entry) → read ≡ Some (placed, left) → AreMeantEntries placed placed entries → IsLawful (entries_alone entries) → ⊥
+
+-- ---- the others
+
+-- what stands behind the entries, to the end of the bytes
+pub record Others (head : Head) (bytes : List ℕ) : Type 0 where
+  pub items : List Values
+  pub after_items : List ℕ
+  pub statements : List Statement
+  pub after_statements : List ℕ
+  pub results : List KeptResult
+  pub items_are : many name_at head.items bytes ≡ Some (items, after_items)
+  pub statements_are : many statement_at head.statements after_items ≡ Some (statements, after_statements)
+  pub results_are : many result_at head.results after_statements ≡ Some (results, [])
+
+abbrev pub with_others : {head : Head} → {bytes : List ℕ} → Rows → Others head bytes → Rows
+with_others rows others = with_results (with_statements (with_items rows others.items) others.statements) others.results

@@ -1,0 +1,146 @@
+// Rows that an engine puts as they are read, one at a time.
+ghost use Rattle.std.specs.Prelude.{◌≡◌, ◌++◌, ◌∷◌, [], IfErr, IfOk, OnOk, true};
+ghost use Rattle.cpe_rows.specs.Prelude.{after, is_valid_edit, IsLawful};
+ghost use Rattle.cpe_rows.specs.Names.{is_lower};
+ghost use Rattle.engine_snapshot.specs.Begun.{AreFine, IsTaken, with_items, with_statements};
+ghost use Rattle.engine_snapshot.specs.Read.{NotAfter, with_placed, with_results};
+
+use crate::boxed::BoxedDeprecation;
+use crate::edits::{add_check, make, make_valid};
+use cpe_engine::{AdoptFault, Engine};
+use cpe_name::Wfn;
+use cpe_rows::{Edit, Entry, List, Statement};
+use cpe_snapshot::{KeptResult, LoadFault, PlacedDeprecation, PlacedEntry};
+use cpe_steps::Steps;
+use cpe_values::Memory;
+use std::alloc::Global;
+use std::sync::ledger::Ledger;
+
+// Makes an edit that is in order.
+fn put<L: Ledger>(engine: &mut Engine, edit: Edit, steps: &mut Steps<L>) -> Result<(), LoadFault>
+    requires { is_valid_edit edit ≡ true }
+    ensures ok { OnOk result (engine.new ≡ after engine.old edit) }
+    ensures refused { IfErr result (λ f. f ≡ LoadFault.NotSnapshot → IsTaken engine.old edit → ⊥) }
+{
+    match make_valid(engine, edit, steps) {
+        Ok(()) => Ok(()),
+        Err(AdoptFault::Unlawful) => Err(LoadFault::NotSnapshot),
+        Err(AdoptFault::Memory) => Err(LoadFault::Memory),
+    }
+}
+
+// The deprecation in memory of its own, if it is one.
+fn boxed(
+    alloc: Global,
+    deprecation: Option<PlacedDeprecation>,
+) -> Result<Option<BoxedDeprecation>, Memory>
+    ensures { IfOk result (λ b. b ≡ deprecation) }
+{
+    match deprecation {
+        Some(placed) => match BoxedDeprecation::new(alloc, placed) {
+            Ok(placed) => Ok(Some(placed)),
+            Err(memory) => Err(memory),
+        },
+        None => Ok(None),
+    }
+}
+
+// Puts the deprecation of an entry behind those of the entries before it.
+fn push_boxed(
+    alloc: Global,
+    deprecations: &mut List<Option<BoxedDeprecation>>,
+    deprecation: Option<PlacedDeprecation>,
+) -> Result<(), Memory>
+    ensures { OnOk result (deprecations.new ≡ deprecations.old ++ deprecation ∷ []) }
+{
+    let deprecation = boxed(alloc, deprecation)?;
+    deprecations.push(deprecation)
+}
+
+// Lets the deprecation of an entry go that isn't put.
+fn let_go(deprecation: Option<PlacedDeprecation>, fault: LoadFault) -> LoadFault
+    ensures { result ≡ fault }
+{
+    drop(deprecation);
+    fault
+}
+
+/// Puts an entry last as an active one, and its deprecation behind those of the entries before it. Its name is in lower case, as it was
+/// read.
+pub(crate) fn put_entry<L: Ledger>(
+    alloc: Global,
+    engine: &mut Engine,
+    deprecations: &mut List<Option<BoxedDeprecation>>,
+    placed: PlacedEntry,
+    steps: &mut Steps<L>,
+) -> Result<(), LoadFault>
+    requires { is_lower placed.name ≡ true }
+    ensures ok { OnOk result (engine.new ≡ with_placed engine.old (placed ∷ [])) }
+    ensures deprecation { OnOk result (deprecations.new ≡ deprecations.old ++ placed.deprecation ∷ []) }
+    ensures refused { IfErr result (NotAfter with_placed AreFine engine.old placed) }
+{
+    let PlacedEntry {
+        name,
+        title,
+        provenance,
+        deprecation,
+    } = placed;
+    let entry = Entry {
+        name,
+        title,
+        provenance,
+        deprecation: None,
+    };
+    match put(engine, Edit::Entry(entry), steps) {
+        Ok(()) => match push_boxed(alloc, deprecations, deprecation) {
+            Ok(()) => Ok(()),
+            Err(_) => Err(LoadFault::Memory),
+        },
+        Err(fault) => Err(let_go(deprecation, fault)),
+    }
+}
+
+/// Puts an item last. It is in lower case, as it was read.
+pub(crate) fn put_item<L: Ledger>(
+    engine: &mut Engine,
+    name: Wfn,
+    steps: &mut Steps<L>,
+) -> Result<(), LoadFault>
+    requires { is_lower name ≡ true }
+    ensures ok { OnOk result (engine.new ≡ with_items engine.old (name ∷ [])) }
+    ensures refused { IfErr result (NotAfter with_items IsLawful engine.old name) }
+{
+    put(engine, Edit::Item(name), steps)
+}
+
+/// Puts a statement last.
+pub(crate) fn put_statement<L: Ledger>(
+    engine: &mut Engine,
+    statement: Statement,
+    steps: &mut Steps<L>,
+) -> Result<(), LoadFault>
+    ensures ok { OnOk result (engine.new ≡ with_statements engine.old (statement ∷ [])) }
+    ensures refused { IfErr result (NotAfter with_statements IsLawful engine.old statement) }
+{
+    match make(engine, Edit::PutStatement(statement), steps) {
+        Ok(()) => Ok(()),
+        Err(AdoptFault::Unlawful) => Err(LoadFault::NotSnapshot),
+        Err(AdoptFault::Memory) => Err(LoadFault::Memory),
+    }
+}
+
+/// Puts a result last, of a key for which none is kept.
+pub(crate) fn put_result<L: Ledger>(
+    engine: &mut Engine,
+    kept: KeptResult,
+    steps: &mut Steps<L>,
+) -> Result<(), LoadFault>
+    ensures ok { OnOk result (engine.new ≡ with_results engine.old (kept ∷ [])) }
+    ensures refused { IfErr result (NotAfter with_results IsLawful engine.old kept) }
+{
+    match add_check(engine, kept, steps) {
+        Ok(()) => Ok(()),
+        Err(AdoptFault::Unlawful) => Err(LoadFault::NotSnapshot),
+        Err(AdoptFault::Memory) => Err(LoadFault::Memory),
+    }
+}
