@@ -5,6 +5,7 @@ which the first covers the second or not.
 It needs `go`, `cc`, the library (make library), and go-cpe as Debian's golang-github-knqyf263-go-cpe-dev puts it; where one isn't there
 it says so, and measures nothing. Prints a table. README.md beside this file says how to read it.
 """
+import argparse
 import os
 import pathlib
 import shutil
@@ -39,32 +40,46 @@ def built(library):
         link = source / name
         if not link.is_symlink():
             link.symlink_to(folder)
+    # (beside a shared library cgo would take that one, which the program then wants where it runs)
+    static = path / "static"
+    static.mkdir(exist_ok=True)
+    shutil.copyfile(library, static / library.name)
     words = {
         "GOPATH": f"{path}:{GOCODE}",
         "GO111MODULE": "off",
         "GOFLAGS": "",
         "CGO_CFLAGS": f"-O2 -I{run.TOP / 'library'}",
-        "CGO_LDFLAGS": f"-L{library.parent}",
+        "CGO_LDFLAGS": f"-L{static}",
     }
     program = path / "beside"
     subprocess.run(["go", "build", "-o", program, "beside"], env={**os.environ, **words}, check=True)
     return program
 
 
+def measured(program, what, path, rounds):
+    """Nanoseconds a line on both sides, the best of so many rounds, the lines, and on how many of them the two differ."""
+    runs = []
+    for _ in range(rounds):
+        out = subprocess.run([program, what, path], capture_output=True, text=True, check=True)
+        runs.append([int(it) for it in out.stdout.split()])
+    return min(it[0] for it in runs), min(it[1] for it in runs), runs[0][2:]
+
+
 def main():
+    words = argparse.ArgumentParser(description=__doc__.split("\n")[0])
+    words.add_argument("--lines", type=int, default=1_000_000)
+    words.add_argument("--rounds", type=int, default=3)
+    words = words.parse_args()
     library = run.TOP / "build" / "libcpe.a"
     why = lacking(library)
     if why:
         print(f"SKIPPED: {why}")
         return
-    lines = int(sys.argv[1]) if len(sys.argv) > 1 else 1_000_000
     program = built(library)
     print(f"load before: {os.getloadavg()[0]:.1f} on {os.cpu_count()} processors")
     print(f"{'input':<12}{'lines':>10}{'cpe ns':>9}{'go-cpe ns':>11}{'ratio':>8}{'it alone refuses':>18}{'it alone takes':>16}{'other answers':>15}")
     for what, name in INPUTS:
-        path = run.made(name, lines)
-        out = subprocess.run([program, what, path], env={**os.environ, "LD_LIBRARY_PATH": str(library.parent)}, capture_output=True, text=True, check=True)
-        our, their, count, refused, taken, other = (int(it) for it in out.stdout.split())
+        our, their, (count, refused, taken, other) = measured(program, what, run.made(name, words.lines), words.rounds)
         print(f"{name:<12}{count:>10,}{our:>9}{their:>11}{their / our:>8.1f}{refused:>18,}{taken:>16,}{other:>15,}", flush=True)
     print(f"load after: {os.getloadavg()[0]:.1f}")
 

@@ -17,4 +17,6 @@ objcopy --keep-global-symbols=library/exports.txt "$parts/cpe.part"
 rm -f build/libcpe.a
 ar rcs build/libcpe.a "$parts/cpe.part"
 "${CC:-cc}" -shared -Wl,-soname,libcpe.so.0 -Wl,--no-undefined -o build/libcpe.so -Wl,--whole-archive build/libcpe.a -Wl,--no-whole-archive
+# (what is linked with it wants it by this name where it runs)
+ln -f build/libcpe.so build/libcpe.so.0
 rm -rf "$parts"

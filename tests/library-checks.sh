@@ -9,10 +9,15 @@ builds_library() {
     # (rt lib would prove all crates once more where rt ci alone was run)
     [ -f crates/cpe_c/out/libcpe_c.a ] || { skip 'the library for C' 'its proved part is not built: make library'; return 1; }
     sh library/build.sh > "$room/build.out" 2>&1 || { fail 'the library for C' "$(tail -n 1 "$room/build.out")"; return 1; }
-    for it in calls lines; do
-        cc -std=c99 -Wall -Wextra -Werror -Ilibrary "tests/library/$it.c" build/libcpe.a -o "$room/$it" 2> "$room/error" ||
-            { fail "a C program that calls it: $it" "$(head -n 1 "$room/error")"; return 1; }
-    done
+    for it in calls lines; do compiles "$it" || return; done
+}
+
+# compiles PROGRAM [WORD..]: a program in C that calls the library.
+compiles() {
+    it=$1
+    shift
+    cc -std=c99 -Wall -Wextra -Werror "$@" -Ilibrary "tests/library/$it.c" build/libcpe.a -o "$room/$it" 2> "$room/error" ||
+        { fail "a C program that calls it: $it" "$(head -n 1 "$room/error")"; return 1; }
 }
 
 # calls_each: each call with each of its answers.
@@ -20,6 +25,9 @@ calls_each() {
     : > "$room/none"
     limited "$room/calls" > "$room/out" 2> "$room/error"
     judge 'each call of the library, and each answer' $? 0 "$room/none"
+    compiles memory -Wl,--wrap=malloc,--wrap=calloc,--wrap=realloc || return
+    limited "$room/memory" > "$room/out" 2> "$room/error"
+    judge 'each allocation of the library, refused in turn' $? 0 "$room/none"
 }
 
 # speaks_alike WHAT INPUT WORD..: the answers of a session, one after the other, are what the program writes.

@@ -1,4 +1,4 @@
-/* Every call of the library once, with every answer that it has but out of memory. It writes what is wrong, and its status is 0
+/* Every call of the library once, with every answer that it has but out of memory (memory.c). It writes what is wrong, and its status is 0
  * where nothing is. */
 #include <stdint.h>
 #include <stdio.h>

@@ -4,6 +4,7 @@
 The filter is asked by the address. Odd names would load from a server that listens here; that nobody asks it is looked at too.
 The status is 1 where something is wrong.
 """
+import html
 import http.server
 import json
 import os
@@ -28,6 +29,13 @@ parent.postMessage(document.title, "*"); })))</script></body>"""
 # A telephone is narrower than any window of Chromium.
 TELEPHONE = """<!DOCTYPE html><title></title><script>onmessage = (event) => { document.title = event.data; }</script>
 <iframe src="PAGE" width="360" height="800"></iframe>"""
+# In a frame that lets no script run, what its reader sees of a page, in the order in which it stands there, below the window too.
+WITHOUT_SCRIPTS = """<!DOCTYPE html><title></title><iframe sandbox="allow-same-origin" srcdoc="PAGE" width="360" height="800"></iframe>
+<script>addEventListener("load", () => {
+const page = frames[0].document, seen = document.createElement("pre");
+for (const one of page.querySelectorAll("*")) one.style.contentVisibility = "visible";
+seen.textContent = page.body.innerText;
+document.body.append(seen); })</script>"""
 
 
 class Browser:
@@ -58,6 +66,12 @@ class Browser:
         """A page in which such a copy stands as narrow as on a telephone, and that has its title."""
         around = path.with_suffix(".telephone.html")
         around.write_text(TELEPHONE.replace("PAGE", self.inside(path).name), encoding="utf-8")
+        return around
+
+    def without_scripts(self, path):
+        """A page that tells what is seen of this one where no script runs."""
+        around = path.with_suffix(".quiet.html")
+        around.write_text(WITHOUT_SCRIPTS.replace("PAGE", html.escape(path.read_text(encoding="utf-8"))), encoding="utf-8")
         return around
 
     def look(self, path, fragment="", after=LOOKS[0]):
@@ -145,6 +159,21 @@ def minds_names(browser, path):
     browser.judge("odd names: nobody was asked for anything", browser.asked, [])
 
 
+def reads_without_scripts(browser):
+    told = verdict("CVE-1", "TRUE", title="A product has a fault.", score=6.5)
+    hangs = verdict("CVE-2", "UNKNOWN", title="Another has one.", score=9.8, hangsOn=["only zeros decide"])
+    path = browser.page("plain", table(machine("web-1", told, hangs), machine("web-2", told), left_out=[("CVE-3", "not analysed")]))
+    seen = browser.look(browser.without_scripts(path)).partition("<pre>")[2]
+    text = html.unescape(seen.partition("</pre>")[0])
+    browser.judge("without scripts: that there is no filter is said, and none is there", ("there is no filter" in text, "Clear" in text), (True, False))
+    lines = [line.strip() for line in text.replace("\t", "\n").split("\n")]
+    wanted = ["CVE-3", "CVE-2", "Another has one.", "only zeros decide", "CVE-1", "A product has a fault."]
+    places = [next((place for place, line in enumerate(lines) if one in line), None) for one in wanted]
+    browser.judge("without scripts: what was not read, and the advisories by score", None not in places and places == sorted(places), True)
+    # (beside an advisory, and in the list of machines)
+    browser.judge("without scripts: each row, and each machine", [text.count(one) for one in ("web-1", "web-2")], [3, 2])
+
+
 def title_of(browser, copy):
     """The numbers that a copy of a page tells in its title."""
     for after in LOOKS:
@@ -172,6 +201,7 @@ def main():
     path = browser.page("odd", value)
     filters(browser, path, value)
     minds_names(browser, path)
+    reads_without_scripts(browser)
     empty = browser.page("empty", table(machine("m"), {"name": "bare", "items": 0}))
     browser.judge("a page without rows", "FALSE on 1 machine with items" in browser.look(empty), True)
     opens_many(browser)

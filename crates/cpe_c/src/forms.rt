@@ -11,7 +11,7 @@ use cpe_uri::{UNBOUND_FRAME, write_bound_uri, write_unbound_any};
 use std::alloc::Global;
 
 /// The form in which a name is written.
-#[derive(Clone, Copy, Debug, PartialEq, Eq)]
+#[derive(Clone, Copy)]
 pub enum Form {
     /// The text of the well-formed name, of a formatted string or a URI.
     Wfn,

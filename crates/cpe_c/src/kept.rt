@@ -51,7 +51,8 @@ impl KeptTalk {
         }
     }
 
-    fn of_parts(parts: Parts<Talk, Global>) -> KeptTalk
+    /// Keeps what these parts own.
+    pub(crate) fn of_parts(parts: Parts<Talk, Global>) -> KeptTalk
         ensures { result.value ≡ Some parts.value }
     {
         let Parts { at, alloc } = parts;

@@ -17,7 +17,7 @@ use std::alloc::{AllocError, Global};
 /// The relation of two names and those of their attributes, as numbers: 0 is DISJOINT, 1 EQUAL, 2 SUBSET, 3 SUPERSET, and 4
 /// UNDEFINED (NIST IR 7696, 6).
 #[repr(C)]
-#[derive(Clone, Copy, Debug, PartialEq, Eq)]
+#[derive(Clone, Copy)]
 pub struct RelationNumbers {
     pub whole: u8,
     pub part: u8,
@@ -89,11 +89,23 @@ fn compare_texts(alloc: Global, source: &[u8], target: &[u8]) -> Result<Compared
 {
     match lend_any(source) {
         Ok(Some(source)) => compare_to(alloc, &source, target),
-        Ok(None) => match make_name(alloc, source) {
-            Ok(source) => compare_to(alloc, &source.as_ref(), target),
-            Err(_) => Err(Told::Memory),
-        },
+        Ok(None) => compare_made(alloc, source, target),
         Err(place) => Err(Told::Refused(place)),
+    }
+}
+
+// The same of a source that is made.
+fn compare_made(alloc: Global, source: &[u8], target: &[u8]) -> Result<Compared, Told>
+    requires { IsUriOrFs source.now }
+    ensures { IsCompared (read_any source.now) (read_any target.now) result }
+{
+    match make_name(alloc, source) {
+        Ok(source) => {
+            let compared = compare_to(alloc, &source.as_ref(), target);
+            drop(source);
+            compared
+        }
+        Err(_) => Err(Told::Memory),
     }
 }
 
@@ -103,11 +115,23 @@ fn compare_to(alloc: Global, source: &NameRef, target: &[u8]) -> Result<Compared
 {
     match lend_any(target) {
         Ok(Some(target)) => Ok(compare(source, &target)),
-        Ok(None) => match make_name(alloc, target) {
-            Ok(target) => Ok(compare(source, &target.as_ref())),
-            Err(_) => Err(Told::Memory),
-        },
+        Ok(None) => compare_to_made(alloc, source, target),
         Err(place) => Err(Told::TargetRefused(place)),
+    }
+}
+
+// The same of a target that is made.
+fn compare_to_made(alloc: Global, source: &NameRef, target: &[u8]) -> Result<Compared, Told>
+    requires { IsUriOrFs target.now }
+    ensures { IsCompared (Ok (name_lent source.now)) (read_any target.now) result }
+{
+    match make_name(alloc, target) {
+        Ok(target) => {
+            let compared = compare(source, &target.as_ref());
+            drop(target);
+            Ok(compared)
+        }
+        Err(_) => Err(Told::Memory),
     }
 }
 

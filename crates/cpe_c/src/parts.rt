@@ -1,11 +1,12 @@
 // A box as its pointer and its allocator.
-ghost use Rattle.std.specs.Prelude.{◌≡◌};
+ghost use Rattle.std.specs.Prelude.{◌≡◌, IfSome};
 ghost use Rattle.std.specs.Box.Ownership.{box_owns};
 
-use std::alloc::Allocator;
+use std::alloc::{Allocator, Global};
 use std::marker::Model;
 
 /// What a box owns, with its pointer in sight of the modules of the crate.
+#[derive(Drop)]
 pub(crate) struct Parts<T, A: Allocator> {
     pub(crate) at: *mut T,
     pub(crate) alloc: A,
@@ -33,5 +34,15 @@ impl<T, A: Allocator> Parts<T, A> {
     {
         let Parts { at, alloc } = self;
         unsafe { Box::from_raw(alloc, at) }
+    }
+}
+
+/// What a box of it owns; or none, where there is no memory. Of any type, since how one of many fields would be let go splits the proof.
+pub(crate) fn boxed<T: Drop>(alloc: Global, whole: T) -> Option<Parts<T, Global>>
+    ensures { IfSome result (λ parts. parts.value ≡ whole) }
+{
+    match Box::new(alloc, whole) {
+        Ok(whole) => Some(Parts::of(whole)),
+        Err(_) => None,
     }
 }

@@ -6,6 +6,7 @@ ghost use Rattle.cpe_c.specs.Told.{Tells};
 
 use crate::begin::begin;
 use crate::kept::KeptTalk;
+use crate::parts::boxed;
 use crate::talk::{Talk, end, repeat, say};
 use crate::told::{Answer, Told};
 use cpe_steps::Steps;
@@ -42,12 +43,12 @@ fn keep_begun(alloc: Global, word: &[u8], second: &[u8], kept: &mut KeptTalk) ->
 fn keep(alloc: Global, talk: Talk, kept: &mut KeptTalk) -> Told
     ensures { IsKept talk kept.old.value kept.new.value result }
 {
-    match Box::new(alloc, talk) {
-        Ok(whole) => {
-            *kept = KeptTalk::of(whole);
+    match boxed(alloc, talk) {
+        Some(parts) => {
+            *kept = KeptTalk::of_parts(parts);
             Told::Done(0)
         }
-        Err(_) => Told::Memory,
+        None => Told::Memory,
     }
 }
 

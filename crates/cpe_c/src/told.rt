@@ -3,7 +3,7 @@ ghost use Rattle.std.specs.Prelude.{◌≡◌};
 ghost use Rattle.cpe_c.specs.Told.{code_of, in_c, number_of};
 
 /// What a call comes to.
-#[derive(Clone, Copy, Debug, PartialEq, Eq)]
+#[derive(Clone, Copy)]
 pub enum Told {
     /// It was done. The number is the length of the text that was written, or what the call says of it.
     Done(usize),
@@ -25,7 +25,7 @@ pub enum Told {
 
 /// The same as C is told it: the number of the case, and the number in it.
 #[repr(C)]
-#[derive(Clone, Copy, Debug, PartialEq, Eq)]
+#[derive(Clone, Copy)]
 pub struct Answer {
     /// Which case it is.
     pub code: u32,
