@@ -1,5 +1,6 @@
 -- Which names are among others.
 use Rattle.std.proofs.Common.{◌≡◌, Bool, true, false, cond, ◌&&◌, List, [], ◌∷◌, map, refl, sym, ap, subst, ◌∙◌, inl, inr}
+use Rattle.std.specs.Cmp.{both_ways as agree}
 use Rattle.std.specs.List.{list_any, filter, AllByRecursion}
 use Rattle.std.proofs.lemmas.Bool.{both_ways, false_from_ne_true, or_cases, or_left, or_right}
 use Rattle.std.proofs.lemmas.Map.Views.{any-filter_same}
@@ -19,12 +20,6 @@ same_back a b = by (same_name a b) refl
     by : (c : Bool) → same_name a b ≡ c → same_name a b ≡ same_name b a
     by true e = e ∙ sym ((same_name-Decides b a).1 (sym (same_is a b e)))
     by false e = e ∙ sym (false_from_ne_true _ (λ h. both_ways _ e ((same_name-Decides a b).1 (sym (same_is b a h)))))
-
--- two tests agree where each follows from the other
-pub agree : (a b : Bool) → (a ≡ true → b ≡ true) → (b ≡ true → a ≡ true) → a ≡ b
-agree true b f g = sym (f refl)
-agree false true f g = g refl
-agree false false f g = refl
 
 -- ---- a test of some name
 

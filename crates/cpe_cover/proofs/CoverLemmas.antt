@@ -1,5 +1,6 @@
 -- What holds of covers.
 use Rattle.std.proofs.Common.{◌≡◌, ℕ, zero, suc, ◌<◌, ◌≤◌, Bool, true, false, cond, not, ◌||◌, ◌&&◌, List, [], ◌∷◌, map, refl, sym, ap, subst, ◌∙◌, inl, inr, arith}
+use Rattle.std.specs.Cmp.{both_ways as agree}
 use Rattle.std.specs.Prelude.{IsTrue}
 use Rattle.std.specs.List.{list_all, list_any, sum_by, AllByRecursion}
 use Rattle.std.proofs.lemmas.Bool.{and_from, and_parts, both_ways, cases_Bool, false_from_ne_true, not-true, or_cases, or_left, or_right}
@@ -19,7 +20,7 @@ use Rattle.cpe_relation.specs.NameRelation.{covers, is_above, relations}
 use Rattle.cpe_fs.specs.Grammar.{fs_text, Fs}
 use Rattle.cpe_cover.specs.Cover.{cover, covers_other, is_covered, ordered, uncovered}
 use Rattle.cpe_cover.specs.Laws.{AreNames, CoversAreOne, CoversStay, CoversAreOfNames, NamesAreCovered, CoversMeanTheSame, is_among}
-use Rattle.cpe_cover.proofs.Among.{agree, all_among, among_filter, among_finds, among_image, filter_keeps, found_among, itself, map_keeps, same_any, same_is}
+use Rattle.cpe_cover.proofs.Among.{all_among, among_filter, among_finds, among_image, filter_keeps, found_among, itself, map_keeps, same_any, same_is}
 use Rattle.cpe_cover.proofs.Order.{Rises, among_ordered, rises_ordered, rises_sorted, same_rising, sorted_rises}
 use Rattle.std.proofs.lemmas.Str.Ascii.{lowercase-lowercase}
 

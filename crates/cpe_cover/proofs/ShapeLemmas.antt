@@ -1,5 +1,6 @@
 -- A name without specials that covers another is found by its shape.
 use Rattle.std.proofs.Common.{◌≡◌, ℕ, ◌+◌, ◌<◌, Bool, true, false, cond, not, ◌||◌, ◌&&◌, List, [], ◌∷◌, length, get_or, map, take, refl, sym, ap, ◌∙◌, inl, inr, if◌then◌else◌}
+use Rattle.std.specs.Cmp.{both_ways as agree}
 use Rattle.std.specs.List.{list_all, list_any}
 use Rattle.std.proofs.lemmas.Bool.{and_from, and_parts, both_ways, false_from_ne_true, not-true, or_cases, or_from, or_left, or_right}
 use Rattle.std.proofs.lemmas.List.Folds.{list_any_more}
@@ -27,7 +28,7 @@ use Rattle.cpe_rows.specs.Names.{has_wildcards}
 use Rattle.cpe_cover.specs.Cover.{covers_other}
 use Rattle.cpe_cover.specs.Laws.{is_among}
 use Rattle.cpe_cover.specs.Shapes.{any_at, AreShapes, finds_wider, is_any, is_as_wide, is_under, is_wider, same_shape, widened, widened_at, widened_from}
-use Rattle.cpe_cover.proofs.Among.{agree, among_finds, found_among, same_is}
+use Rattle.cpe_cover.proofs.Among.{among_finds, found_among, same_is}
 
 -- ---- all attributes
 

@@ -1,5 +1,6 @@
 -- Different names that are sorted by their strings are the names in order.
 use Rattle.std.proofs.Common.{◌≡◌, ℕ, suc, ◌<◌, ◌≤◌, Bool, true, false, cond, ◌||◌, List, [], ◌∷◌, length, get_or, refl, sym, ap, ◌∙◌, inl, inr, arith}
+use Rattle.std.specs.Cmp.{both_ways as agree}
 use Rattle.std.specs.Cmp.{IsStrictWeakOrder}
 use Rattle.std.specs.List.{AllByRecursion, Contains, IsDistinct, filter, sum_by}
 use Rattle.std.specs.List.Sorted.{IsPermutation, IsSortedBy}
@@ -16,7 +17,7 @@ use Rattle.cpe_name.specs.Names.{IsName}
 use Rattle.cpe_fs.specs.Grammar.{fs_text, Fs}
 use Rattle.cpe_cover.specs.Cover.{fs_order, ordered}
 use Rattle.cpe_cover.specs.Laws.{AreNames, is_among}
-use Rattle.cpe_cover.proofs.Among.{agree, all_among, itself, same_is}
+use Rattle.cpe_cover.proofs.Among.{all_among, itself, same_is}
 use Rattle.cpe_cover.proofs.CoverLemmas.{apart, ordered_rises}
 use Rattle.cpe_cover.proofs.Order.{Rises, among_ordered, behind, same_rising}
 

@@ -1,5 +1,6 @@
 -- A name stays exactly where no other covers it.
 use Rattle.std.proofs.Common.{◌≡◌, ◌⊎◌, ℕ, ◌+◌, ◌<◌, Bool, true, false, cond, not, ◌||◌, ◌&&◌, List, [], ◌∷◌, ◌++◌, length, take, refl, sym, ap, ◌∙◌, inl, inr}
+use Rattle.std.specs.Cmp.{both_ways as agree}
 use Rattle.std.specs.List.{filter, list_any}
 use Rattle.std.proofs.lemmas.Bool.{and_from, and_parts, both_ways, cases_Bool, false_from_ne_true, or_cases, or_left, or_right}
 use Rattle.std.proofs.lemmas.List.{append-nil}
@@ -16,7 +17,7 @@ use Rattle.cpe_cover.specs.Cover.{covers_other, is_covered}
 use Rattle.cpe_cover.specs.Laws.{is_among}
 use Rattle.cpe_cover.specs.Marks.{AreMarks, is_matched, matches, stays}
 use Rattle.cpe_cover.specs.Shapes.{AreShapes, finds_wider, is_under}
-use Rattle.cpe_cover.proofs.Among.{agree, among_finds, found_among, itself, same_is}
+use Rattle.cpe_cover.proofs.Among.{among_finds, found_among, itself, same_is}
 use Rattle.cpe_cover.proofs.ShapeLemmas.{covered_plain, under_is}
 
 -- a name is covered by one with a special, or by another without one

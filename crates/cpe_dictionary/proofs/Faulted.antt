@@ -1,5 +1,6 @@
 -- The faults of a deprecation, by numbers.
 use Rattle.std.proofs.Common.{◌≡◌, ◌↔◌, ℕ, suc, ◌+◌, Bool, true, false, cond, eqb, nat_lt, ◌||◌, if◌then◌else◌, IsTrue, List, [], ◌∷◌, length, find, refl, sym, ap, ◌∙◌, arith, Option, Some, None, option_map, option_and_then, slice_get, zero-add, eq-eqb}
+use Rattle.std.specs.Cmp.{both_ways as both}
 use Rattle.std.specs.List.{AllByRecursion, IsDistinct, list_any, list_all, cons_option, range_with_len, position, position_from}
 use Rattle.std.proofs.lemmas.Option.{same_Some}
 use Rattle.std.proofs.lemmas.Bool.{and_parts, and_from, or_parts, eqb-true, eqb-false, ne_eqb}
@@ -19,7 +20,6 @@ use Rattle.deprecation_graph.specs.Chains.{reaches, ends_of}
 use Rattle.deprecation_graph.specs.Faults.{is_wide_node}
 use Rattle.cpe_dictionary.specs.Numbers.{PathsByNumber, WidthsByNumber, NodesAreNumbered, NodesAreMarked, numbers_of, node_of_entry, nodes_of_entries}
 use Rattle.cpe_dictionary.specs.Faults.{AreEntries, RepeatsByNumber, DifferentByNumber, CyclesByNumber, WidthByNumber}
-use Rattle.cpe_dictionary.proofs.Numbering.{both}
 use Rattle.cpe_dictionary.proofs.Places.{Placed, placed}
 
 -- ---- repeated successors

@@ -1,5 +1,6 @@
 -- The graph of entries that are given their deprecations at once, and the numbers of successors of which it is made.
 use Rattle.std.proofs.Common.{◌≡◌, ◌↔◌, ℕ, ◌+◌, ◌≤◌, Bool, true, false, not, if◌then◌else◌, is_none, ◌&&◌, IsTrue, List, [], ◌∷◌, length, map, refl, sym, ap, subst, ◌∙◌, arith, Option, Some, None}
+use Rattle.std.specs.Cmp.{both_ways as both}
 use Rattle.std.specs.List.{All, AllByRecursion, list_all, list_any}
 use Rattle.std.proofs.lemmas.List.Elements.{All-cons, All-nil}
 use Rattle.std.proofs.lemmas.Bool.{and_parts, not-true, or_from, or_parts}
@@ -24,7 +25,6 @@ use Rattle.cpe_dictionary.specs.Plans.{numbered}
 use Rattle.cpe_dictionary.proofs.Edited.{count_few}
 use Rattle.cpe_dictionary.proofs.GivenLemmas.{dictionary_given, length_given, may_have_given, nodes_given, still_different, successors_known}
 use Rattle.cpe_dictionary.proofs.LawfulNodes.{lawful_nodes, no_cycle, no_wide}
-use Rattle.cpe_dictionary.proofs.Numbering.{both}
 
 -- ---- names that are all different
 

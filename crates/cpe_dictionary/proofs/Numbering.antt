@@ -1,5 +1,6 @@
 -- Paths of entries are paths of their numbers, and so are chains and ends.
 use Rattle.std.proofs.Common.{◌≡◌, ℕ, zero, suc, ◌+◌, ◌<◌, Bool, true, false, cond, if◌then◌else◌, List, [], ◌∷◌, map, length, refl, sym, ap, subst, ◌∙◌, inl, inr, arith, Option, Some, None, slice_get, zero-add}
+use Rattle.std.specs.Cmp.{both_ways as both}
 use Rattle.std.specs.List.{Contains, filter, list_any, range_with_len, cons_option}
 use Rattle.std.proofs.lemmas.Option.{slice_get_within, same_Some, none-some}
 use Rattle.std.proofs.lemmas.Bool.{or_left, or_right, or_cases}
@@ -32,11 +33,6 @@ pub entry_at : (entries : List Entry) (i : ℕ) → i < length entries → (x : 
 entry_at [] i lt = absurd (omega arith)
 entry_at (y ∷ ys) zero lt = (y, refl)
 entry_at (y ∷ ys) (suc i) lt = entry_at ys i (omega arith)
-
-pub both : (a b : Bool) → (a ≡ true → b ≡ true) → (b ≡ true → a ≡ true) → a ≡ b
-both true b f g = sym (f refl)
-both false true f g = g refl
-both false false f g = refl
 
 -- ---- what passes a test, by numbers
 

@@ -1,5 +1,6 @@
 -- Going over successors: the first that is unknown, and the first number that stands earlier too.
 use Rattle.std.proofs.Common.{◌≡◌, ℕ, ◌+◌, ◌<◌, Bool, true, false, cond, eqb, not, ◌||◌, if◌then◌else◌, List, [], ◌∷◌, ◌++◌, length, take, drop, get_or, refl, sym, ap, ◌∙◌, append_assoc, position, eq-eqb, arith, ◌≤◌}
+use Rattle.std.specs.Cmp.{both_ways as both}
 use Rattle.std.specs.Prelude.{Option, Some, None, is_some, option_map}
 use Rattle.std.specs.List.{list_any, position_from, cons_option}
 use Rattle.std.proofs.Math.Bool.{or_comm}
@@ -15,11 +16,6 @@ use Rattle.cpe_dictionary.specs.Numbers.{numbers_of}
 use Rattle.names_in_order.proofs.Rows.{item_first}
 
 -- ---- numbers that were seen
-
-both : (a b : Bool) → (a ≡ true → b ≡ true) → (b ≡ true → a ≡ true) → a ≡ b
-both true b f g = sym (f refl)
-both false true f g = g refl
-both false false f g = refl
 
 turned : (a b : ℕ) → eqb a b ≡ eqb b a
 turned a b = both (eqb a b) (eqb b a) (λ h. eq-eqb b a (sym (eqb-true a b h))) (λ h. eq-eqb a b (sym (eqb-true b a h)))

@@ -1,5 +1,6 @@
 -- The entries that lead to an entry, by their numbers.
 use Rattle.std.proofs.Common.{◌≡◌, ◌≤◌, ◌<◌, ℕ, Bool, true, false, List, [], length, get_or, position, sym, ap, subst, ◌∙◌, arith, inl, inr}
+use Rattle.std.specs.Cmp.{both_ways as both}
 use Rattle.std.specs.Prelude.{◌↔◌, IsTrue, Result, Ok, Err, Some, MatchResult, slice_get}
 use Rattle.std.specs.List.{Contains, list_any}
 use Rattle.std.specs.List.Sorted.{IsBinarySearchResult, IsStrictlyIncreasing}
@@ -19,7 +20,7 @@ use Rattle.deprecation_graph.specs.Laws.{ChainsArePaths}
 use Rattle.deprecation_graph.specs.Paths.{Leads}
 use Rattle.cpe_dictionary.specs.Faults.{AreDifferent}
 use Rattle.cpe_dictionary.specs.Numbers.{node_of_entry, nodes_of_entries, NodesAreNumbered, PathsByNumber}
-use Rattle.cpe_dictionary.proofs.Numbering.{both, entry_at}
+use Rattle.cpe_dictionary.proofs.Numbering.{entry_at}
 use Rattle.cpe_dictionary.specs.Sources.{AreSourcesOf, IsSource}
 use Rattle.cpe_dictionary.proofs.Translating.{StandsAt, stands_at}
 

@@ -1,5 +1,6 @@
 -- Elements of lists: tests over them, their places, and lists in which no name stands twice.
 use Rattle.std.proofs.Common.{◌≡◌, ◌↔◌, ◌⊎◌, inl, inr, ℕ, zero, suc, ◌<◌, List, [], ◌∷◌, ◌++◌, Bool, true, false, ◌||◌, Some, None, map, fold, slice_get, if◌then◌else◌, cond, not, ◌+◌, refl, ap, sym, ◌∙◌, subst, arith}
+use Rattle.std.specs.Cmp.{both_ways as same_tests}
 use Rattle.std.specs.Borrow.{Bor}
 use Rattle.std.specs.List.{list_any, position_or_len}
 use Rattle.std.specs.Option.{unwrap_or}
@@ -19,12 +20,6 @@ same_some x y e = ap (λ o. unwrap_or o x) e
 
 abbrev pub Tells : Bool → Type 0 → Type 0
 Tells b P = (b ≡ true) ↔ P
-
--- two tests that tell of each other
-pub same_tests : (a b : Bool) → (a ≡ true → b ≡ true) → (b ≡ true → a ≡ true) → a ≡ b
-same_tests true b f g = sym (f refl)
-same_tests false true f g = g refl
-same_tests false false f g = refl
 
 pub some_tells : {A : Type 0} (p : A → Bool) (P : A → Type 0) → ((x : A) → Tells (p x) (P x)) → (xs : List A)
     → Tells (list_any p xs) ((x : A) × Among xs x × P x)

@@ -1,5 +1,6 @@
 -- What is met where deprecations lead, and the ends that are kept of it.
 use Rattle.std.proofs.Common.{◌≡◌, ◌⊎◌, inl, inr, ℕ, ◌+◌, ◌<◌, List, [], ◌∷◌, Bool, true, false, Some, None, map, filter, find, fold, ltb, slice_get, if◌then◌else◌, refl, ap, sym, ◌∙◌, subst, arith}
+use Rattle.std.specs.Cmp.{both_ways as same_tests}
 use Rattle.std.specs.List.{list_any}
 use Rattle.std.proofs.lemmas.Bool.{ltb-true, ltb-false}
 use Rattle.cpe_name.specs.Eleven.{Values}
@@ -12,7 +13,7 @@ use Rattle.cpe_rows.proofs.Paths.{element_passes, some_element, was_kept, is_kep
 use Rattle.cpe_rows.proofs.Reaches.{decided}
 use Rattle.cpe_explain.specs.Seen.{with_name}
 use Rattle.cpe_explain.specs.Leading.{next_of, is_end, AreEnds, AreLinked}
-use Rattle.cpe_explain.proofs.Elements.{same_tests, same_some, listed_tells, placed, stands, before_end, earlier_at, name_was, name_stays, name_comes, names_keep, names_stay, names_come, names_were}
+use Rattle.cpe_explain.proofs.Elements.{same_some, listed_tells, placed, stands, before_end, earlier_at, name_was, name_stays, name_comes, names_keep, names_stay, names_come, names_were}
 use Rattle.cpe_explain.proofs.TraceEnds.{mapped}
 use Rattle.cpe_explain.proofs.Links.{found_some, found_self, next_found, end_found, next_absent, end_absent, next_known}
 

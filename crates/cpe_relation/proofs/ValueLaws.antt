@@ -1,5 +1,6 @@
 -- Laws of the relation of two values.
 use Rattle.std.proofs.Common.{◌≡◌, ℕ, Bool, true, false, not, ◌||◌, cond, nat_eq, List, [], ◌∷◌, ◌++◌, refl, sym, ap, ◌∙◌, arith}
+use Rattle.std.specs.Cmp.{both_ways as agree}
 use Rattle.std.proofs.lemmas.List.{append-nil}
 use Rattle.std.proofs.lemmas.Bool.{false≢true}
 use Rattle.std.proofs.lemmas.Str.Ascii.{lowercase-lowercase}
@@ -19,7 +20,7 @@ use Rattle.cpe_relation.specs.Table.{to_plain, relation}
 use Rattle.cpe_relation.specs.NameRelation.{is_above}
 use Rattle.cpe_relation.specs.Maybe.{is_undefined}
 use Rattle.cpe_relation.specs.Laws.{converse}
-use Rattle.cpe_relation.proofs.Splits.{agree, matches-Decides, same_lower-Decides}
+use Rattle.cpe_relation.proofs.Splits.{matches-Decides, same_lower-Decides}
 
 -- ---- what stands above a text
 

@@ -1,5 +1,6 @@
 -- Texts in lower case: near is what a search by bytes finds.
 use Rattle.std.proofs.Common.{◌≡◌, ℕ, zero, suc, ◌-◌, ◌≤◌, Bool, true, false, not, ◌&&◌, ◌||◌, cond, eqb, leb, List, [], ◌∷◌, length, drop, refl, sym, ap, ◌∙◌, arith, eqb-true, eq-eqb, length-drop}
+use Rattle.std.specs.Cmp.{both_ways as agree}
 use Rattle.std.specs.Prelude.{nat_eq}
 use Rattle.std.specs.List.{starts_with, ends_with}
 use Rattle.std.specs.Char.{to_ascii_lowercase}
@@ -22,7 +23,7 @@ use Rattle.product_orders.specs.declared.keys.End.TheVariants as end
 use Rattle.product_orders.specs.declared.keys.Shape.{Shape}
 use Rattle.product_orders.specs.declared.keys.Shape.TheVariants as shape
 use Rattle.product_orders.specs.Keys.{shape_by, shape_of, rank, body_of, has_by, in_run}
-use Rattle.product_orders.proofs.Orders.{agree, same_text}
+use Rattle.product_orders.proofs.Orders.{same_text}
 
 eqb_back : (a b : ℕ) → eqb a b ≡ eqb b a
 eqb_back a b = agree (eqb a b) (eqb b a) (λ h. eq-eqb b a (sym (eqb-true a b h))) (λ h. eq-eqb a b (sym (eqb-true b a h)))

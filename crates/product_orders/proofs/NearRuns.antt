@@ -1,5 +1,6 @@
 -- The products near a plain text, run by run.
 use Rattle.std.proofs.Common.{◌≡◌, ◌⊎◌, ℕ, zero, suc, ◌+◌, ◌-◌, ◌<◌, ◌≤◌, Bool, true, false, not, ◌&&◌, ◌||◌, cond, eqb, ltb, List, [], ◌++◌, length, take, drop, refl, sym, ap, ◌∙◌, inl, inr, arith, eqb-true, eq-eqb, length-append, length-drop}
+use Rattle.std.specs.Cmp.{both_ways as agree}
 use Rattle.std.specs.Prelude.{nat_eq}
 use Rattle.std.specs.List.{filter, sum_by, starts_with, ends_with}
 use Rattle.std.proofs.lemmas.List.{length-take-le, take-append-drop, drop_at, take_at}
@@ -20,7 +21,7 @@ use Rattle.product_orders.specs.Keys.{shape_by, shape_of, rank, body_of, in_run}
 use Rattle.product_orders.specs.Listed.{value_at, Listed}
 use Rattle.product_orders.specs.Walk.{runs, all_runs}
 use Rattle.product_orders.proofs.Texts.{nat_Decides}
-use Rattle.product_orders.proofs.Orders.{agree, same_text, text_same}
+use Rattle.product_orders.proofs.Orders.{same_text, text_same}
 use Rattle.product_orders.proofs.Lower.{lower_body, near_by, near_plain_is}
 use Rattle.product_orders.proofs.Sums.{if_passes, sum_filter, sum_stronger, sum_agree, sum_both, sum_none, filter_same, tests_agree}
 

@@ -1,5 +1,6 @@
 -- Numbers in the order of their products: what stands before a run, and in it.
 use Rattle.std.proofs.Common.{◌≡◌, ◌⊎◌, ℕ, Bool, true, false, not, ◌||◌, ◌&&◌, cond, List, [], ◌∷◌, ◌++◌, reverse, refl, sym, ap, subst, ◌∙◌, inl, inr, is_lt, Ordering, Less, Equal, Greater, true≢false}
+use Rattle.std.specs.Cmp.{both_ways as agree}
 use Rattle.std.specs.Prelude.{nat_eq}
 use Rattle.std.specs.List.{AllByRecursion, filter, starts_with}
 use Rattle.std.specs.List.Sorted.{IsPermutation}
@@ -48,11 +49,6 @@ same_text a b h = (slice_eq-Decides nat_Decides a b (pointwise nat_eq a b) refl)
 
 pub text_same : (a b : List ℕ) → a ≡ b → pointwise nat_eq a b ≡ true
 text_same a b e = (slice_eq-Decides nat_Decides a b (pointwise nat_eq a b) refl).1 e
-
-pub agree : (a b : Bool) → (a ≡ true → b ≡ true) → (b ≡ true → a ≡ true) → a ≡ b
-agree true b f g = sym (f refl)
-agree false true f g = g refl
-agree false false f g = refl
 
 pointwise_turned : (e : End) (a b : List ℕ) → pointwise nat_eq a b ≡ pointwise nat_eq (turned e a) (turned e b)
 pointwise_turned end.Front a b = refl
