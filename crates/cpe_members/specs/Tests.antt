@@ -98,6 +98,11 @@ abbrev mutual
   drafts_of f no_items = Ok []
   drafts_of f (item d ds) = draft_of f d >>= λ t. drafts_of f ds >>= λ ts. Ok (t ∷ ts)
 
+-- the children, by the value at the key `of`; that `children_in` finds these is the law `children_stand_at_of`
+abbrev pub children_at : Format → Option Data → Result (List Draft) RecordFault
+children_at f None = Err (fault.Member part.Test)
+children_at f (Some d) = drafts_in f d
+
 -- the value itself, where it is a logical test
 abbrev pub is_logic : Data → Result Data RecordFault
 is_logic d = if is_some (get (codes "op") d) then Ok d else Err (fault.Member part.Test)

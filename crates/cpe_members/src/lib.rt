@@ -16,6 +16,7 @@
 mod draft;
 mod form;
 mod format;
+pub mod law;
 mod line;
 mod member;
 mod name;

@@ -107,26 +107,33 @@ pub fn tables_are_folds()
     ensures or_all { (ts : List Truth) (t : Truth) → or_all (ts ++ t ∷ []) ≡ or_of (or_all ts) t }
 {}
 
-/// The tables ask only which truths are there: neither how they are ordered or grouped, nor how often each is there.
-pub fn tables_are_of_members()
+/// Two truths are joined in any order, and any of three first; a truth that is joined with itself stays what it is.
+pub fn truths_join_in_any_order()
     ensures and_order { (a b : Truth) → and_of a b ≡ and_of b a }
     ensures or_order { (a b : Truth) → or_of a b ≡ or_of b a }
     ensures and_group { (a b c : Truth) → and_of (and_of a b) c ≡ and_of a (and_of b c) }
     ensures or_group { (a b c : Truth) → or_of (or_of a b) c ≡ or_of a (or_of b c) }
     ensures and_twice { (t : Truth) → and_of t t ≡ t }
     ensures or_twice { (t : Truth) → or_of t t ≡ t }
+{}
+
+/// So the tables ask only which truths are there: neither how they are ordered or grouped, nor how often each is there.
+pub fn tables_are_of_members()
     ensures and_all { (ts us : List Truth) → ((t : Truth) → Contains ts t ↔ Contains us t) → and_all ts ≡ and_all us }
     ensures or_all { (ts us : List Truth) → ((t : Truth) → Contains ts t ↔ Contains us t) → or_all ts ≡ or_all us }
 {}
 
-/// AND is FALSE exactly where a FALSE is there, and TRUE exactly where nothing but TRUE is; OR is TRUE exactly where a TRUE is
-/// there, and FALSE exactly where nothing but FALSE is. So FALSE decides an AND, to which TRUE adds nothing; and the other way
-/// round for OR.
+/// FALSE decides an AND, to which TRUE adds nothing; and the other way round for OR.
 pub fn tables_have_deciding_truths()
     ensures and_decided { (t : Truth) → and_of False t ≡ False }
     ensures or_decided { (t : Truth) → or_of True t ≡ True }
     ensures and_neutral { (t : Truth) → and_of True t ≡ t }
     ensures or_neutral { (t : Truth) → or_of False t ≡ t }
+{}
+
+/// So AND is FALSE exactly where a FALSE is there, and TRUE exactly where nothing but TRUE is; OR is TRUE exactly where a TRUE is
+/// there, and FALSE exactly where nothing but FALSE is.
+pub fn tables_tell_some_from_all()
     ensures some_false { (ts : List Truth) → (and_all ts ≡ False) ↔ Contains ts False }
     ensures some_true { (ts : List Truth) → (or_all ts ≡ True) ↔ Contains ts True }
     ensures all_true { (ts : List Truth) → (and_all ts ≡ True) ↔ All (λ t. t ≡ True) ts }

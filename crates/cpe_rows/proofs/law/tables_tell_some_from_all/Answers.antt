@@ -1,6 +1,6 @@
 use Rattle.cpe_rows.specs.declared.test.Operator.TheVariants.{And, Or}
 use Rattle.cpe_rows.proofs.Tables.{some_false, some_true, all_neutral}
-use Rattle.cpe_rows.proofs.law.tables_have_deciding_truths.Goals as goal
+use Rattle.cpe_rows.proofs.law.tables_tell_some_from_all.Goals as goal
 
 pub returns-clause-some_false : goal.returns-clause-some_false
 returns-clause-some_false c = some_false
