@@ -7,3 +7,4 @@ pub mod Causes
 pub mod Plans
 pub mod Sources
 pub mod Given
+pub mod Moved

@@ -7,6 +7,7 @@ ghost use Rattle.name_index.specs.Table.{IsLive, kept_at};
 ghost use Rattle.names_in_order.specs.InOrder.{AreInOrder, names_numbered};
 ghost use Rattle.cpe_rows.specs.declared.fault.Which.TheVariants as Which;
 ghost use Rattle.cpe_dictionary.specs.Kept.{details_written, entries_in, entries_of, entry_from, FitsTable, new_entry, rewritten, written};
+ghost use Rattle.cpe_dictionary.specs.Moved.{ChangedTo};
 ghost use Rattle.cpe_rows.specs.Lent.{entry_lent};
 ghost use Rattle.cpe_dictionary.specs.Numbers.{entries_at};
 ghost use Rattle.cpe_dictionary.specs.Plans.{IsAllowed, numbered};
@@ -235,9 +236,7 @@ impl KeptDictionary {
         requires absent { list_any (is_named (kept_at table.now id.0).name) (entries_in table.now self.old) ≡ false }
         requires few { length (entries_in table.now self.old) + 1 ≤ most Which.Entries }
         requires lawful { IsDictionary (entries_in table.now self.old ++ new_entry (kept_at table.now id.0).name title provenance ∷ []) }
-        ensures fits { FitsTable table.now self.new }
-        ensures ok { OnOk result (entries_in table.now self.new ≡ entries_in table.now self.old ++ new_entry (kept_at table.now id.0).name title provenance ∷ []) }
-        ensures err { OnErr result (self.new ≡ self.old) }
+        ensures { ChangedTo table.now self.old self.new (entries_in table.now self.old ++ new_entry (kept_at table.now id.0).name title provenance ∷ []) result }
     {
         edits_by_number();
         changes_by_number();
@@ -269,9 +268,7 @@ impl KeptDictionary {
         requires numbers { plan.now.next ≡ numbered (entries_in table.now self.old) deprecation }
         requires allowed { IsAllowed (entries_in table.now self.old) plan.now.number plan.now.next }
         requires lawful { IsDictionary (written (rewritten deprecation note) plan.now.number (entries_in table.now self.old)) }
-        ensures fits { FitsTable table.now self.new }
-        ensures ok { OnOk result (entries_in table.now self.new ≡ written (rewritten deprecation note) plan.now.number (entries_in table.now self.old)) }
-        ensures err { OnErr result (self.new ≡ self.old) }
+        ensures { ChangedTo table.now self.old self.new (written (rewritten deprecation note) plan.now.number (entries_in table.now self.old)) result }
     {
         let _ = table;
         edits_by_number();

@@ -4,6 +4,7 @@ pub mod Whole
 pub mod ValueLemmas
 pub mod Written
 pub mod Said
+pub mod Writing
 pub mod Lent
 pub mod Bounds
 pub mod AnyTail

@@ -58,6 +58,10 @@ pub says_place : (s : List ℕ) (place : ℕ) → unbound s ≡ Err place → Le
 unfolding read_fs unbound
 says_place = unbinding.says_place Fs whole_end name_of whole_name taken name_back place
 
+-- a string that a name has isn't refused
+pub never : (name : Values) (s : List ℕ) (place : ℕ) → LeavesAt s place → Fs name s → ⊥
+never name s place leaves fs = leaves.refused (name, fs)
+
 -- what was written is what is said
 pub said_is : (s : List ℕ) (name : Values) (old new : List ℕ) → Fs name s → new ≡ old ++ output_text name → left_over new ≡ behind old (unbound s)
 unfolding read_fs unbound

@@ -1,15 +1,11 @@
 -- The formatted string of the name that has a text.
 use Rattle.std.specs.Prelude.{ℕ, List, Option}
-use Rattle.cpe_name.specs.Binding.{BindsBy, WritesBy, bound_by}
+use Rattle.cpe_name.specs.Binding.{BindsBy, bound_by}
 use Rattle.cpe_fs.specs.Grammar.{fs_text}
 
 -- a name that has this text has this formatted string
 abbrev pub Binds : List ℕ → List ℕ → Type 0
 Binds s text = BindsBy fs_text s text
-
--- the same string after what stood before
-abbrev pub WritesBound : List ℕ → List ℕ → List ℕ → Type 0
-WritesBound s old new = WritesBy fs_text s old new
 
 -- the formatted string of the name, or nothing where no name has the text; `bound_is` fixes it
 unfoldable pub bound : List ℕ → Option (List ℕ)

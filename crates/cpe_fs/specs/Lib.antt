@@ -5,5 +5,6 @@ pub mod Spans
 pub mod SpanValues
 pub mod Rewriting
 pub mod Bound
+pub mod Writing
 pub mod Unquoting
 pub mod Component

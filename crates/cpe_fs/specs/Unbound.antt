@@ -4,7 +4,7 @@ use Rattle.std.specs.Result.{result_map_both}
 use Rattle.cpe_name.specs.Eleven.{Values}
 use Rattle.cpe_name.specs.Names.{named, attributes}
 use Rattle.cpe_name.specs.Text.{output_text}
-use Rattle.cpe_name.specs.Binding.{SaysBy, PutsBy, read_by}
+use Rattle.cpe_name.specs.Binding.{SaysBy, read_by}
 use Rattle.cpe_fs.specs.Grammar.{Fs}
 use Rattle.cpe_fs.specs.Scanning.{whole_end}
 use Rattle.cpe_fs.specs.Spans.{components_at}
@@ -13,10 +13,6 @@ use Rattle.cpe_fs.specs.SpanValues.{value_at}
 -- the name that has this formatted string has this output text
 abbrev pub Says : List ℕ → List ℕ → Type 0
 Says s text = SaysBy Fs output_text s text
-
--- the same text after what stood before
-abbrev pub Writes : List ℕ → List ℕ → List ℕ → Type 0
-Writes s old new = PutsBy Fs output_text s old new
 
 -- the values of the components of a formatted string
 abbrev pub name_of : List ℕ → Values

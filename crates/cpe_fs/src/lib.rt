@@ -4,16 +4,15 @@
 //! and finds where its components lie. From there the name is made, or its text is written at once.
 #![tactic(auto)]
 
-ghost use Rattle.std.specs.Prelude.{◌≡◌, ℕ, List, ◌+◌, ◌*◌, ◌++◌, ◌≤◌, length, take, Ok, Err, Some, None, IfOk, IfErr, IfSome, OnErr, MatchResult, MatchOption};
-ghost use Rattle.std.specs.Option.{option_map};
-ghost use Rattle.std.specs.Result.{result_map_both};
+ghost use Rattle.std.specs.Prelude.{◌≡◌, ℕ, List, ◌+◌, ◌*◌, ◌≤◌, length, Ok, Err, Some, None, IfOk, IfErr, MatchResult};
 ghost use Rattle.cpe_name.specs.Eleven.{Values};
 ghost use Rattle.cpe_name.specs.Text.{output_text};
 ghost use Rattle.cpe_name.specs.Names.{IsName};
 ghost use Rattle.cpe_name.specs.WfnText.{WfnText, IsWfnText};
 ghost use Rattle.cpe_fs.specs.Grammar.{fs_text, Fs, LeavesAt, Refuses};
-ghost use Rattle.cpe_fs.specs.Bound.{bound, Binds, WritesBound};
-ghost use Rattle.cpe_fs.specs.Unbound.{read_fs, unbound, Says, Writes};
+ghost use Rattle.cpe_fs.specs.Bound.{bound, Binds};
+ghost use Rattle.cpe_fs.specs.Unbound.{read_fs, unbound, Says};
+ghost use Rattle.cpe_fs.specs.Writing.{WritesBound, WritesOutput};
 
 mod bind;
 mod bound;
@@ -98,18 +97,7 @@ pub fn unbind_fs(alloc: Global, text: &[u8]) -> Result<Wfn, FsFault>
 /// The place of the text as in [`FsFault::At`], exactly where no name has it; the room is then as it was.
 pub fn write_unbound(room: &mut [u8], at: usize, text: &[u8]) -> Result<usize, usize>
     requires { at + 2 * length text.now + UNBOUND_FRAME ≤ length room.old }
-    // What was written is the text of a name that has this formatted string.
-    ensures found { IfOk result (λ end. Writes text.now (take at room.old) (take end room.new)) }
-    // The text of a name that has this formatted string is written.
-    ensures only { (name : Values) → Fs name text.now → MatchResult result (λ end. take end room.new ≡ take at room.old ++ output_text name) (λ place. ⊥) }
-    ensures refused { IfErr result (LeavesAt text.now) }
-
-    // The same by a function.
-    ensures said { result_map_both (λ end. take end room.new) (λ place. place) result ≡ result_map_both (λ said. take at room.old ++ said) (λ place. place) (unbound text.now) }
-
-    ensures within { IfOk result (λ end. end ≤ at + 2 * length text.now + UNBOUND_FRAME) }
-    ensures length { length room.new ≡ length room.old }
-    ensures unchanged { OnErr result (room.new ≡ room.old) }
+    ensures { WritesOutput Fs LeavesAt unbound text.now at (at + 2 * length text.now + UNBOUND_FRAME) room.old room.new result }
 {
     match scan_fs(text) {
         Ok(components) => Ok(put_output::<FromComponents>(room, at, &components)),
@@ -144,18 +132,7 @@ pub fn one_text()
 /// It takes no memory. There is no answer exactly where no name has the text; the room is then as it was.
 pub fn write_bound(room: &mut [u8], at: usize, text: &[u8]) -> Option<usize>
     requires { at + length text.now + BOUND_FRAME ≤ length room.old }
-    // What was written is the formatted string of a name that has this text.
-    ensures found { IfSome result (λ end. WritesBound text.now (take at room.old) (take end room.new)) }
-    // The formatted string of a name that has this text is written.
-    ensures only { (name : Values) → WfnText name text.now → MatchOption result ⊥ (λ end. take end room.new ≡ take at room.old ++ fs_text name) }
-    ensures none { result ≡ None → ¬ (IsWfnText text.now) }
-
-    // The same by a function.
-    ensures said { option_map (λ end. take end room.new) result ≡ option_map (λ said. take at room.old ++ said) (bound text.now) }
-
-    ensures within { IfSome result (λ end. end ≤ at + length text.now + BOUND_FRAME) }
-    ensures length { length room.new ≡ length room.old }
-    ensures unchanged { result ≡ None → room.new ≡ room.old }
+    ensures { WritesBound fs_text bound text.now at (at + length text.now + BOUND_FRAME) room.old room.new result }
 {
     let Some(written) = scan_wfn(text) else {
         return None;

@@ -1,5 +1,5 @@
 -- What a text says in either binding.
-use Rattle.std.proofs.Common.{◌≡◌, ℕ, Bool, true, false, List, take, Result, Ok, Err, refl, sym, ap, subst, ◌∙◌, inl, inr}
+use Rattle.std.proofs.Common.{◌≡◌, ℕ, ◌≤◌, Bool, true, false, List, take, Result, Ok, Err, refl, sym, ap, subst, ◌∙◌, inl, inr, arith}
 use Rattle.std.specs.Bool.{MatchBool}
 use Rattle.std.specs.Prelude.{codes}
 use Rattle.std.specs.List.{join_with_byte}
@@ -14,7 +14,8 @@ use Rattle.cpe_name.specs.Text.{output_text}
 use Rattle.cpe_fs.specs.Grammar.{Fs, LeavesAt}
 use Rattle.cpe_fs.specs.Unbound.{read_fs, unbound}
 use Rattle.cpe_fs.proofs.Said as fs
-use Rattle.cpe_name.proofs.Unbinding.{text_of}
+use Rattle.cpe_name.proofs.Unbinding.{behind, text_of}
+use Rattle.cpe_fs.specs.Writing.{WritesOutput}
 use Rattle.cpe_uri.specs.Grammar.{Uri, LeavesUri}
 use Rattle.cpe_uri.specs.Unbound.{read_uri, unbound_uri}
 use Rattle.cpe_uri.specs.EitherBinding.{begins_as_uri, UriOrFs, LeavesUriOrFs, RefusesUriOrFs, SaysFault, SaysAny, read_any, unbound_any}
@@ -133,3 +134,42 @@ any_place s place is = go (read_any s) refl where
   go : (r : Result Values ℕ) → read_any s ≡ r → LeavesUriOrFs s place
   go (Ok name) e = absurd (ok≢err (output_text name) place (sym (says s (Ok name) e) ∙ is))
   go (Err other) e = subst (LeavesUriOrFs s) (err_is other place (sym (says s (Err other) e) ∙ is)) (any_left s other e)
+
+-- ---- after what stood before
+
+-- what one of the bindings writes of a text is written in either, where it reads the text
+module _ (Has : Values → List ℕ → Type 0) (Leaves : List ℕ → ℕ → Type 0) (says : List ℕ → Result (List ℕ) ℕ) (s : List ℕ) (either : (name : Values) → Has name s → UriOrFs name s)
+    (one : (name : Values) → UriOrFs name s → Has name s) (leaves : (place : ℕ) → Leaves s place → LeavesUriOrFs s place) (same : unbound_any s ≡ says s) where
+  written_as : (at most more : ℕ) (old new : List ℕ) (r : Result ℕ ℕ) → most ≤ more → WritesOutput Has Leaves says s at most old new r → WritesOutput UriOrFs LeavesUriOrFs unbound_any s at more old new r
+  written_as at most more old new (Ok end) far w = record {
+    found = record { name = w.found.name; has = either w.found.name w.found.has; written = w.found.written };
+    only = λ name has. w.only name (one name has);
+    refused = tt;
+    said = w.said ∙ ap (behind (take at old)) (sym same);
+    within = omega (arith, w.within, far);
+    length = w.length;
+    unchanged = tt;
+  }
+  written_as at most more old new (Err place) far w = record {
+    found = tt;
+    only = λ name has. w.only name (one name has);
+    refused = leaves place w.refused;
+    said = w.said ∙ ap (behind (take at old)) (sym same);
+    within = tt;
+    length = w.length;
+    unchanged = w.unchanged;
+  }
+
+-- what is written of a URI
+pub written_uri : (s : List ℕ) (at most more : ℕ) (old new : List ℕ) (r : Result ℕ ℕ) → begins_as_uri s ≡ true → most ≤ more
+    → WritesOutput Uri LeavesUri unbound_uri s at most old new r → WritesOutput UriOrFs LeavesUriOrFs unbound_any s at more old new r
+written_uri s at most more old new r b far w =
+    written_as Uri LeavesUri unbound_uri s (λ name. at_true (begins_as_uri s) (Uri name s) (Fs name s) b) (λ name. MatchBool-at_true (Uri name s) (Fs name s) b)
+    (λ place. at_true (begins_as_uri s) (LeavesUri s place) (LeavesAt s place) b) (any_says_uri s b) at most more old new r far w
+
+-- and of a formatted string
+pub written_fs : (s : List ℕ) (at most more : ℕ) (old new : List ℕ) (r : Result ℕ ℕ) → begins_as_uri s ≡ false → most ≤ more
+    → WritesOutput Fs LeavesAt unbound s at most old new r → WritesOutput UriOrFs LeavesUriOrFs unbound_any s at more old new r
+written_fs s at most more old new r b far w =
+    written_as Fs LeavesAt unbound s (λ name. at_false (begins_as_uri s) (Uri name s) (Fs name s) b) (λ name. MatchBool-at_false (Uri name s) (Fs name s) b)
+    (λ place. at_false (begins_as_uri s) (LeavesUri s place) (LeavesAt s place) b) (any_says_fs s b) at most more old new r far w

@@ -52,6 +52,10 @@ pub says_place : (s : List ℕ) (place : ℕ) → unbound_uri s ≡ Err place �
 unfolding read_uri unbound_uri
 says_place = unbinding.says_place Uri whole_end name_of whole_name taken name_of_pieces place
 
+-- a URI that a name has isn't refused
+pub never : (name : Values) (s : List ℕ) (place : ℕ) → LeavesUri s place → Uri name s → ⊥
+never name s place leaves uri = leaves.refused (name, uri)
+
 -- what was written is what is said
 pub said_is : (s : List ℕ) (name : Values) (old new : List ℕ) → Uri name s → new ≡ old ++ output_text name → left_over new ≡ behind old (unbound_uri s)
 unfolding read_uri unbound_uri

@@ -5,7 +5,7 @@ use Rattle.std.specs.Result.{result_map_both}
 use Rattle.std.specs.Str.{str_eq_ignore_ascii_case}
 use Rattle.cpe_name.specs.Eleven.{Values}
 use Rattle.cpe_name.specs.Text.{output_text}
-use Rattle.cpe_name.specs.Binding.{SaysBy, PutsBy}
+use Rattle.cpe_name.specs.Binding.{SaysBy}
 use Rattle.cpe_fs.specs.Grammar.{Fs, LeavesAt}
 use Rattle.cpe_fs.specs.Unbound.{read_fs}
 use Rattle.cpe_fs.specs.declared.FsFault.{FsFault}
@@ -44,10 +44,6 @@ same_fault fs_fault.Memory = fault.Memory
 -- the name that has this text has this output text
 abbrev pub SaysAny : List ℕ → List ℕ → Type 0
 SaysAny s text = SaysBy UriOrFs output_text s text
-
--- the same text after what stood before
-abbrev pub WritesAny : List ℕ → List ℕ → List ℕ → Type 0
-WritesAny s old new = PutsBy UriOrFs output_text s old new
 
 -- the name that has the text as the one or the other, or the place; `read_any_is` fixes it
 unfoldable pub read_any : List ℕ → Result Values ℕ

@@ -4,7 +4,7 @@ use Rattle.std.specs.Result.{result_map_both}
 use Rattle.cpe_name.specs.Eleven.{Values}
 use Rattle.cpe_name.specs.Names.{named}
 use Rattle.cpe_name.specs.Text.{output_text}
-use Rattle.cpe_name.specs.Binding.{SaysBy, PutsBy, read_by}
+use Rattle.cpe_name.specs.Binding.{SaysBy, read_by}
 use Rattle.cpe_uri.specs.Grammar.{Uri}
 use Rattle.cpe_uri.specs.Pieces.{pieces}
 use Rattle.cpe_uri.specs.Scanning.{whole_end}
@@ -13,10 +13,6 @@ use Rattle.cpe_uri.specs.SpanValues.{value_at}
 -- the name that has this URI has this output text
 abbrev pub SaysUri : List ℕ → List ℕ → Type 0
 SaysUri s text = SaysBy Uri output_text s text
-
--- the same text after what stood before
-abbrev pub WritesUnbound : List ℕ → List ℕ → List ℕ → Type 0
-WritesUnbound s old new = PutsBy Uri output_text s old new
 
 -- the values of the pieces of a URI
 abbrev pub name_of : List ℕ → Values

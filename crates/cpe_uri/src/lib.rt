@@ -26,16 +26,16 @@
 //! ([`unbind_any`]).
 #![tactic(auto)]
 
-ghost use Rattle.std.specs.Prelude.{◌≡◌, ℕ, List, ◌+◌, ◌*◌, ◌++◌, ◌≤◌, length, take, Ok, Some, None, IfSome, MatchOption};
-ghost use Rattle.std.specs.Option.{option_map};
+ghost use Rattle.std.specs.Prelude.{◌≡◌, ℕ, List, ◌+◌, ◌*◌, ◌≤◌, length, Ok, Some, None};
 ghost use Rattle.cpe_name.specs.Eleven.{Values};
 ghost use Rattle.cpe_name.specs.WfnText.{WfnText, IsWfnText};
+ghost use Rattle.cpe_fs.specs.Writing.{WritesBound};
 ghost use Rattle.cpe_uri.specs.Canon.{canon};
 ghost use Rattle.cpe_name.specs.Lower.{lower_name};
 ghost use Rattle.cpe_name.specs.Names.{IsName};
 ghost use Rattle.cpe_uri.specs.Grammar.{Uri};
 ghost use Rattle.cpe_uri.specs.Unbound.{read_uri};
-ghost use Rattle.cpe_uri.specs.Bound.{bound_uri, BindsUri, WritesUri};
+ghost use Rattle.cpe_uri.specs.Bound.{bound_uri, BindsUri};
 
 mod bind;
 mod bound;
@@ -96,18 +96,7 @@ impl From<Memory> for UriFault {
 /// what stands beside them in the URI.
 pub fn write_bound_uri(room: &mut [u8], at: usize, text: &[u8]) -> Option<usize>
     requires { at + 3 * length text.now ≤ length room.old }
-    // What was written is the canonical URI of a name that has this text.
-    ensures found { IfSome result (λ end. WritesUri text.now (take at room.old) (take end room.new)) }
-    // The canonical URI of a name that has this text is written.
-    ensures only { (name : Values) → WfnText name text.now → MatchOption result ⊥ (λ end. take end room.new ≡ take at room.old ++ canon name) }
-    ensures none { result ≡ None → ¬ (IsWfnText text.now) }
-
-    // The same by a function.
-    ensures said { option_map (λ end. take end room.new) result ≡ option_map (λ said. take at room.old ++ said) (bound_uri text.now) }
-
-    ensures within { IfSome result (λ end. end ≤ at + 3 * length text.now) }
-    ensures length { length room.new ≡ length room.old }
-    ensures unchanged { result ≡ None → room.new ≡ room.old }
+    ensures { WritesBound canon bound_uri text.now at (at + 3 * length text.now) room.old room.new result }
 {
     let Some(written) = scan_wfn(text) else {
         return None;

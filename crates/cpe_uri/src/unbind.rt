@@ -1,11 +1,11 @@
 // From URIs, and from texts in either binding, to names and to their texts (NIST IR 7695, 6.1.3 and 6.2.3).
-ghost use Rattle.std.specs.Prelude.{◌≡◌, ℕ, List, ◌+◌, ◌*◌, ◌++◌, ◌≤◌, length, take, Ok, Err, IfOk, IfErr, OnErr, MatchResult};
-ghost use Rattle.std.specs.Result.{result_map_both};
+ghost use Rattle.std.specs.Prelude.{◌≡◌, ℕ, List, ◌+◌, ◌*◌, ◌≤◌, length, Ok, Err, IfOk, IfErr, MatchResult};
 ghost use Rattle.cpe_name.specs.Eleven.{Values};
 ghost use Rattle.cpe_name.specs.Text.{output_text};
+ghost use Rattle.cpe_fs.specs.Writing.{WritesOutput};
 ghost use Rattle.cpe_uri.specs.Grammar.{Uri, LeavesUri, RefusesUri};
-ghost use Rattle.cpe_uri.specs.Unbound.{read_uri, unbound_uri, SaysUri, WritesUnbound};
-ghost use Rattle.cpe_uri.specs.EitherBinding.{begins_as_uri, UriOrFs, LeavesUriOrFs, RefusesUriOrFs, SaysFault, read_any, unbound_any, SaysAny, WritesAny};
+ghost use Rattle.cpe_uri.specs.Unbound.{read_uri, unbound_uri, SaysUri};
+ghost use Rattle.cpe_uri.specs.EitherBinding.{begins_as_uri, UriOrFs, LeavesUriOrFs, RefusesUriOrFs, SaysFault, read_any, unbound_any, SaysAny};
 
 use crate::scan::scan_uri;
 use crate::values::values_of;
@@ -46,18 +46,7 @@ pub fn unbind_uri(alloc: Global, text: &[u8]) -> Result<Wfn, UriFault>
 /// The place of the text as in [`UriFault::At`], exactly where no name has it; the room is then as it was.
 pub fn write_unbound_uri(room: &mut [u8], at: usize, text: &[u8]) -> Result<usize, usize>
     requires { at + 2 * length text.now + UNBOUND_FRAME ≤ length room.old }
-    // What was written is the text of a name that has this URI.
-    ensures found { IfOk result (λ end. WritesUnbound text.now (take at room.old) (take end room.new)) }
-    // The text of a name that has this URI is written.
-    ensures only { (name : Values) → Uri name text.now → MatchResult result (λ end. take end room.new ≡ take at room.old ++ output_text name) (λ place. ⊥) }
-    ensures refused { IfErr result (LeavesUri text.now) }
-
-    // The same by a function.
-    ensures said { result_map_both (λ end. take end room.new) (λ place. place) result ≡ result_map_both (λ said. take at room.old ++ said) (λ place. place) (unbound_uri text.now) }
-
-    ensures within { IfOk result (λ end. end ≤ at + 2 * length text.now + UNBOUND_FRAME) }
-    ensures length { length room.new ≡ length room.old }
-    ensures unchanged { OnErr result (room.new ≡ room.old) }
+    ensures { WritesOutput Uri LeavesUri unbound_uri text.now at (at + 2 * length text.now + UNBOUND_FRAME) room.old room.new result }
 {
     match scan_uri(text) {
         Ok(spans) => Ok(put_output::<FromPieces>(room, at, &spans)),
@@ -141,18 +130,7 @@ fn read_either(alloc: Global, text: &[u8]) -> Result<Wfn, UriFault>
 /// The place of the text as in [`UriFault::At`], exactly where no name has it; the room is then as it was.
 pub fn write_unbound_any(room: &mut [u8], at: usize, text: &[u8]) -> Result<usize, usize>
     requires { at + 2 * length text.now + UNBOUND_FRAME ≤ length room.old }
-    // What was written is the text of a name that has this text.
-    ensures found { IfOk result (λ end. WritesAny text.now (take at room.old) (take end room.new)) }
-    // The text of a name that has this text is written.
-    ensures only { (name : Values) → UriOrFs name text.now → MatchResult result (λ end. take end room.new ≡ take at room.old ++ output_text name) (λ place. ⊥) }
-    ensures refused { IfErr result (LeavesUriOrFs text.now) }
-
-    // The same by a function.
-    ensures said { result_map_both (λ end. take end room.new) (λ place. place) result ≡ result_map_both (λ said. take at room.old ++ said) (λ place. place) (unbound_any text.now) }
-
-    ensures within { IfOk result (λ end. end ≤ at + 2 * length text.now + UNBOUND_FRAME) }
-    ensures length { length room.new ≡ length room.old }
-    ensures unchanged { OnErr result (room.new ≡ room.old) }
+    ensures { WritesOutput UriOrFs LeavesUriOrFs unbound_any text.now at (at + 2 * length text.now + UNBOUND_FRAME) room.old room.new result }
 {
     if begins_as_uri(text) {
         write_unbound_uri(room, at, text)

@@ -1,5 +1,5 @@
 -- An index of names by product as contracts see it: the held numbers, each with the number of its product.
-use Rattle.std.specs.Prelude.{◌≡◌, ℕ, ◌-◌, ◌<◌, ◌≤◌, Bool, nat_eq, List, [], length, ◌++◌, map, filter, Option, Some, None, count_by, slice_get, drop}
+use Rattle.std.specs.Prelude.{◌≡◌, ℕ, ◌+◌, ◌-◌, ◌<◌, ◌≤◌, Bool, nat_eq, List, [], ◌∷◌, length, ◌++◌, map, filter, Option, Some, None, count_by, slice_get, drop}
 use Rattle.std.specs.List.{All, flat_map}
 use Rattle.cpe_values.specs.declared.value.Value.{Value}
 use Rattle.cpe_name.specs.Eleven.{Values}
@@ -18,6 +18,15 @@ pub record Held : Type 0 where
   pub held : List (ℕ × ℕ)
   pub spare : ℕ
   pub wide : ℕ
+
+-- a number comes with that of its product, in the room of one
+pub record Adds (old new : Held) (id product : ℕ) : Type 0 where
+  -- it is held besides
+  pub added : SameElements ((id, product) ∷ old.held) new.held
+  -- the room of one is taken
+  pub spare : new.spare + 1 ≡ old.spare
+  -- and products have the room that they had
+  pub wide : new.wide ≡ old.wide
 
 abbrev pub name_id : ℕ → NameId
 name_id number = record { 0 = number }

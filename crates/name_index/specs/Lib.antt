@@ -2,3 +2,4 @@ pub mod Table
 pub mod Rows
 pub mod Index
 pub mod Wanted
+pub mod Laws

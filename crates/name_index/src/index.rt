@@ -3,7 +3,7 @@ ghost use Rattle.std.specs.Prelude.{◌≡◌, ℕ, ◌+◌, ◌-◌, ◌<◌, �
 ghost use Rattle.std.specs.List.{Contains};
 ghost use Rattle.product_orders.specs.Elements.{SameElements};
 ghost use Rattle.name_index.specs.Table.{Kept, find_kept, IsLive, kept_at};
-ghost use Rattle.name_index.specs.Index.{times_held, pairs, IsIndex};
+ghost use Rattle.name_index.specs.Index.{times_held, pairs, Adds, IsIndex};
 
 use crate::{NameId, NameTable};
 use cpe_values::Memory;
@@ -129,9 +129,7 @@ impl NameIndex {
         requires fresh { times_held self.old.held id.0 ≡ 0 }
         requires room { 1 ≤ self.old.spare }
         requires product { (kept_at table.now id.0).product < self.old.wide }
-        ensures added { SameElements ((id.0, (kept_at table.now id.0).product) ∷ self.old.held) self.new.held }
-        ensures spare { self.new.spare + 1 ≡ self.old.spare }
-        ensures wide { self.new.wide ≡ self.old.wide }
+        ensures { Adds self.old self.new id.0 (kept_at table.now id.0).product }
     {
         let product = table.product(id);
         let head = head_of(&self.heads, product.0);

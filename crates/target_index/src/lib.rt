@@ -7,12 +7,13 @@
 //! where others hold and release names of it: [`targets_stay`](law::targets_stay).
 #![tactic(auto)]
 
-ghost use Rattle.std.specs.Prelude.{◌≡◌, ℕ, ◌+◌, ◌<◌, ◌≤◌, ◌∷◌, filter, length, Some, IfOk, OnOk, count_by};
+ghost use Rattle.std.specs.Prelude.{◌≡◌, ℕ, ◌<◌, ◌≤◌, filter, length, Some, IfOk, OnOk, count_by};
 ghost use Rattle.cpe_name.specs.Lower.{IsLower};
 ghost use Rattle.cpe_steps.specs.Within.{StepsWithin};
 ghost use Rattle.product_orders.specs.Elements.{SameElements};
-ghost use Rattle.name_index.specs.Table.{Names, Kept, find_kept, IsLive, kept_at};
+ghost use Rattle.name_index.specs.Table.{Names, Kept, find_kept, IsLive};
 ghost use Rattle.name_index.specs.Index.{ids, is_covered, times_held};
+ghost use Rattle.target_index.specs.Moved.{Comes, Goes, MayCome};
 ghost use Rattle.target_index.specs.Targets.{AreNone, FitsTargets, SameTargets, held, is_maybe, is_met, covered_count, maybe_count};
 
 mod counting;
@@ -73,16 +74,8 @@ impl TargetIndex {
 
     /// Holds a number, which was not held. It takes no memory.
     pub fn add(&mut self, table: &NameTable, id: NameId)
-        requires live { IsLive table.now id.0 }
-        requires fits { FitsTargets self.old table.now }
-        requires fresh { times_held (held self.old) id.0 ≡ 0 }
-        requires room { 1 ≤ self.old.spare }
-        requires product { (kept_at table.now id.0).product < self.old.wide }
-        requires few { length (held self.old) < 4294967295 }
-        ensures added { SameElements ((id.0, (kept_at table.now id.0).product) ∷ held self.old) (held self.new) }
-        ensures fits { FitsTargets self.new table.now }
-        ensures spare { self.new.spare + 1 ≡ self.old.spare }
-        ensures wide { self.new.wide ≡ self.old.wide }
+        requires { MayCome self.old table.now id.0 }
+        ensures { Comes self.old self.new table.now id.0 }
     {
         self.parts.add(table, id);
     }
@@ -92,10 +85,7 @@ impl TargetIndex {
         requires held { 1 ≤ times_held (held self.old) id.0 }
         requires live { IsLive table.now id.0 }
         requires fits { FitsTargets self.old table.now }
-        ensures dropped { SameElements (held self.old) ((id.0, (kept_at table.now id.0).product) ∷ held self.new) }
-        ensures fits { FitsTargets self.new table.now }
-        ensures spare { self.new.spare ≡ self.old.spare }
-        ensures wide { self.new.wide ≡ self.old.wide }
+        ensures { Goes self.old self.new table.now id.0 }
     {
         self.parts.drop_name(table, id);
     }

@@ -1,14 +1,12 @@
-use Rattle.std.proofs.Common.{ℕ, ◌++◌, take, ap, sym, ◌∙◌}
-use Rattle.std.specs.Result.{result_map_both}
-use Rattle.cpe_uri.proofs.EitherBinding.{any_says_uri, any_says_fs}
+use Rattle.std.proofs.Common.{sym, ◌∙◌, arith}
+use Rattle.std.proofs.lemmas.Grind.{common_steps}
+use Rattle.cpe_uri.proofs.EitherBinding.{written_fs, written_uri}
 use Rattle.cpe_uri.proofs.unbind.write_unbound_any.Goals as goal
 
-pub returns-then-begins_as_uri-clause-said : goal.returns-then-begins_as_uri-clause-said
-returns-then-begins_as_uri-clause-said c =
-    c.write_unbound_uri.ensures.said
-    ∙ ap (result_map_both (λ said. take c.args.at c.args.room.now ++ said) (λ (place : ℕ). place)) (sym (any_says_uri c.args.text.now (sym c.begins_as_uri.ensures ∙ c.if-begins_as_uri.true)))
+pub returns-then-begins_as_uri : goal.returns-then-begins_as_uri
+returns-then-begins_as_uri c =
+    written_uri c.args.text.now c.args.at _ _ c.args.room.now _ _ (sym c.begins_as_uri.ensures ∙ c.if-begins_as_uri.true) (grind (arith, common_steps)) c.write_unbound_uri.ensures
 
-pub returns-else-begins_as_uri-clause-said : goal.returns-else-begins_as_uri-clause-said
-returns-else-begins_as_uri-clause-said c =
-    c.write_unbound.ensures.said
-    ∙ ap (result_map_both (λ said. take c.args.at c.args.room.now ++ said) (λ (place : ℕ). place)) (sym (any_says_fs c.args.text.now (sym c.begins_as_uri.ensures ∙ c.if-begins_as_uri.false)))
+pub returns-else-begins_as_uri : goal.returns-else-begins_as_uri
+returns-else-begins_as_uri c =
+    written_fs c.args.text.now c.args.at _ _ c.args.room.now _ _ (sym c.begins_as_uri.ensures ∙ c.if-begins_as_uri.false) (grind (arith, common_steps)) c.write_unbound.ensures

@@ -13,8 +13,8 @@ use Rattle.cpe_dictionary.proofs.DictionaryLemmas.{kept_change}
 use Rattle.cpe_dictionary.proofs.EntryLemmas.{length_written, written_beside}
 use Rattle.cpe_dictionary.proofs.store.KeptDictionary.commit.Goals as goal
 
-pub returns-clause-fits : goal.returns-clause-fits
-returns-clause-fits c =
+pub returns : goal.returns
+returns c =
     let table = c.args.table.now in
     let k = c.args.plan.now.number in
     let next = c.args.plan.now.next in
@@ -26,25 +26,19 @@ returns-clause-fits c =
     let ns = names_numbered table i.names.numbers in
     let even = length-map i.names.numbers (λ (x : NameId). (kept_at table x.0).name) ∙ fits.even in
     let all = c.in_ok-rewrite_at.ensures.ok in
+    let is = ap (entries_of ns) all ∙ written_beside d note ns i.details.items k even in
     record {
-      order = fits.order;
-      even = fits.even ∙ sym (length_written d note k i.details.items) ∙ sym (ap (λ (ds : List Details). length ds) all);
-      kept =
-          kept_change (entries_of ns i.details.items) (entries_of ns c.rewrite_at.new.all.items) i.graph.nodes c.set_edges.new.self.nodes k d note next c.changes_by_number.ensures.changes fits.kept
-          (subst (λ (s : Stored). k < length (nodes_of_entries (entries_in table s))) back c.requires.allowed.change.names.node)
-          (subst (λ (s : Stored). next ≡ numbered (entries_in table s) d) back c.requires.numbers)
-          (subst (λ (s : Stored). IsDictionary (written (rewritten d note) k (entries_in table s))) back c.requires.lawful)
-          (ap (entries_of ns) all ∙ written_beside d note ns i.details.items k even)
-          (c.set_edges.ensures.nodes ∙ ap (changed_nodes c.reserve.new.self.nodes k) c.next-2.ensures ∙ ap (λ (nodes : List Node). changed_nodes nodes k next) c.reserve.ensures.nodes);
+      fits = record {
+        order = fits.order;
+        even = fits.even ∙ sym (length_written d note k i.details.items) ∙ sym (ap (λ (ds : List Details). length ds) all);
+        kept =
+            kept_change (entries_of ns i.details.items) (entries_of ns c.rewrite_at.new.all.items) i.graph.nodes c.set_edges.new.self.nodes k d note next c.changes_by_number.ensures.changes fits.kept
+            (subst (λ (s : Stored). k < length (nodes_of_entries (entries_in table s))) back c.requires.allowed.change.names.node)
+            (subst (λ (s : Stored). next ≡ numbered (entries_in table s) d) back c.requires.numbers)
+            (subst (λ (s : Stored). IsDictionary (written (rewritten d note) k (entries_in table s))) back c.requires.lawful)
+            is
+            (c.set_edges.ensures.nodes ∙ ap (changed_nodes c.reserve.new.self.nodes k) c.next-2.ensures ∙ ap (λ (nodes : List Node). changed_nodes nodes k next) c.reserve.ensures.nodes);
+      };
+      ok = is ∙ ap (λ (s : Stored). written (rewritten d note) k (entries_in table s)) c.self.view_is;
+      err = tt;
     }
-
-pub returns-clause-ok : goal.returns-clause-ok
-returns-clause-ok c =
-    let table = c.args.table.now in
-    let k = c.args.plan.now.number in
-    let d = c.args.deprecation in
-    let note = c.args.note in
-    let i = c.self.inside in
-    let ns = names_numbered table i.names.numbers in
-    let even = length-map i.names.numbers (λ (x : NameId). (kept_at table x.0).name) ∙ subst (λ (s : Stored). length s.names.numbers ≡ length s.details) (sym c.self.view_is) c.requires.fits.even in
-    ap (entries_of ns) c.in_ok-rewrite_at.ensures.ok ∙ written_beside d note ns i.details.items k even ∙ ap (λ (s : Stored). written (rewritten d note) k (entries_in table s)) c.self.view_is

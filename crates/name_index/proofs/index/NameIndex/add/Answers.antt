@@ -1,7 +1,8 @@
-use Rattle.std.proofs.Common.{◌≡◌, ◌∷◌, ℕ, sym, subst}
+use Rattle.std.proofs.Common.{◌≡◌, ◌∷◌, ℕ, sym, subst, arith}
 use Rattle.product_orders.specs.Elements.{SameElements}
 use Rattle.name_index.specs.Index.{Held, pairs, times_held}
 use Rattle.name_index.proofs.Postings.{added}
+use Rattle.std.proofs.lemmas.Grind.{common_steps}
 use Rattle.name_index.proofs.index.NameIndex.add.Goals as goal
 
 pub invariant_of-self : goal.invariant_of-self
@@ -10,10 +11,14 @@ invariant_of-self c =
     (added i.pool.lists c.push.new.self.lists i.heads.items c.args.id.0 c.product-product.result.0 c.head_of-head.result c.self.invariant c.head_of-head.ensures c.push.ensures.pushed
     (subst (λ (h : Held). times_held h.held c.args.id.0 ≡ 0) (sym c.self.view_is) c.requires.fresh)).index
 
-pub returns-clause-added : goal.returns-clause-added
-returns-clause-added c =
+pub returns : goal.returns
+returns c =
     let i = c.self.inside in
     let a = added i.pool.lists c.push.new.self.lists i.heads.items c.args.id.0 c.product-product.result.0 c.head_of-head.result c.self.invariant c.head_of-head.ensures c.push.ensures.pushed
     (subst (λ (h : Held). times_held h.held c.args.id.0 ≡ 0) (sym c.self.view_is) c.requires.fresh) in
-    subst (λ (p : ℕ). SameElements ((c.args.id.0, p) ∷ c.args.self.now.held) (pairs c.push.new.self.lists i.heads.items)) c.product-product.ensures
-    (subst (λ (h : Held). SameElements ((c.args.id.0, c.product-product.result.0) ∷ h.held) (pairs c.push.new.self.lists i.heads.items)) c.self.view_is a.held)
+    record {
+      added = subst (λ (p : ℕ). SameElements ((c.args.id.0, p) ∷ c.args.self.now.held) (pairs c.push.new.self.lists i.heads.items)) c.product-product.ensures
+          (subst (λ (h : Held). SameElements ((c.args.id.0, c.product-product.result.0) ∷ h.held) (pairs c.push.new.self.lists i.heads.items)) c.self.view_is a.held);
+      spare = grind (arith, common_steps);
+      wide = grind (arith, common_steps);
+    }
