@@ -28,16 +28,38 @@ def fs(product, version=b"*"):
     return make_lines.PREFIX + b"a:v:%s:%s" % (product, version) + b":*" * 7
 
 
+def statements(product, mode):
+    """Statements of three facts, each of which has a few items near it."""
+    for number in range(NEAR_STATEMENTS):
+        facts = b",".join(b'{"fact":%s}' % make_lines.spelled(fs(b"%s%d" % (product, (number + step) % STATEMENTS))) for step in range(3))
+        yield b'{"do":"statement","id":"s%d","mode":"%s","test":{"op":"AND","of":[%s]}}' % (number, mode, facts)
+
+
+def far_items(far):
+    """Items that are near no fact."""
+    return (make_lines.record(b"item", fs(b"far%d" % number, b"1")) for number in range(far))
+
+
 def near_lines(far):
-    """Statements of three facts, each with a few items near it, and before these items so many that are near no fact."""
-    for number in range(far):
-        yield make_lines.record(b"item", fs(b"far%d" % number, b"1"))
+    """Statements in mode plain, the items near them, and before these so many that are near no fact."""
+    yield from far_items(far)
     for number in range(STATEMENTS):
         for version in range(NEAR):
             yield make_lines.record(b"item", fs(b"near%d" % number, b"%d" % version))
-    for number in range(NEAR_STATEMENTS):
-        facts = b",".join(b'{"fact":%s}' % make_lines.spelled(fs(b"near%d" % ((number + step) % STATEMENTS))) for step in range(3))
-        yield b'{"do":"statement","id":"s%d","test":{"op":"AND","of":[%s]}}' % (number, facts)
+    yield from statements(b"near", b"plain")
+
+
+def led_lines(far):
+    """The same in mode follow, where each near item has a name that was deprecated in favour of one that is near."""
+    yield from far_items(far)
+    for number in range(STATEMENTS):
+        for version in range(NEAR):
+            old, new = fs(b"old%d" % number, b"%d" % version), fs(b"near%d" % number, b"%d" % version)
+            yield make_lines.record(b"entry", old, b',"title":"old"')
+            yield make_lines.record(b"entry", new, b',"title":"near"')
+            yield make_lines.record(b"deprecate", old, b',"kind":"NAME_CORRECTION","successors":[%s],"date":"2024-01-01"' % make_lines.spelled(new))
+            yield make_lines.record(b"item", old)
+    yield from statements(b"near", b"follow")
 
 
 def file_of(name, lines):
@@ -88,14 +110,17 @@ def main():
     print(f"{'input':<28}{'resolve':>9}{'evaluate':>10}{'explain':>9}{'check':>9}{'making':>12}{'checking':>12}")
     # (a run over few rows is short, and bears noise worse)
     table, whole, making, checking = measured(program, run.made("evaluated", STATEMENTS), STATEMENTS, 20 * given.rounds)
-    few = measured(program, file_of(f"near-{FEW}.txt", near_lines(FEW)), NEAR_STATEMENTS, given.rounds)
-    many = measured(program, file_of(f"near-{MANY}.txt", near_lines(MANY)), NEAR_STATEMENTS, given.rounds)
+    grown = {}
+    for name, lines in (("near", near_lines), ("led", led_lines)):
+        grown[name] = [measured(program, file_of(f"{name}-{far}.txt", lines(far)), NEAR_STATEMENTS, given.rounds) for far in (FEW, MANY)]
     targets = [
         ("certificates: of the time of cpe evaluate", MOST_OF_EVALUATE, whole / table),
         ("checking: of the time of making", MOST_OF_MAKING, checking / making),
-        (f"making: growth from {FEW:,} to {MANY:,} items", MOST_GROWTH, many[2] / few[2]),
-        (f"checking: growth from {FEW:,} to {MANY:,} items", MOST_GROWTH, many[3] / few[3]),
     ]
+    for name, mode in (("near", "plain"), ("led", "follow")):
+        few, many = grown[name]
+        targets.append((f"making in mode {mode}: growth from {FEW:,} to {MANY:,} items", MOST_GROWTH, many[2] / few[2]))
+        targets.append((f"checking in mode {mode}: growth from {FEW:,} to {MANY:,} items", MOST_GROWTH, many[3] / few[3]))
     print(f"\n{'target':<58}{'bound':>9}{'measured':>10}")
     for name, bound, figure in targets:
         print(f"{name:<58}{bound:>9}{figure:>10.2f}  {'met' if figure <= bound else 'MISSED'}")

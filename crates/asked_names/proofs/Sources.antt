@@ -165,7 +165,7 @@ led_by_those_there absent all n list d few f = led_by_copies absent all n list d
 
 -- ---- from an end back to the names that lead there
 
-in_kept : (p : Entry → Bool) (e : Values) (es : List Entry) → list_any (is_same e) (entry_names (filter p es)) ≡ true → list_any (is_named e) es ≡ true
+pub in_kept : (p : Entry → Bool) (e : Values) (es : List Entry) → list_any (is_same e) (entry_names (filter p es)) ≡ true → list_any (is_named e) es ≡ true
 in_kept p e [] h = h
 in_kept p e (a ∷ es) h = by (p a) h (in_kept p e es)
   where

@@ -1,18 +1,18 @@
 // An engine as rows of which certificates are made, and by which they are tested.
-ghost use Rattle.std.specs.Prelude.{◌≡◌, ◌∷◌, [], IfOk, IfSome, None, find, length, map, slice_get, true};
-ghost use Rattle.std.specs.List.{filter_map, list_any};
+ghost use Rattle.std.specs.Prelude.{◌≡◌, IfOk, IfSome, None, find, length, slice_get, true};
+ghost use Rattle.std.specs.List.{filter_map};
 ghost use Rattle.std.specs.Option.{option_copied, option_map_or};
 ghost use Rattle.cpe_name.specs.Lower.{IsLower};
-ghost use Rattle.cpe_rows.specs.Prelude.{ends, Rows};
+ghost use Rattle.cpe_rows.specs.Prelude.{Rows};
 ghost use Rattle.cpe_rows.specs.Verdict.{fact_truth, finds_item, is_followed, truth};
-ghost use Rattle.name_index.specs.Table.{IsLive, Names};
-ghost use Rattle.numbered_names.specs.Shown.{name_at, names_at};
-ghost use Rattle.cpe_registry.specs.Registered.{AreLive, name_in};
+ghost use Rattle.name_index.specs.Table.{Names};
+ghost use Rattle.numbered_names.specs.Shown.{name_at};
 ghost use Rattle.kept_verdicts.specs.Kept.{Stands};
 ghost use Rattle.cpe_explain.specs.Leading.{followed};
 ghost use Rattle.cpe_explain.specs.Relates.{related};
 
 use crate::engine::Engine;
+use crate::leading::{ends_of, first_followed, first_shown};
 use cpe_explain::{ExplainedRows, PlainRows, Relates};
 use cpe_inventory::ItemSlots;
 use cpe_name::Wfn;
@@ -83,103 +83,6 @@ fn first_related<'t>(slots: &ItemSlots<'t>, relates: Relates, name: &Wfn) -> Opt
     None
 }
 
-// ---- where names lead
-
-fn alone<'a>(alloc: Global, name: &'a Wfn) -> Result<Vec<&'a Wfn>, Memory>
-    ensures { IfOk result (λ names. map (λ n. n.now) names.items ≡ name.now ∷ []) }
-{
-    let mut names = Vec::with_capacity(alloc, 1)?;
-    names.push(name)?;
-    Ok(names)
-}
-
-fn names_of<'a>(
-    registry: &'a Registry,
-    alloc: Global,
-    ids: &[NameId],
-) -> Result<Vec<&'a Wfn>, Memory>
-    requires { AreLive registry.now.table ids.now }
-    ensures { IfOk result (λ names. map (λ n. n.now) names.items ≡ names_at registry.now.table ids.now) }
-{
-    let mut names = Vec::with_capacity(alloc, ids.len())?;
-    for id in ids {
-        names.push(registry.name(*id))?;
-    }
-    Ok(names)
-}
-
-fn numbered_ends<'a>(
-    registry: &'a Registry,
-    alloc: Global,
-    id: NameId,
-) -> Result<Vec<&'a Wfn>, Memory>
-    requires { IsLive registry.now.table id.0 }
-    ensures { IfOk result (λ names. map (λ n. n.now) names.items ≡ ends registry.now.entries (name_in registry.now.table id)) }
-{
-    let ids = registry.ends_of(alloc, id)?;
-    names_of(registry, alloc, &ids)
-}
-
-// The ends of a name, in the order of their entries.
-fn ends_of<'a>(registry: &'a Registry, alloc: Global, name: &'a Wfn) -> Result<Vec<&'a Wfn>, Memory>
-    ensures { IfOk result (λ names. map (λ n. n.now) names.items ≡ ends registry.now.entries name.now) }
-{
-    cpe_rows::law::absent_names_stand_alone();
-    match registry.find(name) {
-        Some(id) => numbered_ends(registry, alloc, id),
-        None => alone(alloc, name),
-    }
-}
-
-fn relates_to_one(relates: Relates, name: &Wfn, others: &[&Wfn]) -> bool
-    ensures { result ≡ list_any (λ other. related relates name.now other.now) others.now }
-{
-    others.iter().any(|other| relates.holds(name, *other))
-}
-
-fn one_relates(relates: Relates, names: &[&Wfn], others: &[&Wfn]) -> bool
-    ensures { result ≡ list_any (λ name. list_any (λ other. related relates name.now other.now) others.now) names.now }
-{
-    names
-        .iter()
-        .any(|name| relates_to_one(relates, *name, others))
-}
-
-// Whether one of these stands so to an end of an item.
-fn is_met(
-    registry: &Registry,
-    alloc: Global,
-    relates: Relates,
-    fact_ends: &[&Wfn],
-    item: &Wfn,
-) -> Result<bool, Memory>
-    ensures { IfOk result (λ met. met ≡ list_any (λ name. list_any (related relates name) (ends registry.now.entries item.now)) (map (λ n. n.now) fact_ends.now)) }
-{
-    let item_ends = ends_of(registry, alloc, item)?;
-    Ok(one_relates(relates, fact_ends, &item_ends))
-}
-
-// The first item to an end of which some end of the name stands so.
-fn first_followed<'t>(
-    registry: &Registry,
-    alloc: Global,
-    slots: &ItemSlots<'t>,
-    relates: Relates,
-    name: &Wfn,
-) -> Result<Option<&'t Wfn>, Memory>
-    ensures { IfOk result (λ item. option_copied item ≡ find (is_followed (related relates) registry.now.entries name.now) (filter_map (λ slot. slot) slots.now)) }
-{
-    let fact_ends = ends_of(registry, alloc, name)?;
-    for slot in 0..slots.len() {
-        if let Some(item) = slots.at(slot) {
-            if is_met(registry, alloc, relates, &fact_ends, item)? {
-                return Ok(Some(item));
-            }
-        }
-    }
-    Ok(None)
-}
-
 // ---- truths that are kept
 
 fn numbered_truth(verdicts: &KeptVerdicts, id: NameId, mode: Mode) -> Option<Truth>
@@ -241,7 +144,8 @@ impl Engine {
         Ok(first_related(&slots, relates, name))
     }
 
-    // The first item to an end of which some end of the name stands so.
+    // The first item to an end of which some end of the name stands so. It goes over the items only where the name isn't in lower case, as
+    // `first_plain` does.
     fn first_by_ends(
         &self,
         alloc: Global,
@@ -250,8 +154,13 @@ impl Engine {
     ) -> Result<Option<&Wfn>, Memory>
         ensures { IfOk result (λ item. option_copied item ≡ find (is_followed (related relates) self.now.entries name.now) self.now.items) }
     {
+        let parts = &self.parts;
+        if name.is_lower() {
+            let found = first_shown(&parts.registry, &parts.verdicts, alloc, relates, name)?;
+            return Ok(found);
+        }
         let slots = self.item_slots();
-        let found = first_followed(&self.parts.registry, alloc, &slots, relates, name)?;
+        let found = first_followed(&parts.registry, alloc, &slots, relates, name)?;
         Ok(found)
     }
 }

@@ -16,6 +16,7 @@ mod entries;
 mod explained;
 mod holds;
 mod items;
+mod leading;
 mod made;
 mod numbered;
 mod parts;

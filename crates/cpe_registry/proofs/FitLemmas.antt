@@ -102,6 +102,10 @@ pub on_err : {A B P Q : Type 0} (r : Result A B) → (P → Q) → OnErr r P →
 on_err (Ok x) f h = tt
 on_err (Err e) f h = f h
 
+pub if_ok : {A B : Type 0} {P Q : A → Type 0} (r : Result A B) → ((x : A) → P x → Q x) → IfOk r P → IfOk r Q
+if_ok (Ok x) f h = f x h
+if_ok (Err e) f h = tt
+
 pub ok_if : {A B P : Type 0} (Q : A → Type 0) (r : Result A B) → ((x : A) → Q x → P) → IfOk r Q → OnOk r P
 ok_if Q (Ok x) f h = f x h
 ok_if Q (Err e) f h = tt

@@ -1,3 +1,4 @@
 pub mod HeldLemmas
 pub mod FitLemmas
 pub mod EndLemmas
+pub mod ItemLemmas

@@ -1,2 +1,3 @@
 pub mod Registered
 pub mod Given
+pub mod Moved

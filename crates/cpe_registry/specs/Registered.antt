@@ -1,7 +1,10 @@
 -- A registry: one table of names, of which entries (NIST IR 7697) and items (NIST IR 7698) keep numbers.
-use Rattle.std.specs.Prelude.{◌++◌, List}
-use Rattle.std.specs.List.{AllByRecursion}
+use Rattle.std.specs.Prelude.{◌∷◌, ◌++◌, [], List, filter, if◌then◌else◌, map}
+use Rattle.std.specs.List.{AllByRecursion, list_any}
 use Rattle.cpe_name.specs.Eleven.{Values}
+use Rattle.cpe_rows.specs.Chains.{leads_to}
+use Rattle.cpe_rows.specs.Names.{is_same}
+use Rattle.cpe_rows.specs.Rows.{is_named}
 use Rattle.cpe_rows.specs.declared.entry.Entry.{Entry}
 use Rattle.name_index.specs.declared.table.NameId.{NameId}
 use Rattle.name_index.specs.Table.{IsLive, Names, kept_at}
@@ -30,6 +33,10 @@ name_in table id = (kept_at table id.0).name
 -- each of these numbers is that of a name
 abbrev pub AreLive : Names → List NameId → Type 0
 AreLive table numbers = AllByRecursion (λ (x : NameId). IsLive table x.0) numbers
+
+-- the items that lead to a name: those whose entries lead to its entry, in the order of entries, or the name alone where it is no entry
+abbrev pub items_leading : List Entry → List Values → Values → List Values
+items_leading entries items n = filter (λ s. list_any (is_same s) items) (if list_any (is_named n) entries then map (λ e. e.name) (filter (λ e. leads_to entries e.name n) entries) else n ∷ [])
 
 -- the table holds the names of entries and items, these others besides, each as often as it is one, and no more
 abbrev pub AreHeld : Registered → List Values → Type 0

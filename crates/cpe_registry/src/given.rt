@@ -1,8 +1,6 @@
 // All entries are given their deprecations at once.
-ghost use Rattle.std.specs.Prelude.{◌≡◌, IfErr, OnErr, OnOk, length};
-ghost use Rattle.cpe_rows.specs.Prelude.{IsDictionary};
-ghost use Rattle.cpe_dictionary.specs.Given.{each_deprecated};
-ghost use Rattle.cpe_registry.specs.Given.{KeepsHolds};
+ghost use Rattle.std.specs.Prelude.{◌≡◌, length};
+ghost use Rattle.cpe_registry.specs.Moved.{AllDeprecated};
 
 use crate::registry::Registry;
 use cpe_rows::{Deprecation, List};
@@ -19,12 +17,7 @@ impl Registry {
         deprecations: List<Option<Deprecation>>,
     ) -> Result<(), FillFault>
         requires { length deprecations ≡ length self.old.entries }
-        ensures table { self.new.table ≡ self.old.table }
-        ensures items { self.new.items ≡ self.old.items }
-        ensures ok { OnOk result (self.new.entries ≡ each_deprecated self.old.entries deprecations) }
-        ensures others { KeepsHolds self.old self.new }
-        ensures unlawful { IfErr result (λ f. f ≡ FillFault.Unlawful → IsDictionary (each_deprecated self.old.entries deprecations) → ⊥) }
-        ensures err { OnErr result (self.new ≡ self.old) }
+        ensures { AllDeprecated self.old self.new deprecations result }
     {
         self.dictionary.deprecate_all(&self.table, deprecations)
     }

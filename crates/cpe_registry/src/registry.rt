@@ -1,16 +1,18 @@
 // One table of names, and the entries and items that keep numbers of it.
-ghost use Rattle.std.specs.Prelude.{◌≡◌, ◌+◌, ◌++◌, ◌∷◌, [], ◌<◌, ◌≤◌, ℕ, IfOk, IfSome, IsNone, List, None, OnErr, OnOk, false, length, map, option_map, position, slice_get, true};
+ghost use Rattle.std.specs.Prelude.{◌≡◌, ◌+◌, ◌++◌, ◌∷◌, [], ◌<◌, ◌≤◌, ℕ, IfOk, IfSome, IsNone, List, None, false, find, length, map, option_copied, option_map, position, slice_get, true};
 ghost use Rattle.std.specs.List.{filter_map, list_any};
 ghost use Rattle.cpe_name.specs.Lower.{IsLower};
 ghost use Rattle.cpe_name.specs.Eleven.{Values};
 ghost use Rattle.cpe_rows.specs.Names.{is_same};
 ghost use Rattle.cpe_rows.specs.Prelude.{chain, is_named, IsDictionary, most, without_first};
 ghost use Rattle.cpe_rows.specs.declared.fault.Which.TheVariants as limit;
-ghost use Rattle.name_index.specs.Table.{AreNames, HasName, Holds, IsLive, kept_at, Releases};
+ghost use Rattle.name_index.specs.Table.{AreNames, HasName, IsLive, kept_at, Releases};
 ghost use Rattle.cpe_dictionary.specs.Kept.{new_entry, rewritten, written};
 ghost use Rattle.cpe_rows.specs.Lent.{entry_lent};
 ghost use Rattle.cpe_dictionary.specs.Plans.{IsAllowed, numbered};
-ghost use Rattle.cpe_registry.specs.Registered.{AreHeld, name_in};
+ghost use Rattle.cpe_registry.specs.Moved.{EntryAdded, EntryChanged, ItemAdded, NameHeld};
+ghost use Rattle.numbered_names.specs.Shown.{names_at};
+ghost use Rattle.cpe_registry.specs.Registered.{AreHeld, AreLive, name_in};
 
 use cpe_dictionary::{Dictionary, KeptDictionary, Plan};
 use cpe_inventory::ItemSlots;
@@ -147,6 +149,19 @@ impl Registry {
         cpe_inventory::law::item_laws();
         self.items.has(id)
     }
+
+    /// The first item that has one of these numbers, if there is one. It looks at one place for each of them, and takes no memory.
+    pub fn first_item_of(&self, ids: &[NameId]) -> Option<&Wfn>
+        requires { AreLive self.now.table ids.now }
+        ensures { option_copied result ≡ find (λ n. list_any (is_same n) (names_at self.now.table ids.now)) self.now.items }
+    {
+        self.table.lawful();
+        cpe_inventory::law::item_laws();
+        match self.items.first_of(ids) {
+            Some(id) => Some(self.table.name(id)),
+            None => None,
+        }
+    }
 }
 
 impl Registry {
@@ -158,13 +173,7 @@ impl Registry {
     pub fn hold(&mut self, name: &Wfn) -> Result<NameId, Memory>
         requires lower { IsLower name.now }
         requires few { (id : ℕ) → HasName self.old.table id name.now → (kept_at self.old.table id).holds < 4294967295 }
-        ensures live { IfOk result (λ id. IsLive self.new.table id.0) }
-        ensures named { IfOk result (λ id. name_in self.new.table id ≡ name.now) }
-        ensures held { IfOk result (λ id. Holds self.old.table self.new.table id.0 name.now) }
-        ensures entries { self.new.entries ≡ self.old.entries }
-        ensures items { self.new.items ≡ self.old.items }
-        ensures others { (others : List Values) → AreHeld self.old others → OnOk result (AreHeld self.new (name.now ∷ others)) }
-        ensures err { OnErr result (self.new ≡ self.old) }
+        ensures { NameHeld self.old self.new name.now result }
     {
         names_in_order::law::orders_stay();
         items_in_order::law::items_stay();
@@ -179,13 +188,7 @@ impl Registry {
     pub fn hold_moved(&mut self, name: Wfn) -> Result<NameId, Memory>
         requires lower { IsLower name }
         requires few { (id : ℕ) → HasName self.old.table id name → (kept_at self.old.table id).holds < 4294967295 }
-        ensures live { IfOk result (λ id. IsLive self.new.table id.0) }
-        ensures named { IfOk result (λ id. name_in self.new.table id ≡ name) }
-        ensures held { IfOk result (λ id. Holds self.old.table self.new.table id.0 name) }
-        ensures entries { self.new.entries ≡ self.old.entries }
-        ensures items { self.new.items ≡ self.old.items }
-        ensures others { (others : List Values) → AreHeld self.old others → OnOk result (AreHeld self.new (name ∷ others)) }
-        ensures err { OnErr result (self.new ≡ self.old) }
+        ensures { NameHeld self.old self.new name result }
     {
         names_in_order::law::orders_stay();
         items_in_order::law::items_stay();
@@ -223,11 +226,7 @@ impl Registry {
         requires absent { list_any (is_named (name_in self.old.table id)) self.old.entries ≡ false }
         requires few { length self.old.entries + 1 ≤ most limit.Entries }
         requires lawful { IsDictionary (self.old.entries ++ new_entry (name_in self.old.table id) title provenance ∷ []) }
-        ensures table { self.new.table ≡ self.old.table }
-        ensures items { self.new.items ≡ self.old.items }
-        ensures ok { OnOk result (self.new.entries ≡ self.old.entries ++ new_entry (name_in self.old.table id) title provenance ∷ []) }
-        ensures others { (others : List Values) → AreHeld self.old (name_in self.old.table id ∷ others) → OnOk result (AreHeld self.new others) }
-        ensures err { OnErr result (self.new ≡ self.old) }
+        ensures { EntryAdded self.old self.new id (new_entry (name_in self.old.table id) title provenance) result }
     {
         numbered_names::law::lists_are_shown();
         self.dictionary.add(&self.table, id, title, provenance)
@@ -246,11 +245,7 @@ impl Registry {
         requires numbers { plan.now.next ≡ numbered self.old.entries deprecation }
         requires allowed { IsAllowed self.old.entries plan.now.number plan.now.next }
         requires lawful { IsDictionary (written (rewritten deprecation note) plan.now.number self.old.entries) }
-        ensures table { self.new.table ≡ self.old.table }
-        ensures items { self.new.items ≡ self.old.items }
-        ensures ok { OnOk result (self.new.entries ≡ written (rewritten deprecation note) plan.now.number self.old.entries) }
-        ensures others { (others : List Values) → AreHeld self.old others → AreHeld self.new others }
-        ensures err { OnErr result (self.new ≡ self.old) }
+        ensures { EntryChanged self.old self.new (written (rewritten deprecation note) plan.now.number self.old.entries) result }
     {
         self.dictionary.commit(&self.table, plan, deprecation, note)
     }
@@ -262,11 +257,7 @@ impl Registry {
     pub fn add_item(&mut self, id: NameId) -> Result<(), Memory>
         requires live { IsLive self.old.table id.0 }
         requires absent { list_any (is_same (name_in self.old.table id)) self.old.items ≡ false }
-        ensures table { self.new.table ≡ self.old.table }
-        ensures entries { self.new.entries ≡ self.old.entries }
-        ensures ok { OnOk result (self.new.items ≡ self.old.items ++ name_in self.old.table id ∷ []) }
-        ensures others { (others : List Values) → AreHeld self.old (name_in self.old.table id ∷ others) → OnOk result (AreHeld self.new others) }
-        ensures err { OnErr result (self.new ≡ self.old) }
+        ensures { ItemAdded self.old self.new id result }
     {
         cpe_inventory::law::item_laws();
         names_in_order::law::orders_stay();

@@ -1,5 +1,5 @@
 // The numbers of items in an order, of which any may go, by product.
-ghost use Rattle.std.specs.Prelude.{◌≡◌, ◌≢◌, ◌≤◌, ◌<◌, ◌+◌, ◌++◌, ◌∷◌, [], ℕ, IfOk, IfSome, OnOk, OnErr, cond, filter, is_some, length, slice_get, None, Some, false, true};
+ghost use Rattle.std.specs.Prelude.{◌≡◌, ◌≢◌, ◌≤◌, ◌<◌, ◌+◌, ◌++◌, ◌∷◌, [], ℕ, IfOk, IfSome, OnOk, OnErr, cond, filter, find, is_some, length, slice_get, None, Some, false, true};
 ghost use Rattle.std.specs.List.{IsDistinct, list_any};
 ghost use Rattle.cpe_name.specs.Equal.{same_name};
 ghost use Rattle.cpe_name.specs.Lower.{IsLower};
@@ -187,6 +187,13 @@ impl ItemNames {
         ensures any { is_some result ≡ list_any (same_name name.now) (names_numbered table.now self.now.numbers) }
     {
         find_number(table, &self.numbers, name)
+    }
+
+    /// The first of the numbers that is one of these, if there is one. It looks at one place for each of these.
+    pub fn first_of(&self, ids: &[NameId]) -> Option<NameId>
+        ensures { result ≡ find (λ id. list_any (same_id id) ids.now) self.now.numbers }
+    {
+        self.numbers.first_of(ids)
     }
 
     /// The numbers by place, with marks among them: no more than there are numbers.

@@ -1,7 +1,12 @@
 // The boards of both modes, and what edits of the rows make of them.
-ghost use Rattle.std.specs.Prelude.{◌≡◌, ◌+◌, ◌≤◌, ◌||◌, ℕ, length, nat_lt};
+ghost use Rattle.std.specs.Prelude.{◌≡◌, ◌+◌, ◌≤◌, ◌||◌, ℕ, IfOk, count_by, filter, length, nat_lt};
 ghost use Rattle.std.specs.List.{AllByRecursion};
 ghost use Rattle.cpe_name.specs.Eleven.{Values};
+ghost use Rattle.cpe_name.specs.Lower.{IsLower};
+ghost use Rattle.cpe_steps.specs.Within.{StepsWithin};
+ghost use Rattle.product_orders.specs.Elements.{SameElements};
+ghost use Rattle.name_index.specs.Index.{ids, is_covered};
+ghost use Rattle.target_index.specs.Targets.{is_maybe, is_met};
 ghost use Rattle.name_index.specs.declared.table.NameId.{NameId};
 ghost use Rattle.name_index.specs.Table.{Names, IsLive};
 ghost use Rattle.level_board.specs.Board.{AreFlips, probe_times, target_ids, target_times};
@@ -16,6 +21,7 @@ ghost use Rattle.kept_facts.specs.Kept.{AreLive, AreSettled, AreSound, board_of,
 ghost use Rattle.kept_facts.specs.Moved.{EndsLed, FactsAsked, FactsUnasked, ItemComes, ItemGoes, MakesRoom, MayCome, MayLead};
 
 use crate::lists::{arrive, ask, leave, truth_by, unask};
+use cpe_name::Wfn;
 use cpe_rows::{Mode, Truth};
 use cpe_steps::Steps;
 use cpe_values::Memory;
@@ -25,6 +31,7 @@ use std::alloc::Global;
 use std::marker::Model;
 use std::slice::from_ref;
 use std::sync::ledger::Ledger;
+use target_index::Met;
 
 /// How many names more are to be asked, and are to be there.
 #[derive(Clone, Copy, Debug)]
@@ -212,6 +219,27 @@ impl KeptFacts {
             Mode::Plain => self.plain.has(id),
             Mode::Follow => self.follow.has(id),
         }
+    }
+
+    /// The ends of items that a name in lower case covers, and those that it may cover, each once and in any order. It looks only at ends
+    /// whose product the name's meets.
+    ///
+    /// # Errors
+    /// Only that memory ran out. The bound on steps holds then, too.
+    pub fn met_ends<L: Ledger>(
+        &self,
+        alloc: Global,
+        table: &NameTable,
+        name: &Wfn,
+        steps: &mut Steps<L>,
+    ) -> Result<Met, Memory>
+        requires fits { FitBoards self.now table.now }
+        requires lower { IsLower name.now }
+        ensures covered { IfOk result (λ m. SameElements (filter (is_covered table.now name.now) (ids (target_ids self.now.follow))) m.covered.items) }
+        ensures maybe { IfOk result (λ m. SameElements (filter (is_maybe table.now name.now) (ids (target_ids self.now.follow))) m.maybe.items) }
+        ensures steps { StepsWithin steps.old steps.new (count_by (is_met table.now name.now.product) (ids (target_ids self.now.follow))) }
+    {
+        self.follow.met(alloc, table, name, steps)
     }
 
     /// The names asked in a mode whose level differs from the known one, each once.

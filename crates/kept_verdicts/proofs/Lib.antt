@@ -15,3 +15,4 @@ pub mod Foreseen
 pub mod VerdictLemmas
 pub mod TableLemmas
 pub mod Unled
+pub mod ItemsTo

@@ -5,18 +5,21 @@ use Rattle.cpe_name.specs.Eleven.{Values}
 use Rattle.name_index.specs.declared.table.NameId.{NameId}
 use Rattle.name_index.specs.Table.{Names, kept_at}
 use Rattle.numbered_names.specs.Shown.{names_at}
+use Rattle.cpe_registry.specs.Registered.{Registered}
 use Rattle.cpe_dictionary.specs.Plans.{ends_by}
 use Rattle.cpe_dictionary.specs.declared.plans.Plan.{Plan}
 use Rattle.asked_names.specs.Asked.{facts_in}
 use Rattle.kept_facts.specs.Kept.{AreLive, Boards}
 use Rattle.kept_facts.specs.Lists.{IsWide}
-use Rattle.cpe_rows.specs.Chains.{leads_to}
+use Rattle.cpe_rows.specs.Chains.{ends, leads_to}
+use Rattle.cpe_rows.specs.Lawful.{IsLawful}
+use Rattle.cpe_rows.specs.Names.{is_same}
 use Rattle.cpe_rows.specs.Rows.{Rows}
 use Rattle.cpe_rows.specs.declared.entry.Entry.{Entry}
 use Rattle.cpe_rows.specs.declared.statement.Mode.TheVariants.{Follow}
 use Rattle.cpe_applicability.specs.Board.{Judged, State, is_used, uses}
 use Rattle.followed_facts.specs.Followed.{AreLinked, ends_at, facts_at, Followed, IsUnder}
-use Rattle.kept_verdicts.specs.Kept.{AreEnds, IsLed}
+use Rattle.kept_verdicts.specs.Kept.{AreEnds, IsLed, Stands, Verdicts}
 use Rattle.kept_verdicts.specs.Telling.{AreRightBut}
 use Rattle.kept_verdicts.specs.declared.lead.Led.{Led}
 
@@ -32,6 +35,17 @@ is_in_use rows id = nat_lt 0 (count_by (uses Follow id.0) rows)
 pub record IsUnled (rows : Rows) (n : Values) : Type 0 where
   pub items : filter (λ x. leads_to rows.entries x n) rows.items ≡ []
   pub facts : filter (λ x. leads_to rows.entries x n) (facts_in Follow rows.statements) ≡ []
+
+-- registry and verdicts are those of lawful rows
+pub record AreOfRows (r : Registered) (v : Verdicts) (rows : Rows) : Type 0 where
+  pub lawful : IsLawful rows
+  pub stands : Stands r.table v rows
+  pub entries : rows.entries ≡ r.entries
+  pub items : rows.items ≡ r.items
+
+-- of the items these are those of which an end passes
+abbrev pub AreItemsTo : Rows → (Values → Bool) → List Values → Type 0
+AreItemsTo rows passes found = (n : Values) → list_any (is_same n) rows.items ≡ true → list_any (is_same n) found ≡ list_any passes (ends rows.entries n)
 
 -- the ends, and none of a fact that isn't followed
 abbrev pub ends_or_none : Option (List NameId) → List NameId

@@ -3,3 +3,4 @@ pub mod Looks
 pub mod Telling
 pub mod Putting
 pub mod Leading
+pub mod Moved

@@ -5,7 +5,6 @@ ghost use Rattle.std.specs.List.{AllByRecursion, flat_map, list_any};
 ghost use Rattle.cpe_steps.specs.Within.{StepsWithin};
 ghost use Rattle.cpe_name.specs.Eleven.{Values};
 ghost use Rattle.cpe_rows.specs.Prelude.{after, ends as ends_in, is_named, Rows, IsLawful};
-ghost use Rattle.cpe_rows.specs.Names.{is_same};
 ghost use Rattle.cpe_rows.specs.declared.edit.Edit.{Edit};
 ghost use Rattle.cpe_rows.specs.declared.entry.Entry.{Entry};
 ghost use Rattle.cpe_rows.specs.declared.statement.Mode.TheVariants.{Follow};
@@ -20,6 +19,7 @@ ghost use Rattle.kept_facts.specs.Kept.{AreLive, AreSound, FitBoards, SameBoards
 ghost use Rattle.kept_verdicts.specs.Kept.{IsLead, IsNamed, SameStatements, Stands};
 ghost use Rattle.kept_verdicts.specs.Leading.{AreLeading, ends_or_none, HasLeadRoom, is_in_use, IsPlanned, IsUnled, StayFollowed};
 ghost use Rattle.kept_verdicts.specs.Looks.{lead_looks};
+ghost use Rattle.kept_verdicts.specs.Moved.{MayForesee};
 ghost use Rattle.kept_verdicts.specs.Telling.{Stays};
 ghost use Rattle.kept_verdicts.specs.declared.lead.Led.{Led};
 
@@ -66,10 +66,7 @@ impl KeptVerdicts {
         id: NameId,
         plan: &Plan,
     ) -> Result<Lead, Memory>
-        requires live { IsLive registry.now.table id.0 }
-        requires number { position (is_named (name_in registry.now.table id)) registry.now.entries ≡ Some plan.now.number }
-        requires allowed { IsAllowed registry.now.entries plan.now.number plan.now.next }
-        requires stood { (rows : Rows) × IsLawful rows × Stands registry.now.table self.old rows × (rows.entries ≡ registry.now.entries) × (rows.items ≡ registry.now.items) }
+        requires { MayForesee registry.now self.old id plan.now }
         ensures stands { (names : Names) (rows : Rows) → Stands names self.old rows → Stands names self.new rows }
         ensures same { SameStatements self.old self.new }
         ensures lead { (rows : Rows) (left : List Entry) → IsLawful rows → Stands registry.now.table self.old rows → rows.entries ≡ registry.now.entries → rows.items ≡ registry.now.items → AreLeftBy rows.entries plan.now left
@@ -82,7 +79,7 @@ impl KeptVerdicts {
         let table = registry.table();
         table.lawful();
         let sources = registry.sources_of(alloc, id, plan.number)?;
-        let items = items_among(alloc, registry, &sources)?;
+        let items = registry.items_among(alloc, &sources)?;
         let items_from = all_ends(alloc, registry, &items)?;
         let items_to = all_ends_after(alloc, registry, plan, &items)?;
         let used = facts_among(alloc, &self.board, &sources)?;
@@ -162,28 +159,6 @@ impl KeptVerdicts {
 }
 
 // ---- what a change moves
-
-// Of names those that are items.
-//
-// # Errors
-// Only that memory ran out.
-fn items_among(
-    alloc: Global,
-    registry: &Registry,
-    sources: &[NameId],
-) -> Result<Vec<NameId>, Memory>
-    requires live { AreLive registry.now.table sources.now }
-    ensures live { IfOk result (λ v. AreLive registry.now.table v.items) }
-    ensures names { IfOk result (λ v. names_at registry.now.table v.items ≡ filter (λ s. list_any (is_same s) registry.now.items) (names_at registry.now.table sources.now)) }
-{
-    let mut items = Vec::new(alloc);
-    for source in sources {
-        if registry.has_item(*source) {
-            items.push(*source)?;
-        }
-    }
-    Ok(items)
-}
 
 // Whether a statement in mode follow refers to a name.
 fn has_users(board: &Board, fact: NameId) -> bool

@@ -7,6 +7,7 @@
 //! ([`KeptVerdicts::reserve_item`], [`KeptVerdicts::foresee`]) is made without.
 #![tactic(auto)]
 
+mod items;
 mod kept;
 pub mod law;
 mod lead;

@@ -2,7 +2,6 @@
 ghost use Rattle.std.specs.Prelude.{◌≡◌, ◌∷◌, ◌++◌, ◌+◌, ◌≤◌, ℕ, List, [], IfOk, OnErr, OnOk, None, Some, cond, count_by, false, filter, find, map, nat_eq, true};
 ghost use Rattle.std.specs.List.{AllByRecursion, flat_map, list_any};
 ghost use Rattle.std.specs.Map.{lookup};
-ghost use Rattle.cpe_steps.specs.Within.{StepsWithin};
 ghost use Rattle.cpe_rows.specs.Prelude.{after, first_some, has_id, Rows, IsLawful, without_first};
 ghost use Rattle.cpe_rows.specs.Causes.{statement_causes};
 ghost use Rattle.cpe_rows.specs.Chains.{ends};
@@ -23,8 +22,9 @@ ghost use Rattle.cpe_applicability.specs.Truths.{truth_in};
 ghost use Rattle.followed_facts.specs.Followed.{AreLinked, ends_at, has_end, OthersStay};
 ghost use Rattle.kept_facts.specs.Kept.{AreLive, AreSettled, AreSound, board_of, FitBoards, looks_by, SameBoards, ShowRows};
 ghost use Rattle.kept_facts.specs.Lists.{IsWide};
-ghost use Rattle.kept_verdicts.specs.Kept.{AreEnds, known_in, Stands, statements_in};
+ghost use Rattle.kept_verdicts.specs.Kept.{AreEnds, Stands, statements_in};
 ghost use Rattle.kept_verdicts.specs.Looks.{statement_looks};
+ghost use Rattle.kept_verdicts.specs.Moved.{StatementDropped, StatementPut};
 ghost use Rattle.kept_verdicts.specs.Putting.{AllFollowed, AreAskedFor, AreLast, AreUnused, HasLeads, IsAsked, OthersKept, StandsElse};
 
 use crate::kept::KeptVerdicts;
@@ -58,11 +58,7 @@ impl KeptVerdicts {
         requires named { names_at registry.now.table ids.now ≡ fact_names statement.test }
         requires stood { (rows : Rows) × IsLawful rows × Stands registry.now.table self.old rows × (rows.entries ≡ registry.now.entries) }
         requires none { first_some (statement_causes (statements_in self.old) statement) ≡ None }
-        ensures ok { (rows : Rows) → Stands registry.now.table self.old rows → rows.entries ≡ registry.now.entries → OnOk result (Stands registry.now.table self.new (after rows (edit.PutStatement statement))) }
-        ensures err { (rows : Rows) → Stands registry.now.table self.old rows → rows.entries ≡ registry.now.entries → OnErr result (Stands registry.now.table self.new rows) }
-        ensures steps { (rows : Rows) → Stands registry.now.table self.old rows → rows.entries ≡ registry.now.entries → StepsWithin steps.old steps.new (statement_looks rows statement) }
-        ensures rows { OnOk result (self.new.board.rows ≡ self.old.board.rows ++ put_row self.new.board statement (map (λ id. id.0) ids.now) ∷ []) }
-        ensures rows_still { OnErr result (self.new.board.rows ≡ self.old.board.rows) }
+        ensures { StatementPut registry.now self.old self.new statement ids.now steps.old steps.new result }
     {
         registry.lawful();
         let fresh = self.facts_used(alloc, statement.mode, ids, 0)?;
@@ -90,12 +86,7 @@ impl KeptVerdicts {
     ) -> Result<Vec<NameId>, Memory>
         requires stood { (rows : Rows) × IsLawful rows × Stands table.now self.old rows }
         requires has { list_any (has_id id.now) (statements_in self.old) ≡ true }
-        ensures ok { (rows : Rows) → Stands table.now self.old rows → OnOk result (Stands table.now self.new (after rows (edit.DropStatement id.now))) }
-        ensures live { IfOk result (λ ids. AreLive table.now ids.items) }
-        ensures named { (s : Statement) → find (has_id id.now) (statements_in self.old) ≡ Some s → IfOk result (λ ids. names_at table.now ids.items ≡ fact_names s.test) }
-        ensures err { OnErr result (self.new ≡ self.old) }
-        ensures steps { steps.new ≡ steps.old }
-        ensures known { OnOk result (known_in self.new ≡ map (λ j. j.was) (without_first (is_of id.now) self.old.board.rows)) }
+        ensures { StatementDropped table.now self.old self.new id.now steps.old steps.new result }
     {
         table.lawful();
         let mode = self.mode_of(id);

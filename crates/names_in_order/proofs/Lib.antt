@@ -5,4 +5,5 @@ pub mod Same
 pub mod OrderLemmas
 pub mod StayLemmas
 pub mod MarkedLemmas
+pub mod FirstLemmas
 pub mod ChangeLemmas

@@ -20,10 +20,10 @@ use Rattle.names_in_order.proofs.Rising.{sorted_filter}
 abbrev pub Slots : Type 0
 Slots = List (Option NameId)
 
-same_number : (a b : NameId) → same_id a b ≡ true → a ≡ b
+pub same_number : (a b : NameId) → same_id a b ≡ true → a ≡ b
 same_number a b h = ap name_id (eqb-true a.0 b.0 h)
 
-itself : (a : NameId) → same_id a a ≡ true
+pub itself : (a : NameId) → same_id a a ≡ true
 itself a = eq-eqb a.0 a.0 refl
 
 -- ---- the numbers of slots
@@ -43,7 +43,7 @@ slot_within [] k id e = absurd (none-some id e)
 slot_within (slot ∷ slots) zero id e = omega arith
 slot_within (slot ∷ slots) (suc k) id e = omega (arith, slot_within slots k id e)
 
-abbrev IsNowhere : NameId → Slots → Type 0
+abbrev pub IsNowhere : NameId → Slots → Type 0
 IsNowhere id slots = (k : ℕ) → get_or slots k None ≢ Some id
 
 other_number : (id x : NameId) → x ≢ id → same_id id x ≡ false
@@ -149,11 +149,11 @@ longer slots places place placed k id at = kept_more places place k id.0 (placed
 -- ---- each number by its place
 
 module _ (slots : Slots) (places : List ℕ) (placed : HavePlaces slots places) where
-  once : (j k : ℕ) (id : NameId) → get_or slots j None ≡ Some id → get_or slots k None ≡ Some id → j ≡ k
+  pub once : (j k : ℕ) (id : NameId) → get_or slots j None ≡ Some id → get_or slots k None ≡ Some id → j ≡ k
   once j k id a b = same_Some j k (sym (placed j id a) ∙ placed k id b)
 
   -- either it stands at the place that is kept, or it stands nowhere
-  found_or_nowhere : (id : NameId) (o : Option ℕ) → slice_get places id.0 ≡ o → ((k : ℕ) × (found_place slots o id ≡ Some k) × (get_or slots k None ≡ Some id)) ⊎ ((found_place slots o id ≡ None) × IsNowhere id slots)
+  pub found_or_nowhere : (id : NameId) (o : Option ℕ) → slice_get places id.0 ≡ o → ((k : ℕ) × (found_place slots o id ≡ Some k) × (get_or slots k None ≡ Some id)) ⊎ ((found_place slots o id ≡ None) × IsNowhere id slots)
   found_or_nowhere id None e = inr (refl, λ k at. none-some k (sym e ∙ placed k id at))
   found_or_nowhere id (Some p) e = by (get_or slots p None) refl
     where

@@ -2,3 +2,4 @@ pub mod Places
 pub mod Held
 pub mod InOrder
 pub mod Marked
+pub mod Laws

@@ -1,6 +1,6 @@
 -- Numbers by place, and a mark in the place of each that has gone.
-use Rattle.std.specs.Prelude.{◌≡◌, ◌≤◌, ◌<◌, ◌+◌, ◌^◌, ◌++◌, ◌∷◌, [], ℕ, Bool, false, cond, if◌then◌else◌, filter, length, take, drop, get_or, List, Option, Some, None, slice_get}
-use Rattle.std.specs.List.{cons_option, filter_map}
+use Rattle.std.specs.Prelude.{◌≡◌, ◌≤◌, ◌<◌, ◌+◌, ◌^◌, ◌++◌, ◌∷◌, [], ℕ, Bool, true, false, nat_lt, cond, if◌then◌else◌, filter, length, take, drop, get_or, List, Option, Some, None, slice_get}
+use Rattle.std.specs.List.{cons_option, filter_map, list_any}
 use Rattle.product_orders.specs.Elements.{SameElements}
 use Rattle.name_index.specs.declared.table.NameId.{NameId}
 use Rattle.names_in_order.specs.InOrder.{same_id}
@@ -35,6 +35,19 @@ standing_at slots places = filter_map (λ (k : ℕ). get_or slots k None) places
 -- those that pass a test, whatever it is, in their order, where they were found in any order
 abbrev pub PutsInOrder : List NameId → List NameId → List NameId → Type 0
 PutsInOrder numbers found ids = (p : NameId → Bool) → SameElements (filter p numbers) found → ids ≡ filter p numbers
+
+-- the earlier of two places
+abbrev pub earlier : Option ℕ → Option ℕ → Option ℕ
+earlier None place = place
+earlier (Some first) None = Some first
+earlier (Some first) (Some place) = Some (cond (nat_lt place first) place first)
+
+-- the first place at which one of these numbers stands, if there is one
+abbrev pub IsFirstPlace : List (Option NameId) → List NameId → Option ℕ → Type 0
+IsFirstPlace slots ids None = (k : ℕ) (id : NameId) → get_or slots k None ≡ Some id → list_any (same_id id) ids ≡ false
+IsFirstPlace slots ids (Some place) =
+    (id : NameId) × (get_or slots place None ≡ Some id) × (list_any (same_id id) ids ≡ true)
+    × ((k : ℕ) (other : NameId) → k < place → get_or slots k None ≡ Some other → list_any (same_id other) ids ≡ false)
 
 -- each number stands at the place that is kept of it, so none stands twice; what is kept of another number says nothing
 abbrev pub HavePlaces : List (Option NameId) → List ℕ → Type 0

@@ -1,8 +1,8 @@
 // The numbers of names in an order, of which any may go, and the place of each number.
-ghost use Rattle.std.specs.Prelude.{◌≡◌, ◌≤◌, ◌<◌, ◌+◌, ◌^◌, ◌++◌, ◌∷◌, [], IfOk, IfSome, IsSome, OnErr, OnOk, cond, false, get_or, length, set, slice_get, take, None, Some};
+ghost use Rattle.std.specs.Prelude.{◌≡◌, ◌≤◌, ◌<◌, ◌+◌, ◌^◌, ◌++◌, ◌∷◌, [], IfOk, IfSome, IsSome, OnErr, OnOk, cond, false, find, get_or, length, set, slice_get, take, None, Some};
 ghost use Rattle.std.specs.List.{IsDistinct, list_any};
 ghost use Rattle.names_in_order.specs.InOrder.{same_id};
-ghost use Rattle.names_in_order.specs.Marked.{AreClosing, AreMarked, HavePlaces, PutsInOrder, closing_numbers, found_place, is_slot_of, numbers_in, places_of, standing_at, without_first};
+ghost use Rattle.names_in_order.specs.Marked.{AreClosing, AreMarked, HavePlaces, IsFirstPlace, PutsInOrder, closing_numbers, earlier as earlier_of, found_place, is_slot_of, numbers_in, places_of, standing_at, without_first};
 
 use crate::added::PushNumber;
 use cpe_values::Memory;
@@ -81,6 +81,29 @@ fn find_place(slots: &[Option<NameId>], places: &[u32], id: NameId) -> Option<us
         Some(place) => confirmed(slots, place as usize, id),
         None => None,
     }
+}
+
+// The earlier of two places.
+fn earlier(first: Option<usize>, place: Option<usize>) -> Option<usize>
+    ensures { result ≡ earlier_of first place }
+{
+    match (first, place) {
+        (Some(one), Some(other)) => Some(if other < one { other } else { one }),
+        (Some(one), None) => Some(one),
+        (None, _) => place,
+    }
+}
+
+// The first place at which one of these numbers stands.
+fn first_place(slots: &[Option<NameId>], places: &[u32], ids: &[NameId]) -> Option<usize>
+    requires { HavePlaces slots.now places.now }
+    ensures { IsFirstPlace slots.now ids.now result }
+{
+    let mut first = None;
+    for id in ids {
+        first = earlier(first, find_place(slots, places, *id));
+    }
+    first
 }
 
 // Has a place kept for each number up to this one.
@@ -317,6 +340,16 @@ impl MarkedNumbers {
         ensures { IfOk result (λ ids. PutsInOrder self.now found.now ids.items) }
     {
         put_in_order(alloc, &self.slots, &self.places, found)
+    }
+
+    /// The first of the numbers that is one of these, if there is one. It looks at one place for each of these, and takes no memory.
+    pub fn first_of(&self, ids: &[NameId]) -> Option<NameId>
+        ensures { result ≡ find (λ id. list_any (same_id id) ids.now) self.now }
+    {
+        match first_place(&self.slots, &self.places, ids) {
+            Some(place) => slot_at(&self.slots, place),
+            None => None,
+        }
     }
 
     /// No number stands twice. It does nothing, and tells a proof so.

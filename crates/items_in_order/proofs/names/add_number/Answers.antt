@@ -1,4 +1,4 @@
-use Rattle.std.proofs.Common.{List, sym, subst, arith}
+use Rattle.std.proofs.Common.{List, rules, sym, subst, arith}
 use Rattle.name_index.specs.declared.table.NameId.{NameId}
 use Rattle.names_in_order.proofs.OrderLemmas.{not_held}
 use Rattle.names_in_order.proofs.StayLemmas.{not_there}
@@ -18,17 +18,17 @@ returns-in_err-push-clause-order c =
     subst (λ (xs : List NameId). AreItems c.args.table.now c.reserve.new.self xs) (sym c.in_err-push.ensures.err)
     (same_items c.args.table.now c.args.targets.now c.reserve.new.self c.args.numbers.now c.reserve.ensures.same c.requires.order)
 
-pub add-requires-clause-fits : goal.add-requires-clause-fits
-add-requires-clause-fits c = (same_items c.args.table.now c.args.targets.now c.reserve.new.self c.args.numbers.now c.reserve.ensures.same c.requires.order).fits
-
-pub add-requires-clause-fresh : goal.add-requires-clause-fresh
-add-requires-clause-fresh c =
-    not_held (held c.reserve.new.self) c.args.numbers.now c.args.id (same_items c.args.table.now c.args.targets.now c.reserve.new.self c.args.numbers.now c.reserve.ensures.same c.requires.order).same
-    (not_there c.args.table.now c.args.numbers.now c.args.id c.requires.fresh)
-
-pub add-requires-clause-few : goal.add-requires-clause-few
-add-requires-clause-few c =
-    omega (arith, c.if-len.false, c.len.ensures, held_count (held c.reserve.new.self) c.args.numbers.now (same_items c.args.table.now c.args.targets.now c.reserve.new.self c.args.numbers.now c.reserve.ensures.same c.requires.order).same)
+pub add-requires : goal.add-requires
+add-requires c =
+    let are = same_items c.args.table.now c.args.targets.now c.reserve.new.self c.args.numbers.now c.reserve.ensures.same c.requires.order in
+    record {
+      live = c.requires.live;
+      fits = are.fits;
+      fresh = not_held (held c.reserve.new.self) c.args.numbers.now c.args.id are.same (not_there c.args.table.now c.args.numbers.now c.args.id c.requires.fresh);
+      room = search rules;
+      product = search rules;
+      few = omega (arith, c.if-len.false, c.len.ensures, held_count (held c.reserve.new.self) c.args.numbers.now are.same);
+    }
 
 pub returns-clause-order : goal.returns-clause-order
 returns-clause-order c =

@@ -10,6 +10,14 @@ use Rattle.cpe_engine.proofs.NumberedLemmas.{after_turned}
 use Rattle.cpe_engine.proofs.PartsLemmas.{by_verdicts, same_rows}
 use Rattle.cpe_engine.proofs.parts.Parts.make_change.Goals as goal
 
+pub foresee-requires : goal.foresee-requires
+foresee-requires g c = record {
+  live = c.requires.live;
+  number = c.requires.plan.place;
+  allowed = c.requires.plan.allowed;
+  stood = (rows_in c.args.self.now, c.requires.lawful, c.requires.are.stands, refl, refl);
+}
+
 pub lead_change-requires-clause-lead : goal.lead_change-requires-clause-lead
 lead_change-requires-clause-lead g c =
     let p = c.args.self.now in

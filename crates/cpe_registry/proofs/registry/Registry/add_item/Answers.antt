@@ -1,20 +1,31 @@
-use Rattle.std.proofs.Common.{◌++◌, ◌∷◌, [], List, sym, ap, subst, ◌∙◌}
+use Rattle.std.proofs.Common.{◌≡◌, ◌++◌, ◌∷◌, [], List, sym, ap, subst, ◌∙◌}
+use Rattle.std.specs.Prelude.{OnOk}
 use Rattle.cpe_name.specs.Eleven.{Values}
+use Rattle.name_index.specs.declared.table.NameId.{NameId}
 use Rattle.names_in_order.specs.InOrder.{names_numbered}
 use Rattle.numbered_names.specs.Shown.{holds_in, Shows}
 use Rattle.cpe_dictionary.specs.Kept.{entries_in, names_of}
 use Rattle.cpe_registry.specs.Registered.{AreHeld, name_in, Registered}
-use Rattle.cpe_registry.proofs.FitLemmas.{on_ok}
+use Rattle.cpe_registry.proofs.FitLemmas.{on_err, on_ok}
 use Rattle.cpe_registry.proofs.HeldLemmas.{last_of_third}
 use Rattle.cpe_registry.proofs.registry.Registry.add_item.Goals as goal
 
-pub returns-clause-others : goal.returns-clause-others
-returns-clause-others c others held =
+pub returns : goal.returns
+returns c =
     let i = c.self.inside in
     let t = i.table in
     let id = c.args.id in
     let es = entries_in t i.dictionary in
     let items = names_numbered t i.items.numbers in
-    let shows = subst (λ (x : Registered). AreHeld x (name_in x.table id ∷ others)) (sym c.self.view_is) held in
-    let more = c.lists_are_shown.ensures.order t (holds_in t) (name_in t id ∷ (others ++ (names_of es ++ items))) (others ++ (names_of es ++ (items ++ name_in t id ∷ []))) (last_of_third (name_in t id) others (names_of es) items) shows in
-    on_ok c.push.result (λ ok. subst (λ (ns : List Values). Shows t (holds_in t) (others ++ (names_of es ++ ns))) (sym (ap (names_numbered t) ok ∙ c.orders_stay.ensures.more t i.items.numbers id)) more) c.push.ensures.ok
+    let more = c.orders_stay.ensures.more t i.items.numbers id in
+    let with_items : List NameId → Registered = λ numbers. record { table = t; entries = es; items = names_numbered t numbers } in
+    record {
+      table = ap (λ (x : Registered). x.table) c.self.view_is;
+      entries = ap (λ (x : Registered). x.entries) c.self.view_is;
+      ok = subst (λ (x : Registered). OnOk c.push.result (names_numbered t c.push.new.self.numbers ≡ x.items ++ name_in x.table id ∷ [])) c.self.view_is
+          (on_ok c.push.result (λ ok. ap (names_numbered t) ok ∙ more) c.push.ensures.ok);
+      others = λ others held. let shows = subst (λ (x : Registered). AreHeld x (name_in x.table id ∷ others)) (sym c.self.view_is) held in
+          let last = c.lists_are_shown.ensures.order t (holds_in t) (name_in t id ∷ (others ++ (names_of es ++ items))) (others ++ (names_of es ++ (items ++ name_in t id ∷ []))) (last_of_third (name_in t id) others (names_of es) items) shows in
+          on_ok c.push.result (λ ok. subst (λ (ns : List Values). Shows t (holds_in t) (others ++ (names_of es ++ ns))) (sym (ap (names_numbered t) ok ∙ more)) last) c.push.ensures.ok;
+      err = on_err c.push.result (λ e. ap with_items e ∙ c.self.view_is) c.push.ensures.err;
+    }

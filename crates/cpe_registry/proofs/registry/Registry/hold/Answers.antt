@@ -1,10 +1,11 @@
 use Rattle.std.proofs.Common.{◌++◌, ◌∷◌, sym, ap, subst, ◌∙◌}
+use Rattle.std.specs.Prelude.{IfOk}
 use Rattle.name_index.specs.declared.table.NameId.{NameId}
-use Rattle.name_index.specs.Table.{Holds}
+use Rattle.name_index.specs.Table.{Holds, Names}
 use Rattle.names_in_order.specs.InOrder.{names_numbered}
 use Rattle.cpe_dictionary.specs.Kept.{entries_in, names_of}
-use Rattle.cpe_registry.specs.Registered.{AreHeld, Registered}
-use Rattle.cpe_registry.proofs.FitLemmas.{Stays, ok_if, shows_still, stays_held}
+use Rattle.cpe_registry.specs.Registered.{AreHeld, Registered, registered}
+use Rattle.cpe_registry.proofs.FitLemmas.{Stays, held_live, held_name, if_ok, ok_if, on_err, shows_still, stays_held}
 use Rattle.cpe_registry.proofs.registry.Registry.hold.Goals as goal
 use Rattle.cpe_registry.proofs.registry.Registry.hold.Goals.{After-hold}
 
@@ -24,21 +25,23 @@ stays c =
 pub invariant_of-self : goal.invariant_of-self
 invariant_of-self c = (stays (goal.at.invariant_of-self c).After-hold).fitting
 
-pub returns-clause-entries : goal.returns-clause-entries
-returns-clause-entries c = (stays (goal.at.returns-clause-entries c).After-hold).entries ∙ ap (λ (x : Registered). x.entries) c.self.view_is
-
-pub returns-clause-items : goal.returns-clause-items
-returns-clause-items c = (stays (goal.at.returns-clause-items c).After-hold).items ∙ ap (λ (x : Registered). x.items) c.self.view_is
-
-pub returns-clause-others : goal.returns-clause-others
-returns-clause-others c others held =
+pub returns : goal.returns
+returns c =
     let i = c.self.inside in
     let old = i.table in
     let new = c.hold.new.self in
     let s = i.dictionary in
     let r = i.items in
     let name = c.args.name.now in
-    let shows = subst (λ (x : Registered). AreHeld x others) (sym c.self.view_is) held in
-    ok_if (λ (id : NameId). Holds old new id.0 name) c.hold.result
-    (λ id h. shows_still old new s r (name ∷ others) (stays (goal.at.returns-clause-others c).After-hold)
-    (c.tables_are_lists.ensures.held old new id.0 name (others ++ (names_of (entries_in old s) ++ names_numbered old r.numbers)) h shows)) c.hold.ensures.held
+    let stay = stays (goal.at.returns c).After-hold in
+    record {
+      live = if_ok c.hold.result (λ id h. held_live old new id.0 name h) c.hold.ensures.held;
+      named = if_ok c.hold.result (λ id h. held_name old new id.0 name h) c.hold.ensures.held;
+      held = subst (λ (x : Registered). IfOk c.hold.result (λ (id : NameId). Holds x.table new id.0 name)) c.self.view_is c.hold.ensures.held;
+      entries = stay.entries ∙ ap (λ (x : Registered). x.entries) c.self.view_is;
+      items = stay.items ∙ ap (λ (x : Registered). x.items) c.self.view_is;
+      others = λ others held. let shows = subst (λ (x : Registered). AreHeld x others) (sym c.self.view_is) held in
+          ok_if (λ (id : NameId). Holds old new id.0 name) c.hold.result
+          (λ id h. shows_still old new s r (name ∷ others) stay (c.tables_are_lists.ensures.held old new id.0 name (others ++ (names_of (entries_in old s) ++ names_numbered old r.numbers)) h shows)) c.hold.ensures.held;
+      err = on_err c.hold.result (λ e. ap (λ (t : Names). registered t s r) e ∙ c.self.view_is) c.hold.ensures.err;
+    }

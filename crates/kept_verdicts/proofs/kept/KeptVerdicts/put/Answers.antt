@@ -39,57 +39,44 @@ put_asked-requires-clause-stood g c =
     (sym c.table-table.ensures)
     (st.0, st.1, stands_else table v st.0 st.2, asked, plain_lead table v.followed st.0.entries s.mode c.in-Plain.is fresh live)
 
-pub returns-in-Plain-clause-ok : goal.returns-in-Plain-clause-ok
-returns-in-Plain-clause-ok g c rows stands same =
-    let table = c.args.registry.now.table in
-    let v = c.args.self.now in
-    let new = c.put_asked.new.self in
-    let s = c.args.statement in
-    let next : Rows = after rows (edit.PutStatement s) in
-    let fresh = c.deref-fresh.result.now in
-    let live = subst (AreLive table) (sym c.deref-fresh.ensures.value) (c.in_ok-fresh.ensures.live table c.requires.live) in
-    let asked = fresh_plain table c.lawful.ensures v rows stands s c.args.ids.now fresh c.requires.live live c.requires.named (λ id. ap (times_in id) c.deref-fresh.ensures.value ∙ c.in_ok-fresh.ensures.once id) c.in-Plain.is in
-    on_both c.put_asked.result (StandsElse c.table-table.result.now new next) (new.board.rows ≡ v.board.rows ++ put_row new.board s (map (λ (x : NameId). x.0) c.args.ids.now) ∷ []) (Stands table new next)
-    (λ p are. stands_whole table new next (subst (λ (n : Names). StandsElse n new next) c.table-table.ensures p)
-    (subst (AreFollowed table new.board.rows rows.entries) (sym c.put_asked.ensures.followed)
-    (subst (λ (js : List Judged). AreFollowed table js rows.entries v.followed) (sym are)
-    (put_plain table new.board v.board.rows s c.args.ids.now fresh rows.entries v.followed v.followed stands.followed c.in-Plain.is))))
-    (c.put_asked.ensures.ok rows
-    (subst (λ (n : Names). StandsElse n v rows) (sym c.table-table.ensures) (stands_else table v rows stands))
-    (subst (λ (n : Names). AreAskedFor n rows s fresh) (sym c.table-table.ensures) asked)
-    (subst (λ (n : Names). AllByRecursion (HasLeads n v.followed rows.entries s.mode) fresh) (sym c.table-table.ensures) (plain_lead table v.followed rows.entries s.mode c.in-Plain.is fresh live)))
-    c.put_asked.ensures.rows
-
-pub returns-in-Plain-clause-err : goal.returns-in-Plain-clause-err
-returns-in-Plain-clause-err g c rows stands same =
+pub returns-in-Plain : goal.returns-in-Plain
+returns-in-Plain g c =
     let table = c.args.registry.now.table in
     let v = c.args.self.now in
     let new = c.put_asked.new.self in
     let s = c.args.statement in
     let fresh = c.deref-fresh.result.now in
     let live = subst (AreLive table) (sym c.deref-fresh.ensures.value) (c.in_ok-fresh.ensures.live table c.requires.live) in
-    let asked = fresh_plain table c.lawful.ensures v rows stands s c.args.ids.now fresh c.requires.live live c.requires.named (λ id. ap (times_in id) c.deref-fresh.ensures.value ∙ c.in_ok-fresh.ensures.once id) c.in-Plain.is in
-    on_err_both c.put_asked.result (StandsElse c.table-table.result.now new rows) (new.board.rows ≡ v.board.rows) (Stands table new rows)
-    (λ p are. stands_whole table new rows (subst (λ (n : Names). StandsElse n new rows) c.table-table.ensures p)
-    (subst (AreFollowed table new.board.rows rows.entries) (sym c.put_asked.ensures.followed) (subst (λ (js : List Judged). AreFollowed table js rows.entries v.followed) (sym are) stands.followed)))
-    (c.put_asked.ensures.err rows
-    (subst (λ (n : Names). StandsElse n v rows) (sym c.table-table.ensures) (stands_else table v rows stands))
-    (subst (λ (n : Names). AreAskedFor n rows s fresh) (sym c.table-table.ensures) asked))
-    c.put_asked.ensures.rows_still
-
-pub returns-in-Plain-clause-steps : goal.returns-in-Plain-clause-steps
-returns-in-Plain-clause-steps g c rows stands same =
-    let table = c.args.registry.now.table in
-    let v = c.args.self.now in
-    let s = c.args.statement in
-    let fresh = c.deref-fresh.result.now in
-    let live = subst (AreLive table) (sym c.deref-fresh.ensures.value) (c.in_ok-fresh.ensures.live table c.requires.live) in
-    let asked = fresh_plain table c.lawful.ensures v rows stands s c.args.ids.now fresh c.requires.live live c.requires.named (λ id. ap (times_in id) c.deref-fresh.ensures.value ∙ c.in_ok-fresh.ensures.once id) c.in-Plain.is in (
-      c.put_asked.ensures.rise,
-      c.put_asked.ensures.steps rows
+    record {
+      ok = λ rows stands same. let next : Rows = after rows (edit.PutStatement s) in
+          let asked = fresh_plain table c.lawful.ensures v rows stands s c.args.ids.now fresh c.requires.live live c.requires.named (λ id. ap (times_in id) c.deref-fresh.ensures.value ∙ c.in_ok-fresh.ensures.once id) c.in-Plain.is in
+          on_both c.put_asked.result (StandsElse c.table-table.result.now new next) (new.board.rows ≡ v.board.rows ++ put_row new.board s (map (λ (x : NameId). x.0) c.args.ids.now) ∷ []) (Stands table new next)
+          (λ p are. stands_whole table new next (subst (λ (n : Names). StandsElse n new next) c.table-table.ensures p)
+          (subst (AreFollowed table new.board.rows rows.entries) (sym c.put_asked.ensures.followed)
+          (subst (λ (js : List Judged). AreFollowed table js rows.entries v.followed) (sym are)
+          (put_plain table new.board v.board.rows s c.args.ids.now fresh rows.entries v.followed v.followed stands.followed c.in-Plain.is))))
+          (c.put_asked.ensures.ok rows
           (subst (λ (n : Names). StandsElse n v rows) (sym c.table-table.ensures) (stands_else table v rows stands))
-          (subst (λ (n : Names). AreAskedFor n rows s fresh) (sym c.table-table.ensures) asked),
-    )
+          (subst (λ (n : Names). AreAskedFor n rows s fresh) (sym c.table-table.ensures) asked)
+          (subst (λ (n : Names). AllByRecursion (HasLeads n v.followed rows.entries s.mode) fresh) (sym c.table-table.ensures) (plain_lead table v.followed rows.entries s.mode c.in-Plain.is fresh live)))
+          c.put_asked.ensures.rows;
+      err = λ rows stands same. let asked = fresh_plain table c.lawful.ensures v rows stands s c.args.ids.now fresh c.requires.live live c.requires.named (λ id. ap (times_in id) c.deref-fresh.ensures.value ∙ c.in_ok-fresh.ensures.once id) c.in-Plain.is in
+          on_err_both c.put_asked.result (StandsElse c.table-table.result.now new rows) (new.board.rows ≡ v.board.rows) (Stands table new rows)
+          (λ p are. stands_whole table new rows (subst (λ (n : Names). StandsElse n new rows) c.table-table.ensures p)
+          (subst (AreFollowed table new.board.rows rows.entries) (sym c.put_asked.ensures.followed) (subst (λ (js : List Judged). AreFollowed table js rows.entries v.followed) (sym are) stands.followed)))
+          (c.put_asked.ensures.err rows
+          (subst (λ (n : Names). StandsElse n v rows) (sym c.table-table.ensures) (stands_else table v rows stands))
+          (subst (λ (n : Names). AreAskedFor n rows s fresh) (sym c.table-table.ensures) asked))
+          c.put_asked.ensures.rows_still;
+      steps = λ rows stands same. let asked = fresh_plain table c.lawful.ensures v rows stands s c.args.ids.now fresh c.requires.live live c.requires.named (λ id. ap (times_in id) c.deref-fresh.ensures.value ∙ c.in_ok-fresh.ensures.once id) c.in-Plain.is in (
+        c.put_asked.ensures.rise,
+        c.put_asked.ensures.steps rows
+            (subst (λ (n : Names). StandsElse n v rows) (sym c.table-table.ensures) (stands_else table v rows stands))
+            (subst (λ (n : Names). AreAskedFor n rows s fresh) (sym c.table-table.ensures) asked),
+      );
+      rows = c.put_asked.ensures.rows;
+      rows_still = c.put_asked.ensures.rows_still;
+    }
 
 pub put_followed-requires-clause-live_fresh : goal.put_followed-requires-clause-live_fresh
 put_followed-requires-clause-live_fresh g c =
@@ -106,5 +93,11 @@ put_followed-requires-clause-asked g c rows asked stands e =
     fresh_follow table c.lawful.ensures c.args.self.now rows stands c.args.statement c.args.ids.now c.deref-fresh.result.now c.requires.live live c.requires.named
     (λ id. ap (times_in id) c.deref-fresh.ensures.value ∙ c.in_ok-fresh.ensures.once id) c.in-Follow.is asked e
 
-pub returns-clause-steps : goal.returns-clause-steps
-returns-clause-steps g c rows stands same = (c.put_followed.ensures.rise, c.put_followed.ensures.steps rows stands same)
+pub returns : goal.returns
+returns g c = record {
+  ok = c.put_followed.ensures.ok;
+  err = c.put_followed.ensures.err;
+  steps = λ rows stands same. (c.put_followed.ensures.rise, c.put_followed.ensures.steps rows stands same);
+  rows = c.put_followed.ensures.rows;
+  rows_still = c.put_followed.ensures.rows_still;
+}

@@ -5,7 +5,7 @@ use Rattle.cpe_name.specs.Eleven.{Values}
 use Rattle.cpe_rows.specs.Chains.{ends}
 use Rattle.cpe_explain.specs.Relates.{related}
 use Rattle.cpe_explain.proofs.Elements.{any_map}
-use Rattle.cpe_engine.proofs.explained.is_met.Goals as goal
+use Rattle.cpe_engine.proofs.leading.is_met.Goals as goal
 
 pub returns : goal.returns
 returns c =

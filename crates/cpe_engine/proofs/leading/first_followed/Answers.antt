@@ -6,8 +6,8 @@ use Rattle.cpe_rows.specs.Chains.{ends}
 use Rattle.cpe_rows.specs.Verdict.{is_followed}
 use Rattle.cpe_explain.specs.Relates.{related}
 use Rattle.cpe_engine.proofs.SlotLemmas.{left_here, left_next, left_over, left_none}
-use Rattle.cpe_engine.proofs.explained.first_followed.Goals as goal
-use Rattle.cpe_engine.proofs.explained.first_followed.Goals.{in-Some+in_ok-is_met+else-branch, in_default}
+use Rattle.cpe_engine.proofs.leading.first_followed.Goals as goal
+use Rattle.cpe_engine.proofs.leading.first_followed.Goals.{in-Some+in_ok-is_met+else-branch, in_default}
 
 pub returns-then-branch : goal.returns-then-branch
 returns-then-branch c =

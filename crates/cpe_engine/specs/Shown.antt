@@ -1,0 +1,13 @@
+-- The items that fact references show by where they lead.
+use Rattle.std.specs.Prelude.{◌≡◌, List, true}
+use Rattle.std.specs.List.{list_any}
+use Rattle.cpe_name.specs.Eleven.{Values}
+use Rattle.cpe_rows.specs.Chains.{ends}
+use Rattle.cpe_rows.specs.Names.{is_same}
+use Rattle.cpe_rows.specs.Rows.{Rows}
+use Rattle.cpe_explain.specs.Relates.{related}
+use Rattle.cpe_explain.specs.declared.relates.Relates.{Relates}
+
+-- of the items these are those to an end of which one of the names stands so
+abbrev pub AreShown : Rows → Relates → List Values → List Values → Type 0
+AreShown rows relates names found = (n : Values) → list_any (is_same n) rows.items ≡ true → list_any (is_same n) found ≡ list_any (λ f. list_any (related relates f) (ends rows.entries n)) names

@@ -1,0 +1,84 @@
+-- What is so of a registry after a change of it.
+use Rattle.std.specs.Prelude.{◌≡◌, ◌∷◌, ◌++◌, [], List, Option, Result, IfOk, IfErr, OnOk, OnErr}
+use Rattle.cpe_name.specs.Eleven.{Values}
+use Rattle.cpe_rows.specs.Lawful.{IsDictionary}
+use Rattle.cpe_rows.specs.declared.entry.Deprecation.{Deprecation}
+use Rattle.cpe_rows.specs.declared.entry.Entry.{Entry}
+use Rattle.name_index.specs.declared.table.NameId.{NameId}
+use Rattle.name_index.specs.Table.{Holds, IsLive}
+use Rattle.filled_graph.specs.declared.fault.FillFault.{FillFault}
+use Rattle.filled_graph.specs.declared.fault.FillFault.TheVariants as fault
+use Rattle.cpe_dictionary.specs.Given.{each_deprecated}
+use Rattle.cpe_registry.specs.Given.{KeepsHolds}
+use Rattle.cpe_registry.specs.Registered.{AreHeld, name_in, Registered}
+
+-- A name is held once more, besides entries and items, and its number is answered; or memory ran out.
+pub record NameHeld {Fault : Type 0} (old new : Registered) (name : Values) (result : Result NameId Fault) : Type 0 where
+  -- the number is in use
+  pub live : IfOk result (λ id. IsLive new.table id.0)
+  -- by this name
+  pub named : IfOk result (λ id. name_in new.table id ≡ name)
+  -- and by one hold more than before
+  pub held : IfOk result (λ id. Holds old.table new.table id.0 name)
+  -- the entries stay
+  pub entries : new.entries ≡ old.entries
+  -- and so do the items
+  pub items : new.items ≡ old.items
+  -- to what is held besides the name comes
+  pub others : (besides : List Values) → AreHeld old besides → OnOk result (AreHeld new (name ∷ besides))
+  -- without memory all is as it was
+  pub err : OnErr result (new ≡ old)
+
+-- An entry, whose name has this number, was put last; or memory ran out.
+pub record EntryAdded {Done Fault : Type 0} (old new : Registered) (id : NameId) (entry : Entry) (result : Result Done Fault) : Type 0 where
+  -- the table stays
+  pub table : new.table ≡ old.table
+  -- and so do the items
+  pub items : new.items ≡ old.items
+  -- the entry is the last one
+  pub ok : OnOk result (new.entries ≡ old.entries ++ entry ∷ [])
+  -- and has a hold of its name that was held besides
+  pub others : (besides : List Values) → AreHeld old (name_in old.table id ∷ besides) → OnOk result (AreHeld new besides)
+  -- without memory all is as it was
+  pub err : OnErr result (new ≡ old)
+
+-- An entry was changed, so that the entries are these; or memory ran out.
+pub record EntryChanged {Done Fault : Type 0} (old new : Registered) (changed : List Entry) (result : Result Done Fault) : Type 0 where
+  -- the table stays
+  pub table : new.table ≡ old.table
+  -- and so do the items
+  pub items : new.items ≡ old.items
+  -- the entries are these
+  pub ok : OnOk result (new.entries ≡ changed)
+  -- what is held besides stays so
+  pub others : KeepsHolds old new
+  -- without memory all is as it was
+  pub err : OnErr result (new ≡ old)
+
+-- Each entry was given the deprecation at its place, or none; or they would be no lawful dictionary, or memory ran out.
+pub record AllDeprecated {Done : Type 0} (old new : Registered) (deprecations : List (Option Deprecation)) (result : Result Done FillFault) : Type 0 where
+  -- the table stays
+  pub table : new.table ≡ old.table
+  -- and so do the items
+  pub items : new.items ≡ old.items
+  -- each entry has what it was given
+  pub ok : OnOk result (new.entries ≡ each_deprecated old.entries deprecations)
+  -- what is held besides stays so
+  pub others : KeepsHolds old new
+  -- what is refused as unlawful is no lawful dictionary
+  pub unlawful : IfErr result (λ f. f ≡ fault.Unlawful → IsDictionary (each_deprecated old.entries deprecations) → ⊥)
+  -- what is refused leaves all as it was
+  pub err : OnErr result (new ≡ old)
+
+-- An item, whose name has this number, was put last; or memory ran out.
+pub record ItemAdded {Done Fault : Type 0} (old new : Registered) (id : NameId) (result : Result Done Fault) : Type 0 where
+  -- the table stays
+  pub table : new.table ≡ old.table
+  -- and so do the entries
+  pub entries : new.entries ≡ old.entries
+  -- the item is the last one
+  pub ok : OnOk result (new.items ≡ old.items ++ name_in old.table id ∷ [])
+  -- and has a hold of its name that was held besides
+  pub others : (besides : List Values) → AreHeld old (name_in old.table id ∷ besides) → OnOk result (AreHeld new besides)
+  -- without memory all is as it was
+  pub err : OnErr result (new ≡ old)
