@@ -4,6 +4,7 @@ mod RowLemmas
 mod LoopLemmas
 mod EditLemmas
 mod MeantLemmas
+mod RunLemmas
 mod PartsRead
 mod ReadLemmas
 mod EntriesLemmas

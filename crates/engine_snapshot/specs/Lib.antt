@@ -2,4 +2,5 @@ pub mod Plain
 pub mod Begun
 pub mod Meant
 pub mod Read
+pub mod Runs
 pub mod Within

@@ -15,6 +15,7 @@ mod parted;
 mod puts;
 mod read;
 mod rows;
+mod runs;
 mod texts;
 mod write;
 

@@ -5,11 +5,11 @@ ghost use Rattle.cpe_snapshot.specs.Reading.{entry_at, many, name_at, result_at,
 ghost use Rattle.engine_snapshot.specs.Begun.{AreFine, with_items, with_statements};
 ghost use Rattle.engine_snapshot.specs.Read.{AreEntriesPut, ArePut, NonePut, with_placed, with_results};
 
-use crate::boxed::BoxedDeprecation;
 use crate::puts::{put_entry, put_item, put_result, put_statement};
+use crate::runs::PlacedDeprecations;
 use cpe_engine::Engine;
 use cpe_name::Wfn;
-use cpe_rows::{List, Statement};
+use cpe_rows::Statement;
 use cpe_snapshot::{Cursor, KeptResult, LoadFault, Part, PlacedEntry};
 use cpe_steps::Steps;
 use std::alloc::Global;
@@ -21,7 +21,7 @@ pub(crate) fn read_entries<L: Ledger>(
     cursor: &mut Cursor<'_>,
     count: u32,
     engine: &mut Engine,
-    deprecations: &mut List<Option<BoxedDeprecation>>,
+    deprecations: &mut PlacedDeprecations,
     steps: &mut Steps<L>,
 ) -> Result<(), LoadFault>
     requires { deprecations.old ≡ [] }

@@ -1,6 +1,5 @@
 // The deprecations that are meant by places of entries, once an engine has these entries as active ones.
-ghost use Rattle.std.specs.Prelude.{◌≡◌, IfErr, IfOk, List as Items, None, Option as Perhaps, Some, is_none, length, map};
-ghost use Rattle.std.specs.List.{list_all};
+ghost use Rattle.std.specs.Prelude.{◌≡◌, IfErr, IfOk, List as Items, None, Option as Perhaps, Some, length, map};
 ghost use Rattle.cpe_name.specs.Eleven.{Values};
 ghost use Rattle.cpe_rows.specs.Prelude.{IsLawful};
 ghost use Rattle.cpe_rows.specs.declared.entry.Deprecation.{Deprecation as DeprecationRow};
@@ -9,6 +8,7 @@ ghost use Rattle.cpe_snapshot.specs.States.{AreNamed, IsMeantDeprecation};
 ghost use Rattle.engine_snapshot.specs.Meant.{AreGiven, AreMeantDeprecations, name_in, undeprecated};
 
 use crate::boxed::BoxedDeprecation;
+use crate::runs::PlacedDeprecations;
 use cpe_engine::{AdoptFault, Engine};
 use cpe_name::Wfn;
 use cpe_rows::{Deprecation, List};
@@ -93,7 +93,7 @@ fn deprecations_of(
 }
 
 // The same, where the places are let go.
-fn named(
+fn named_in(
     alloc: Global,
     engine: &Engine,
     all: List<Option<BoxedDeprecation>>,
@@ -106,10 +106,19 @@ fn named(
     deprecations
 }
 
-fn are_none(all: &[Option<BoxedDeprecation>]) -> bool
-    ensures { result ≡ list_all is_none all.now }
+// The same, where entries without one are counted.
+fn named(
+    alloc: Global,
+    engine: &Engine,
+    all: PlacedDeprecations,
+) -> Result<List<Option<Deprecation>>, LoadFault>
+    ensures meant { IfOk result (λ ds. AreMeantDeprecations (map undeprecated engine.now.entries) all ds) }
+    ensures refused { IfErr result (λ f. f ≡ LoadFault.NotSnapshot → (ds : Items (Perhaps DeprecationRow)) → AreMeantDeprecations (map undeprecated engine.now.entries) all ds → ⊥) }
 {
-    all.iter().all(|placed| placed.is_none())
+    match all.into_list(alloc) {
+        Ok(each) => named_in(alloc, engine, each),
+        Err(_) => Err(LoadFault::Memory),
+    }
 }
 
 // Lets an engine go that has some of the rows.
@@ -145,14 +154,14 @@ fn deprecate_all(
 pub(crate) fn give_all(
     alloc: Global,
     engine: Engine,
-    all: List<Option<BoxedDeprecation>>,
+    all: PlacedDeprecations,
 ) -> Result<Engine, LoadFault>
     requires bare { IsBare engine }
     requires even { length all ≡ length engine.entries }
     ensures ok { IfOk result (AreGiven engine all) }
     ensures refused { IfErr result (λ f. f ≡ LoadFault.NotSnapshot → (ds : Items (Perhaps DeprecationRow)) → AreMeantDeprecations (map undeprecated engine.entries) all ds → IsLawful (with_deprecations engine ds) → ⊥) }
 {
-    if are_none(all.as_slice()) {
+    if all.are_none() {
         drop(all);
         return Ok(engine);
     }

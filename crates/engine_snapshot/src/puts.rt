@@ -1,18 +1,17 @@
 // Rows that an engine puts as they are read, one at a time.
-ghost use Rattle.std.specs.Prelude.{◌≡◌, ◌++◌, ◌∷◌, [], IfErr, IfOk, OnOk, true};
+ghost use Rattle.std.specs.Prelude.{◌≡◌, ◌++◌, ◌∷◌, [], IfErr, OnOk, true};
 ghost use Rattle.cpe_rows.specs.Prelude.{after, is_valid_edit, IsLawful};
 ghost use Rattle.cpe_rows.specs.Names.{is_lower};
 ghost use Rattle.engine_snapshot.specs.Begun.{AreFine, IsTaken, with_items, with_statements};
 ghost use Rattle.engine_snapshot.specs.Read.{NotAfter, with_placed, with_results};
 
-use crate::boxed::BoxedDeprecation;
 use crate::edits::{add_check, make, make_valid};
+use crate::runs::PlacedDeprecations;
 use cpe_engine::{AdoptFault, Engine};
 use cpe_name::Wfn;
-use cpe_rows::{Edit, Entry, List, Statement};
+use cpe_rows::{Edit, Entry, Statement};
 use cpe_snapshot::{KeptResult, LoadFault, PlacedDeprecation, PlacedEntry};
 use cpe_steps::Steps;
-use cpe_values::Memory;
 use std::alloc::Global;
 use std::sync::ledger::Ledger;
 
@@ -29,34 +28,6 @@ fn put<L: Ledger>(engine: &mut Engine, edit: Edit, steps: &mut Steps<L>) -> Resu
     }
 }
 
-// The deprecation in memory of its own, if it is one.
-fn boxed(
-    alloc: Global,
-    deprecation: Option<PlacedDeprecation>,
-) -> Result<Option<BoxedDeprecation>, Memory>
-    ensures { IfOk result (λ b. b ≡ deprecation) }
-{
-    match deprecation {
-        Some(placed) => match BoxedDeprecation::new(alloc, placed) {
-            Ok(placed) => Ok(Some(placed)),
-            Err(memory) => Err(memory),
-        },
-        None => Ok(None),
-    }
-}
-
-// Puts the deprecation of an entry behind those of the entries before it.
-fn push_boxed(
-    alloc: Global,
-    deprecations: &mut List<Option<BoxedDeprecation>>,
-    deprecation: Option<PlacedDeprecation>,
-) -> Result<(), Memory>
-    ensures { OnOk result (deprecations.new ≡ deprecations.old ++ deprecation ∷ []) }
-{
-    let deprecation = boxed(alloc, deprecation)?;
-    deprecations.push(deprecation)
-}
-
 // Lets the deprecation of an entry go that isn't put.
 fn let_go(deprecation: Option<PlacedDeprecation>, fault: LoadFault) -> LoadFault
     ensures { result ≡ fault }
@@ -70,7 +41,7 @@ fn let_go(deprecation: Option<PlacedDeprecation>, fault: LoadFault) -> LoadFault
 pub(crate) fn put_entry<L: Ledger>(
     alloc: Global,
     engine: &mut Engine,
-    deprecations: &mut List<Option<BoxedDeprecation>>,
+    deprecations: &mut PlacedDeprecations,
     placed: PlacedEntry,
     steps: &mut Steps<L>,
 ) -> Result<(), LoadFault>
@@ -92,7 +63,7 @@ pub(crate) fn put_entry<L: Ledger>(
         deprecation: None,
     };
     match put(engine, Edit::Entry(entry), steps) {
-        Ok(()) => match push_boxed(alloc, deprecations, deprecation) {
+        Ok(()) => match deprecations.push(alloc, deprecation) {
             Ok(()) => Ok(()),
             Err(_) => Err(LoadFault::Memory),
         },

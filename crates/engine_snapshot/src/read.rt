@@ -6,12 +6,11 @@ ghost use Rattle.cpe_snapshot.specs.Reading.{entry_at, many};
 ghost use Rattle.cpe_snapshot.specs.States.{Snap};
 ghost use Rattle.engine_snapshot.specs.Read.{AreEntriesLoaded, NoEntries, Others, with_others};
 
-use crate::boxed::BoxedDeprecation;
 use crate::law;
 use crate::loops::{read_entries, read_items, read_results, read_statements};
 use crate::meant::give_all;
+use crate::runs::PlacedDeprecations;
 use cpe_engine::Engine;
-use cpe_rows::List;
 use cpe_snapshot::{Cursor, Head, LoadFault, read_head};
 use cpe_steps::Steps;
 use std::alloc::Global;
@@ -29,11 +28,7 @@ fn let_go(engine: Engine, fault: LoadFault) -> LoadFault
 }
 
 // The same with deprecations that it has not got.
-fn let_both_go(
-    engine: Engine,
-    deprecations: List<Option<BoxedDeprecation>>,
-    fault: LoadFault,
-) -> LoadFault
+fn let_both_go(engine: Engine, deprecations: PlacedDeprecations, fault: LoadFault) -> LoadFault
     ensures { result ≡ fault }
 {
     drop(deprecations);
@@ -52,7 +47,7 @@ fn load_entries<L: Ledger>(
     ensures refused { IfErr result (λ f. f ≡ LoadFault.NotSnapshot → NoEntries (many entry_at count cursor.old)) }
 {
     let mut engine = Engine::new(alloc);
-    let mut deprecations = List::new(alloc);
+    let mut deprecations = PlacedDeprecations::new(alloc);
     match read_entries(alloc, cursor, count, &mut engine, &mut deprecations, steps) {
         Ok(()) => give_all(alloc, engine, deprecations),
         Err(fault) => Err(let_both_go(engine, deprecations, fault)),

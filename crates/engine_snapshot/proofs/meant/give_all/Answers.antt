@@ -1,6 +1,4 @@
-use Rattle.std.proofs.Common.{List, Option, ap, map, subst, sym, ◌∙◌}
-use Rattle.std.specs.Prelude.{is_none}
-use Rattle.std.specs.List.{list_all}
+use Rattle.std.proofs.Common.{List, Option, map, subst, sym, ◌∙◌}
 use Rattle.std.proofs.lemmas.Result.{IfErr-weaker, IfOk-weaker}
 use Rattle.cpe_rows.specs.Lawful.{IsLawful}
 use Rattle.cpe_rows.specs.declared.entry.Deprecation.{Deprecation}
@@ -11,7 +9,7 @@ use Rattle.engine_snapshot.proofs.MeantLemmas.{even_meant, meant_once}
 use Rattle.engine_snapshot.proofs.meant.give_all.Goals as goal
 
 pub returns-then-are_none-clause-ok : goal.returns-then-are_none-clause-ok
-returns-then-are_none-clause-ok c = none_are_given c.args.engine c.args.all c.requires.bare (ap (list_all is_none) (sym c.as_slice.ensures) ∙ sym c.are_none.ensures ∙ c.if-are_none.true)
+returns-then-are_none-clause-ok c = none_are_given c.args.engine c.args.all c.requires.bare (c.are_none.ensures c.if-are_none.true)
 
 pub deprecate_all-requires-clause-even : goal.deprecate_all-requires-clause-even
 deprecate_all-requires-clause-even c =

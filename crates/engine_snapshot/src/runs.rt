@@ -1,0 +1,152 @@
+// The deprecations of entries in their order. An entry that has none takes no memory.
+ghost use Rattle.std.specs.Prelude.{◌≡◌, ◌++◌, ◌∷◌, [], IfOk, None, OnOk, Some, is_none, replicate, true};
+ghost use Rattle.std.specs.List.{flat_map, list_all};
+ghost use Rattle.engine_snapshot.specs.Runs.{deprecations_in, run_of};
+
+use crate::boxed::BoxedDeprecation;
+use cpe_rows::List;
+use cpe_snapshot::PlacedDeprecation;
+use cpe_values::Memory;
+use std::alloc::Global;
+use std::marker::Model;
+
+/// An entry that is deprecated, and how many stand right before it that aren't.
+#[derive(Drop)]
+pub(crate) struct Run {
+    active: usize,
+    deprecation: BoxedDeprecation,
+}
+
+/// A deprecation, or none, for each entry, in their order: few entries have one, and entries are read by the million.
+///
+/// Contracts see the list of them.
+#[derive(Drop)]
+pub(crate) struct PlacedDeprecations {
+    runs: List<Run>,
+    // How many stand after the last that is deprecated.
+    active: usize,
+}
+
+impl Model for PlacedDeprecations {
+    ghost use Rattle.std.specs.Prelude.{List, Option};
+    ghost use Rattle.cpe_snapshot.specs.declared.rows.PlacedDeprecation.{PlacedDeprecation as PlacedRow};
+    ghost use Rattle.engine_snapshot.specs.Runs.{deprecations_in};
+
+    ghost Value = { List (Option PlacedRow) };
+
+    ghost view = { λ d. deprecations_in d.runs d.active };
+}
+
+// Puts so many entries last that have none.
+fn push_none(all: &mut List<Option<BoxedDeprecation>>, count: usize) -> Result<(), Memory>
+    ensures { OnOk result (all.new ≡ all.old ++ replicate count None) }
+{
+    for _ in 0..count {
+        all.push(None)?;
+    }
+    Ok(())
+}
+
+// Puts the entries of a run last.
+fn push_run(all: &mut List<Option<BoxedDeprecation>>, run: Run) -> Result<(), Memory>
+    ensures { OnOk result (all.new ≡ all.old ++ run_of run) }
+{
+    let Run {
+        active,
+        deprecation,
+    } = run;
+    match push_none(all, active) {
+        Ok(()) => all.push(Some(deprecation)),
+        Err(memory) => Err(let_go(deprecation, memory)),
+    }
+}
+
+// Lets a deprecation go for which memory ran out.
+fn let_go(deprecation: BoxedDeprecation, memory: Memory) -> Memory {
+    drop(deprecation);
+    memory
+}
+
+// Puts the entries of all runs last.
+fn push_runs(all: &mut List<Option<BoxedDeprecation>>, runs: List<Run>) -> Result<(), Memory>
+    ensures { OnOk result (all.new ≡ all.old ++ flat_map run_of runs) }
+{
+    for run in runs.into_vec() {
+        push_run(all, run)?;
+    }
+    Ok(())
+}
+
+impl PlacedDeprecations {
+    /// Those of no entries. It takes no memory.
+    pub(crate) fn new(alloc: Global) -> PlacedDeprecations
+        ensures { result ≡ [] }
+    {
+        PlacedDeprecations {
+            runs: List::new(alloc),
+            active: 0,
+        }
+    }
+
+    /// Puts the deprecation of the next entry last, or that it has none, which takes no memory.
+    ///
+    /// # Errors
+    /// Only that memory ran out.
+    pub(crate) fn push(
+        &mut self,
+        alloc: Global,
+        deprecation: Option<PlacedDeprecation>,
+    ) -> Result<(), Memory>
+        ensures { OnOk result (self.new ≡ self.old ++ deprecation ∷ []) }
+    {
+        match deprecation {
+            Some(placed) => self.push_run(alloc, placed),
+            None => self.count_active(),
+        }
+    }
+
+    // One entry more that has none.
+    fn count_active(&mut self) -> Result<(), Memory>
+        ensures { OnOk result (self.new ≡ self.old ++ None ∷ []) }
+    {
+        if self.active == usize::MAX {
+            return Err(Memory);
+        }
+        self.active += 1;
+        Ok(())
+    }
+
+    // One entry more that has this one.
+    fn push_run(&mut self, alloc: Global, placed: PlacedDeprecation) -> Result<(), Memory>
+        ensures { OnOk result (self.new ≡ self.old ++ Some placed ∷ []) }
+    {
+        let deprecation = BoxedDeprecation::new(alloc, placed)?;
+        self.runs.push(Run {
+            active: self.active,
+            deprecation,
+        })?;
+        self.active = 0;
+        Ok(())
+    }
+
+    /// Whether it is known without a look at each that there are none.
+    pub(crate) fn are_none(&self) -> bool
+        ensures { result ≡ true → list_all is_none self.now ≡ true }
+    {
+        self.runs.len() == 0
+    }
+
+    /// The list of them.
+    ///
+    /// # Errors
+    /// Only that memory ran out.
+    pub(crate) fn into_list(self, alloc: Global) -> Result<List<Option<BoxedDeprecation>>, Memory>
+        ensures { IfOk result (λ all. all ≡ self) }
+    {
+        let PlacedDeprecations { runs, active } = self;
+        let mut all = List::new(alloc);
+        push_runs(&mut all, runs)?;
+        push_none(&mut all, active)?;
+        Ok(all)
+    }
+}
