@@ -923,13 +923,13 @@ fails_in_mid_read_as_made() {
 
 # Records about the greatest length of a line, and nesting as deep as a line is long.
 answers_long_records() {
-    front='{"do":"entry","name":"cpe:/a:v:p","title":"'
-    room_of_title=$((65536 - ${#front} - 2))
+    prefix='{"do":"entry","name":"cpe:/a:v:p","title":"'
+    room_of_title=$((65536 - ${#prefix} - 2))
     show='{"do":"show","name":"cpe:/a:v:p"}'
     {
-        printf '%s%s"}\n%s\n' "$front" "$(letters $((room_of_title + 1)))" "$show"
-        printf '%s%s"}\r\n%s\n' "$front" "$(letters "$room_of_title")" "$show"
-        printf '%s%s"}\n%s\n' "$front" "$(letters "$room_of_title")" "$show"
+        printf '%s%s"}\n%s\n' "$prefix" "$(letters $((room_of_title + 1)))" "$show"
+        printf '%s%s"}\r\n%s\n' "$prefix" "$(letters "$room_of_title")" "$show"
+        printf '%s%s"}\n%s\n' "$prefix" "$(letters "$room_of_title")" "$show"
         printf '%s%s\n' "$show" "$(letters $((65536 - ${#show})) | tr a ' ')"
         printf '%s %s\n' "$show" "$(letters $((65536 - ${#show})) | tr a ' ')"
         letters 65536 | tr a '['

@@ -84,7 +84,7 @@ class Program:
             elif number not in reasons:
                 records.append(one.record)
             elif reasons[number] != unsaid:
-                said.left_out(one.id, f"{reasons[number]}: {front(one.record)}")
+                said.left_out(one.id, f"{reasons[number]}: {prefix_of(one.record)}")
         return records
 
 
@@ -137,6 +137,6 @@ def refusals(lines: Iterable[str]) -> dict[int, str]:
     return found
 
 
-def front(record: str) -> str:
+def prefix_of(record: str) -> str:
     """A record, or its beginning where it is long."""
     return record if len(record) <= _MOST_SHOWN else f"{record[:_MOST_SHOWN]}..."

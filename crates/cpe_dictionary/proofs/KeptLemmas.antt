@@ -37,9 +37,9 @@ found_at n active_only es =
 abbrev pub wanted_rows : Bool → List Entry → List Row
 wanted_rows active_only es = map row_of (filter (is_wanted active_only) es)
 
-front : (b : Bool) (e : Entry) (xs : List Entry) → map row_of (cond b (e ∷ xs) xs) ≡ map row_of (cond b (e ∷ []) []) ++ map row_of xs
-front true e xs = refl
-front false e xs = refl
+prefix : (b : Bool) (e : Entry) (xs : List Entry) → map row_of (cond b (e ∷ xs) xs) ≡ map row_of (cond b (e ∷ []) []) ++ map row_of xs
+prefix true e xs = refl
+prefix false e xs = refl
 
 pub wanted_rows-cons : (active_only : Bool) (e : Entry) (es : List Entry) → wanted_rows active_only (e ∷ es) ≡ wanted_rows active_only (e ∷ []) ++ wanted_rows active_only es
-wanted_rows-cons active_only e es = front (is_wanted active_only e) e (filter (is_wanted active_only) es)
+wanted_rows-cons active_only e es = prefix (is_wanted active_only e) e (filter (is_wanted active_only) es)

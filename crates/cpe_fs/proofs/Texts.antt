@@ -50,7 +50,7 @@ led_text lead u good stem =
 
 starred : (u : List ℕ) → Joined (OneOf is_star) (Either IsStem Empty) u → IsSpan u
 starred u j =
-    let star : j.front ≡ 42 ∷ [] = j.first.is ∙ ap (λ (d : ℕ). d ∷ []) (eqb-true j.first.byte 42 j.first.passed) in
+    let star : j.prefix ≡ 42 ∷ [] = j.first.is ∙ ap (λ (d : ℕ). d ∷ []) (eqb-true j.first.byte 42 j.first.passed) in
     let is : u ≡ 42 ∷ j.back = j.is ∙ ap (λ (v : List ℕ). v ++ j.back) star in
     elim (j.second) [
       | inl stem ↦ subst IsSpan (sym is) (led_text edge.Star j.back tt stem)

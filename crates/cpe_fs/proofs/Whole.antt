@@ -79,12 +79,12 @@ record AreFields (which : List Attribute) (u : List ℕ) : Type 0 where
 
 more_fields : (a : Attribute) (rest : List Attribute) (u : List ℕ) → Joined (Joined (OneOf is_colon) (IsComponent a)) (AreFields rest) u → AreFields (a ∷ rest) u
 more_fields a rest u j =
-    let colon : j.first.front ≡ 58 ∷ [] = j.first.first.is ∙ ap (λ (d : ℕ). d ∷ []) (eqb-true j.first.first.byte 58 j.first.first.passed) in
-    let front : j.front ≡ field j.first.second.value = j.first.is ∙ ap (λ (w : List ℕ). w ++ j.first.back) colon ∙ ap (λ (w : List ℕ). 58 ∷ w) j.first.second.is in
+    let colon : j.first.prefix ≡ 58 ∷ [] = j.first.first.is ∙ ap (λ (d : ℕ). d ∷ []) (eqb-true j.first.first.byte 58 j.first.first.passed) in
+    let start_taken : j.prefix ≡ field j.first.second.value = j.first.is ∙ ap (λ (w : List ℕ). w ++ j.first.back) colon ∙ ap (λ (w : List ℕ). 58 ∷ w) j.first.second.is in
     record {
       values = j.first.second.value ∷ j.second.values;
       suit = (j.first.second.suits, j.second.suit);
-      is = j.is ∙ ap (λ (w : List ℕ). w ++ j.back) front ∙ ap (λ (w : List ℕ). field j.first.second.value ++ w) j.second.is;
+      is = j.is ∙ ap (λ (w : List ℕ). w ++ j.back) start_taken ∙ ap (λ (w : List ℕ). field j.first.second.value ++ w) j.second.is;
     }
 
 any_fields : (which : List Attribute) → AreFields which (fields_text (map (λ a. value.Any) which))
@@ -203,7 +203,7 @@ whole_scans =
     (both_scans (Only prefix) (Joined (AreFields attributes) Empty) (literal prefix) (both (fields_end attributes) ending) (literal_scans prefix)
     (both_scans (AreFields attributes) Empty (fields_end attributes) ending (fields_scans attributes) ending_scans [] refl)
     (fields_text (map (λ a. value.Any) attributes))
-    (record { front = fields_text (map (λ a. value.Any) attributes); back = []; is = sym (append-nil (fields_text (map (λ a. value.Any) attributes))); first = any; second = refl }))
+    (record { prefix = fields_text (map (λ a. value.Any) attributes); back = []; is = sym (append-nil (fields_text (map (λ a. value.Any) attributes))); first = any; second = refl }))
 
 ending_empty : (s rest : List ℕ) → ending s ≡ Ok rest → rest ≡ []
 ending_empty [] rest e = sym (ok_is [] rest e)
@@ -254,11 +254,11 @@ map_values w = refl
 pub found : (s fields rest : List ℕ) (c : Written) → literal prefix s ≡ Ok fields → fields_end attributes fields ≡ Ok rest → eqb (length rest) 0 ≡ true → texts c ≡ components_at attributes fields → AreComponents s c
 found s fields rest c start taken over are =
     let empty : rest ≡ [] = nil_from_length rest (eqb-true (length rest) 0 over) in
-    let front = (literal_scans prefix).takes s fields start in
+    let start_taken = (literal_scans prefix).takes s fields start in
     let back = (fields_scans attributes).takes fields rest taken in
     let vs = back.lawful.values in
     let text : fields ≡ fields_text vs = back.cut ∙ ap (λ (w : List ℕ). w ++ rest) back.lawful.is ∙ ap (λ (w : List ℕ). fields_text vs ++ w) empty ∙ append-nil (fields_text vs) in
-    let whole : s ≡ prefix ++ fields_text vs = front.cut ∙ ap (λ (w : List ℕ). w ++ fields) front.lawful ∙ ap (λ (w : List ℕ). prefix ++ w) text in
+    let whole : s ≡ prefix ++ fields_text vs = start_taken.cut ∙ ap (λ (w : List ℕ). w ++ fields) start_taken.lawful ∙ ap (λ (w : List ℕ). prefix ++ w) text in
     let there : texts c ≡ map component vs = are ∙ ap (components_at attributes) (text ∙ sym (append-nil (fields_text vs))) ∙ components_there attributes vs [] back.lawful.suit tt in
     record {
       name = named vs;

@@ -9,7 +9,7 @@ ghost use Rattle.cpe_name.specs.Spans.{texts};
 ghost use Rattle.cpe_fs.specs.Scanning.{is_hyphen, led_end, text_end, part_end, language_end, field_end, fields_end, any_tail};
 ghost use Rattle.cpe_fs.specs.Spans.{AreComponents, LeavesRest, behind_field, component_at, components_at, any_components};
 
-use cpe_grammar::{front_of, scan_byte, scan_literal};
+use cpe_grammar::{prefix_of, scan_byte, scan_literal};
 use cpe_name::{Hyphen, Written, scan_language_tag};
 use cpe_spelling::{scan_edge, scan_stem, starts_body};
 use cpe_values::Style;
@@ -127,7 +127,7 @@ fn scan_field<C: Component>(bytes: &[u8]) -> Result<(&[u8], &[u8]), usize>
 {
     let start = scan_byte(b':', bytes)?;
     let rest = C::scan(start)?;
-    Ok((front_of(start, rest), rest))
+    Ok((prefix_of(start, rest), rest))
 }
 
 // What follows the version of most names: seven times ANY.

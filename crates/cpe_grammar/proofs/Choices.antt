@@ -10,9 +10,9 @@ pub record Unled (passes : ℕ → Bool) (M : List ℕ → Type 0) (c : List ℕ
   pub head : HeadFails passes c
 
 module _ (passes : ℕ → Bool) (L M : List ℕ → Type 0) (p q : Scanner) (P : Scans L p) (Q : Scans M q) (none : M []) where
-  front_fails : (u r : List ℕ) (c : ℕ) (s : List ℕ) → c ∷ s ≡ u ++ r → passes c ≡ false → HeadFails passes u
-  front_fails [] r c s cut h = tt
-  front_fails (x ∷ u) r c s cut h = let is : c ≡ x = cc in subst (λ (d : ℕ). passes d ≡ false) is h
+  prefix_fails : (u r : List ℕ) (c : ℕ) (s : List ℕ) → c ∷ s ≡ u ++ r → passes c ≡ false → HeadFails passes u
+  prefix_fails [] r c s cut h = tt
+  prefix_fails (x ∷ u) r c s cut h = let is : c ≡ x = cc in subst (λ (d : ℕ). passes d ≡ false) is h
 
   unled_takes : (s r : List ℕ) → choose passes p q s ≡ Ok r → Takes (Either L (Unled passes M)) s r
   unled_takes [] r e = let a = Q.takes [] r e in record { taken = a.taken; cut = a.cut; lawful = inr (record { lawful = a.lawful; head = nothing_fails a.taken r a.cut }) } where
@@ -22,55 +22,55 @@ module _ (passes : ℕ → Bool) (L M : List ℕ → Type 0) (p q : Scanner) (P 
   unled_takes (c ∷ s) r e =
       elim (chosen (passes c) (p (c ∷ s)) (q (c ∷ s)) (left_over r) e) [
         | inl h ↦ let a = P.takes (c ∷ s) r h.1 in record { taken = a.taken; cut = a.cut; lawful = inl a.lawful }
-        | inr h ↦ let a = Q.takes (c ∷ s) r h.1 in record { taken = a.taken; cut = a.cut; lawful = inr (record { lawful = a.lawful; head = front_fails a.taken r c s a.cut h.0 }) }
+        | inr h ↦ let a = Q.takes (c ∷ s) r h.1 in record { taken = a.taken; cut = a.cut; lawful = inr (record { lawful = a.lawful; head = prefix_fails a.taken r c s a.cut h.0 }) }
       ]
 
   -- where nothing was taken the empty text goes on
-  record GoesOn (front : List ℕ) : Type 0 where
+  record GoesOn (prefix : List ℕ) : Type 0 where
     more : List ℕ
-    there : Unled passes M (front ++ more)
+    there : Unled passes M (prefix ++ more)
 
-  goes_on : (front rest more s : List ℕ) (c : ℕ) → c ∷ s ≡ front ++ rest → passes c ≡ false → M (front ++ more) → GoesOn front
+  goes_on : (prefix rest more s : List ℕ) (c : ℕ) → c ∷ s ≡ prefix ++ rest → passes c ≡ false → M (prefix ++ more) → GoesOn prefix
   goes_on [] rest more s c cut h on = record { more = []; there = record { lawful = none; head = tt } }
-  goes_on (x ∷ front) rest more s c cut h on = let is : c ≡ x = cc in record { more = more; there = record { lawful = on; head = subst (λ (d : ℕ). passes d ≡ false) is h } }
+  goes_on (x ∷ prefix) rest more s c cut h on = let is : c ≡ x = cc in record { more = more; there = record { lawful = on; head = subst (λ (d : ℕ). passes d ≡ false) is h } }
 
   unled_stops : (s : List ℕ) (left : ℕ) → choose passes p q s ≡ Err left → Stops (Either L (Unled passes M)) (choose passes p q) s left
   unled_stops [] left e = let a = Q.stops [] left e in record {
-    front = [];
+    prefix = [];
     rest = [];
     cut = refl;
-    left_is = a.left_is ∙ nil_rest a.front a.rest a.cut;
+    left_is = a.left_is ∙ nil_rest a.prefix a.rest a.cut;
     more = [];
     goes_on = inr (record { lawful = none; head = tt });
     refused = λ d r t is. absurd cc;
   } where
-    nil_rest : (front rest : List ℕ) → [] ≡ front ++ rest → length rest ≡ 0
+    nil_rest : (prefix rest : List ℕ) → [] ≡ prefix ++ rest → length rest ≡ 0
     nil_rest [] rest cut = ap length (sym cut)
-    nil_rest (x ∷ front) rest cut = absurd cc
+    nil_rest (x ∷ prefix) rest cut = absurd cc
   unled_stops (c ∷ s) left e =
       elim (chosen (passes c) (p (c ∷ s)) (q (c ∷ s)) (stopped left) e) [
         | inl h ↦ let a = P.stops (c ∷ s) left h.1 in record {
-          front = a.front;
+          prefix = a.prefix;
           rest = a.rest;
           cut = a.cut;
           left_is = a.left_is;
           more = a.more;
           goes_on = inl a.goes_on;
           refused = λ d r t is.
-              let u = head_is a.front a.rest c s d r t a.cut is in
+              let u = head_is a.prefix a.rest c s d r t a.cut is in
               ap (choose passes p q) u.1 ∙ chosen_yes passes p q c u.0 h.0 ∙ ap p (sym u.1) ∙ a.refused d r t is;
         }
         | inr h ↦
             let a = Q.stops (c ∷ s) left h.1 in
-            let on = goes_on a.front a.rest a.more s c a.cut h.0 a.goes_on in record {
-              front = a.front;
+            let on = goes_on a.prefix a.rest a.more s c a.cut h.0 a.goes_on in record {
+              prefix = a.prefix;
               rest = a.rest;
               cut = a.cut;
               left_is = a.left_is;
               more = on.more;
               goes_on = inr on.there;
               refused = λ d r t is.
-                  let u = head_is a.front a.rest c s d r t a.cut is in
+                  let u = head_is a.prefix a.rest c s d r t a.cut is in
                   ap (choose passes p q) u.1 ∙ chosen_no passes p q c u.0 h.0 ∙ ap q (sym u.1) ∙ a.refused d r t is;
             }
       ]

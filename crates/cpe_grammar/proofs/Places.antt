@@ -7,14 +7,14 @@ use Rattle.cpe_grammar.proofs.Results.{ok≢err}
 use Rattle.cpe_grammar.proofs.Scans.{Scans}
 
 -- a longer prefix goes over the byte after this one
-longer : (front rest : List ℕ) (n : ℕ) → length front < n → n ≤ length (front ++ rest) → (d : ℕ) × (r : List ℕ) × (u : List ℕ) × (rest ≡ d ∷ r) × (take n (front ++ rest) ≡ front ++ d ∷ u)
+longer : (prefix rest : List ℕ) (n : ℕ) → length prefix < n → n ≤ length (prefix ++ rest) → (d : ℕ) × (r : List ℕ) × (u : List ℕ) × (rest ≡ d ∷ r) × (take n (prefix ++ rest) ≡ prefix ++ d ∷ u)
 longer [] [] zero lt le = absurd (omega arith)
 longer [] [] (suc n) lt le = absurd (omega arith)
 longer [] (d ∷ r) zero lt le = absurd (omega arith)
 longer [] (d ∷ r) (suc n) lt le = (d, r, take n r, refl, refl)
-longer (c ∷ front) rest zero lt le = absurd (omega arith)
-longer (c ∷ front) rest (suc n) lt le =
-    let so = longer front rest n (omega arith) (omega arith) in
+longer (c ∷ prefix) rest zero lt le = absurd (omega arith)
+longer (c ∷ prefix) rest (suc n) lt le =
+    let so = longer prefix rest n (omega arith) (omega arith) in
     (so.0, so.1, so.2, so.3, ap (λ (u : List ℕ). c ∷ u) so.4)
 
 -- a text has one place
@@ -46,19 +46,19 @@ module _ (L : List ℕ → Type 0) (p : Scanner) (P : Scans L p) (whole : (s : L
   not_taken s left e h = ok≢err [] left (sym (whole s h) ∙ e)
 
   pub within_text : (s : List ℕ) (left : ℕ) → p s ≡ Err left → left ≤ length s
-  within_text s left e = let a = P.stops s left e in omega (arith, a.left_is, ap length a.cut, length-append a.front a.rest)
+  within_text s left e = let a = P.stops s left e in omega (arith, a.left_is, ap length a.cut, length-append a.prefix a.rest)
 
   pub place_of : (s : List ℕ) (left : ℕ) → p s ≡ Err left → IsPlace L s (length s - left)
   place_of s left e =
       let a = P.stops s left e in
-      let place : length s - left ≡ length a.front = omega (arith, a.left_is, ap length a.cut, length-append a.front a.rest) in
-      let front : take (length a.front) s ≡ a.front = ap (take (length a.front)) a.cut ∙ take_at a.front a.rest (length a.front) refl in
-      let is : IsPlace L s (length a.front) = record {
-        within = omega (arith, ap length a.cut, length-append a.front a.rest);
-        begins = (a.more, subst (λ (u : List ℕ). L (u ++ a.more)) (sym front) a.goes_on);
+      let place : length s - left ≡ length a.prefix = omega (arith, a.left_is, ap length a.cut, length-append a.prefix a.rest) in
+      let prefix : take (length a.prefix) s ≡ a.prefix = ap (take (length a.prefix)) a.cut ∙ take_at a.prefix a.rest (length a.prefix) refl in
+      let is : IsPlace L s (length a.prefix) = record {
+        within = omega (arith, ap length a.cut, length-append a.prefix a.rest);
+        begins = (a.more, subst (λ (u : List ℕ). L (u ++ a.more)) (sym prefix) a.goes_on);
         longest = λ n lt le begins.
-            let next = longer a.front a.rest n lt (omega (arith, ap length a.cut)) in
-            let text : take n s ++ begins.0 ≡ a.front ++ next.0 ∷ (next.2 ++ begins.0) = ap (λ (u : List ℕ). take n u ++ begins.0) a.cut ∙ ap (λ (u : List ℕ). u ++ begins.0) next.4 ∙ append_assoc a.front (next.0 ∷ next.2) begins.0 in
+            let next = longer a.prefix a.rest n lt (omega (arith, ap length a.cut)) in
+            let text : take n s ++ begins.0 ≡ a.prefix ++ next.0 ∷ (next.2 ++ begins.0) = ap (λ (u : List ℕ). take n u ++ begins.0) a.cut ∙ ap (λ (u : List ℕ). u ++ begins.0) next.4 ∙ append_assoc a.prefix (next.0 ∷ next.2) begins.0 in
             ok≢err [] _ (sym (whole (take n s ++ begins.0) begins.1) ∙ ap p text ∙ a.refused next.0 next.1 (next.2 ++ begins.0) next.3);
       } in
       subst (λ (k : ℕ). IsPlace L s k) (sym place) is

@@ -103,24 +103,24 @@ module _ {S : Type 0} (step : S → ℕ → Option S) (ends : S → Bool) where
     machine_stops q good [] left e =
         elim (chosen (ends q) (left_over []) (stopped 0) (stopped left) e) [
           | inl h ↦ absurd (ok≢err [] left h.1)
-          | inr h ↦ let u = more q good in record { front = []; rest = []; cut = refl; left_is = sym (err_is 0 left h.1); more = u.0; goes_on = u.1; refused = λ d r t no. absurd cc }
+          | inr h ↦ let u = more q good in record { prefix = []; rest = []; cut = refl; left_is = sym (err_is 0 left h.1); more = u.0; goes_on = u.1; refused = λ d r t no. absurd cc }
         ]
     machine_stops q good (c ∷ s) left e =
         elim (stepped (step q c)) [
           | inl go ↦
               let a = machine_stops go.0 (stays q go.0 c good go.1) s left (sym (goes q go.0 c s go.1) ∙ e) in record {
-                front = c ∷ a.front;
+                prefix = c ∷ a.prefix;
                 rest = a.rest;
                 cut = ap (λ (u : List ℕ). c ∷ u) a.cut;
                 left_is = a.left_is;
                 more = a.more;
-                goes_on = goes q go.0 c (a.front ++ a.more) go.1 ∙ a.goes_on;
-                refused = λ d r t is. goes q go.0 c (a.front ++ d ∷ t) go.1 ∙ a.refused d r t is;
+                goes_on = goes q go.0 c (a.prefix ++ a.more) go.1 ∙ a.goes_on;
+                refused = λ d r t is. goes q go.0 c (a.prefix ++ d ∷ t) go.1 ∙ a.refused d r t is;
               }
           | inr none ↦ elim (cases_Bool (ends q)) [
             | inl h ↦ absurd (ok≢err _ left (sym (ends_here q c s none h) ∙ e))
             | inr h ↦ let u = more q good in record {
-              front = [];
+              prefix = [];
               rest = c ∷ s;
               cut = refl;
               left_is = sym (err_is _ left (sym (halts q c s none h) ∙ e));

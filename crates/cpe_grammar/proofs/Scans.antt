@@ -9,9 +9,9 @@ use Rattle.cpe_grammar.proofs.Results.{left_over, stopped, went_on, stopped_at, 
 
 -- what follows a byte after what was taken doesn't matter, wherever that byte stands
 pub looks_no_further : (p : Scanner) → ((c : List ℕ) (d : ℕ) (r t : List ℕ) → p (c ++ d ∷ r) ≡ Ok (d ∷ r) → p (c ++ d ∷ t) ≡ Ok (d ∷ t))
-    → (c front : List ℕ) (d : ℕ) (r t : List ℕ) → p (c ++ (front ++ d ∷ r)) ≡ Ok (front ++ d ∷ r) → p (c ++ (front ++ d ∷ t)) ≡ Ok (front ++ d ∷ t)
+    → (c prefix : List ℕ) (d : ℕ) (r t : List ℕ) → p (c ++ (prefix ++ d ∷ r)) ≡ Ok (prefix ++ d ∷ r) → p (c ++ (prefix ++ d ∷ t)) ≡ Ok (prefix ++ d ∷ t)
 looks_no_further p looks c [] d r t e = looks c d r t e
-looks_no_further p looks c (x ∷ front) d r t e = looks c x (front ++ d ∷ r) (front ++ d ∷ t) e
+looks_no_further p looks c (x ∷ prefix) d r t e = looks c x (prefix ++ d ∷ r) (prefix ++ d ∷ t) e
 
 -- ---- a wider language, and the same scanner by another name
 
@@ -20,12 +20,12 @@ pub wider : (L M : List ℕ → Type 0) (p : Scanner) → ((c : List ℕ) → L 
 wider L M p widen P = record {
   takes = λ s r e. let a = P.takes s r e in record { taken = a.taken; cut = a.cut; lawful = widen a.taken a.lawful };
   stops = λ s left e. let a = P.stops s left e in record {
-    front = a.front;
+    prefix = a.prefix;
     rest = a.rest;
     cut = a.cut;
     left_is = a.left_is;
     more = a.more;
-    goes_on = widen (a.front ++ a.more) a.goes_on;
+    goes_on = widen (a.prefix ++ a.more) a.goes_on;
     refused = a.refused;
   };
   looks_at_one = P.looks_at_one;
@@ -36,13 +36,13 @@ pub renamed : (L : List ℕ → Type 0) (p q : Scanner) → ((s : List ℕ) → 
 renamed L p q same P = record {
   takes = λ s r e. P.takes s r (sym (same s) ∙ e);
   stops = λ s left e. let a = P.stops s left (sym (same s) ∙ e) in record {
-    front = a.front;
+    prefix = a.prefix;
     rest = a.rest;
     cut = a.cut;
     left_is = a.left_is;
     more = a.more;
     goes_on = a.goes_on;
-    refused = λ d r t is. same (a.front ++ d ∷ t) ∙ a.refused d r t is;
+    refused = λ d r t is. same (a.prefix ++ d ∷ t) ∙ a.refused d r t is;
   };
   looks_at_one = λ c d r t e. same (c ++ d ∷ t) ∙ P.looks_at_one c d r t (sym (same (c ++ d ∷ r)) ∙ e);
 }
@@ -63,7 +63,7 @@ ending_takes (c ∷ s) r e = absurd (ok≢err r _ (sym e))
 
 ending_stops : (s : List ℕ) (left : ℕ) → ending s ≡ Err left → Stops Empty ending s left
 ending_stops [] left e = absurd (ok≢err [] left e)
-ending_stops (c ∷ s) left e = record { front = []; rest = c ∷ s; cut = refl; left_is = sym (err_is _ left e); more = []; goes_on = refl; refused = λ d r t is. refl }
+ending_stops (c ∷ s) left e = record { prefix = []; rest = c ∷ s; cut = refl; left_is = sym (err_is _ left e); more = []; goes_on = refl; refused = λ d r t is. refl }
 
 ending_looks : (c : List ℕ) (d : ℕ) (r t : List ℕ) → ending (c ++ d ∷ r) ≡ Ok (d ∷ r) → ending (c ++ d ∷ t) ≡ Ok (d ∷ t)
 ending_looks [] d r t e = absurd (ok≢err (d ∷ r) _ (sym e))
@@ -93,7 +93,7 @@ one_takes passes (c ∷ s) r e =
 
 one_stops : (passes : ℕ → Bool) (sample : ℕ) → passes sample ≡ true → (s : List ℕ) (left : ℕ) → one passes s ≡ Err left → Stops (OneOf passes) (one passes) s left
 one_stops passes sample good [] left e = record {
-  front = [];
+  prefix = [];
   rest = [];
   cut = refl;
   left_is = sym (err_is 0 left e);
@@ -105,7 +105,7 @@ one_stops passes sample good (c ∷ s) left e =
     elim (chosen (passes c) (left_over s) (stopped (suc (length s))) (stopped left) e) [
       | inl h ↦ absurd (ok≢err s left h.1)
       | inr h ↦ record {
-        front = [];
+        prefix = [];
         rest = c ∷ s;
         cut = refl;
         left_is = sym (err_is _ left h.1);
@@ -149,32 +149,32 @@ module _ (L M : List ℕ → Type 0) (p q : Scanner) (P : Scans L p) (Q : Scans 
       let v = Q.takes a.0 r a.2 in record {
         taken = u.taken ++ v.taken;
         cut = cut_twice s u.taken a.0 v.taken r u.cut v.cut;
-        lawful = record { front = u.taken; back = v.taken; is = refl; first = u.lawful; second = v.lawful };
+        lawful = record { prefix = u.taken; back = v.taken; is = refl; first = u.lawful; second = v.lawful };
       }
 
   both_stops : (s : List ℕ) (left : ℕ) → both p q s ≡ Err left → Stops (Joined L M) (both p q) s left
   both_stops s left e =
       elim (stopped_at (p s) q left e) [
         | inl h ↦ let a = P.stops s left h in record {
-          front = a.front;
+          prefix = a.prefix;
           rest = a.rest;
           cut = a.cut;
           left_is = a.left_is;
           more = a.more ++ sample;
-          goes_on = record { front = a.front ++ a.more; back = sample; is = sym (append_assoc a.front a.more sample); first = a.goes_on; second = good };
+          goes_on = record { prefix = a.prefix ++ a.more; back = sample; is = sym (append_assoc a.prefix a.more sample); first = a.goes_on; second = good };
           refused = λ d r t is. rw (a.refused d r t is) refl;
         }
         | inr h ↦ let u = P.takes s h.0 h.1 in let a = Q.stops h.0 left h.2 in record {
-          front = u.taken ++ a.front;
+          prefix = u.taken ++ a.prefix;
           rest = a.rest;
-          cut = cut_twice s u.taken h.0 a.front a.rest u.cut a.cut;
+          cut = cut_twice s u.taken h.0 a.prefix a.rest u.cut a.cut;
           left_is = a.left_is;
           more = a.more;
-          goes_on = record { front = u.taken; back = a.front ++ a.more; is = append_assoc u.taken a.front a.more; first = u.lawful; second = a.goes_on };
+          goes_on = record { prefix = u.taken; back = a.prefix ++ a.more; is = append_assoc u.taken a.prefix a.more; first = u.lawful; second = a.goes_on };
           refused = λ d r t is.
-              let there = before_rest p s u.taken h.0 (a.front ++ d ∷ r) h.1 u.cut (a.cut ∙ ap (λ (w : List ℕ). a.front ++ w) is) in
-              let here = looks_no_further p P.looks_at_one u.taken a.front d r t there in
-              ap (both p q) (append_assoc u.taken a.front (d ∷ t)) ∙ rw here (a.refused d r t is);
+              let there = before_rest p s u.taken h.0 (a.prefix ++ d ∷ r) h.1 u.cut (a.cut ∙ ap (λ (w : List ℕ). a.prefix ++ w) is) in
+              let here = looks_no_further p P.looks_at_one u.taken a.prefix d r t there in
+              ap (both p q) (append_assoc u.taken a.prefix (d ∷ t)) ∙ rw here (a.refused d r t is);
         }
       ]
 
@@ -204,9 +204,9 @@ pub chosen_no : (passes : ℕ → Bool) (p q : Scanner) (c : ℕ) (s : List ℕ)
 chosen_no passes p q c s h = rw h refl
 
 -- what is before a byte at which a scanner stops begins as the text does
-pub head_is : (front rest : List ℕ) (c : ℕ) (s : List ℕ) (d : ℕ) (r t : List ℕ) → c ∷ s ≡ front ++ rest → rest ≡ d ∷ r → (u : List ℕ) × (front ++ d ∷ t ≡ c ∷ u)
+pub head_is : (prefix rest : List ℕ) (c : ℕ) (s : List ℕ) (d : ℕ) (r t : List ℕ) → c ∷ s ≡ prefix ++ rest → rest ≡ d ∷ r → (u : List ℕ) × (prefix ++ d ∷ t ≡ c ∷ u)
 head_is [] rest c s d r t cut is = let same : c ∷ s ≡ d ∷ r = cut ∙ is in let d-is : d ≡ c = cc in (t, ap (λ (z : ℕ). z ∷ t) d-is)
-head_is (e ∷ front) rest c s d r t cut is = let e-is : e ≡ c = cc in (front ++ d ∷ t, ap (λ (z : ℕ). z ∷ (front ++ d ∷ t)) e-is)
+head_is (e ∷ prefix) rest c s d r t cut is = let e-is : e ≡ c = cc in (prefix ++ d ∷ t, ap (λ (z : ℕ). z ∷ (prefix ++ d ∷ t)) e-is)
 
 module _ (passes : ℕ → Bool) (L M : List ℕ → Type 0) (p q : Scanner) (P : Scans L p) (Q : Scans M q) where
   choose_takes : (s r : List ℕ) → choose passes p q s ≡ Ok r → Takes (Either L M) s r
@@ -219,39 +219,39 @@ module _ (passes : ℕ → Bool) (L M : List ℕ → Type 0) (p q : Scanner) (P 
 
   choose_stops : (s : List ℕ) (left : ℕ) → choose passes p q s ≡ Err left → Stops (Either L M) (choose passes p q) s left
   choose_stops [] left e = let a = Q.stops [] left e in record {
-    front = a.front;
+    prefix = a.prefix;
     rest = a.rest;
     cut = a.cut;
     left_is = a.left_is;
     more = a.more;
     goes_on = inr a.goes_on;
-    refused = λ d r t is. absurd (nil_is_not a.front a.rest d r a.cut is);
+    refused = λ d r t is. absurd (nil_is_not a.prefix a.rest d r a.cut is);
   } where
-    nil_is_not : (front rest : List ℕ) (d : ℕ) (r : List ℕ) → [] ≡ front ++ rest → rest ≡ d ∷ r → ⊥
+    nil_is_not : (prefix rest : List ℕ) (d : ℕ) (r : List ℕ) → [] ≡ prefix ++ rest → rest ≡ d ∷ r → ⊥
     nil_is_not [] rest d r cut is = cc
-    nil_is_not (e ∷ front) rest d r cut is = cc
+    nil_is_not (e ∷ prefix) rest d r cut is = cc
   choose_stops (c ∷ s) left e =
       elim (chosen (passes c) (p (c ∷ s)) (q (c ∷ s)) (stopped left) e) [
         | inl h ↦ let a = P.stops (c ∷ s) left h.1 in record {
-          front = a.front;
+          prefix = a.prefix;
           rest = a.rest;
           cut = a.cut;
           left_is = a.left_is;
           more = a.more;
           goes_on = inl a.goes_on;
           refused = λ d r t is.
-              let u = head_is a.front a.rest c s d r t a.cut is in
+              let u = head_is a.prefix a.rest c s d r t a.cut is in
               ap (choose passes p q) u.1 ∙ chosen_yes passes p q c u.0 h.0 ∙ ap p (sym u.1) ∙ a.refused d r t is;
         }
         | inr h ↦ let a = Q.stops (c ∷ s) left h.1 in record {
-          front = a.front;
+          prefix = a.prefix;
           rest = a.rest;
           cut = a.cut;
           left_is = a.left_is;
           more = a.more;
           goes_on = inr a.goes_on;
           refused = λ d r t is.
-              let u = head_is a.front a.rest c s d r t a.cut is in
+              let u = head_is a.prefix a.rest c s d r t a.cut is in
               ap (choose passes p q) u.1 ∙ chosen_no passes p q c u.0 h.0 ∙ ap q (sym u.1) ∙ a.refused d r t is;
         }
       ]
@@ -279,7 +279,7 @@ refuse s = Err (length s)
 refuse_scans : Scans Empty refuse
 refuse_scans = record {
   takes = λ s r e. absurd (ok≢err r _ (sym e));
-  stops = λ s left e. record { front = []; rest = s; cut = refl; left_is = sym (err_is _ left e); more = []; goes_on = refl; refused = λ d r t is. refl };
+  stops = λ s left e. record { prefix = []; rest = s; cut = refl; left_is = sym (err_is _ left e); more = []; goes_on = refl; refused = λ d r t is. refl };
   looks_at_one = λ c d r t e. absurd (ok≢err (d ∷ r) _ (sym e));
 }
 

@@ -44,31 +44,31 @@ module _ (L M : List ℕ → Type 0) (none : M []) (more : (u v : List ℕ) → 
         | inl h ↦
             elim (stopped_at (p (c ∷ s)) several left (sym (several_yes c s h) ∙ e)) [
               | inl k ↦ let a = P.stops (c ∷ s) left k in record {
-                front = a.front;
+                prefix = a.prefix;
                 rest = a.rest;
                 cut = a.cut;
                 left_is = a.left_is;
                 more = a.more ++ [];
-                goes_on = rw (← append_assoc) (more (a.front ++ a.more) [] a.goes_on none);
+                goes_on = rw (← append_assoc) (more (a.prefix ++ a.more) [] a.goes_on none);
                 refused = λ d r t there.
-                    let u = head_is a.front a.rest c s d r t a.cut there in
+                    let u = head_is a.prefix a.rest c s d r t a.cut there in
                     ap several u.1 ∙ several_yes c u.0 h ∙ ap (both p several) (sym u.1) ∙ rw (a.refused d r t there) refl;
               }
               | inr k ↦
                   let u = P.takes (c ∷ s) k.0 k.1 in
                   let a = several_stops n k.0 left (shorter (c ∷ s) u.taken k.0 n u.cut (some u.taken u.lawful) le) k.2 in record {
-                    front = u.taken ++ a.front;
+                    prefix = u.taken ++ a.prefix;
                     rest = a.rest;
-                    cut = cut_twice (c ∷ s) u.taken k.0 a.front a.rest u.cut a.cut;
+                    cut = cut_twice (c ∷ s) u.taken k.0 a.prefix a.rest u.cut a.cut;
                     left_is = a.left_is;
                     more = a.more;
-                    goes_on = rw append_assoc (more u.taken (a.front ++ a.more) u.lawful a.goes_on);
+                    goes_on = rw append_assoc (more u.taken (a.prefix ++ a.more) u.lawful a.goes_on);
                     refused = λ d r t there.
-                        let taken = before_rest p (c ∷ s) u.taken k.0 (a.front ++ d ∷ r) k.1 u.cut (a.cut ∙ ap (λ (w : List ℕ). a.front ++ w) there) in
-                        let here = looks_no_further p P.looks_at_one u.taken a.front d r t taken in
-                        let whole : c ∷ s ≡ (u.taken ++ a.front) ++ d ∷ r = cut_twice (c ∷ s) u.taken k.0 a.front (d ∷ r) u.cut (a.cut ∙ ap (λ (w : List ℕ). a.front ++ w) there) in
-                        let begun = head_is (u.taken ++ a.front) (d ∷ r) c s d r t whole refl in
-                        ap several begun.1 ∙ several_yes c begun.0 h ∙ ap (both p several) (sym begun.1) ∙ ap (both p several) (append_assoc u.taken a.front (d ∷ t)) ∙ rw here (a.refused d r t there);
+                        let taken = before_rest p (c ∷ s) u.taken k.0 (a.prefix ++ d ∷ r) k.1 u.cut (a.cut ∙ ap (λ (w : List ℕ). a.prefix ++ w) there) in
+                        let here = looks_no_further p P.looks_at_one u.taken a.prefix d r t taken in
+                        let whole : c ∷ s ≡ (u.taken ++ a.prefix) ++ d ∷ r = cut_twice (c ∷ s) u.taken k.0 a.prefix (d ∷ r) u.cut (a.cut ∙ ap (λ (w : List ℕ). a.prefix ++ w) there) in
+                        let begun = head_is (u.taken ++ a.prefix) (d ∷ r) c s d r t whole refl in
+                        ap several begun.1 ∙ several_yes c begun.0 h ∙ ap (both p several) (sym begun.1) ∙ ap (both p several) (append_assoc u.taken a.prefix (d ∷ t)) ∙ rw here (a.refused d r t there);
                   }
             ]
         | inr h ↦ absurd (ok≢err (c ∷ s) left (sym (several_no c s h) ∙ e))

@@ -3,7 +3,7 @@ use Rattle.std.specs.Prelude.{ℕ, ◌<◌, ◌≤◌, List, ◌++◌, length, t
 
 -- some text of the grammar begins so
 abbrev pub Begins : (List ℕ → Type 0) → List ℕ → Type 0
-Begins Grammar front = (rest : List ℕ) × Grammar (front ++ rest)
+Begins Grammar prefix = (rest : List ℕ) × Grammar (prefix ++ rest)
 
 -- the length of the longest prefix of the text with which a text of the grammar begins
 pub record IsPlace (Grammar : List ℕ → Type 0) (text : List ℕ) (place : ℕ) : Type 0 where

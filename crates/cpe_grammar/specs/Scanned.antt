@@ -13,13 +13,13 @@ pub record Takes (L : List ℕ → Type 0) (s r : List ℕ) : Type 0 where
 
 -- The bytes before the place begin a text of the language, and with the byte there nothing is taken, whatever follows.
 pub record Stops (L : List ℕ → Type 0) (p : Scanner) (s : List ℕ) (left : ℕ) : Type 0 where
-  pub front : List ℕ
+  pub prefix : List ℕ
   pub rest : List ℕ
-  pub cut : s ≡ front ++ rest
+  pub cut : s ≡ prefix ++ rest
   pub left_is : left ≡ length rest
   pub more : List ℕ
-  pub goes_on : L (front ++ more)
-  pub refused : (d : ℕ) (r t : List ℕ) → rest ≡ d ∷ r → p (front ++ d ∷ t) ≡ Err (suc (length t))
+  pub goes_on : L (prefix ++ more)
+  pub refused : (d : ℕ) (r t : List ℕ) → rest ≡ d ∷ r → p (prefix ++ d ∷ t) ≡ Err (suc (length t))
 
 -- A scanner of a language. After what it takes it looks at one byte at most.
 pub record Scans (L : List ℕ → Type 0) (p : Scanner) : Type 0 where
@@ -55,10 +55,10 @@ pub record FewOf (n : ℕ) (passes : ℕ → Bool) (c : List ℕ) : Type 0 where
 
 -- a text of the one language, and after it one of the other
 pub record Joined (L M : List ℕ → Type 0) (c : List ℕ) : Type 0 where
-  pub front : List ℕ
+  pub prefix : List ℕ
   pub back : List ℕ
-  pub is : c ≡ front ++ back
-  pub first : L front
+  pub is : c ≡ prefix ++ back
+  pub first : L prefix
   pub second : M back
 
 -- a text of either language

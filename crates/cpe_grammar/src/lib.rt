@@ -5,4 +5,4 @@
 
 mod scan;
 
-pub use scan::{but_last, front_of, scan_byte, scan_literal};
+pub use scan::{but_last, prefix_of, scan_byte, scan_literal};

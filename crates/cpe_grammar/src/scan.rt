@@ -29,7 +29,7 @@ pub fn scan_literal<'a>(expected: &[u8], bytes: &'a [u8]) -> Result<&'a [u8], us
 /// All bytes but the last.
 #[inline(always)]
 pub fn but_last(bytes: &[u8]) -> &[u8]
-    ensures front { result.now ≡ take (length bytes.now - 1) bytes.now }
+    ensures prefix { result.now ≡ take (length bytes.now - 1) bytes.now }
     ensures within { length result.now ≤ length bytes.now }
 {
     &bytes[..bytes.len().saturating_sub(1)]
@@ -37,7 +37,7 @@ pub fn but_last(bytes: &[u8]) -> &[u8]
 
 /// The prefix of a slice before a rest of it.
 #[inline(always)]
-pub fn front_of<'a>(all: &'a [u8], rest: &[u8]) -> &'a [u8]
+pub fn prefix_of<'a>(all: &'a [u8], rest: &[u8]) -> &'a [u8]
     ensures { result.now ≡ take (length all.now - length rest.now) all.now }
 {
     &all[..all.len().saturating_sub(rest.len())]

@@ -254,9 +254,9 @@ value_reads s x e = go (value_end s) refl where
   go : (r : Result (List ℕ) ℕ) → value_end s ≡ r → ValueRead s x
   go (Ok rest) is =
       let t = value_scans.takes s rest is in
-      let front : between s rest ≡ t.taken = ap (λ (u : List ℕ). between u rest) t.cut ∙ between_is t.taken rest in
+      let prefix : between s rest ≡ t.taken = ap (λ (u : List ℕ). between u rest) t.cut ∙ between_is t.taken rest in
       let at : found (between s rest, rest) ≡ Some x = ap (cut s) (sym is) ∙ e in
-      subst (ValueRead s) (ap (λ (u : List ℕ). (u, rest)) (sym front) ∙ some_is (between s rest, rest) x at) (record { lawful = t.lawful; text = t.cut })
+      subst (ValueRead s) (ap (λ (u : List ℕ). (u, rest)) (sym prefix) ∙ some_is (between s rest, rest) x at) (record { lawful = t.lawful; text = t.cut })
   go (Err left) is = absurd (none≢some x (ap (cut s) (sym is) ∙ e))
 
 value_again : (v : Value) (r : List ℕ) → IsValue v → value_at (value_text v ++ r) ≡ Some (value_text v, r)

@@ -45,11 +45,11 @@ quote_is u o = o.is ∙ ap (λ (d : ℕ). d ∷ []) (eqb-true o.byte 34 o.passed
 
 in_quotes : (u : List ℕ) → Joined (Joined (Joined (OneOf is_quote) IsEdgeText) IsStem) (OneOf is_quote) u → IsInQuotes u
 in_quotes u j =
-    let opening = quote_is j.first.first.front j.first.first.first in
+    let opening = quote_is j.first.first.prefix j.first.first.first in
     let lead = j.first.first.second in
     let stem = j.first.second in
     let close = quote_is j.back j.second in
-    let front : j.front ≡ 34 ∷ (edge_text lead.edge ++ (body_text (stem.first ∷ stem.bytes) ++ edge_text stem.trail)) =
+    let prefix : j.prefix ≡ 34 ∷ (edge_text lead.edge ++ (body_text (stem.first ∷ stem.bytes) ++ edge_text stem.trail)) =
     j.first.is ∙ ap (λ (w : List ℕ). w ++ j.first.back) (j.first.first.is ∙ ap (λ (w : List ℕ). w ++ j.first.first.back) opening ∙ ap (λ (w : List ℕ). 34 ∷ w) lead.is) ∙ ap (λ (w : List ℕ). 34 ∷ (edge_text lead.edge ++ w)) stem.is in
     record {
       text = parts lead.edge (stem.first ∷ stem.bytes) stem.trail;
@@ -58,7 +58,7 @@ in_quotes u j =
       some = λ e. absurd cc;
       trail = stem.good;
       is =
-          j.is ∙ ap (λ (w : List ℕ). w ++ j.back) front ∙ ap (λ (w : List ℕ). (34 ∷ (edge_text lead.edge ++ (body_text (stem.first ∷ stem.bytes) ++ edge_text stem.trail))) ++ w) close
+          j.is ∙ ap (λ (w : List ℕ). w ++ j.back) prefix ∙ ap (λ (w : List ℕ). (34 ∷ (edge_text lead.edge ++ (body_text (stem.first ∷ stem.bytes) ++ edge_text stem.trail))) ++ w) close
           ∙ ap (λ (w : List ℕ). 34 ∷ (w ++ 34 ∷ [])) (sym (append_assoc (edge_text lead.edge) (body_text (stem.first ∷ stem.bytes)) (edge_text stem.trail)));
     }
 

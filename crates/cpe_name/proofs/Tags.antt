@@ -218,10 +218,10 @@ module _ (spells : List ℕ → Bool) (begins : ℕ → Bool) (hyphen : Scanner)
   region_taken : (v r : List ℕ) → Region spells v → HeadFails begins r → region_end begins hyphen (v ++ r) ≡ Ok r
   region_taken v r region h = elim region [
     | inl j ↦
-        let at : v ++ r ≡ j.front ++ (j.back ++ r) = ap (λ (w : List ℕ). w ++ r) j.is ∙ append_assoc j.front j.back r in
+        let at : v ++ r ≡ j.prefix ++ (j.back ++ r) = ap (λ (w : List ℕ). w ++ r) j.is ∙ append_assoc j.prefix j.back r in
         ap (region_end begins hyphen) at
-        ∙ region_begun (j.front ++ (j.back ++ r)) (is.leads j.front (j.back ++ r) j.first)
-        ∙ ap (λ (x : Result (List ℕ) ℕ). x >>= code_end) (is.taken j.front (j.back ++ r) j.first)
+        ∙ region_begun (j.prefix ++ (j.back ++ r)) (is.leads j.prefix (j.back ++ r) j.first)
+        ∙ ap (λ (x : Result (List ℕ) ℕ). x >>= code_end) (is.taken j.prefix (j.back ++ r) j.first)
         ∙ code_text_taken j.back r j.second
     | inr empty ↦ ap (λ (w : List ℕ). region_end begins hyphen (w ++ r)) empty ∙ no_region r h
   ]
@@ -229,8 +229,8 @@ module _ (spells : List ℕ → Bool) (begins : ℕ → Bool) (hyphen : Scanner)
   region_no_letter : (v r : List ℕ) → Region spells v → HeadFails is_letter r → HeadFails is_letter (v ++ r)
   region_no_letter v r region h = elim region [
     | inl j ↦
-        let at : v ++ r ≡ j.front ++ (j.back ++ r) = ap (λ (w : List ℕ). w ++ r) j.is ∙ append_assoc j.front j.back r in
-        let l = is.leads j.front (j.back ++ r) j.first in
+        let at : v ++ r ≡ j.prefix ++ (j.back ++ r) = ap (λ (w : List ℕ). w ++ r) j.is ∙ append_assoc j.prefix j.back r in
+        let l = is.leads j.prefix (j.back ++ r) j.first in
         subst (HeadFails is_letter) (sym (at ∙ l.is)) l.no_letter
     | inr empty ↦ subst (λ (w : List ℕ). HeadFails is_letter (w ++ r)) (sym empty) h
   ]
@@ -254,12 +254,12 @@ module _ (spells : List ℕ → Bool) (begins : ℕ → Bool) (hyphen : Scanner)
   pub tag_taken : (u r : List ℕ) → Tag spells u → TagEnds begins r → tag_end begins hyphen (u ++ r) ≡ Ok r
   unfolding tag_end
   tag_taken u r j h =
-      let front = j.first in
+      let prefix = j.first in
       let behind : List ℕ = j.back ++ r in
-      let at : u ++ r ≡ front.front ++ (front.back ++ behind) = ap (λ (w : List ℕ). w ++ r) j.is ∙ append_assoc j.front j.back r ∙ ap (λ (w : List ℕ). w ++ behind) front.is ∙ append_assoc front.front front.back behind in
+      let at : u ++ r ≡ prefix.prefix ++ (prefix.back ++ behind) = ap (λ (w : List ℕ). w ++ r) j.is ∙ append_assoc j.prefix j.back r ∙ ap (λ (w : List ℕ). w ++ behind) prefix.is ∙ append_assoc prefix.prefix prefix.back behind in
       ap (λ (s : List ℕ). letters_end s >>= third_end >>= region_end begins hyphen) at
-      ∙ ap (λ (x : Result (List ℕ) ℕ). x >>= third_end >>= region_end begins hyphen) (two_taken front.front (front.back ++ behind) front.first)
-      ∙ ap (λ (x : Result (List ℕ) ℕ). x >>= region_end begins hyphen) (third_taken front.back behind front.second (region_no_letter j.back r j.second h.letter))
+      ∙ ap (λ (x : Result (List ℕ) ℕ). x >>= third_end >>= region_end begins hyphen) (two_taken prefix.prefix (prefix.back ++ behind) prefix.first)
+      ∙ ap (λ (x : Result (List ℕ) ℕ). x >>= region_end begins hyphen) (third_taken prefix.back behind prefix.second (region_no_letter j.back r j.second h.letter))
       ∙ region_taken j.back r j.second h.hyphen
 
 -- ---- tags with a bare hyphen
@@ -275,7 +275,7 @@ code_text _ (digits x y z hx hy hz) = inl (record { count = refl; passed = and_f
 
 region_text : (v : List ℕ) → RegionCase v → Region is_bare_hyphen v
 region_text _ none = inr refl
-region_text _ (behind u code) = inl (record { front = 45 ∷ []; back = u; is = refl; first = refl; second = code_text u code })
+region_text _ (behind u code) = inl (record { prefix = 45 ∷ []; back = u; is = refl; first = refl; second = code_text u code })
 
 pub two_letters : (a b : ℕ) → is_letter a ≡ true → is_letter b ≡ true → Run 2 is_letter (a ∷ b ∷ [])
 two_letters a b ha hb = record { count = refl; passed = and_from _ _ ha (and_from _ _ hb refl) }
@@ -283,27 +283,27 @@ two_letters a b ha hb = record { count = refl; passed = and_from _ _ ha (and_fro
 -- such a tag is one
 pub tag_text : (t : List ℕ) → TagCase t → Tag is_bare_hyphen t
 tag_text _ (two a b v ha hb region) = record {
-  front = a ∷ b ∷ [];
+  prefix = a ∷ b ∷ [];
   back = v;
   is = refl;
-  first = record { front = a ∷ b ∷ []; back = []; is = refl; first = two_letters a b ha hb; second = inr refl };
+  first = record { prefix = a ∷ b ∷ []; back = []; is = refl; first = two_letters a b ha hb; second = inr refl };
   second = region_text v region;
 }
 tag_text _ (three a b c v ha hb hc region) = record {
-  front = a ∷ b ∷ c ∷ [];
+  prefix = a ∷ b ∷ c ∷ [];
   back = v;
   is = refl;
-  first = record { front = a ∷ b ∷ []; back = c ∷ []; is = refl; first = two_letters a b ha hb; second = inl (record { byte = c; is = refl; passed = hc }) };
+  first = record { prefix = a ∷ b ∷ []; back = c ∷ []; is = refl; first = two_letters a b ha hb; second = inl (record { byte = c; is = refl; passed = hc }) };
   second = region_text v region;
 }
 
 text_region : (v : List ℕ) → Region is_bare_hyphen v → RegionCase v
 text_region v region = elim region [
-  | inl j ↦ subst RegionCase (sym (j.is ∙ ap (λ (w : List ℕ). w ++ j.back) (bare_is j.front j.first))) (behind j.back (code_case j.back j.second))
+  | inl j ↦ subst RegionCase (sym (j.is ∙ ap (λ (w : List ℕ). w ++ j.back) (bare_is j.prefix j.first))) (behind j.back (code_case j.back j.second))
   | inr empty ↦ subst RegionCase (sym empty) none
 ]
 
 -- and it is such a tag
 pub text_tag : (t : List ℕ) → Tag is_bare_hyphen t → TagCase t
 text_tag t j =
-    subst TagCase (sym (j.is ∙ ap (λ (u : List ℕ). u ++ j.back) j.first.is)) (tag_of j.first.front j.first.back j.back j.first.first j.first.second (text_region j.back j.second))
+    subst TagCase (sym (j.is ∙ ap (λ (u : List ℕ). u ++ j.back) j.first.is)) (tag_of j.first.prefix j.first.back j.back j.first.first j.first.second (text_region j.back j.second))

@@ -9,7 +9,7 @@ ghost use Rattle.cpe_name.specs.Spans.{texts, AreWritten};
 use crate::quoted::scan_value;
 use crate::written::{no_texts, put_text, text_at};
 use crate::{ATTRIBUTES, Attribute, Written};
-use cpe_grammar::{front_of, scan_literal};
+use cpe_grammar::{prefix_of, scan_literal};
 use cpe_values::{is_digit_byte, is_letter_byte};
 
 // A shorter text is told apart first: where the bytes are constants, each then takes one test.
@@ -56,7 +56,7 @@ fn split_value(bytes: &[u8]) -> Option<(&[u8], &[u8])>
     ensures { Finds (λ x. (x.0.now, x.1.now)) result (value_at bytes.now) }
 {
     let rest = behind_likely_value(bytes)?;
-    Some((front_of(bytes, rest), rest))
+    Some((prefix_of(bytes, rest), rest))
 }
 
 fn is_lone(text: &[u8]) -> bool

@@ -120,6 +120,5 @@ pub fn language_tags()
     ensures code { Scans Code code_end }
     ensures tags { (spells : List ℕ → Bool) (begins : ℕ → Bool) (hyphen : Scanner) → IsHyphen spells begins hyphen → Scans (Tag spells) (tag_end begins hyphen) }
     ensures taken { (spells : List ℕ → Bool) (begins : ℕ → Bool) (hyphen : Scanner) → IsHyphen spells begins hyphen → (u r : List ℕ) → Tag spells u → TagEnds begins r → tag_end begins hyphen (u ++ r) ≡ Ok r }
-    ensures language { (u : List ℕ) → is_language_body u ≡ true → Tag is_bare_hyphen u }
-    ensures tag { (u : List ℕ) → Tag is_bare_hyphen u → is_language_body u ≡ true }
+    ensures language { (u : List ℕ) → (is_language_body u ≡ true → Tag is_bare_hyphen u) × (Tag is_bare_hyphen u → is_language_body u ≡ true) }
 {}

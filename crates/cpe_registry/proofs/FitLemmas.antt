@@ -145,10 +145,10 @@ stays_held old new s r name result fit order names item_order item_names held sa
     (λ id h. stays_by old new s r fit (order id.0 h) (names id.0 h) (item_order id.0 h) (item_names id.0 h)) (λ e. stays_same old new s r fit e) held same
 
 -- the list of what is held, by the names that stay
-pub shows_still : (old new : Names) (s : Stored) (r : ItemRoll) (front : List Values) → Stays old new s r → Shows new (holds_in new) (front ++ (names_of (entries_in old s) ++ names_numbered old r.numbers))
-    → Shows new (holds_in new) (front ++ (names_of (entries_in new s) ++ names_numbered new r.numbers))
-shows_still old new s r front stays shows =
-    let list : front ++ (names_of (entries_in new s) ++ names_numbered new r.numbers) ≡ front ++ (names_of (entries_in old s) ++ names_numbered old r.numbers) = λ k. front ++ (names_of (stays.entries k) ++ stays.items k) in
+pub shows_still : (old new : Names) (s : Stored) (r : ItemRoll) (prefix : List Values) → Stays old new s r → Shows new (holds_in new) (prefix ++ (names_of (entries_in old s) ++ names_numbered old r.numbers))
+    → Shows new (holds_in new) (prefix ++ (names_of (entries_in new s) ++ names_numbered new r.numbers))
+shows_still old new s r prefix stays shows =
+    let list : prefix ++ (names_of (entries_in new s) ++ names_numbered new r.numbers) ≡ prefix ++ (names_of (entries_in old s) ++ names_numbered old r.numbers) = λ k. prefix ++ (names_of (stays.entries k) ++ stays.items k) in
     subst (Shows new (holds_in new)) (sym list) shows
 
 -- ---- entries by their names

@@ -113,16 +113,16 @@ module _ (rows : Rows) (h : AreWithin rows) where
   of_entry : (e : Entry) → AreCauses (edit.Entry e)
   of_entry e =
       let next = after rows (edit.Entry e) in
-      let front = when (not (is_identifier e.name)) fault.NotIdentifier ∷ when (has_wildcards e.name) fault.Wildcards ∷ when (is_entry rows e.name) fault.Exists ∷ [] in
-      first_same front (full next ∷ []) (when (nat_lt (most limit.Entries) (length rows.entries + 1)) (fault.Full limit.Entries) ∷ heavy next ∷ [])
+      let prefix = when (not (is_identifier e.name)) fault.NotIdentifier ∷ when (has_wildcards e.name) fault.Wildcards ∷ when (is_entry rows e.name) fault.Exists ∷ [] in
+      first_same prefix (full next ∷ []) (when (nat_lt (most limit.Entries) (length rows.entries + 1)) (fault.Full limit.Entries) ∷ heavy next ∷ [])
       (raised_entries next (within limit.Items) (within limit.Statements) (within limit.Facts) (within limit.Checks)
       ∙ (λ i. first_some (when (nat_lt (most limit.Entries) (length-last rows.entries e i)) (fault.Full limit.Entries) ∷ heavy next ∷ [])))
 
   of_item : (n : Values) → AreCauses (edit.Item n)
   of_item n =
       let next = after rows (edit.Item n) in
-      let front = when (is_item rows n) fault.Exists ∷ [] in
-      first_same front (full next ∷ []) (when (nat_lt (most limit.Items) (length rows.items + 1)) (fault.Full limit.Items) ∷ heavy next ∷ [])
+      let prefix = when (is_item rows n) fault.Exists ∷ [] in
+      first_same prefix (full next ∷ []) (when (nat_lt (most limit.Items) (length rows.items + 1)) (fault.Full limit.Items) ∷ heavy next ∷ [])
       (raised_items next (within limit.Entries) (within limit.Statements) (within limit.Facts) (within limit.Checks)
       ∙ (λ i. first_some (when (nat_lt (most limit.Items) (length-last rows.items n i)) (fault.Full limit.Items) ∷ heavy next ∷ [])))
 

@@ -24,8 +24,8 @@ names-logic operator negate of =
 pub all_with_next : (P : Values → Type 0) (of : List Test) (i : ℕ) (d : Test) → i < length of → All P (flat_map fact_names (take i of))
     → All P (fact_names (slice_index_or of i d)) → All P (flat_map fact_names (take (i + 1) of))
 all_with_next P of i d lt all one =
-    let front = flat_map fact_names (take i of) in
+    let prefix = flat_map fact_names (take i of) in
     let next = slice_index_or of i d in
-    All-same P (flat_map fact_names (take (i + 1) of)) (front ++ fact_names next)
-    (ap (flat_map fact_names) (take_more of i d lt) ∙ flat_map-append fact_names (take i of) (next ∷ []) ∙ ap (λ ns. front ++ ns) (append-nil (fact_names next)))
-    (All-append P front (fact_names next) all one)
+    All-same P (flat_map fact_names (take (i + 1) of)) (prefix ++ fact_names next)
+    (ap (flat_map fact_names) (take_more of i d lt) ∙ flat_map-append fact_names (take i of) (next ∷ []) ∙ ap (λ ns. prefix ++ ns) (append-nil (fact_names next)))
+    (All-append P prefix (fact_names next) all one)

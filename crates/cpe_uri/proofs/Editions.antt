@@ -22,7 +22,7 @@ use Rattle.cpe_uri.specs.Grammar.{is_tilde, begins_with_tilde, Fields, EditionSt
 use Rattle.cpe_uri.specs.Spans.{IsTextComponent, IsEdition}
 use Rattle.cpe_uri.specs.TextMachine.{text_end}
 use Rattle.cpe_uri.specs.Scanning.{field_end, fields_end, packed_end, edition_end}
-use Rattle.cpe_uri.specs.Pieces.{rest_of, left_by, front_before, piece, field_pieces, edition_pieces}
+use Rattle.cpe_uri.specs.Pieces.{rest_of, left_by, prefix_before, piece, field_pieces, edition_pieces}
 use Rattle.cpe_uri.proofs.Ends.{Ends}
 use Rattle.cpe_uri.proofs.Texts.{EndsIn, text_taken, text_scans}
 
@@ -65,10 +65,10 @@ field_scans = both_scans (OneOf is_tilde) (IsTextComponent true) (one is_tilde) 
 empty_fields : (n : ℕ) → AreFields n (replicate n 126)
 empty_fields zero = refl
 empty_fields (suc n) = record {
-  front = 126 ∷ [];
+  prefix = 126 ∷ [];
   back = replicate n 126;
   is = refl;
-  first = record { front = 126 ∷ []; back = []; is = refl; first = record { byte = 126; is = refl; passed = refl }; second = empty_text true [] refl };
+  first = record { prefix = 126 ∷ []; back = []; is = refl; first = record { byte = 126; is = refl; passed = refl }; second = empty_text true [] refl };
   second = empty_fields n;
 }
 
@@ -197,7 +197,7 @@ field_texts w (a ∷ rest) s h = h.0 ∷ field_texts w rest h.1 h.5
 
 -- what is taken before a rest is the piece
 pub piece_taken : (p : Scanner) (u r : List ℕ) → p (u ++ r) ≡ Ok r → piece p (u ++ r) ≡ u
-piece_taken p u r e = ap (λ (x : Result (List ℕ) ℕ). front_before (u ++ r) (rest_of x)) e ∙ take_at u r (length (u ++ r) - length r) (omega (arith, length-append u r))
+piece_taken p u r e = ap (λ (x : Result (List ℕ) ℕ). prefix_before (u ++ r) (rest_of x)) e ∙ take_at u r (length (u ++ r) - length r) (omega (arith, length-append u r))
 
 fields_are : (w : Values) (which : List Attribute) (s r : List ℕ) → AreGood w which → (h : Fields w which s) → Ends r → field_pieces (length which) (s ++ r) ≡ field_texts w which s h
 unfolding field_end

@@ -29,8 +29,8 @@ use Rattle.cpe_uri.specs.declared.UriFault.TheVariants as fault
 -- a URI begins as one
 pub uri_begins : (w : Values) (s : List ℕ) → Uri w s → begins_as_uri s ≡ true
 uri_begins w s uri =
-    let front : take 5 s ≡ uri.prefix = ap (take 5) uri.text ∙ take_at uri.prefix (join_with_byte 58 uri.components) 5 (prefix_length uri.prefix uri.begins) in
-    (bytes_eq-Decides (str_to_ascii_lowercase (take 5 s)) (codes "cpe:/")).1 (ap str_to_ascii_lowercase front ∙ uri.begins)
+    let prefix : take 5 s ≡ uri.prefix = ap (take 5) uri.text ∙ take_at uri.prefix (join_with_byte 58 uri.components) 5 (prefix_length uri.prefix uri.begins) in
+    (bytes_eq-Decides (str_to_ascii_lowercase (take 5 s)) (codes "cpe:/")).1 (ap str_to_ascii_lowercase prefix ∙ uri.begins)
 
 -- a formatted string doesn't
 pub fs_begins : (w : Values) (s : List ℕ) → Fs w s → begins_as_uri s ≡ false

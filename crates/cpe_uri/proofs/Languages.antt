@@ -290,7 +290,7 @@ a_region : (s : List ℕ) → Region (spells 45) s → IsRegion s
 a_region s h = elim h [
   | inl j ↦
       let code = code_case j.back j.second in
-      record { region = 45 ∷ j.back; lawful = behind j.back code; spelled = (j.front, j.back, j.is, j.first, bare_spelled j.back (code_bare j.back code)) }
+      record { region = 45 ∷ j.back; lawful = behind j.back code; spelled = (j.prefix, j.back, j.is, j.first, bare_spelled j.back (code_bare j.back code)) }
   | inr empty ↦ record { region = []; lawful = none; spelled = empty }
 ]
 
@@ -302,15 +302,15 @@ record IsTag (s : List ℕ) : Type 0 where
 
 a_tag : (s : List ℕ) → AnyTag s → IsTag s
 a_tag s j =
-    let front : List ℕ = j.first.front ++ j.first.back in
-    let front_bare : all_bare front ≡ true = ap all_bare (sym (append-nil front)) ∙ tag_bare (front ++ []) (tag_of j.first.front j.first.back [] j.first.first j.first.second none) in
+    let prefix : List ℕ = j.first.prefix ++ j.first.back in
+    let prefix_bare : all_bare prefix ≡ true = ap all_bare (sym (append-nil prefix)) ∙ tag_bare (prefix ++ []) (tag_of j.first.prefix j.first.back [] j.first.first j.first.second none) in
     let region = a_region j.back j.second in
-    let together = spelled_both (lowered front) (lowered region.region) front j.back (bare_spelled front front_bare) region.spelled in
-    let codes_are : Spelled (lowered (front ++ region.region)) (front ++ j.back) = subst (λ (t : List ℕ). Spelled t (front ++ j.back)) (sym (map-append to_ascii_lowercase front region.region)) together in
+    let together = spelled_both (lowered prefix) (lowered region.region) prefix j.back (bare_spelled prefix prefix_bare) region.spelled in
+    let codes_are : Spelled (lowered (prefix ++ region.region)) (prefix ++ j.back) = subst (λ (t : List ℕ). Spelled t (prefix ++ j.back)) (sym (map-append to_ascii_lowercase prefix region.region)) together in
     record {
-      tag = front ++ region.region;
-      lawful = tag_of j.first.front j.first.back region.region j.first.first j.first.second region.lawful;
-      spelled = subst (Spelled (lowered (front ++ region.region))) (sym (j.is ∙ ap (λ (u : List ℕ). u ++ j.back) j.first.is)) codes_are;
+      tag = prefix ++ region.region;
+      lawful = tag_of j.first.prefix j.first.back region.region j.first.first j.first.second region.lawful;
+      spelled = subst (Spelled (lowered (prefix ++ region.region))) (sym (j.is ∙ ap (λ (u : List ℕ). u ++ j.back) j.first.is)) codes_are;
     }
 
 -- ---- each spelling of a tag is one
@@ -318,7 +318,7 @@ a_tag s j =
 spelled_region : (v s : List ℕ) → RegionCase v → Spelled v s → Region (spells 45) s
 spelled_region _ s none spelled = inr spelled
 spelled_region _ s (behind u code) spelled = inl (record {
-  front = spelled.0;
+  prefix = spelled.0;
   back = spelled.1;
   is = spelled.2;
   first = spelled.3;
@@ -343,10 +343,10 @@ spelled_tag _ s (two a b v ha hb region) spelled =
       is = is;
       letter = x.passed;
       tag = record {
-        front = x.byte ∷ y.byte ∷ [];
+        prefix = x.byte ∷ y.byte ∷ [];
         back = y.rest;
         is = is;
-        first = record { front = x.byte ∷ y.byte ∷ []; back = []; is = refl; first = two_letters x.byte y.byte x.passed y.passed; second = inr refl };
+        first = record { prefix = x.byte ∷ y.byte ∷ []; back = []; is = refl; first = two_letters x.byte y.byte x.passed y.passed; second = inr refl };
         second = spelled_region v y.rest region y.spelled;
       };
     }
@@ -360,11 +360,11 @@ spelled_tag _ s (three a b c v ha hb hc region) spelled =
       is = is;
       letter = x.passed;
       tag = record {
-        front = x.byte ∷ y.byte ∷ z.byte ∷ [];
+        prefix = x.byte ∷ y.byte ∷ z.byte ∷ [];
         back = z.rest;
         is = is;
         first = record {
-          front = x.byte ∷ y.byte ∷ [];
+          prefix = x.byte ∷ y.byte ∷ [];
           back = z.byte ∷ [];
           is = refl;
           first = two_letters x.byte y.byte x.passed y.passed;

@@ -16,7 +16,7 @@ use Rattle.cpe_uri.specs.Pieces.{rest_of, left_by, piece, behind_colon, later_pi
 use Rattle.cpe_uri.specs.SpanValues.{value_at}
 use Rattle.cpe_uri.proofs.Languages.{part_taken}
 use Rattle.cpe_uri.proofs.Editions.{piece_taken, EditionLies, edition_lies}
-use Rattle.cpe_uri.proofs.Whole.{first_of, behind_first, tail_of, joined, StandsAs, AllStand, tail_ends, good_five, slot_taken, uri_stand, prefix_taken}
+use Rattle.cpe_uri.proofs.Whole.{first_of, behind_first, tail_of, components_joined, StandsAs, AllStand, tail_ends, good_five, slot_taken, uri_stand, prefix_taken}
 use Rattle.cpe_uri.proofs.ValueLemmas.{StandIn, named_back, one_name}
 
 -- a prefix has five bytes
@@ -101,7 +101,7 @@ lie w s uri = go uri.components refl where
   go : (components : List (List ℕ)) → uri.components ≡ components → LieIn w s (all_pieces (left_by (prefix_end (codes "cpe:/")) s))
   go [] is = absurd (omega (arith, uri.some, ap length is))
   go (part ∷ cs) is =
-      let text : s ≡ uri.prefix ++ (part ++ tail_of cs) = uri.text ∙ ap (λ (us : List (List ℕ)). uri.prefix ++ join_with_byte 58 us) is ∙ ap (λ (v : List ℕ). uri.prefix ++ v) (joined part cs) in
+      let text : s ≡ uri.prefix ++ (part ++ tail_of cs) = uri.text ∙ ap (λ (us : List (List ℕ)). uri.prefix ++ join_with_byte 58 us) is ∙ ap (λ (v : List ℕ). uri.prefix ++ v) (components_joined part cs) in
       let stands : Stands w.part part = subst (Stands w.part) (ap (λ (us : List (List ℕ)). get_or us 0 []) is) uri.part in
       let stand = uri_stand w s part cs uri is in
       let start : left_by (prefix_end (codes "cpe:/")) s ≡ part ++ tail_of cs = ap (left_by (prefix_end (codes "cpe:/"))) text ∙ ap rest_of (prefix_taken (codes "cpe:/") uri.prefix (part ++ tail_of cs) uri.begins) in

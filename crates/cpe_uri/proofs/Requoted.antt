@@ -186,8 +186,8 @@ edition_is w = go (list_all (λ a. is_any (value_of w a)) extended) where
 canon_by : (w : Values) → trimmed 58 (untrimmed_by (λ a. component (value_of w a)) (λ a. is_any (value_of w a))) ≡ canon w
 unfolding untrimmed_by
 canon_by w =
-    let front = (codes "cpe:/" ++ component w.part) ++ (58 ∷ component w.vendor) ++ (58 ∷ component w.product) ++ (58 ∷ component w.version) ++ (58 ∷ component w.update) in
-    ap (λ (u : List ℕ). trimmed 58 (front ++ u ++ (58 ∷ component w.language))) (edition_is w)
+    let prefix = (codes "cpe:/" ++ component w.part) ++ (58 ∷ component w.vendor) ++ (58 ∷ component w.product) ++ (58 ∷ component w.version) ++ (58 ∷ component w.update) in
+    ap (λ (u : List ℕ). trimmed 58 (prefix ++ u ++ (58 ∷ component w.language))) (edition_is w)
     ∙ ap (trimmed 58) (regroup (codes "cpe:/" ++ component w.part) (58 ∷ component w.vendor) (58 ∷ component w.product) (58 ∷ component w.version) (58 ∷ component w.update) (edition_component w) (58 ∷ component w.language))
 
 untrimmed_of : (t : Written) → untrimmed_by (λ a. component_from (slot (texts t) a)) (λ a. says_any (slot (texts t) a)) ≡ untrimmed_from t

@@ -52,8 +52,8 @@ digits_rewritten (d ∷ e ∷ s) h =
     percent_rewritten d e s ∙ ap (λ (u : List ℕ). code_text (code_of d e) ++ rewritten u) (sym all)
 
 -- what is put of the prefix of a text, before what is left of it
-pub put_front : (now old front left text : List ℕ) → now ≡ old ++ front → text ≡ front ++ left → now ++ left ≡ old ++ text
-put_front now old front left text put is = ap (λ (u : List ℕ). u ++ left) put ∙ append_assoc old front left ∙ ap (λ (u : List ℕ). old ++ u) (sym is)
+pub put_prefix : (now old prefix left text : List ℕ) → now ≡ old ++ prefix → text ≡ prefix ++ left → now ++ left ≡ old ++ text
+put_prefix now old prefix left text put is = ap (λ (u : List ℕ). u ++ left) put ∙ append_assoc old prefix left ∙ ap (λ (u : List ℕ). old ++ u) (sym is)
 
 pub rewritten_none : (s : List ℕ) → length s ≡ 0 → rewritten s ≡ []
 unfolding rewritten

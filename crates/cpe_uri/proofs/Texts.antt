@@ -187,8 +187,8 @@ lower_text_is t h =
     ∙ sym (map_over (edge_codes t.lead ++ t.body) (edge_codes t.trail))
     ∙ h
     in
-    let front = append_cancel_right (edge_codes t.lead ++ map to_ascii_lowercase t.body) (edge_codes t.lead ++ t.body) (edge_codes t.trail) whole in
-    ap (λ (b : List ℕ). parts t.lead b t.trail) (append_cancel_left (edge_codes t.lead) (map to_ascii_lowercase t.body) t.body front)
+    let prefix = append_cancel_right (edge_codes t.lead ++ map to_ascii_lowercase t.body) (edge_codes t.lead ++ t.body) (edge_codes t.trail) whole in
+    ap (λ (b : List ℕ). parts t.lead b t.trail) (append_cancel_left (edge_codes t.lead) (map to_ascii_lowercase t.body) t.body prefix)
 
 read_text : (packed : Bool) (s : List ℕ) → NoTilde packed s → (codes : List ℕ) → Spelled codes s → map to_ascii_lowercase codes ≡ codes → (end : Stage) → run Start codes ≡ Some end → is_over end ≡ true → IsTextComponent packed s
 read_text packed s none [] spelled low end e over = record { value = value.Any; good = tt; lower = refl; stands = spelled; none = none }

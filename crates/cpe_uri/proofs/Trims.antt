@@ -15,11 +15,11 @@ all_last : (c : ℕ) (s : List ℕ) → list_all (nat_eq c) s ≡ true → list_
 all_last c [] h = and_from (nat_eq c c) true (eq-eqb c c refl) refl
 all_last c (b ∷ s) h = let p = and_parts (nat_eq c b) (list_all (nat_eq c) s) h in and_from _ _ p.0 (all_last c s p.1)
 
-some_front : (c : ℕ) (s t : List ℕ) → list_all (nat_eq c) s ≡ false → list_all (nat_eq c) (s ++ t) ≡ false
-some_front c [] t h = absurd cc
-some_front c (b ∷ s) t h =
+some_prefix : (c : ℕ) (s t : List ℕ) → list_all (nat_eq c) s ≡ false → list_all (nat_eq c) (s ++ t) ≡ false
+some_prefix c [] t h = absurd cc
+some_prefix c (b ∷ s) t h =
     elim (cases_Bool (nat_eq c b)) [
-      | inl k ↦ rw k (some_front c s t (rw k at h))
+      | inl k ↦ rw k (some_prefix c s t (rw k at h))
       | inr k ↦ rw k refl
     ]
 
@@ -28,16 +28,16 @@ trimmed_last c [] = let same : nat_eq c c ≡ true = eq-eqb c c refl in rw same 
 trimmed_last c (b ∷ s) =
     elim (cases_Bool (list_all (nat_eq c) (b ∷ s))) [
       | inl all ↦ let more : list_all (nat_eq c) (b ∷ (s ++ c ∷ [])) ≡ true = all_last c (b ∷ s) all in rw (all, more) refl
-      | inr some ↦ let more : list_all (nat_eq c) (b ∷ (s ++ c ∷ [])) ≡ false = some_front c (b ∷ s) (c ∷ []) some in rw (some, more) (ap (λ (u : List ℕ). b ∷ u) (trimmed_last c s))
+      | inr some ↦ let more : list_all (nat_eq c) (b ∷ (s ++ c ∷ [])) ≡ false = some_prefix c (b ∷ s) (c ∷ []) some in rw (some, more) (ap (λ (u : List ℕ). b ∷ u) (trimmed_last c s))
     ]
 
-front_is : (s : List ℕ) → ends_in_colon s ≡ true → take (length s - 1) s ++ 58 ∷ [] ≡ s
-front_is [] h = absurd cc
-front_is (c ∷ []) h = ap (λ (b : ℕ). b ∷ []) (sym (eqb-true c 58 h))
-front_is (c ∷ d ∷ s) h = let one : length (c ∷ d ∷ s) - 1 ≡ suc (length (d ∷ s) - 1) = omega arith in rw one (ap (λ (u : List ℕ). c ∷ u) (front_is (d ∷ s) h))
+prefix_is : (s : List ℕ) → ends_in_colon s ≡ true → take (length s - 1) s ++ 58 ∷ [] ≡ s
+prefix_is [] h = absurd cc
+prefix_is (c ∷ []) h = ap (λ (b : ℕ). b ∷ []) (sym (eqb-true c 58 h))
+prefix_is (c ∷ d ∷ s) h = let one : length (c ∷ d ∷ s) - 1 ≡ suc (length (d ∷ s) - 1) = omega arith in rw one (ap (λ (u : List ℕ). c ∷ u) (prefix_is (d ∷ s) h))
 
-trimmed_front : (s : List ℕ) → ends_in_colon s ≡ true → trimmed 58 (take (length s - 1) s) ≡ trimmed 58 s
-trimmed_front s h = sym (trimmed_last 58 (take (length s - 1) s)) ∙ ap (trimmed 58) (front_is s h)
+trimmed_prefix : (s : List ℕ) → ends_in_colon s ≡ true → trimmed 58 (take (length s - 1) s) ≡ trimmed 58 s
+trimmed_prefix s h = sym (trimmed_last 58 (take (length s - 1) s)) ∙ ap (trimmed 58) (prefix_is s h)
 
 other_last : (d : ℕ) (s : List ℕ) → ends_in_colon (d ∷ s) ≡ false → list_all (nat_eq 58) (d ∷ s) ≡ false
 other_last d [] h = let other : nat_eq 58 d ≡ false = ne_eqb 58 d (λ e. eqb-false d 58 h (sym e)) in rw other refl
@@ -50,19 +50,19 @@ trimmed_stays (d ∷ e ∷ s) h = rw (other_last d (e ∷ s) h) (ap (λ (u : Lis
 
 -- ---- prefixes of a text
 
-take_front : (n : ℕ) (s : List ℕ) → n ≤ length s → take (length (take n s) - 1) (take n s) ≡ take (n - 1) s
-take_front zero s h = refl
-take_front (suc n) [] h = absurd (omega arith)
-take_front (suc zero) (c ∷ s) h = refl
-take_front (suc (suc n)) (c ∷ []) h = absurd (omega arith)
-take_front (suc (suc n)) (c ∷ d ∷ s) h =
+take_prefix : (n : ℕ) (s : List ℕ) → n ≤ length s → take (length (take n s) - 1) (take n s) ≡ take (n - 1) s
+take_prefix zero s h = refl
+take_prefix (suc n) [] h = absurd (omega arith)
+take_prefix (suc zero) (c ∷ s) h = refl
+take_prefix (suc (suc n)) (c ∷ []) h = absurd (omega arith)
+take_prefix (suc (suc n)) (c ∷ d ∷ s) h =
     let one : length (take (suc (suc n)) (c ∷ d ∷ s)) - 1 ≡ suc (length (take (suc n) (d ∷ s)) - 1) = omega arith in
     let two : suc (suc n) - 1 ≡ suc (suc n - 1) = omega arith in
-    rw (one, two) (ap (λ (u : List ℕ). c ∷ u) (take_front (suc n) (d ∷ s) (omega arith)))
+    rw (one, two) (ap (λ (u : List ℕ). c ∷ u) (take_prefix (suc n) (d ∷ s) (omega arith)))
 
 -- a colon at the end is taken off
 pub trimmed_one : (s : List ℕ) (n : ℕ) → n ≤ length s → ends_in_colon (take n s) ≡ true → trimmed 58 (take (n - 1) s) ≡ trimmed 58 (take n s)
-trimmed_one s n h e = ap (trimmed 58) (sym (take_front n s h)) ∙ trimmed_front (take n s) e
+trimmed_one s n h e = ap (trimmed 58) (sym (take_prefix n s h)) ∙ trimmed_prefix (take n s) e
 
 -- the last byte of a prefix is that before its end
 pub last_is : (s : List ℕ) (n : ℕ) → 0 < n → n ≤ length s → nat_eq (get_or s (n - 1) 0) 58 ≡ ends_in_colon (take n s)

@@ -86,8 +86,8 @@ rest_end (a ∷ rest) s = choose is_colon (both (one is_colon) (both (component_
 
 more_tail : (a : Attribute) (rest : List Attribute) (s : List ℕ) → Joined (OneOf is_colon) (Joined (IsSlot a) (IsTail rest)) s → IsTail (a ∷ rest) s
 more_tail a rest s j =
-    let text : s ≡ 58 ∷ j.second.front ++ j.second.back = j.is ∙ ap (λ (v : List ℕ). v ++ j.back) (j.first.is ∙ ap (λ (d : ℕ). d ∷ []) (eqb-true j.first.byte 58 j.first.passed)) ∙ ap (λ (v : List ℕ). 58 ∷ v) j.second.is in
-    (j.second.front ∷ j.second.second.0, (j.second.back, text, j.second.first, j.second.second.1))
+    let text : s ≡ 58 ∷ j.second.prefix ++ j.second.back = j.is ∙ ap (λ (v : List ℕ). v ++ j.back) (j.first.is ∙ ap (λ (d : ℕ). d ∷ []) (eqb-true j.first.byte 58 j.first.passed)) ∙ ap (λ (v : List ℕ). 58 ∷ v) j.second.is in
+    (j.second.prefix ∷ j.second.second.0, (j.second.back, text, j.second.first, j.second.second.1))
 
 rest_scans : (which : List Attribute) → Scans (IsTail which) (rest_end which)
 rest_scans [] = wider Empty (IsTail []) (rest_end []) (λ s is. ([], is)) nothing_scans
@@ -96,7 +96,7 @@ rest_scans (a ∷ rest) =
     (choose_scans is_colon (Joined (OneOf is_colon) (Joined (IsSlot a) (IsTail rest))) Empty (both (one is_colon) (both (component_end a) (rest_end rest))) nothing
     (both_scans (OneOf is_colon) (Joined (IsSlot a) (IsTail rest)) (one is_colon) (both (component_end a) (rest_end rest)) (one_scans is_colon 58 refl)
     (both_scans (IsSlot a) (IsTail rest) (component_end a) (rest_end rest) (slot_scans a) (rest_scans rest) [] ([], refl))
-    [] (record { front = []; back = []; is = refl; first = empty_slot a; second = ([], refl) })) nothing_scans)
+    [] (record { prefix = []; back = []; is = refl; first = empty_slot a; second = ([], refl) })) nothing_scans)
 
 -- the code asks for it before each component, which comes to the same
 abbrev NoColon : List ℕ → Type 0
@@ -169,9 +169,9 @@ tail_text which [] s t = t
 tail_text [] (c ∷ cs) s t = absurd t
 tail_text (a ∷ rest) (c ∷ cs) s t = t.1 ∙ ap (λ (v : List ℕ). 58 ∷ c ++ v) (tail_text rest cs t.0 t.3)
 
-pub joined : (u : List ℕ) (cs : List (List ℕ)) → join_with_byte 58 (u ∷ cs) ≡ u ++ tail_of cs
-joined u [] = sym (append-nil u)
-joined u (c ∷ cs) = ap (λ (v : List ℕ). u ++ 58 ∷ v) (joined c cs)
+pub components_joined : (u : List ℕ) (cs : List (List ℕ)) → join_with_byte 58 (u ∷ cs) ≡ u ++ tail_of cs
+components_joined u [] = sym (append-nil u)
+components_joined u (c ∷ cs) = ap (λ (v : List ℕ). u ++ 58 ∷ v) (components_joined c cs)
 
 -- ---- names
 
@@ -226,7 +226,7 @@ made_uri s prefix part cs m begins few text = record {
   lower = made_lower part cs m;
   prefix = prefix;
   components = part ∷ cs;
-  text = text ∙ ap (λ (v : List ℕ). prefix ++ v) (sym (joined part cs));
+  text = text ∙ ap (λ (v : List ℕ). prefix ++ v) (sym (components_joined part cs));
   begins = begins;
   some = omega arith;
   few = omega (arith, few);
@@ -329,9 +329,9 @@ a_uri u j =
     let all = j.second.first in
     let cs = all.second.0 in
     let t = all.second.1 in
-    let m = tail_made all.front cs all.back all.first t in
-    let back : j.back ≡ all.front ++ tail_of cs = j.second.is ∙ ap (λ (v : List ℕ). j.second.front ++ v) j.second.second ∙ append-nil j.second.front ∙ all.is ∙ ap (λ (v : List ℕ). all.front ++ v) (tail_text later cs all.back t) in
-    (name_made all.front cs m, made_uri u j.front all.front cs m j.first (tail_few later cs all.back t) (j.is ∙ ap (λ (v : List ℕ). j.front ++ v) back))
+    let m = tail_made all.prefix cs all.back all.first t in
+    let back : j.back ≡ all.prefix ++ tail_of cs = j.second.is ∙ ap (λ (v : List ℕ). j.second.prefix ++ v) j.second.second ∙ append-nil j.second.prefix ∙ all.is ∙ ap (λ (v : List ℕ). all.prefix ++ v) (tail_text later cs all.back t) in
+    (name_made all.prefix cs m, made_uri u j.prefix all.prefix cs m j.first (tail_few later cs all.back t) (j.is ∙ ap (λ (v : List ℕ). j.prefix ++ v) back))
 
 -- the scanner of whole texts takes URIs
 pub whole_scans : Scans IsUri whole_end
@@ -340,7 +340,7 @@ whole_scans =
     wider (Joined (IsPrefix (codes "cpe:/")) (Joined All Empty)) IsUri whole_end a_uri
     (both_scans (IsPrefix (codes "cpe:/")) (Joined All Empty) (prefix_end (codes "cpe:/")) (both all_end ending) (prefix_scans (codes "cpe:/") refl)
     (both_scans All Empty all_end ending all_scans ending_scans [] refl)
-    [] (record { front = []; back = []; is = refl; first = record { front = []; back = []; is = refl; first = empty_slot Part; second = ([], refl) }; second = refl }))
+    [] (record { prefix = []; back = []; is = refl; first = record { prefix = []; back = []; is = refl; first = empty_slot Part; second = ([], refl) }; second = refl }))
 
 ending_empty : (s rest : List ℕ) → ending s ≡ Ok rest → rest ≡ []
 ending_empty [] rest e = sym (ok_is [] rest e)
@@ -416,7 +416,7 @@ whole_taken s h = go h.1.components refl where
   go (part ∷ cs) is =
       let w = h.0 in
       let uri = h.1 in
-      let text : s ≡ uri.prefix ++ (part ++ tail_of cs) = uri.text ∙ ap (λ (us : List (List ℕ)). uri.prefix ++ join_with_byte 58 us) is ∙ ap (λ (v : List ℕ). uri.prefix ++ v) (joined part cs) in
+      let text : s ≡ uri.prefix ++ (part ++ tail_of cs) = uri.text ∙ ap (λ (us : List (List ℕ)). uri.prefix ++ join_with_byte 58 us) is ∙ ap (λ (v : List ℕ). uri.prefix ++ v) (components_joined part cs) in
       let stands : Stands w.part part = subst (Stands w.part) (ap (λ (us : List (List ℕ)). get_or us 0 []) is) uri.part in
       let few : length cs ≤ 6 = omega (arith, uri.few, ap length is) in
       ap (λ (v : List ℕ). prefix_end (codes "cpe:/") v >>= both (λ u. part_end u >>= components_end later) ending) text

@@ -20,11 +20,11 @@ abbrev pub left_by : Scanner → List ℕ → List ℕ
 left_by p s = rest_of (p s)
 
 -- what stands before this rest
-abbrev pub front_before : List ℕ → List ℕ → List ℕ
-front_before s rest = take (length s - length rest) s
+abbrev pub prefix_before : List ℕ → List ℕ → List ℕ
+prefix_before s rest = take (length s - length rest) s
 
 abbrev pub piece : Scanner → List ℕ → List ℕ
-piece p s = front_before s (left_by p s)
+piece p s = prefix_before s (left_by p s)
 
 -- ---- components
 

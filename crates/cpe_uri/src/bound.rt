@@ -7,7 +7,7 @@ ghost use Rattle.cpe_uri.specs.Requoting.{quotes, code_from, spelled, is_coded, 
 
 use crate::spelling::{LONG_TEXT, percent_form, unquoted_length};
 use crate::trim::without_colons;
-use cpe_grammar::{but_last, front_of};
+use cpe_grammar::{but_last, prefix_of};
 use cpe_name::Written;
 use cpe_room::{put, put_byte};
 use cpe_values::skip_word;
@@ -66,7 +66,7 @@ fn put_word<'a>(room: &mut [u8], at: usize, bytes: &'a [u8]) -> (usize, &'a [u8]
     ensures written { take result.0 room.new ++ requoted false result.1.now ≡ take at room.old ++ requoted false bytes.now }
 {
     let behind = skip_word(bytes);
-    (put(room, at, front_of(bytes, behind)), behind)
+    (put(room, at, prefix_of(bytes, behind)), behind)
 }
 
 // One byte, and the word after it. Tells beside the place whether the byte quotes the next one, and what is left.

@@ -9,11 +9,11 @@ ghost use Rattle.cpe_uri.specs.TextMachine.{text_end};
 ghost use Rattle.cpe_uri.specs.Editions.{edition_texts};
 ghost use Rattle.cpe_uri.specs.Scanning.{field_end, packed_end, edition_end, later_end, prefix_end, all_end, whole_end};
 ghost use Rattle.cpe_uri.specs.Spans.{AreComponents, LeavesWith};
-ghost use Rattle.cpe_uri.specs.Pieces.{front_before, piece, begins_with_colon, behind_colon, field_pieces, edition_pieces, all_pieces};
+ghost use Rattle.cpe_uri.specs.Pieces.{prefix_before, piece, begins_with_colon, behind_colon, field_pieces, edition_pieces, all_pieces};
 
 use crate::language::{scan_language, scan_part};
 use crate::text::scan_text;
-use cpe_grammar::{front_of, scan_byte};
+use cpe_grammar::{prefix_of, scan_byte};
 use cpe_name::Written;
 
 // Where the values lie in the component of the edition: five in a packed one, else the edition and nothing for the others.
@@ -40,27 +40,27 @@ fn is_at_tilde(bytes: &[u8]) -> bool
 
 fn part_piece(bytes: &[u8]) -> Result<(&[u8], &[u8]), usize>
     ensures told { Tells (λ x. x.1.now) result (part_end bytes.now) }
-    ensures found { IfOk result (λ x. x.0.now ≡ front_before bytes.now x.1.now) }
+    ensures found { IfOk result (λ x. x.0.now ≡ prefix_before bytes.now x.1.now) }
 {
     let rest = scan_part(bytes)?;
-    Ok((front_of(bytes, rest), rest))
+    Ok((prefix_of(bytes, rest), rest))
 }
 
 #[inline(always)]
 fn text_piece(packed: bool, bytes: &[u8]) -> Result<(&[u8], &[u8]), usize>
     ensures told { Tells (λ x. x.1.now) result (text_end packed bytes.now) }
-    ensures found { IfOk result (λ x. x.0.now ≡ front_before bytes.now x.1.now) }
+    ensures found { IfOk result (λ x. x.0.now ≡ prefix_before bytes.now x.1.now) }
 {
     let rest = scan_text(packed, bytes)?;
-    Ok((front_of(bytes, rest), rest))
+    Ok((prefix_of(bytes, rest), rest))
 }
 
 fn language_piece(bytes: &[u8]) -> Result<(&[u8], &[u8]), usize>
     ensures told { Tells (λ x. x.1.now) result (language_end bytes.now) }
-    ensures found { IfOk result (λ x. x.0.now ≡ front_before bytes.now x.1.now) }
+    ensures found { IfOk result (λ x. x.0.now ≡ prefix_before bytes.now x.1.now) }
 {
     let rest = scan_language(bytes)?;
-    Ok((front_of(bytes, rest), rest))
+    Ok((prefix_of(bytes, rest), rest))
 }
 
 #[tactic(auto, unfolding(crate::specs::Scanning::field_end))]

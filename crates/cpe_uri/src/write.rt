@@ -6,7 +6,7 @@ ghost use Rattle.cpe_uri.specs.Spelling.{hex_value};
 ghost use Rattle.cpe_uri.specs.Rewriting.{code_of, code_text, backslashes, bare_text, rewritten, in_quotes, span_text};
 
 use crate::spelling::{LONG_TEXT, hex_value};
-use cpe_grammar::front_of;
+use cpe_grammar::prefix_of;
 use cpe_name::PutValue;
 use cpe_room::{put, put_byte};
 use cpe_values::skip_lower_word;
@@ -116,7 +116,7 @@ fn put_word<'a>(room: &mut [u8], at: usize, bytes: &'a [u8]) -> (usize, &'a [u8]
     ensures written { take result.0 room.new ++ rewritten result.1.now ≡ take at room.old ++ rewritten bytes.now }
 {
     let behind = skip_lower_word(bytes);
-    (put(room, at, front_of(bytes, behind)), behind)
+    (put(room, at, prefix_of(bytes, behind)), behind)
 }
 
 // A long text up to its last bytes: words are copied, and only what stands between them goes form by form.

@@ -10,10 +10,10 @@ kept_along [] b c h k = refl
 kept_along (x ∷ a) [] c h k = absurd cc
 kept_along (x ∷ a) (y ∷ b) [] h k = absurd cc
 kept_along (x ∷ a) (y ∷ b) (z ∷ c) h k =
-    let front : take (length a) b ≡ a = cc in
+    let prefix : take (length a) b ≡ a = cc in
     let whole : take (length b) c ≡ b = cc in
     let head : z ≡ x = cc in
-    ap (λ (d : ℕ). d ∷ take (length a) c) head ∙ ap (λ (u : List ℕ). x ∷ u) (kept_along a b c front whole)
+    ap (λ (d : ℕ). d ∷ take (length a) c) head ∙ ap (λ (u : List ℕ). x ∷ u) (kept_along a b c prefix whole)
 
 -- one part put after the other
 pub put_both : (x y z start tail whole : List ℕ) → y ≡ x ++ start → z ≡ y ++ tail → start ++ tail ≡ whole → z ≡ x ++ whole

@@ -5,12 +5,12 @@ use Rattle.std.proofs.lemmas.Bool.{cases_Bool}
 use Rattle.cpe_values.specs.Skipping.{skip_while}
 
 -- what passes in a prefix of the list is skipped, and the rest alike
-pub skip_while-front : (p : ℕ → Bool) (k : ℕ) (s : List ℕ) → skip_while p (drop (prefix_len p (take k s)) s) ≡ skip_while p s
-skip_while-front p zero s = refl
-skip_while-front p (suc k) [] = refl
-skip_while-front p (suc k) (c ∷ s) =
+pub skip_while-prefix : (p : ℕ → Bool) (k : ℕ) (s : List ℕ) → skip_while p (drop (prefix_len p (take k s)) s) ≡ skip_while p s
+skip_while-prefix p zero s = refl
+skip_while-prefix p (suc k) [] = refl
+skip_while-prefix p (suc k) (c ∷ s) =
     elim (cases_Bool (p c)) [
-      | inl passes ↦ simp (passes, one-add (prefix_len p (take k s))) (skip_while-front p k s)
+      | inl passes ↦ simp (passes, one-add (prefix_len p (take k s))) (skip_while-prefix p k s)
       | inr fails ↦ simp fails refl
     ]
 

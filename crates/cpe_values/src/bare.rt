@@ -44,7 +44,7 @@ fn first_unset(lanes: u8x16) -> usize
 }
 
 // How many of the first sixteen bytes are in the class before one that is not.
-fn front_length<C: Class>(bytes: &[u8]) -> usize
+fn prefix_length<C: Class>(bytes: &[u8]) -> usize
     requires { 16 ≤ length bytes.now }
     ensures { result ≡ prefix_len C.contains (take 16 bytes.now) }
 {
@@ -78,7 +78,7 @@ fn skip<C: Class>(bytes: &[u8]) -> &[u8]
 {
     let mut rest = bytes;
     while rest.len() >= 16 {
-        let count = front_length::<C>(rest);
+        let count = prefix_length::<C>(rest);
         if count < 16 {
             return behind(rest, count);
         }

@@ -28,14 +28,14 @@ below (d ∷ ds) h =
     let both = and_parts (is_ascii_digit d) (list_all is_ascii_digit ds) h in
     let within = digit_within d both.0 in
     let most : d - 48 ≤ 9 = let high = within.1 in omega arith in
-    let front : 10 ^ length ds * (d - 48) ≤ 10 ^ length ds * 9 = mul-le-mul_left (10 ^ length ds) most in
+    let prefix : 10 ^ length ds * (d - 48) ≤ 10 ^ length ds * 9 = mul-le-mul_left (10 ^ length ds) most in
     let rest = below ds both.1 in
     let power = next_power (length ds) in
-    omega (arith, front, rest, power)
+    omega (arith, prefix, rest, power)
 
 -- the first digits decide
-front_less : (p x y v w : ℕ) → x < y → v < p → p * x + v < p * y + w
-front_less p x y v w less small =
+prefix_less : (p x y v w : ℕ) → x < y → v < p → p * x + v < p * y + w
+prefix_less p x y v w less small =
     let one : x + 1 ≤ y = omega arith in
     let more : p * (x + 1) ≤ p * y = mul-le-mul_left p one in
     omega (arith, more, small)
@@ -57,12 +57,12 @@ same_length (x ∷ xs) (y ∷ ys) e hx hy =
         → slice_cmp nat_cmp xs ys ≡ nat_cmp (value xs) (value ys) → ordering_then o (slice_cmp nat_cmp xs ys) ≡ nat_cmp (value (x ∷ xs)) (value (y ∷ ys))
     go Less less lx ly power sx sy rest =
         let first : x - 48 < y - 48 = omega (arith, less, lx, ly) in
-        let whole = front_less (10 ^ length xs) (x - 48) (y - 48) (value xs) (value ys) first sx in
+        let whole = prefix_less (10 ^ length xs) (x - 48) (y - 48) (value xs) (value ys) first sx in
         let same = ap (λ p. p * (y - 48) + value ys) power in
         nat_cmp_is _ _ Less (subst (λ n. 10 ^ length xs * (x - 48) + value xs < n) same whole)
     go Greater more lx ly power sx sy rest =
         let first : y - 48 < x - 48 = omega (arith, more, lx, ly) in
-        let whole = front_less (10 ^ length ys) (y - 48) (x - 48) (value ys) (value xs) first sy in
+        let whole = prefix_less (10 ^ length ys) (y - 48) (x - 48) (value ys) (value xs) first sy in
         let same = ap (λ p. p * (x - 48) + value xs) (sym power) in
         nat_cmp_is _ _ Greater (subst (λ n. 10 ^ length ys * (y - 48) + value ys < n) same whole)
     go Equal same lx ly power sx sy rest =
@@ -84,9 +84,9 @@ at_least (d ∷ ds) h first n lt =
     let within = digit_within d both.0 in
     let some : 1 ≤ d - 48 = one_at_least d within.0 first in
     let fewer : n ≤ length ds = let l : n < suc (length ds) = lt in omega arith in
-    let front : 10 ^ length ds * 1 ≤ 10 ^ length ds * (d - 48) = mul-le-mul_left (10 ^ length ds) some in
+    let prefix : 10 ^ length ds * 1 ≤ 10 ^ length ds * (d - 48) = mul-le-mul_left (10 ^ length ds) some in
     let power : 10 ^ n ≤ 10 ^ length ds = pow-le-pow_right (lit< tt) fewer in
-    omega (arith, front, power)
+    omega (arith, prefix, power)
   where
     one_at_least : (x : ℕ) → 48 ≤ x → (x == 48) ≡ false → 1 ≤ x - 48
     one_at_least x low other = grind (arith, nat_tests)

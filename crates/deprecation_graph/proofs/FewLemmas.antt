@@ -33,14 +33,14 @@ one_added found x = go (list_any (λ y. eqb y x) found) refl
     go : (b : Bool) → list_any (λ y. eqb y x) found ≡ b → Adds found (cond b found (found ++ x ∷ [])) (x ∷ [])
     go true e = record {
       longer = omega arith;
-      front = λ k d lt. refl;
+      prefix = λ k d lt. refl;
       visited = λ y c. subst (Contains found) (only_one x y c) (Contains-any x found e);
       only = λ y c. inl c;
       apart = λ h. h;
     }
     go false e = record {
       longer = omega (arith, length_push found x);
-      front = λ k d lt. get_or_append_left found (x ∷ []) d k lt;
+      prefix = λ k d lt. get_or_append_left found (x ∷ []) d k lt;
       visited = λ y c. subst (Contains (found ++ x ∷ [])) (only_one x y c) (Contains-push found x);
       only = λ y c. elim (Contains-push_cases found x y c) [ inl d ↦ inl d | inr same ↦ inr (0, omega arith, same) ];
       apart = λ h. IsDistinct-push nat_eq_equiv found x h (absent x found e);
@@ -49,19 +49,19 @@ one_added found x = go (list_any (λ y. eqb y x) found) refl
 pub Adds-none : (found : List ℕ) → Adds found found []
 Adds-none found = record {
   longer = omega arith;
-  front = λ k d lt. refl;
+  prefix = λ k d lt. refl;
   visited = λ x c. absurd (omega (arith, c.1));
   only = λ x c. inl c;
   apart = λ h. h;
 }
 
 pub Adds-kept : {old new ys : List ℕ} → Adds old new ys → (x : ℕ) → Contains old x → Contains new x
-Adds-kept {old} {new} {ys} h x c = (c.0, omega (arith, c.1, h.longer), h.front c.0 x c.1 ∙ c.2)
+Adds-kept {old} {new} {ys} h x c = (c.0, omega (arith, c.1, h.longer), h.prefix c.0 x c.1 ∙ c.2)
 
 Adds-then : {old now new ys zs : List ℕ} → Adds old now ys → Adds now new zs → Adds old new (ys ++ zs)
 Adds-then {old} {now} {new} {ys} {zs} h k = record {
   longer = omega (arith, h.longer, k.longer);
-  front = λ i d lt. k.front i d (omega (arith, lt, h.longer)) ∙ h.front i d lt;
+  prefix = λ i d lt. k.prefix i d (omega (arith, lt, h.longer)) ∙ h.prefix i d lt;
   visited = λ x c. elim (Contains-append_cases ys zs x c) [ inl d ↦ Adds-kept k x (h.visited x d) | inr d ↦ k.visited x d ];
   only = λ x c. elim (k.only x c) [
     | inl d ↦ elim (h.only x d) [ inl e ↦ inl e | inr e ↦ inr (Contains-append_left ys zs x e) ]
@@ -105,14 +105,14 @@ reads_step next start place d {found} {new} {ys} within e h a = record {
     | inr f ↦ Leads-then (h.led (get_or found place d) (Contains-get_or found place d within)) (subst (λ (xs : List ℕ). Contains xs x) e f)
   ];
   closed = λ k d' lt y edge. elim (cases_lt k place) [
-    | inl before ↦ Adds-kept a y (h.closed k d' before y (subst (λ (x : ℕ). HasEdge next x y) (a.front k d' (omega arith)) edge))
+    | inl before ↦ Adds-kept a y (h.closed k d' before y (subst (λ (x : ℕ). HasEdge next x y) (a.prefix k d' (omega arith)) edge))
     | inr le ↦ a.visited y (subst (λ (xs : List ℕ). Contains xs y) (sym e) (subst (λ (x : ℕ). HasEdge next x y) (here k d' (omega arith)) edge))
   ];
   apart = a.apart h.apart;
 }
   where
     here : (k d' : ℕ) → k ≡ place → get_or new k d' ≡ get_or found place d
-    here k d' same = ap (λ (i : ℕ). get_or new i d') same ∙ a.front place d' within ∙ any_default found place d' d within
+    here k d' same = ap (λ (i : ℕ). get_or new i d') same ∙ a.prefix place d' within ∙ any_default found place d' d within
 
 pub reads_below : (next : ℕ → List ℕ) (count start place d : ℕ) {found : List ℕ} → IsClosed next count → start < count → place < length found → Reads next start found place → get_or found place d < count
 reads_below next count start place d {found} ok lt within h = Leads-below ok lt (h.led (get_or found place d) (Contains-get_or found place d within))

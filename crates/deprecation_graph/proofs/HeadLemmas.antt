@@ -179,15 +179,15 @@ pub cell_within : (lists : List (Option (List Row))) (name k cell : ℕ) → cel
 cell_within lists name k cell e = within_cells (list_at lists name) k cell e
 
 pub read_step : (lists : List (Option (List Row))) (name v : ℕ) (items more : List ℕ) → length items < length (list_at lists name) → items ≡ take (length items) (values lists name) → value_at lists name (length items) ≡ Some v → more ≡ items ++ v ∷ [] → more ≡ take (length more) (values lists name)
-read_step lists name v items more lt front is e =
+read_step lists name v items more lt prefix is e =
     let here : get_or (values lists name) (length items) 0 ≡ v = get_or_from_slice_get (values lists name) (length items) v 0 (slice_get-map (λ (x : Row). x.1) (list_at lists name) (length items) ∙ is) in
     let count : length more ≡ length items + 1 = ap length e ∙ length_push items v in
     let last : v ≡ get_or (values lists name) (length items) 0 = sym here in
     e
-    ∙ ap (λ (xs : List ℕ). xs ++ v ∷ []) front
+    ∙ ap (λ (xs : List ℕ). xs ++ v ∷ []) prefix
     ∙ ap (λ (x : ℕ). take (length items) (values lists name) ++ x ∷ []) last
     ∙ sym (take_more (values lists name) (length items) 0 (omega (arith, length-map (list_at lists name) (λ (x : Row). x.1))))
     ∙ ap (λ n. take n (values lists name)) (sym count)
 
 pub read_end : (lists : List (Option (List Row))) (name : ℕ) (items : List ℕ) → cell_at lists name (length items) ≡ None → items ≡ take (length items) (values lists name) → items ≡ values lists name
-read_end lists name items e front = front ∙ take_all (length items) (values lists name) (omega (arith, past_cells (list_at lists name) (length items) e, length-map (list_at lists name) (λ (x : Row). x.1)))
+read_end lists name items e prefix = prefix ∙ take_all (length items) (values lists name) (omega (arith, past_cells (list_at lists name) (length items) e, length-map (list_at lists name) (λ (x : Row). x.1)))

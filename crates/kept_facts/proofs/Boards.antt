@@ -124,8 +124,8 @@ reordered names board mode rows next same still s = record {
 }
 
 -- the same elements, before others
-in_front : (new same list other : List Values) → SameElements new same → SameElements (same ++ list) other → SameElements (new ++ list) other
-in_front new same list other e h f = omega (arith, e f, h f, sum_by-append f new list, sum_by-append f same list)
+in_prefix : (new same list other : List Values) → SameElements new same → SameElements (same ++ list) other → SameElements (new ++ list) other
+in_prefix new same list other e h f = omega (arith, e f, h f, sum_by-append f new list, sum_by-append f same list)
 
 pub turned : (xs ys : List Values) → SameElements xs ys → SameElements ys xs
 turned xs ys same f = sym (same f)
@@ -153,7 +153,7 @@ no_facts mode others s e = ap (filter (λ fact. not (is_referred (other_mode mod
 
 pub statement_more : (rows : Rows) (mode : Mode) (s : Statement) (list : List Values) → SameElements list (flat_map (leads rows.entries mode) (fresh_facts mode rows.statements s))
     → SameElements (list ++ asked rows mode) (asked (after rows (edit.PutStatement s)) mode)
-statement_more rows mode s list e = in_front list (flat_map (leads rows.entries mode) (fresh_facts mode rows.statements s)) (asked rows mode) (asked (after rows (edit.PutStatement s)) mode) e (statement_asked rows mode s)
+statement_more rows mode s list e = in_prefix list (flat_map (leads rows.entries mode) (fresh_facts mode rows.statements s)) (asked rows mode) (asked (after rows (edit.PutStatement s)) mode) e (statement_asked rows mode s)
 
 pub statement_less : (rows : Rows) (mode : Mode) (id : List ℕ) (s : Statement) (list : List Values) → find (has_id id) rows.statements ≡ Some s
     → SameElements list (flat_map (leads rows.entries mode) (fresh_facts mode (after rows (edit.DropStatement id)).statements s)) → SameElements (asked rows mode) (list ++ asked (after rows (edit.DropStatement id)) mode)
@@ -161,7 +161,7 @@ statement_less rows mode id s list found e =
     let left_by : Rows = after rows (edit.DropStatement id) in
     let gone = flat_map (leads rows.entries mode) (fresh_facts mode left_by.statements s) in
     turned (list ++ asked left_by mode) (asked rows mode)
-    (in_front list gone (asked left_by mode) (asked rows mode) e (turned (asked rows mode) (gone ++ asked left_by mode) (statement_asked_no_more rows mode id s found)))
+    (in_prefix list gone (asked left_by mode) (asked rows mode) e (turned (asked rows mode) (gone ++ asked left_by mode) (statement_asked_no_more rows mode id s found)))
 
 -- a statement of one mode asks nothing in the other
 pub other_put : (rows : Rows) (mode : Mode) (s : Statement) → s.mode ≡ mode → SameElements (asked rows (other_mode mode)) (asked (after rows (edit.PutStatement s)) (other_mode mode))

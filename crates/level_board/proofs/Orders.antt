@@ -164,7 +164,7 @@ IsOrder-inserted rows new_rows order new_order flipped id row a fresh place stil
     | inr ne ↦
         let below : k < length order = omega (arith, lt, many, ne) in
         let t = a.there k below in
-        (t.0, ap (find_row new_rows) (front k below) ∙ at_rest (number_at order k) t.0 t.1 ∙ t.1, t.2)
+        (t.0, ap (find_row new_rows) (prefix k below) ∙ at_rest (number_at order k) t.0 t.1 ∙ t.1, t.2)
   ];
   back = λ p r f. (stands p r f).0;
   turned = λ p r f. (stands p r f).1;
@@ -177,8 +177,8 @@ IsOrder-inserted rows new_rows order new_order flipped id row a fresh place stil
     last : number_at new_order (length order) ≡ id
     last = ap (λ (xs : List NameId). number_at xs (length order)) grown ∙ ap (λ (x : NameId). x.0) (get_or_push order (name_id id) (name_id 0) (length order) refl)
 
-    front : (k : ℕ) → k < length order → number_at new_order k ≡ number_at order k
-    front k lt = ap (λ (xs : List NameId). number_at xs k) grown ∙ ap (λ (x : NameId). x.0) (get_or_append_left order (name_id id ∷ []) (name_id 0) k lt)
+    prefix : (k : ℕ) → k < length order → number_at new_order k ≡ number_at order k
+    prefix k lt = ap (λ (xs : List NameId). number_at xs k) grown ∙ ap (λ (x : NameId). x.0) (get_or_append_left order (name_id id ∷ []) (name_id 0) k lt)
 
     at_id : find_row new_rows id ≡ Some row
     at_id = found id ∙ ap (λ (b : Bool). cond b (Some row) (find_row rows id)) (eq-eqb id id refl)
@@ -192,23 +192,23 @@ IsOrder-inserted rows new_rows order new_order flipped id row a fresh place stil
     stands : (p : ℕ) (r : Row) → find_row new_rows p ≡ Some r → StandsIn new_order flipped p r
     stands p r f = elim (cases_eq p id) [
       | inl e ↦ subst (λ (q : ℕ). StandsIn new_order flipped q r) (sym e) (subst (StandsIn new_order flipped id) (same_Some row r (sym at_id ∙ ap (find_row new_rows) (sym e) ∙ f)) ((omega (arith, place, many), ap (number_at new_order) place ∙ last), still ∙ sym (le-ltb row.place flipped (omega (arith, a.within, place)))))
-      | inr ne ↦ let g : find_row rows p ≡ Some r = sym (past_id p ne) ∙ f in let b = a.back p r g in ((omega (arith, b.0, many), front r.place b.0 ∙ b.1), a.turned p r g)
+      | inr ne ↦ let g : find_row rows p ≡ Some r = sym (past_id p ne) ∙ f in let b = a.back p r g in ((omega (arith, b.0, many), prefix r.place b.0 ∙ b.1), a.turned p r g)
     ]
 
 -- the last number goes, which is not turned
 pub IsOrder-removed : (rows new_rows : List (ℕ × Row)) (order new_order : List NameId) (flipped id : ℕ) → IsOrder rows order flipped → flipped ≤ length new_order → length new_order + 1 ≡ length order → number_at order (length new_order) ≡ id
     → ((p : ℕ) → find_row new_rows p ≡ cond (nat_eq id p) None (find_row rows p)) → ((k : ℕ) → k < length new_order → number_at new_order k ≡ number_at order k) → IsOrder new_rows new_order flipped
-IsOrder-removed rows new_rows order new_order flipped id a within many last found front = record {
+IsOrder-removed rows new_rows order new_order flipped id a within many last found prefix = record {
   there = λ k lt.
       let t = a.there k (omega (arith, lt, many)) in
       let l = a.there (length new_order) (omega (arith, many)) in
       let apart : number_at order k ≢ id = λ e. differ k lt (sym t.2 ∙ same_row rows order flipped a (number_at order k) (number_at order (length new_order)) t.0 l.0 t.1 l.1 (e ∙ sym last) ∙ l.2) in
-      (t.0, ap (find_row new_rows) (front k lt) ∙ past_id (number_at order k) apart ∙ t.1, t.2);
+      (t.0, ap (find_row new_rows) (prefix k lt) ∙ past_id (number_at order k) apart ∙ t.1, t.2);
   back = λ p r f.
       let g = before p r f in
       let b = a.back p r g.0 in
       let below : r.place < length new_order = omega (arith, b.0, many, λ (e : r.place ≡ length new_order). g.1 (sym b.1 ∙ ap (number_at order) e ∙ last)) in
-      (below, front r.place below ∙ b.1);
+      (below, prefix r.place below ∙ b.1);
   turned = λ p r f. a.turned p r (before p r f).0;
   within = within;
 }
@@ -244,14 +244,14 @@ pub record Taken (rows : List (ℕ × Row)) (order old : List NameId) (flipped :
 
 pub taken : (rows middle new_rows : List (ℕ × Row)) (order middle_order new_order : List NameId) (flipped id : ℕ) (row : Row) (last cut : ℕ) → IsOrder rows order flipped → find_row rows id ≡ Some row → is_turned row ≡ false → last ≡ length order - 1 → Moved rows order id row last middle middle_order
     → ((p : ℕ) → find_row new_rows p ≡ cond (nat_eq id p) None (find_row middle p)) → cut ≡ length middle_order - 1 → new_order ≡ take cut middle_order → Taken new_rows new_order order flipped
-taken rows middle new_rows order middle_order new_order flipped id row last cut a has unturned at moved found cut_is front_cut = record {
+taken rows middle new_rows order middle_order new_order flipped id row last cut a has unturned at moved found cut_is prefix_cut = record {
   order_stands = IsOrder-removed middle new_rows middle_order new_order flipped id stands (omega (arith, many, high, at)) (omega (arith, many, length_is, inside)) (ap (number_at middle_order) (omega (arith, many, at)) ∙ moved_number rows middle order middle_order flipped flipped id row last row a has refl crosses moved last_in a.within) found
-      (λ k lt. ap (λ (xs : List NameId). number_at xs k) front ∙ ap (λ (x : NameId). x.0) (get_or-take (length middle_order - 1) middle_order k (name_id 0) (omega (arith, lt, many, length_is, inside))));
+      (λ k lt. ap (λ (xs : List NameId). number_at xs k) prefix ∙ ap (λ (x : NameId). x.0) (get_or-take (length middle_order - 1) middle_order k (name_id 0) (omega (arith, lt, many, length_is, inside))));
   shorter = omega (arith, many, inside);
 }
   where
-    front : new_order ≡ take (length middle_order - 1) middle_order
-    front = front_cut ∙ ap (λ (n : ℕ). take n middle_order) cut_is
+    prefix : new_order ≡ take (length middle_order - 1) middle_order
+    prefix = prefix_cut ∙ ap (λ (n : ℕ). take n middle_order) cut_is
 
     inside : row.place < length order
     inside = (a.back id row has).0
@@ -275,7 +275,7 @@ taken rows middle new_rows order middle_order new_order flipped id row last cut 
     stands = IsOrder-moved rows middle order middle_order flipped flipped id row last row a has refl crosses moved last_in a.within
 
     many : length new_order ≡ length order - 1
-    many = ap length front ∙ length-take-le (length middle_order - 1) middle_order (omega arith) ∙ ap (λ (n : ℕ). n - 1) length_is
+    many = ap length prefix ∙ length-take-le (length middle_order - 1) middle_order (omega arith) ∙ ap (λ (n : ℕ). n - 1) length_is
 
 pub same_order : (rows new_rows : List (ℕ × Row)) (order new_order : List NameId) (flipped : ℕ) → ((p : ℕ) → find_row new_rows p ≡ find_row rows p) → new_order ≡ order → IsOrder rows order flipped → IsOrder new_rows new_order flipped
 same_order rows new_rows order new_order flipped same e a = subst (λ (xs : List NameId). IsOrder new_rows xs flipped) (sym e) (record {
@@ -330,7 +330,7 @@ all_known rows order flipped a none p = by (find_row rows p) refl
 
 pub known_step : (old new : List (ℕ × Row)) (id : ℕ) → Tells old new id (known_now (seen (find_row old id))) → (p : ℕ) → known_now (seen (find_row new p)) ≡ known_now (seen (find_row old p))
 known_step old new id t p = elim (cases_eq p id) [
-  | inl e ↦ subst (λ (q : ℕ). known_now (seen (find_row new q)) ≡ known_now (seen (find_row old q))) (sym e) (ap known_now t.changed ∙ twice (seen (find_row old id)))
+  | inl e ↦ subst (λ (q : ℕ). known_now (seen (find_row new q)) ≡ known_now (seen (find_row old q))) (sym e) (ap known_now t.one ∙ twice (seen (find_row old id)))
   | inr ne ↦ ap known_now (t.others p ne)
 ]
   where

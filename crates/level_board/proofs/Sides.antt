@@ -13,7 +13,7 @@ use Rattle.target_index.specs.Targets.{Targets, FitsTargets, held, is_open}
 use Rattle.target_index.proofs.Changes.{count_more, count_less}
 use Rattle.level_board.specs.declared.rows.Row.{Row}
 use Rattle.level_board.specs.declared.parts.Parts.{Parts}
-use Rattle.level_board.specs.Rows.{Seen, told, level_of, fresh_row, seen, find_row, changed, changed_count, with_times, Tells, IsOrder}
+use Rattle.level_board.specs.Rows.{Seen, told, level_of, fresh_row, seen, find_row, recounted, recounted_by_one, with_times, Tells, IsOrder}
 use Rattle.level_board.specs.Board.{one_if, covers_at, maybe_at, tells_at, covered_count, maybe_count, find_times, or_none, times_in, was_in, board_of, IsBoard, FitsBoard, TargetsTo, ProbesTo}
 use Rattle.level_board.proofs.Changes.{put_some, put_here, put_other, on_added, on_dropped, length_added, length_dropped, fits_added, fits_dropped}
 
@@ -45,20 +45,20 @@ some_times (Some s) h e = h s refl
 -- ---- the counts of a probe under one target more or less
 
 -- a target that is covered is not open, and one that may be is
-told_counts : (partly c m rise : Bool) (x s : Seen) → (c ≡ true → partly ≡ false) → (m ≡ true → partly ≡ true) → cond (cond partly m c) (changed partly rise (Some x)) (Some x) ≡ Some s
-    → (s.hits ≡ cond c (changed_count rise x.hits) x.hits) × (s.maybes ≡ cond m (changed_count rise x.maybes) x.maybes)
+told_counts : (partly c m rise : Bool) (x s : Seen) → (c ≡ true → partly ≡ false) → (m ≡ true → partly ≡ true) → cond (cond partly m c) (recounted partly rise (Some x)) (Some x) ≡ Some s
+    → (s.hits ≡ cond c (recounted_by_one rise x.hits) x.hits) × (s.maybes ≡ cond m (recounted_by_one rise x.maybes) x.maybes)
 told_counts true true m rise x s f g e = absurd (false≢true (sym (f refl)))
-told_counts true false true rise x s f g e = let same = same_Some (told x.times x.hits (changed_count rise x.maybes) x.was) s e in (sym (ap (λ (y : Seen). y.hits) same), sym (ap (λ (y : Seen). y.maybes) same))
+told_counts true false true rise x s f g e = let same = same_Some (told x.times x.hits (recounted_by_one rise x.maybes) x.was) s e in (sym (ap (λ (y : Seen). y.hits) same), sym (ap (λ (y : Seen). y.maybes) same))
 told_counts true false false rise x s f g e = let same = same_Some x s e in (sym (ap (λ (y : Seen). y.hits) same), sym (ap (λ (y : Seen). y.maybes) same))
 told_counts false c true rise x s f g e = absurd (false≢true (g refl))
-told_counts false true false rise x s f g e = let same = same_Some (told x.times (changed_count rise x.hits) x.maybes x.was) s e in (sym (ap (λ (y : Seen). y.hits) same), sym (ap (λ (y : Seen). y.maybes) same))
+told_counts false true false rise x s f g e = let same = same_Some (told x.times (recounted_by_one rise x.hits) x.maybes x.was) s e in (sym (ap (λ (y : Seen). y.hits) same), sym (ap (λ (y : Seen). y.maybes) same))
 told_counts false false false rise x s f g e = let same = same_Some x s e in (sym (ap (λ (y : Seen). y.hits) same), sym (ap (λ (y : Seen). y.maybes) same))
 
-grown : (c : Bool) (n : ℕ) → n < 4294967295 → cond c (changed_count true n) n ≡ cond c 1 0 + n
+grown : (c : Bool) (n : ℕ) → n < 4294967295 → cond c (recounted_by_one true n) n ≡ cond c 1 0 + n
 grown true n lt = omega (arith, lt)
 grown false n lt = omega arith
 
-shrunk : (c : Bool) (n m : ℕ) → n ≡ cond c 1 0 + m → cond c (changed_count false n) n ≡ m
+shrunk : (c : Bool) (n m : ℕ) → n ≡ cond c 1 0 + m → cond c (recounted_by_one false n) n ≡ m
 shrunk true n m e = omega (arith, e)
 shrunk false n m e = omega (arith, e)
 
@@ -67,7 +67,7 @@ shrunk false n m e = omega (arith, e)
 module _ (a b : Parts) (names : Names) (id : ℕ) (i : IsBoard a) (f : FitsBoard (board_of a) names) (live : IsLive names id) (rise : Bool)
     (same_index : b.probe_index ≡ a.probe_index) (same_room : b.probe_room ≡ a.probe_room) (same_wide : (board_of b).wide ≡ (board_of a).wide)
     (order : IsOrder b.probes.rows.entries b.probes.order.items b.probes.flipped)
-    (counted : (p : ℕ) → seen (find_row b.probes.rows.entries p) ≡ cond (tells_at names p id) (changed (is_open names id) rise (seen (find_row a.probes.rows.entries p))) (seen (find_row a.probes.rows.entries p)))
+    (counted : (p : ℕ) → seen (find_row b.probes.rows.entries p) ≡ cond (tells_at names p id) (recounted (is_open names id) rise (seen (find_row a.probes.rows.entries p))) (seen (find_row a.probes.rows.entries p)))
     (rows_spare : spare b.probes.rows ≡ spare a.probes.rows) (len : length b.probes.order.items ≡ length a.probes.order.items) (cap : vec_capacity b.probes.order ≡ vec_capacity a.probes.order) where
   abbrev pub before : ℕ → Option Seen
   before p = seen (find_row a.probes.rows.entries p)
@@ -75,31 +75,31 @@ module _ (a b : Parts) (names : Names) (id : ℕ) (i : IsBoard a) (f : FitsBoard
   abbrev pub after : ℕ → Option Seen
   after p = seen (find_row b.probes.rows.entries p)
 
-  stays : {Y : Type 0} (g : Option Seen → Y) → ((o : Option Seen) → g (changed (is_open names id) rise o) ≡ g o) → (p : ℕ) → g (after p) ≡ g (before p)
+  stays : {Y : Type 0} (g : Option Seen → Y) → ((o : Option Seen) → g (recounted (is_open names id) rise o) ≡ g o) → (p : ℕ) → g (after p) ≡ g (before p)
   stays g h p = ap g (counted p) ∙ by (tells_at names p id)
     where
-      by : (c : Bool) → g (cond c (changed (is_open names id) rise (before p)) (before p)) ≡ g (before p)
+      by : (c : Bool) → g (cond c (recounted (is_open names id) rise (before p)) (before p)) ≡ g (before p)
       by true = h (before p)
       by false = refl
 
   times_stay : (p : ℕ) → times_in (after p) ≡ times_in (before p)
   times_stay = stays times_in (λ o. by o)
     where
-      by : (o : Option Seen) → times_in (changed (is_open names id) rise o) ≡ times_in o
+      by : (o : Option Seen) → times_in (recounted (is_open names id) rise o) ≡ times_in o
       by None = refl
       by (Some s) = refl
 
   was_stays : (p : ℕ) → was_in (after p) ≡ was_in (before p)
   was_stays = stays was_in (λ o. by o)
     where
-      by : (o : Option Seen) → was_in (changed (is_open names id) rise o) ≡ was_in o
+      by : (o : Option Seen) → was_in (recounted (is_open names id) rise o) ≡ was_in o
       by None = refl
       by (Some s) = refl
 
   some_stays : (p : ℕ) → is_some (after p) ≡ is_some (before p)
   some_stays = stays is_some (λ o. by o)
     where
-      by : (o : Option Seen) → is_some (changed (is_open names id) rise o) ≡ is_some o
+      by : (o : Option Seen) → is_some (recounted (is_open names id) rise o) ≡ is_some o
       by None = refl
       by (Some s) = refl
 
@@ -111,17 +111,17 @@ module _ (a b : Parts) (names : Names) (id : ℕ) (i : IsBoard a) (f : FitsBoard
 
   -- what is told of a probe, from what was told before
   abbrev CountsNow : ℕ → Seen → Type 0
-  CountsNow p s = (t : Seen) × (before p ≡ Some t) × (s.hits ≡ cond (covers_at names p id) (changed_count rise t.hits) t.hits) × (s.maybes ≡ cond (maybe_at names p id) (changed_count rise t.maybes) t.maybes)
+  CountsNow p s = (t : Seen) × (before p ≡ Some t) × (s.hits ≡ cond (covers_at names p id) (recounted_by_one rise t.hits) t.hits) × (s.maybes ≡ cond (maybe_at names p id) (recounted_by_one rise t.maybes) t.maybes)
 
   counts_now : (p : ℕ) (s : Seen) → after p ≡ Some s → CountsNow p s
   counts_now p s e = by (before p) refl
     where
-      both_none : (c : Bool) → cond c (changed (is_open names id) rise None) None ≡ None
+      both_none : (c : Bool) → cond c (recounted (is_open names id) rise None) None ≡ None
       both_none true = refl
       both_none false = refl
 
-      is : (o : Option Seen) → before p ≡ o → cond (tells_at names p id) (changed (is_open names id) rise o) o ≡ Some s
-      is o t = sym (counted p ∙ ap (λ (x : Option Seen). cond (tells_at names p id) (changed (is_open names id) rise x) x) t) ∙ e
+      is : (o : Option Seen) → before p ≡ o → cond (tells_at names p id) (recounted (is_open names id) rise o) o ≡ Some s
+      is o t = sym (counted p ∙ ap (λ (x : Option Seen). cond (tells_at names p id) (recounted (is_open names id) rise x) x) t) ∙ e
 
       by : (o : Option Seen) → before p ≡ o → CountsNow p s
       by None t = absurd (none-some s (sym (both_none (tells_at names p id)) ∙ is None t))
@@ -193,9 +193,9 @@ module _ (a b : Parts) (names : Names) (id : ℕ) (i : IsBoard a) (f : FitsBoard
       bound : (q : ℕ × ℕ → Bool) → count_by q (held a.target_index) < 4294967295
       bound q = omega (arith, count_by-le-length q (held a.target_index), i.targets_few)
 
-      more : (q : ℕ × ℕ → Bool) (n : ℕ) → n ≡ count_by q (held a.target_index) → cond (q (id, (kept_at names id).product)) (changed_count rise n) n ≡ count_by q (held b.target_index)
+      more : (q : ℕ × ℕ → Bool) (n : ℕ) → n ≡ count_by q (held a.target_index) → cond (q (id, (kept_at names id).product)) (recounted_by_one rise n) n ≡ count_by q (held b.target_index)
       more q n e =
-          ap (λ (r : Bool). cond (q (id, (kept_at names id).product)) (changed_count r n) n) up ∙ grown (q (id, (kept_at names id).product)) n (omega (arith, e, bound q))
+          ap (λ (r : Bool). cond (q (id, (kept_at names id).product)) (recounted_by_one r n) n) up ∙ grown (q (id, (kept_at names id).product)) n (omega (arith, e, bound q))
           ∙ omega (arith, e, count_more q (id, (kept_at names id).product) (held a.target_index) (held b.target_index) same)
 
       counts : (p : ℕ) (s : Seen) → after p ≡ Some s → (s.hits ≡ covered_count names p (held b.target_index)) × (s.maybes ≡ maybe_count names p (held b.target_index))
@@ -228,9 +228,9 @@ module _ (a b : Parts) (names : Names) (id : ℕ) (i : IsBoard a) (f : FitsBoard
         targets_few = omega (arith, i.targets_few, shorter, room);
       }
 
-      less : (q : ℕ × ℕ → Bool) (n : ℕ) → n ≡ count_by q (held a.target_index) → cond (q (id, (kept_at names id).product)) (changed_count rise n) n ≡ count_by q (held b.target_index)
+      less : (q : ℕ × ℕ → Bool) (n : ℕ) → n ≡ count_by q (held a.target_index) → cond (q (id, (kept_at names id).product)) (recounted_by_one rise n) n ≡ count_by q (held b.target_index)
       less q n e =
-          ap (λ (r : Bool). cond (q (id, (kept_at names id).product)) (changed_count r n) n) down
+          ap (λ (r : Bool). cond (q (id, (kept_at names id).product)) (recounted_by_one r n) n) down
           ∙ shrunk (q (id, (kept_at names id).product)) n (count_by q (held b.target_index)) (omega (arith, e, count_less q (id, (kept_at names id).product) (held a.target_index) (held b.target_index) same))
 
       counts : (p : ℕ) (s : Seen) → after p ≡ Some s → (s.hits ≡ covered_count names p (held b.target_index)) × (s.maybes ≡ maybe_count names p (held b.target_index))
@@ -255,12 +255,12 @@ module _ (a b : Parts) (names : Names) (id : ℕ) (i : IsBoard a) (f : FitsBoard
   rest_some p ne = sym (seen_some (find_row b.probes.rows.entries p)) ∙ ap is_some (tells.others p ne) ∙ seen_some (find_row a.probes.rows.entries p)
 
   here_some : is_some (find_row b.probes.rows.entries id) ≡ is_some told_now
-  here_some = sym (seen_some (find_row b.probes.rows.entries id)) ∙ ap is_some tells.changed
+  here_some = sym (seen_some (find_row b.probes.rows.entries id)) ∙ ap is_some tells.one
 
   -- what each probe tells, where the one that changed is told apart
   each : (P : ℕ → Seen → Type 0) → ((s : Seen) → told_now ≡ Some s → P id s) → ((p : ℕ) (s : Seen) → probe_before p ≡ Some s → P p s) → (p : ℕ) (s : Seen) → probe_after p ≡ Some s → P p s
   each P here rest p s e = elim (cases_eq p id) [
-    | inl q ↦ subst (λ (k : ℕ). P k s) (sym q) (here s (sym tells.changed ∙ ap probe_after (sym q) ∙ e))
+    | inl q ↦ subst (λ (k : ℕ). P k s) (sym q) (here s (sym tells.one ∙ ap probe_after (sym q) ∙ e))
     | inr ne ↦ rest p s (sym (tells.others p ne) ∙ e)
   ]
 
@@ -303,11 +303,11 @@ module _ (a b : Parts) (names : Names) (id : ℕ) (i : IsBoard a) (f : FitsBoard
   pub probe_changes : ProbeSide → (times : ℕ) → times_in told_now ≡ times → (0 < times → 0 < times_in (probe_before id) → was_in told_now ≡ was_in (probe_before id)) → (times_in (probe_before id) ≡ 0 → was_in told_now ≡ Some (level_of (covered_count names id (held a.target_index)) (maybe_count names id (held a.target_index)))) → ProbesTo (board_of a) (board_of b) names id times
   probe_changes s times now kept fresh = record {
     fits = probe_fits s;
-    times_now = ap times_in tells.changed ∙ now;
+    times_now = ap times_in tells.one ∙ now;
     others = λ p ne. ap times_in (tells.others p ne);
     was = λ p ne. ap was_in (tells.others p ne);
-    was_kept = λ x y. ap was_in tells.changed ∙ kept x y;
-    was_new = λ x. ap was_in tells.changed ∙ fresh x ∙ sym (ap (λ (h : Targets). Some (level_of (covered_count names id (held h)) (maybe_count names id (held h)))) same_index);
+    was_kept = λ x y. ap was_in tells.one ∙ kept x y;
+    was_new = λ x. ap was_in tells.one ∙ fresh x ∙ sym (ap (λ (h : Targets). Some (level_of (covered_count names id (held h)) (maybe_count names id (held h)))) same_index);
     targets = ap (λ m. m.entries) same_targets;
     target_index = same_index;
     target_room = same_room;
@@ -385,7 +385,7 @@ module _ (a b : Parts) (names : Names) (id times : ℕ) (f : FitsBoard (board_of
 
   counts_stay : (p : ℕ) (s : Seen) → seen (find_row b.probes.rows.entries p) ≡ Some s → SameCounts (seen (find_row a.probes.rows.entries p)) s
   counts_stay p s e = elim (cases_eq p id) [
-    | inl q ↦ subst (λ (k : ℕ). SameCounts (seen (find_row a.probes.rows.entries k)) s) (sym q) (set_counts (seen (find_row a.probes.rows.entries id)) s (sym tells.changed ∙ ap (λ (k : ℕ). seen (find_row b.probes.rows.entries k)) (sym q) ∙ e))
+    | inl q ↦ subst (λ (k : ℕ). SameCounts (seen (find_row a.probes.rows.entries k)) s) (sym q) (set_counts (seen (find_row a.probes.rows.entries id)) s (sym tells.one ∙ ap (λ (k : ℕ). seen (find_row b.probes.rows.entries k)) (sym q) ∙ e))
     | inr ne ↦ (s, sym (tells.others p ne) ∙ e, refl, refl)
   ]
 
@@ -397,10 +397,10 @@ module _ (a b : Parts) (names : Names) (id times : ℕ) (f : FitsBoard (board_of
       counts = λ p s e. let n = counts_stay p s e in n.2 ∙ f.counts p n.0 n.1 ∙ sym (ap (λ (h : Targets). covered_count names p (held h)) same_index);
       maybes = λ p s e. let n = counts_stay p s e in n.3 ∙ f.maybes p n.0 n.1 ∙ sym (ap (λ (h : Targets). maybe_count names p (held h)) same_index);
     };
-    times_now = ap times_in tells.changed ∙ (told_with (seen (find_row a.probes.rows.entries id)) some).0;
+    times_now = ap times_in tells.one ∙ (told_with (seen (find_row a.probes.rows.entries id)) some).0;
     others = λ p ne. ap times_in (tells.others p ne);
     was = λ p ne. ap was_in (tells.others p ne);
-    was_kept = λ x y. ap was_in tells.changed ∙ (told_with (seen (find_row a.probes.rows.entries id)) some).1;
+    was_kept = λ x y. ap was_in tells.one ∙ (told_with (seen (find_row a.probes.rows.entries id)) some).1;
     was_new = λ none. absurd (omega (arith, none, some));
     targets = ap (λ m. m.entries) same_targets;
     target_index = same_index;

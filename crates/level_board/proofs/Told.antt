@@ -26,22 +26,22 @@ module _ (a : Parts) (i : IsBoard a) where
   many : length (take a.probes.flipped order) ≡ a.probes.flipped
   many = length-take-le a.probes.flipped order i.order.within
 
-  front : (k : ℕ) → k < a.probes.flipped → number_at (take a.probes.flipped order) k ≡ number_at order k
-  front k lt = ap (λ (x : NameId). x.0) (get_or-take a.probes.flipped order k (name_id 0) lt)
+  prefix : (k : ℕ) → k < a.probes.flipped → number_at (take a.probes.flipped order) k ≡ number_at order k
+  prefix k lt = ap (λ (x : NameId). x.0) (get_or-take a.probes.flipped order k (name_id 0) lt)
 
   pub are_flips : AreFlips (board_of a)
   are_flips = record {
     sound = λ k lt.
         let below : k < a.probes.flipped = omega (arith, lt, many) in
         let t = i.order.there k (omega (arith, below, i.order.within)) in
-        (seen_row t.0, ap (λ (n : ℕ). seen (find_row rows n)) (front k below) ∙ ap seen t.1, i.order.turned (number_at order k) t.0 t.1 ∙ lt-ltb t.0.place a.probes.flipped (omega (arith, t.2, below)));
+        (seen_row t.0, ap (λ (n : ℕ). seen (find_row rows n)) (prefix k below) ∙ ap seen t.1, i.order.turned (number_at order k) t.0 t.1 ∙ lt-ltb t.0.place a.probes.flipped (omega (arith, t.2, below)));
     whole = λ p h. whole p h.0 h.1 h.2 (find_row rows p) refl;
     once = λ j k lt_j lt_k e.
         let below_j : j < a.probes.flipped = omega (arith, lt_j, many) in
         let below_k : k < a.probes.flipped = omega (arith, lt_k, many) in
         let t = i.order.there j (omega (arith, below_j, i.order.within)) in
         let u = i.order.there k (omega (arith, below_k, i.order.within)) in
-        sym t.2 ∙ same_row rows order a.probes.flipped i.order (number_at order j) (number_at order k) t.0 u.0 t.1 u.1 (sym (front j below_j) ∙ e ∙ front k below_k) ∙ u.2;
+        sym t.2 ∙ same_row rows order a.probes.flipped i.order (number_at order j) (number_at order k) t.0 u.0 t.1 u.1 (sym (prefix j below_j) ∙ e ∙ prefix k below_k) ∙ u.2;
   }
     where
       whole : (p : ℕ) (s : Seen) → seen (find_row rows p) ≡ Some s → differs s.was (level_now s) ≡ true → (o : Option Row) → find_row rows p ≡ o → (k : ℕ) × (k < length (take a.probes.flipped order)) × (number_at (take a.probes.flipped order) k ≡ p)
@@ -50,7 +50,7 @@ module _ (a : Parts) (i : IsBoard a) where
           let same : seen_row r ≡ s = same_Some (seen_row r) s (sym (ap seen f) ∙ e) in
           let turned : is_turned r ≡ true = ap (λ (x : Seen). differs x.was (level_now x)) same ∙ d in
           let below : r.place < a.probes.flipped = ltb-true r.place a.probes.flipped (sym (i.order.turned p r f) ∙ turned) in
-          (r.place, omega (arith, below, many), front r.place below ∙ (i.order.back p r f).1)
+          (r.place, omega (arith, below, many), prefix r.place below ∙ (i.order.back p r f).1)
 
   positive : (o : Option ℕ) → ((n : ℕ) → o ≡ Some n → 0 < n) → 0 < one_if (is_some o) → 0 < or_none o
   positive None h lt = absurd (omega (arith, lt))

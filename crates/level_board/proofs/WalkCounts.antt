@@ -22,7 +22,7 @@ use Rattle.target_index.specs.Targets.{is_open}
 use Rattle.product_orders.proofs.Sums.{if_passes, sum_filter}
 use Rattle.cpe_name.specs.Lower.{IsLower}
 use Rattle.level_board.specs.declared.rows.Row.{Row}
-use Rattle.level_board.specs.Rows.{Seen, seen, find_row, changed, Tells}
+use Rattle.level_board.specs.Rows.{Seen, seen, find_row, recounted, Tells}
 use Rattle.level_board.specs.Board.{covers_at, maybe_at, tells_at, is_meeting}
 
 pub live_kept : (names : Names) (id : ℕ) → IsLive names id → find_kept names id ≡ Some (kept_at names id)
@@ -91,7 +91,7 @@ module _ (cov : ℕ → Bool) (change : Option Seen → Option Seen) (none_stays
   step_counted old new x rest xs p e c t = ap (finish rest p) (by (cases_eq p x.0)) ∙ sym (ap (λ (zs : List NameId). finish zs p (seen (find_row old p))) e)
     where
       at_x : seen (find_row new x.0) ≡ cond (nat_eq x.0 x.0 && cov x.0) (change (seen (find_row old x.0))) (seen (find_row old x.0))
-      at_x = t.changed ∙ sym (ap (λ (b : Bool). cond (b && cov x.0) (change (seen (find_row old x.0))) (seen (find_row old x.0))) (eq-eqb x.0 x.0 refl) ∙ ap (λ (b : Bool). cond b (change (seen (find_row old x.0))) (seen (find_row old x.0))) c)
+      at_x = t.one ∙ sym (ap (λ (b : Bool). cond (b && cov x.0) (change (seen (find_row old x.0))) (seen (find_row old x.0))) (eq-eqb x.0 x.0 refl) ∙ ap (λ (b : Bool). cond b (change (seen (find_row old x.0))) (seen (find_row old x.0))) c)
 
       by : (p ≡ x.0) ⊎ (p ≢ x.0) → seen (find_row new p) ≡ cond (nat_eq p x.0 && cov p) (change (seen (find_row old p))) (seen (find_row old p))
       by (inl s) = subst (λ (q : ℕ). seen (find_row new q) ≡ cond (nat_eq q x.0 && cov q) (change (seen (find_row old q))) (seen (find_row old q))) (sym s) at_x
@@ -127,8 +127,8 @@ walk_times q held walk p same passes = sym (same (is_number p)) ∙ sum_filter (
 pub walk_counts : (names : Names) (rise : Bool) (held : List (ℕ × ℕ)) (walk : List NameId) (target : ℕ) (old : List (ℕ × Row)) (now : ℕ → Option Seen)
     → ((a b : Values) → IsTrue (covers a b) ⊎ IsTrue (maybe a b) → IsTrue (meets a.product b.product))
     → SameElements (filter (is_meeting names (kept_at names target).name.product) (ids held)) walk → ((p : ℕ) → IsSome (find_row old p) → times_held held p ≡ 1)
-    → ((p : ℕ) → now p ≡ finish (λ q. tells_at names q target) (changed (is_open names target) rise) refl walk p (seen (find_row old p)))
-    → (p : ℕ) → now p ≡ cond (tells_at names p target) (changed (is_open names target) rise (seen (find_row old p))) (seen (find_row old p))
+    → ((p : ℕ) → now p ≡ finish (λ q. tells_at names q target) (recounted (is_open names target) rise) refl walk p (seen (find_row old p)))
+    → (p : ℕ) → now p ≡ cond (tells_at names p target) (recounted (is_open names target) rise (seen (find_row old p))) (seen (find_row old p))
 walk_counts names rise held walk target old now law same once done p = done p ∙ by (tells_at names p target) refl
   where
     meets_by : tells_at names p target ≡ true → is_meeting names (kept_at names target).name.product (name_id p) ≡ true
@@ -138,13 +138,13 @@ walk_counts names rise held walk target old now law same once done p = done p �
         either true c m e = inr e
         either false c m e = inl e
 
-    at_row : tells_at names p target ≡ true → (o : Option Row) → find_row old p ≡ o → finish (λ q. tells_at names q target) (changed (is_open names target) rise) refl walk p (seen o) ≡ changed (is_open names target) rise (seen o)
-    at_row c None e = finish_none (λ q. tells_at names q target) (changed (is_open names target) rise) refl walk p
-    at_row c (Some r) e = finish_once (λ q. tells_at names q target) (changed (is_open names target) rise) refl walk p (seen (Some r)) c (walk_times (is_meeting names (kept_at names target).name.product) held walk p same (meets_by c) ∙ once p (subst IsSome (sym e) refl))
+    at_row : tells_at names p target ≡ true → (o : Option Row) → find_row old p ≡ o → finish (λ q. tells_at names q target) (recounted (is_open names target) rise) refl walk p (seen o) ≡ recounted (is_open names target) rise (seen o)
+    at_row c None e = finish_none (λ q. tells_at names q target) (recounted (is_open names target) rise) refl walk p
+    at_row c (Some r) e = finish_once (λ q. tells_at names q target) (recounted (is_open names target) rise) refl walk p (seen (Some r)) c (walk_times (is_meeting names (kept_at names target).name.product) held walk p same (meets_by c) ∙ once p (subst IsSome (sym e) refl))
 
-    by : (b : Bool) → tells_at names p target ≡ b → finish (λ q. tells_at names q target) (changed (is_open names target) rise) refl walk p (seen (find_row old p)) ≡ cond (tells_at names p target) (changed (is_open names target) rise (seen (find_row old p))) (seen (find_row old p))
-    by true c = at_row c (find_row old p) refl ∙ sym (ap (λ (b : Bool). cond b (changed (is_open names target) rise (seen (find_row old p))) (seen (find_row old p))) c)
-    by false c = finish_uncovered (λ q. tells_at names q target) (changed (is_open names target) rise) refl walk p (seen (find_row old p)) c ∙ sym (ap (λ (b : Bool). cond b (changed (is_open names target) rise (seen (find_row old p))) (seen (find_row old p))) c)
+    by : (b : Bool) → tells_at names p target ≡ b → finish (λ q. tells_at names q target) (recounted (is_open names target) rise) refl walk p (seen (find_row old p)) ≡ cond (tells_at names p target) (recounted (is_open names target) rise (seen (find_row old p))) (seen (find_row old p))
+    by true c = at_row c (find_row old p) refl ∙ sym (ap (λ (b : Bool). cond b (recounted (is_open names target) rise (seen (find_row old p))) (seen (find_row old p))) c)
+    by false c = finish_uncovered (λ q. tells_at names q target) (recounted (is_open names target) rise) refl walk p (seen (find_row old p)) c ∙ sym (ap (λ (b : Bool). cond b (recounted (is_open names target) rise (seen (find_row old p))) (seen (find_row old p))) c)
 
 -- what the code asks of two looked-up names is what the target tells of the probe
 pub told : (names : Names) (probe target : ℕ) (p t : Values) (partly asked b : Bool) → p ≡ (kept_at names probe).name → t ≡ (kept_at names target).name → partly ≡ name_has_specials t → asked ≡ cond partly (maybe p t) (covers p t) → asked ≡ b → tells_at names probe target ≡ b
@@ -152,8 +152,8 @@ told names probe target p t partly asked b same_probe same_target is_open_is is_
     sym (ap (λ (v : Values). cond (name_has_specials v) (maybe (kept_at names probe).name v) (covers (kept_at names probe).name v)) same_target)
     ∙ sym (ap (λ (v : Values). cond (name_has_specials t) (maybe v t) (covers v t)) same_probe) ∙ sym (ap (λ (o : Bool). cond o (maybe p t) (covers p t)) is_open_is) ∙ sym is_asked ∙ result
 
-pub opened : (old new : List (ℕ × Row)) (id : ℕ) (rise partly is : Bool) → partly ≡ is → Tells old new id (changed partly rise (seen (find_row old id))) → Tells old new id (changed is rise (seen (find_row old id)))
-opened old new id rise partly is e t = subst (λ (o : Bool). Tells old new id (changed o rise (seen (find_row old id)))) e t
+pub opened : (old new : List (ℕ × Row)) (id : ℕ) (rise partly is : Bool) → partly ≡ is → Tells old new id (recounted partly rise (seen (find_row old id))) → Tells old new id (recounted is rise (seen (find_row old id)))
+opened old new id rise partly is e t = subst (λ (o : Bool). Tells old new id (recounted o rise (seen (find_row old id)))) e t
 
 -- ---- the probes whose products meet a target's
 

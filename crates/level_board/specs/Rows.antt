@@ -79,7 +79,7 @@ pub record Moved (rows : List (ℕ × Row)) (order : List NameId) (id : ℕ) (ro
 
 -- one probe tells something else, and the others what they told
 pub record Tells (old new : List (ℕ × Row)) (id : ℕ) (after : Option Seen) : Type 0 where
-  pub changed : seen (find_row new id) ≡ after
+  pub one : seen (find_row new id) ≡ after
   pub others : (p : ℕ) → p ≢ id → seen (find_row new p) ≡ seen (find_row old p)
 
 abbrev pub level_now : Seen → Level
@@ -95,14 +95,14 @@ abbrev pub fresh_row : ℕ → ℕ → Seen
 fresh_row hits maybes = told 1 hits maybes (level_of hits maybes)
 
 -- one target more or less, as far as 32 bits go
-abbrev pub changed_count : Bool → ℕ → ℕ
-changed_count true count = min (count + 1) 4294967295
-changed_count false count = count - 1
+abbrev pub recounted_by_one : Bool → ℕ → ℕ
+recounted_by_one true count = min (count + 1) 4294967295
+recounted_by_one false count = count - 1
 
 -- a target more or less that the probe covers, or, where the target is open, may cover
-abbrev pub changed : Bool → Bool → Option Seen → Option Seen
-changed partly rise None = None
-changed partly rise (Some s) = Some (told s.times (cond (not partly) (changed_count rise s.hits) s.hits) (cond partly (changed_count rise s.maybes) s.maybes) s.was)
+abbrev pub recounted : Bool → Bool → Option Seen → Option Seen
+recounted partly rise None = None
+recounted partly rise (Some s) = Some (told s.times (cond (not partly) (recounted_by_one rise s.hits) s.hits) (cond partly (recounted_by_one rise s.maybes) s.maybes) s.was)
 
 abbrev pub with_times : ℕ → Option Seen → Option Seen
 with_times times None = None

@@ -10,7 +10,7 @@ ghost use Rattle.product_orders.specs.Elements.{SameElements};
 ghost use Rattle.name_index.specs.Table.{IsLive, kept_at};
 ghost use Rattle.name_index.specs.Index.{ids, times_held, Fits};
 ghost use Rattle.target_index.specs.Targets.{FitsTargets, held, is_met, is_open};
-ghost use Rattle.level_board.specs.Rows.{find_row, seen, changed, IsOrder};
+ghost use Rattle.level_board.specs.Rows.{find_row, seen, recounted, IsOrder};
 ghost use Rattle.level_board.specs.Board.{covered_count, is_meeting, maybe_count, tells_at};
 
 use crate::rows::Probes;
@@ -85,7 +85,7 @@ pub(crate) fn count_target<L: Ledger>(
     requires live { IsLive table.now target.0 }
     requires once { (p : ℕ) → IsSome (find_row probes.old.rows.entries p) → times_held index.now.held p ≡ 1 }
     ensures order { IsOrder probes.new.rows.entries probes.new.order.items probes.new.flipped }
-    ensures counted { (p : ℕ) → seen (find_row probes.new.rows.entries p) ≡ cond (tells_at table.now p target.0) (changed (is_open table.now target.0) rise (seen (find_row probes.old.rows.entries p))) (seen (find_row probes.old.rows.entries p)) }
+    ensures counted { (p : ℕ) → seen (find_row probes.new.rows.entries p) ≡ cond (tells_at table.now p target.0) (recounted (is_open table.now target.0) rise (seen (find_row probes.old.rows.entries p))) (seen (find_row probes.old.rows.entries p)) }
     ensures spare { spare probes.new.rows ≡ spare probes.old.rows }
     ensures length { length probes.new.order.items ≡ length probes.old.order.items }
     ensures capacity { vec_capacity probes.new.order ≡ vec_capacity probes.old.order }
@@ -114,7 +114,7 @@ fn count_met<L: Ledger>(
     requires live { IsLive table.now target.0 }
     requires once { (p : ℕ) → IsSome (find_row probes.old.rows.entries p) → times_held index.now.held p ≡ 1 }
     ensures order { IsOrder probes.new.rows.entries probes.new.order.items probes.new.flipped }
-    ensures counted { (p : ℕ) → seen (find_row probes.new.rows.entries p) ≡ cond (tells_at table.now p target.0) (changed (is_open table.now target.0) rise (seen (find_row probes.old.rows.entries p))) (seen (find_row probes.old.rows.entries p)) }
+    ensures counted { (p : ℕ) → seen (find_row probes.new.rows.entries p) ≡ cond (tells_at table.now p target.0) (recounted (is_open table.now target.0) rise (seen (find_row probes.old.rows.entries p))) (seen (find_row probes.old.rows.entries p)) }
     ensures spare { spare probes.new.rows ≡ spare probes.old.rows }
     ensures length { length probes.new.order.items ≡ length probes.old.order.items }
     ensures capacity { vec_capacity probes.new.order ≡ vec_capacity probes.old.order }

@@ -1,7 +1,7 @@
 // The probes of a board, with the flipped ones first.
 ghost use Rattle.std.specs.Prelude.{◌≡◌, ◌≢◌, ℕ, ◌+◌, ◌-◌, ◌<◌, ◌≤◌, Bool, true, not, cond, ◌^◌, nat_eq, nat_lt, length, set, min, Some, None, IsSome, OnOk, vec_len, vec_capacity};
 ghost use Rattle.std.specs.HashMap.{spare};
-ghost use Rattle.level_board.specs.Rows.{find_row, seen, number_at, name_id, seen_row, changed, changed_count, differs, level_of, with_times, known_now, fresh_row, place_in, is_turned, IsOrder, Crosses, Moved, Tells};
+ghost use Rattle.level_board.specs.Rows.{find_row, seen, number_at, name_id, seen_row, recounted, recounted_by_one, differs, level_of, with_times, known_now, fresh_row, place_in, is_turned, IsOrder, Crosses, Moved, Tells};
 
 use crate::Level;
 use cpe_values::Memory;
@@ -236,7 +236,7 @@ impl Probes {
         requires order { IsOrder self.old.rows.entries self.old.order.items self.old.flipped }
         requires few { length self.old.order.items < 4294967296 }
         ensures order { IsOrder self.new.rows.entries self.new.order.items self.new.flipped }
-        ensures tells { Tells self.old.rows.entries self.new.rows.entries id (changed partly rise (seen (find_row self.old.rows.entries id))) }
+        ensures tells { Tells self.old.rows.entries self.new.rows.entries id (recounted partly rise (seen (find_row self.old.rows.entries id))) }
         ensures spare { spare self.new.rows ≡ spare self.old.rows }
         ensures length { length self.new.order.items ≡ length self.old.order.items }
         ensures capacity { vec_capacity self.new.order ≡ vec_capacity self.old.order }
@@ -348,8 +348,8 @@ fn find(rows: &HashMap<u32, Row>, id: u32) -> Option<Row>
 }
 
 // One more or one less.
-fn changed_count(count: u32, rise: bool) -> u32
-    ensures { result ≡ changed_count rise count }
+fn recounted_by_one(count: u32, rise: bool) -> u32
+    ensures { result ≡ recounted_by_one rise count }
 {
     if rise {
         return count.saturating_add(1);
@@ -359,10 +359,10 @@ fn changed_count(count: u32, rise: bool) -> u32
 
 // The same, where it is asked.
 fn changed_where(asked: bool, count: u32, rise: bool) -> u32
-    ensures { result ≡ cond asked (changed_count rise count) count }
+    ensures { result ≡ cond asked (recounted_by_one rise count) count }
 {
     if asked {
-        return changed_count(count, rise);
+        return recounted_by_one(count, rise);
     }
     count
 }

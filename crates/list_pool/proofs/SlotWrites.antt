@@ -18,7 +18,7 @@ use Rattle.list_pool.proofs.SlotChanges.{Rewrites-set, lists_updated, IsPool-cha
 use Rattle.list_pool.proofs.SlotCells.{Linked-at, slots_of_head, cell_lies}
 use Rattle.list_pool.proofs.SlotsPlaced.{keeps_same, keeps_at, stands_kept}
 use Rattle.list_pool.proofs.SlotsApart.{Linked-drop}
-use Rattle.list_pool.proofs.SlotRemoves.{front_value, on_true}
+use Rattle.list_pool.proofs.SlotRemoves.{prefix_value, on_true}
 
 -- ---- the row of a cell
 
@@ -152,7 +152,7 @@ without_at_is cell v (suc k) first xs e =
 
 pub taken_out : (ls ms ns : List (Option (List Row))) (name cell first v a b : ℕ) (r : Bool) → IsOn ls name cell → Some first ≡ cell_at ls name 0 → ValueIs ls first v → Writes ls ms cell v → r ≡ has_value v (list_at ms name) → OnTrue r (Updates ms ns name (Some (without_first v (list_at ms name)))) → OnTrue r (b ≡ a + 1) → TakesOut ls ns name cell × (b ≡ a + 1)
 taken_out ls ms ns name cell first v a b r on f value wr found up spare =
-    let p = front_value ls name first v (sym f) value in
+    let p = prefix_value ls name first v (sym f) value in
     let mid : (k : ℕ) → cell_at ls name k ≡ Some cell → list_at ms name ≡ slice_set ((first, v) ∷ p.0) k (cell, v) = λ k e. ap rows_or_none (wr name k e).changed ∙ ap (λ (xs : List Row). slice_set xs k (cell, v)) p.1 in
     let here : (k : ℕ) → cell_at ls name k ≡ Some cell → option_map (λ (x : Row). x.0) (slice_get ((first, v) ∷ p.0) k) ≡ Some cell = λ k e. ap (λ (xs : List Row). option_map (λ (x : Row). x.0) (slice_get xs k)) (sym p.1) ∙ e in
     let yes : r ≡ true = found ∙ ap (has_value v) (mid on.0 on.1) ∙ (without_at_is cell v on.0 first p.0 (here on.0 on.1)).0 in

@@ -163,13 +163,13 @@ some_there [] i h lt = absurd (omega (arith, lt))
 some_there (b ∷ bs) zero h lt = h.0.0
 some_there (b ∷ bs) (suc i) h lt = some_there bs i h.1 (omega (arith, lt))
 
-pub joined : (v : Block) (bs : List Block) (i k : ℕ) → k ≡ i + 1 → k < length bs → v.items ≡ block_at bs i ++ block_at bs k → flat (slice_set (remove bs k) i v) ≡ flat bs
-joined v [] i k e lt is = absurd (omega (arith, lt))
-joined v (b ∷ bs) i zero e lt is = absurd (omega (arith, e))
-joined v (b ∷ []) zero (suc k) e lt is = absurd (omega (arith, lt))
-joined v (b ∷ c ∷ bs) zero (suc (suc k)) e lt is = absurd (omega (arith, e))
-joined v (b ∷ c ∷ bs) zero (suc zero) e lt is = ap (λ (u : List ℕ). u ++ flat bs) is ∙ append_assoc b.items c.items (flat bs)
-joined v (b ∷ bs) (suc i) (suc k) e lt is = ap (λ (u : List ℕ). b.items ++ u) (joined v bs i k (omega (arith, e)) (omega (arith, lt)) is)
+pub blocks_joined : (v : Block) (bs : List Block) (i k : ℕ) → k ≡ i + 1 → k < length bs → v.items ≡ block_at bs i ++ block_at bs k → flat (slice_set (remove bs k) i v) ≡ flat bs
+blocks_joined v [] i k e lt is = absurd (omega (arith, lt))
+blocks_joined v (b ∷ bs) i zero e lt is = absurd (omega (arith, e))
+blocks_joined v (b ∷ []) zero (suc k) e lt is = absurd (omega (arith, lt))
+blocks_joined v (b ∷ c ∷ bs) zero (suc (suc k)) e lt is = absurd (omega (arith, e))
+blocks_joined v (b ∷ c ∷ bs) zero (suc zero) e lt is = ap (λ (u : List ℕ). u ++ flat bs) is ∙ append_assoc b.items c.items (flat bs)
+blocks_joined v (b ∷ bs) (suc i) (suc k) e lt is = ap (λ (u : List ℕ). b.items ++ u) (blocks_joined v bs i k (omega (arith, e)) (omega (arith, lt)) is)
 
 pub longer : (b v : Block) (more : List ℕ) → IsBlock b → length b.items + length more ≤ 512 → v.items ≡ b.items ++ more → vec_capacity b ≤ vec_capacity v → IsBlock v
 longer b v more h few e c =

@@ -14,8 +14,8 @@ fn writes(alloc: Global, entry: &Entry, text: &str) -> bool {
 }
 
 // Whether an entry is written so after a prefix.
-fn appends(alloc: Global, front: &[u8], entry: &Entry, text: &str) -> bool {
-    let Ok(buffer) = front.to_vec(alloc) else {
+fn appends(alloc: Global, prefix: &[u8], entry: &Entry, text: &str) -> bool {
+    let Ok(buffer) = prefix.to_vec(alloc) else {
         return false;
     };
     match append_entry(alloc, buffer, entry) {

@@ -2,9 +2,9 @@ use Rattle.std.proofs.Common.{◌≡◌, ◌++◌, ◌∷◌, [], List, ◌+◌,
 use Rattle.std.proofs.lemmas.List.{append-nil}
 use Rattle.cpe_name.specs.Eleven.{Values}
 use Rattle.cpe_dictionary.specs.Numbers.{entries_at}
-use Rattle.names_in_order.proofs.Rows.{item_first}
+use Rattle.names_in_order.proofs.Rows.{item_first, next_missing, next_there}
 use Rattle.cpe_dictionary.specs.Kept.{entry_from}
-use Rattle.cpe_dictionary.proofs.AtNumbers.{next_found, next_absent, active_name, active_names, active_names-cons, active_where, of_active, of_inactive}
+use Rattle.cpe_dictionary.proofs.AtNumbers.{active_name, active_names, active_names-cons, active_where, of_active, of_inactive}
 use Rattle.cpe_dictionary.proofs.chain.active_names_at.Goals.{in-Some+then-is_none+in_ok-copy+in_ok-push, in-Some+else-is_none, in_default}
 use Rattle.cpe_dictionary.proofs.chain.active_names_at.Goals as goal
 
@@ -23,16 +23,16 @@ loop-number-preserved c =
       | in-Some+then-is_none+in_ok-copy+in_ok-push w ↦
           let e = entry_from (w.in-Some.name.now, w.in-Some.details.now) in
           let at = sym w.in-Some.ensures.entry in
-          let next = next_found active_name active_names refl active_names-cons es names all k rest e at before in
+          let next = next_there active_name active_names active_names-cons es names all k rest e at before in
           let one = of_active e (active_where e.deprecation w.is_none.result w.is_none.ensures ∙ w.if-is_none.true) in
           ap behind (w.names-is ∙ w.in_ok-push.ensures.ok ∙ ap (λ (n : Values). names ++ n ∷ []) w.in_ok-copy.ensures ∙ ap (λ (ns : List Values). names ++ ns) (sym one)) ∙ next
       | in-Some+else-is_none w ↦
           let e = entry_from (w.in-Some.name.now, w.in-Some.details.now) in
           let at = sym w.in-Some.ensures.entry in
-          let next = next_found active_name active_names refl active_names-cons es names all k rest e at before in
+          let next = next_there active_name active_names active_names-cons es names all k rest e at before in
           let one = of_inactive e (active_where e.deprecation w.is_none.result w.is_none.ensures ∙ w.if-is_none.false) in
           ap behind (w.names-is ∙ sym (append-nil names) ∙ ap (λ (ns : List Values). names ++ ns) (sym one)) ∙ next
       | in_default w ↦
           let at = sym w.in_default.ensures.entry in
-          ap behind w.names-is ∙ next_absent active_name active_names refl active_names-cons es names all k rest at before
+          ap behind w.names-is ∙ next_missing active_name active_names active_names-cons es names all k rest at before
     ]

@@ -3,9 +3,8 @@ use Rattle.cpe_rows.specs.Answers.{row_of}
 use Rattle.cpe_rows.specs.declared.entry.Entry.{Entry}
 use Rattle.cpe_rows.specs.declared.reply.Row.{Row}
 use Rattle.cpe_dictionary.specs.Numbers.{entries_at}
-use Rattle.names_in_order.proofs.Rows.{item_first}
+use Rattle.names_in_order.proofs.Rows.{item_first, next_missing, next_there}
 use Rattle.cpe_dictionary.specs.Kept.{entry_from}
-use Rattle.cpe_dictionary.proofs.AtNumbers.{next_found, next_absent}
 use Rattle.cpe_dictionary.proofs.chain.rows_at.Goals.{in-Some+in_ok-row_of+in_ok-push, in_default}
 use Rattle.cpe_dictionary.proofs.chain.rows_at.Goals as goal
 
@@ -23,9 +22,9 @@ loop-number-preserved c =
       | in-Some+in_ok-row_of+in_ok-push w ↦
           let e = entry_from (w.in-Some.name.now, w.in-Some.details.now) in
           let at = sym w.in-Some.ensures.entry in
-          let next = next_found (λ (x : Entry). row_of x ∷ []) (map row_of) refl (λ x xs. refl) es rows all k rest e at before in
+          let next = next_there (λ (x : Entry). row_of x ∷ []) (map row_of) (λ x xs. refl) es rows all k rest e at before in
           ap (λ (rs : List Row). rs ++ map row_of (entries_at es rest)) (w.rows-is ∙ w.in_ok-push.ensures.ok ∙ ap (λ (r : Row). rows ++ r ∷ []) w.in_ok-row_of.ensures) ∙ next
       | in_default w ↦
           let at = sym w.in_default.ensures.entry in
-          ap (λ (rs : List Row). rs ++ map row_of (entries_at es rest)) w.rows-is ∙ next_absent (λ (x : Entry). row_of x ∷ []) (map row_of) refl (λ x xs. refl) es rows all k rest at before
+          ap (λ (rs : List Row). rs ++ map row_of (entries_at es rest)) w.rows-is ∙ next_missing (λ (x : Entry). row_of x ∷ []) (map row_of) (λ x xs. refl) es rows all k rest at before
     ]

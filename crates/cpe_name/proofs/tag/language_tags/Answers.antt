@@ -17,7 +17,4 @@ pub returns-clause-taken : goal.returns-clause-taken
 returns-clause-taken c = tag_taken
 
 pub returns-clause-language : goal.returns-clause-language
-returns-clause-language c = λ u h. tag_text u (tag_case u h)
-
-pub returns-clause-tag : goal.returns-clause-tag
-returns-clause-tag c = λ u t. tag_lawful u (text_tag u t)
+returns-clause-language c = λ u. ((λ h. tag_text u (tag_case u h)), (λ t. tag_lawful u (text_tag u t)))

@@ -2,15 +2,15 @@ use Rattle.std.proofs.Common.{ℕ, List, ◌≡◌, ◌≤◌, ◌++◌, ◌-◌
 use Rattle.cpe_values.specs.Spelling.{is_lower_word}
 use Rattle.cpe_values.proofs.SkippingLemmas.{length-skip_while}
 use Rattle.cpe_uri.specs.Rewriting.{rewritten}
-use Rattle.cpe_uri.proofs.Rewritten.{word_rewritten, put_front}
+use Rattle.cpe_uri.proofs.Rewritten.{word_rewritten, put_prefix}
 use Rattle.cpe_uri.proofs.write.put_word.Goals as goal
 
 pub returns-clause-at : goal.returns-clause-at
 returns-clause-at c =
     let s = c.args.bytes.now in
     let shorter : length c.skip_lower_word-behind.result.now ≤ length s = rw c.skip_lower_word-behind.ensures (length-skip_while is_lower_word s) in
-    let front : length c.front_of.result.now ≤ length s - length c.skip_lower_word-behind.result.now = rw c.front_of.ensures (omega (arith, length-take (length s - length c.skip_lower_word-behind.result.now) s)) in
-    omega (arith, shorter, front, c.put.ensures.at)
+    let prefix : length c.prefix_of.result.now ≤ length s - length c.skip_lower_word-behind.result.now = rw c.prefix_of.ensures (omega (arith, length-take (length s - length c.skip_lower_word-behind.result.now) s)) in
+    omega (arith, shorter, prefix, c.put.ensures.at)
 
 pub returns-clause-shorter : goal.returns-clause-shorter
 returns-clause-shorter c = rw c.skip_lower_word-behind.ensures (length-skip_while is_lower_word c.args.bytes.now)
@@ -20,4 +20,4 @@ returns-clause-written c =
     let s = c.args.bytes.now in
     let rest = c.skip_lower_word-behind.result.now in
     let all : rewritten s ≡ take (length s - length rest) s ++ rewritten rest = rw c.skip_lower_word-behind.ensures (word_rewritten s) in
-    put_front _ _ _ _ _ (c.put.ensures.written ∙ ap (λ (u : List ℕ). take c.args.at c.args.room.now ++ u) c.front_of.ensures) all
+    put_prefix _ _ _ _ _ (c.put.ensures.written ∙ ap (λ (u : List ℕ). take c.args.at c.args.room.now ++ u) c.prefix_of.ensures) all

@@ -14,8 +14,8 @@ loop-next-preserved c =
     record {
       at = c.next-next.ensures c.args.head.0 (length c.loop-next.into.items) at ∙ ap (cell_at c.args.pool.now.lists c.args.head.0) (sym count);
       few = omega (arith, within, count);
-      front = read_step c.args.pool.now.lists c.args.head.0 c.value.result c.loop-next.into.items c.push.new.self.items within c.loop-next.invariant.front (c.value.ensures c.args.head.0 (length c.loop-next.into.items) at) c.in_ok-push.ensures.items;
+      prefix = read_step c.args.pool.now.lists c.args.head.0 c.value.result c.loop-next.into.items c.push.new.self.items within c.loop-next.invariant.prefix (c.value.ensures c.args.head.0 (length c.loop-next.into.items) at) c.in_ok-push.ensures.items;
     }
 
 pub returns : goal.returns
-returns c = read_end c.args.pool.now.lists c.args.head.0 c.loop-next.into.items (sym c.loop-next.invariant.at ∙ ap (option_map (λ (x : CellName). x.0)) c.in_default.is) c.loop-next.invariant.front
+returns c = read_end c.args.pool.now.lists c.args.head.0 c.loop-next.into.items (sym c.loop-next.invariant.at ∙ ap (option_map (λ (x : CellName). x.0)) c.in_default.is) c.loop-next.invariant.prefix

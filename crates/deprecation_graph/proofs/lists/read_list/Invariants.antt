@@ -8,7 +8,7 @@ abbrev pub invariant-loop-next : goal.invariant-loop-next
 invariant-loop-next l = record {
   at : option_map (λ c. c.0) l.next ≡ cell_at l.pool.lists l.fn.head.0 (length l.into.items);
   few : length l.into.items ≤ length (list_at l.pool.lists l.fn.head.0);
-  front : l.into.items ≡ take (length l.into.items) (values l.pool.lists l.fn.head.0);
+  prefix : l.into.items ≡ take (length l.into.items) (values l.pool.lists l.fn.head.0);
 }
 
 abbrev pub decreases-loop-next : goal.decreases-loop-next

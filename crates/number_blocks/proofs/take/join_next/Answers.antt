@@ -2,7 +2,7 @@ use Rattle.std.proofs.Common.{◌≡◌, ◌<◌, ◌+◌, ◌++◌, ℕ, List, 
 use Rattle.std.specs.List.{remove}
 use Rattle.number_blocks.specs.Places.{Block, flat, IsBlock, AreBlocks, block_at}
 use Rattle.number_blocks.proofs.BlockLemmas.{at_is, there, put_blocks}
-use Rattle.number_blocks.proofs.Taken.{blocks_left, front_kept, one_fewer, joined, longer}
+use Rattle.number_blocks.proofs.Taken.{blocks_left, front_kept, one_fewer, blocks_joined, longer}
 use Rattle.number_blocks.proofs.take.join_next.Goals as goal
 
 first_inside : (bs left : List Block) (i : ℕ) → i + 1 < length bs → left ≡ remove bs (i + 1) → i < length left
@@ -49,4 +49,4 @@ returns-clause-same c =
     let first = first_is bs left i b c.requires.inside c.remove-next.ensures.items c.index_mut.ensures.value in
     let second = second_is bs (i + 1) c.remove-next.result c.deref.result.now c.requires.inside c.remove-next.ensures.value c.deref.ensures.value in
     let items : v.items ≡ block_at bs i ++ block_at bs (i + 1) = c.append.ensures.items ∙ ap (λ (u : List ℕ). u ++ c.deref.result.now) first ∙ ap (λ (u : List ℕ). block_at bs i ++ u) second in
-    ap (λ (u : List Block). flat (lib.ListN.set u i v)) c.remove-next.ensures.items ∙ joined v bs i (i + 1) refl c.requires.inside items
+    ap (λ (u : List Block). flat (lib.ListN.set u i v)) c.remove-next.ensures.items ∙ blocks_joined v bs i (i + 1) refl c.requires.inside items

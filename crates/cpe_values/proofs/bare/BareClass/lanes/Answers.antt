@@ -8,5 +8,5 @@ returns c =
     let xs = c.args.block in
     let slash = ap (map (λ x. 255 - x)) c.between-2.ensures ∙ map-map (λ x. 255 - x) _ xs in
     let middle = zip2_of_maps bit_and _ _ xs c.between.ensures slash in
-    let front = zip2_of_maps bit_or _ _ xs c.letters.ensures middle in
-    zip2_of_maps bit_or _ _ xs front c.between-3.ensures ∙ map_of_bytes _ _ refl xs c.fits-block.1
+    let prefix = zip2_of_maps bit_or _ _ xs c.letters.ensures middle in
+    zip2_of_maps bit_or _ _ xs prefix c.between-3.ensures ∙ map_of_bytes _ _ refl xs c.fits-block.1

@@ -6,5 +6,5 @@ use Rattle.cpe_values.proofs.bare.WordClass.lanes.Goals as goal
 pub returns : goal.returns
 returns c =
     let xs = c.args.block in
-    let front = zip2_of_maps bit_or _ _ xs c.letters.ensures c.between.ensures in
-    zip2_of_maps bit_or _ _ xs front c.between-2.ensures ∙ map_of_bytes _ _ refl xs c.fits-block.1
+    let prefix = zip2_of_maps bit_or _ _ xs c.letters.ensures c.between.ensures in
+    zip2_of_maps bit_or _ _ xs prefix c.between-2.ensures ∙ map_of_bytes _ _ refl xs c.fits-block.1

@@ -18,7 +18,7 @@ move_to-requires-clause-other c = let t = c.set_row.ensures.order.there (c.len-l
 pub returns-clause-length : goal.returns-clause-length
 returns-clause-length c =
     let r = c.row_of-settled.result in
-    let unturned = still _ r _ c.row_of-settled.ensures c.set_row.ensures.tells.changed c.level_of.ensures in
+    let unturned = still _ r _ c.row_of-settled.ensures c.set_row.ensures.tells.one c.level_of.ensures in
     let t = taken c.set_row.new.self.rows.entries c.move_to.new.rows.entries c.remove.new.self.entries c.set_row.new.self.order.items c.move_to.new.order.items c.pop.new.self.items c.set_row.new.self.flipped c.args.id r (c.len-last.result - 1) _ c.set_row.ensures.order c.row_of-settled.ensures unturned
     (omega (arith, c.len-last.ensures)) c.move_to.ensures.moved c.remove.ensures.updates.0 (omega (arith, c.pop.ensures.rest)) c.pop.ensures.rest in
     t.shorter ∙ c.set_row.ensures.length
@@ -26,7 +26,7 @@ returns-clause-length c =
 pub returns-clause-order : goal.returns-clause-order
 returns-clause-order c =
     let r = c.row_of-settled.result in
-    let unturned = still _ r _ c.row_of-settled.ensures c.set_row.ensures.tells.changed c.level_of.ensures in
+    let unturned = still _ r _ c.row_of-settled.ensures c.set_row.ensures.tells.one c.level_of.ensures in
     let t = taken c.set_row.new.self.rows.entries c.move_to.new.rows.entries c.remove.new.self.entries c.set_row.new.self.order.items c.move_to.new.order.items c.pop.new.self.items c.set_row.new.self.flipped c.args.id r (c.len-last.result - 1) _ c.set_row.ensures.order c.row_of-settled.ensures unturned
     (omega (arith, c.len-last.ensures)) c.move_to.ensures.moved c.remove.ensures.updates.0 (omega (arith, c.pop.ensures.rest)) c.pop.ensures.rest in
     t.order_stands
