@@ -73,12 +73,25 @@ asked_more of i d q lt =
     ap (λ (ks : List CheckKey). is_asked ks q) (keys_more of i d lt)
     ∙ list_any-append (λ key. same_key key q) (flat_map check_keys (take i of)) (check_keys (get_or of i d))
 
-asked_front : (of : List Test) (k : ℕ) (q : CheckKey) → is_asked (flat_map check_keys (take k of)) q ≡ true → is_asked (flat_map check_keys of) q ≡ true
-asked_front of zero q h = absurd (let wrong : false ≡ true = h in cc)
-asked_front [] (suc k) q h = absurd (let wrong : false ≡ true = h in cc)
-asked_front (t ∷ of) (suc k) q h =
+-- what is done for the children so far, and then for one more, is done for all of these
+pub with_child : (done : Bool → List ℕ → List ℕ) → ((b c : Bool) (xs : List ℕ) → done c (done b xs) ≡ done (b || c) xs)
+    → (of : List Test) (i : ℕ) (child : Test) → i < length of → child ≡ get_or of i child → (q : CheckKey) (old now next : List ℕ)
+    → now ≡ done (is_asked (flat_map check_keys (take i of)) q) old → next ≡ done (is_asked (check_keys child) q) now
+    → next ≡ done (is_asked (flat_map check_keys (take (i + 1) of)) q) old
+with_child done twice of i child lt is q old now next so_far here =
+    let prefix = is_asked (flat_map check_keys (take i of)) q in
+    let more = asked_more of i child q lt ∙ ap (λ (t : Test). prefix || is_asked (check_keys t) q) (sym is) in
+    here
+    ∙ ap (done (is_asked (check_keys child) q)) so_far
+    ∙ twice prefix (is_asked (check_keys child) q) old
+    ∙ ap (λ (b : Bool). done b old) (sym more)
+
+asked_prefix : (of : List Test) (k : ℕ) (q : CheckKey) → is_asked (flat_map check_keys (take k of)) q ≡ true → is_asked (flat_map check_keys of) q ≡ true
+asked_prefix of zero q h = absurd (let wrong : false ≡ true = h in cc)
+asked_prefix [] (suc k) q h = absurd (let wrong : false ≡ true = h in cc)
+asked_prefix (t ∷ of) (suc k) q h =
     list_any-append (λ key. same_key key q) (check_keys t) (flat_map check_keys of)
-    ∙ go (is_asked (check_keys t) q) (sym (list_any-append (λ key. same_key key q) (check_keys t) (flat_map check_keys (take k of))) ∙ h) (asked_front of k q)
+    ∙ go (is_asked (check_keys t) q) (sym (list_any-append (λ key. same_key key q) (check_keys t) (flat_map check_keys (take k of))) ∙ h) (asked_prefix of k q)
   where
     go : (b : Bool) → (b || is_asked (flat_map check_keys (take k of)) q) ≡ true
         → (is_asked (flat_map check_keys (take k of)) q ≡ true → is_asked (flat_map check_keys of) q ≡ true) → (b || is_asked (flat_map check_keys of) q) ≡ true
@@ -89,7 +102,7 @@ asked_front (t ∷ of) (suc k) q h =
 pub asked_within : (of : List Test) (i : ℕ) (d : Test) (q : CheckKey) (w : Bool) → i < length of → (w ≡ true → is_asked (check_keys (get_or of i d)) q ≡ true)
     → (is_asked (flat_map check_keys (take i of)) q || w) ≡ true → is_asked (flat_map check_keys of) q ≡ true
 asked_within of i d q w lt child h =
-    asked_front of (i + 1) q (asked_more of i d q lt ∙ go (is_asked (flat_map check_keys (take i of)) q) w h child)
+    asked_prefix of (i + 1) q (asked_more of i d q lt ∙ go (is_asked (flat_map check_keys (take i of)) q) w h child)
   where
     go : (b w : Bool) → (b || w) ≡ true → (w ≡ true → is_asked (check_keys (get_or of i d)) q ≡ true) → (b || is_asked (check_keys (get_or of i d)) q) ≡ true
     go true w h child = refl
@@ -114,17 +127,17 @@ none_first (k ∷ ks) h = let wrong : ⊥ = cc in absurd wrong
 -- where none stands before, and none in the next, none stands up to it
 pub none_more : (of : List Test) (i : ℕ) (d : Test) → i < length of → flat_map check_keys (take i of) ≡ [] → check_keys (get_or of i d) ≡ []
     → flat_map check_keys (take (i + 1) of) ≡ []
-none_more of i d lt front next = keys_more of i d lt ∙ (λ j. front j ++ next j)
+none_more of i d lt prefix next = keys_more of i d lt ∙ (λ j. prefix j ++ next j)
 
 -- where none stands before, the first of the next is the first of all
 pub first_next : (of : List Test) (i : ℕ) (d : Test) (k : CheckKey) → i < length of → flat_map check_keys (take i of) ≡ [] → Some k ≡ slice_get (check_keys (get_or of i d)) 0
     → Some k ≡ slice_get (flat_map check_keys of) 0
-first_next [] i d k lt front next = absurd (omega (arith, lt))
-first_next (t ∷ of) zero d k lt front next = go (check_keys t) next where
+first_next [] i d k lt prefix next = absurd (omega (arith, lt))
+first_next (t ∷ of) zero d k lt prefix next = go (check_keys t) next where
   go : (ks : List CheckKey) → Some k ≡ slice_get ks 0 → Some k ≡ slice_get (ks ++ flat_map check_keys of) 0
   go [] h = let wrong : ⊥ = cc in absurd wrong
   go (x ∷ ks) h = h
-first_next (t ∷ of) (suc i) d k lt front next = go (check_keys t) front (λ h. first_next of i d k (omega (arith, lt)) h next) where
+first_next (t ∷ of) (suc i) d k lt prefix next = go (check_keys t) prefix (λ h. first_next of i d k (omega (arith, lt)) h next) where
   go : (ks : List CheckKey) → ks ++ flat_map check_keys (take i of) ≡ [] → (flat_map check_keys (take i of) ≡ [] → Some k ≡ slice_get (flat_map check_keys of) 0)
       → Some k ≡ slice_get (ks ++ flat_map check_keys of) 0
   go [] h more = more h
@@ -132,10 +145,10 @@ first_next (t ∷ of) (suc i) d k lt front next = go (check_keys t) front (λ h.
 
 pub all_more : (p : CheckKey → Bool) (of : List Test) (i : ℕ) (d : Test) → i < length of → list_all p (flat_map check_keys (take i of)) ≡ true → list_all p (check_keys (get_or of i d)) ≡ true
     → list_all p (flat_map check_keys (take (i + 1) of)) ≡ true
-all_more p of i d lt front next =
+all_more p of i d lt prefix next =
     ap (list_all p) (keys_more of i d lt)
     ∙ list_all-append p (flat_map check_keys (take i of)) (check_keys (get_or of i d))
-    ∙ (λ j. front j && next j)
+    ∙ (λ j. prefix j && next j)
 
 pub all_fail : (p : CheckKey → Bool) (of : List Test) (i : ℕ) (d : Test) → i < length of → list_all p (check_keys (get_or of i d)) ≡ false → list_all p (flat_map check_keys of) ≡ false
 all_fail p [] i d lt next = absurd (omega (arith, lt))

@@ -22,7 +22,8 @@ use Rattle.cpe_applicability.specs.Entering.{among, is_empty}
 use Rattle.cpe_applicability.specs.Users.{askers_at, users_at}
 use Rattle.cpe_applicability.specs.Board.{is_used, known, same_mode}
 use Rattle.cpe_applicability.specs.Held.{anew, asks, at_tickets, each_verdict, has_row_id, is_changed, is_plain, settled, ticket_of, tickets, truths_by, uses_follow, uses_plain, verdict_after, verdict_now}
-use Rattle.cpe_applicability.specs.Invariant.{IsBoard, TellsEach, judged, one_or_none, part_verdict, state_in}
+use Rattle.cpe_applicability.specs.Invariant.{IsBoard, TellsEach, judged, part_verdict, state_in}
+use Rattle.cpe_inventory.specs.Results.{one_or_none}
 use Rattle.cpe_applicability.specs.Told.{check_keys}
 use Rattle.cpe_applicability.specs.Truths.{truth_in}
 use Rattle.cpe_applicability.proofs.EnteringLemmas.{nat_decides}
@@ -136,6 +137,31 @@ outside p rows =
     go : (r : Row) (b : Bool) → (b ≡ true → among (tickets p rows) (ticket_of r) ≡ true) → among (tickets p rows) (ticket_of r) ≡ false → b ≡ false
     go r true h no_ = sym (h refl) ∙ no_
     go r false h no_ = refl
+
+-- the truth of a number changed, and the rows that use it were told anew
+module _ (a b : Parts) (h : IsBoard a) (uses : Row → Bool) (ts : List ℕ) (are : ts ≡ tickets uses a.rows.items)
+    (rows : b.rows.items ≡ at_tickets ts (retold Fact b) a.rows.items)
+    (changed : b.changed.items ≡ tickets is_changed b.rows.items)
+    (capacity : vec_capacity b.changed ≡ vec_capacity a.changed)
+    (by_id : b.by_id ≡ a.by_id) (plain : b.plain.users ≡ a.plain.users) (follow : b.follow.users ≡ a.follow.users) (askers : b.askers ≡ a.askers) (next : b.next ≡ a.next)
+    (plain_kept : (q : ℕ) → is_empty (users_at b.plain.users.entries q) ≡ false → IsSome (lookup (nat_eq q) b.plain.truths.entries))
+    (follow_kept : (q : ℕ) → is_empty (users_at b.follow.users.entries q) ≡ false → IsSome (lookup (nat_eq q) b.follow.truths.entries))
+    (verdict : (r : Row) → uses r ≡ false → part_verdict a r ≡ part_verdict b r)
+    (by_result : (r : Row) → uses r ≡ false → each_now a r ≡ each_now b r) where
+  elsewhere : (P : Row → Type 0) → ((r : Row) → uses r ≡ false → P r) → AllByRecursion (λ r. among ts (ticket_of r) ≡ false → P r) a.rows.items
+  elsewhere P unused =
+      subst (λ (us : List ℕ). AllByRecursion (λ r. among us (ticket_of r) ≡ false → P r) a.rows.items) (sym are)
+      (all_weaker (λ r. among (tickets uses a.rows.items) (ticket_of r) ≡ false → uses r ≡ false) (λ r. among (tickets uses a.rows.items) (ticket_of r) ≡ false → P r)
+      (λ r none other. unused r (none other)) a.rows.items (outside uses a.rows.items))
+
+  each_stays : AllByRecursion (λ r. among ts (ticket_of r) ≡ false → each_now a r ≡ each_now b r) a.rows.items
+  each_stays = elsewhere (λ r. each_now a r ≡ each_now b r) by_result
+
+  pub IsBoard-fact : IsBoard b
+  IsBoard-fact =
+      IsBoard-refreshed Fact a b h ts rows changed capacity by_id plain follow askers next plain_kept follow_kept (elsewhere (λ r. part_verdict a r ≡ part_verdict b r) verdict)
+      (all_weaker (λ r. among ts (ticket_of r) ≡ false → each_now a r ≡ each_now b r) (λ r. among ts (ticket_of r) ≡ true → verdict_told Fact b r ≡ part_verdict b r) (λ r e used. refl) a.rows.items each_stays)
+      (each_retold a b ts rows h.each each_stays)
 
 -- ---- numbers in use
 

@@ -19,7 +19,8 @@ use Rattle.cpe_applicability.specs.Told.{check_keys}
 use Rattle.cpe_applicability.specs.Truths.{truth_in}
 use Rattle.ticket_list.specs.Rising.{IsRisingBy}
 use Rattle.cpe_inventory.specs.Kept.{kept_truth}
-use Rattle.cpe_applicability.proofs.RowLemmas.{all_keys, lower_differs, higher_differs}
+use Rattle.ticket_list.proofs.RisingLemmas.{all_passing}
+use Rattle.cpe_applicability.proofs.RowLemmas.{lower_differs, higher_differs}
 use Rattle.cpe_applicability.proofs.VerdictLemmas.{key_same, told_agree}
 
 pub each_at : (f : Truth → Truth) (t : Truth) → at_result (each_result f) t ≡ f t
@@ -118,6 +119,6 @@ module _ (p : Row → Bool) where
         → AllByRecursion (λ r. among (map ticket_of (cond b (x ∷ filter p xs) (filter p xs))) (ticket_of r) ≡ true → p r ≡ true) (x ∷ xs)
     go true e more = ((λ m. e), later (ticket_of x) (tickets p xs) xs rising.0 more)
     go false e more = (
-      (λ m. absurd (let wrong : false ≡ true = sym (none_among (ticket_of x) (tickets p xs) (all_keys ticket_of (ticket_of x) p xs rising.0)) ∙ m in cc)),
+      (λ m. absurd (let wrong : false ≡ true = sym (none_among (ticket_of x) (tickets p xs) (all_passing ticket_of (ticket_of x) p xs rising.0)) ∙ m in cc)),
       more,
     )

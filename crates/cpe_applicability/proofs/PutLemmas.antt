@@ -21,7 +21,8 @@ use Rattle.cpe_applicability.specs.Board.{KeepsTruths, TakesTruths, is_of}
 use Rattle.cpe_applicability.specs.ByResult.{asks_one, each_result}
 use Rattle.cpe_applicability.specs.Entering.{entered, is_asked, is_empty}
 use Rattle.cpe_applicability.specs.Held.{asks, each_verdict, follow_use, has_row_id, is_changed, plain_use, ticket_of, tickets, uses_follow, uses_plain, verdict_by}
-use Rattle.cpe_applicability.specs.Invariant.{HasSameRows, IsBoard, IsEntered, IsReady, TellsEach, judged, new_row, one_or_none, part_verdict, state_in}
+use Rattle.cpe_applicability.specs.Invariant.{HasSameRows, IsBoard, IsEntered, IsReady, TellsEach, judged, new_row, part_verdict, state_in}
+use Rattle.cpe_inventory.specs.Results.{one_or_none}
 use Rattle.cpe_applicability.specs.Tickets.{IsBelow}
 use Rattle.ticket_list.specs.Rising.{IsRisingBy}
 use Rattle.cpe_applicability.specs.Told.{check_keys}
@@ -29,8 +30,7 @@ use Rattle.cpe_applicability.specs.Truths.{truth_or_unknown}
 use Rattle.cpe_applicability.specs.Users.{askers_at, users_at}
 use Rattle.cpe_applicability.proofs.BoardLemmas.{all_weaker, any_follow, any_plain, same_self, used_follow, used_plain}
 use Rattle.cpe_applicability.proofs.RemovedLemmas.{all_used, each_kept, judged_kept}
-use Rattle.cpe_applicability.proofs.RowLemmas.{rising-filter}
-use Rattle.cpe_applicability.proofs.UndoLemmas.{rising-last}
+use Rattle.ticket_list.proofs.RisingLemmas.{rising_passing, rising_last}
 
 pub all_last : {X : Type 0} (P : X → Type 0) (xs : List X) (x : X) → AllByRecursion P xs → P x → AllByRecursion P (xs ++ x ∷ [])
 all_last P [] x h e = (e, tt)
@@ -60,7 +60,7 @@ tickets_below p n (x ∷ rows) h = go (p x) (tickets_below p n rows h.1) where
 
 -- the next ticket is above all that are entered
 pub below_next : (p : Row → Bool) (n : ℕ) (rows : List Row) (ts : List ℕ) → IsRisingBy ticket_of rows → AllByRecursion (λ r. ticket_of r < n) rows → ts ≡ tickets p rows → IsBelow n ts
-below_next p n rows ts rising below e = subst (IsBelow n) (sym e) (rising-filter ticket_of p rows rising, tickets_below p n rows below)
+below_next p n rows ts rising below e = subst (IsBelow n) (sym e) (rising_passing ticket_of p rows rising, tickets_below p n rows below)
 
 pub none_tickets : (p : Row → Bool) (rows : List Row) → list_any p rows ≡ false → tickets p rows ≡ []
 none_tickets p [] h = refl
@@ -127,7 +127,7 @@ module _ (a b : Parts) (h : IsBoard a) (given : Mode → ℕ → Truth) (r : Row
 
   pub IsBoard-put : IsBoard b
   IsBoard-put = record {
-    rising = subst (IsRisingBy ticket_of) (sym rows) (rising-last ticket_of a.rows.items r h.rising (subst (λ (n : ℕ). AllByRecursion (λ x. ticket_of x < n) a.rows.items) (sym ticket) h.below));
+    rising = subst (IsRisingBy ticket_of) (sym rows) (rising_last ticket_of r a.rows.items h.rising (subst (λ (n : ℕ). AllByRecursion (λ x. ticket_of x < n) a.rows.items) (sym ticket) h.below));
     below = subst (AllByRecursion (λ x. ticket_of x < b.next)) (sym rows)
         (all_last (λ x. ticket_of x < b.next) a.rows.items r (all_weaker (λ x. ticket_of x < a.next) (λ x. ticket_of x < b.next) (λ x lt. omega (arith, lt, next)) a.rows.items h.below) (omega (arith, ticket, next)));
     ids = λ q. ap one_or_none (by_id q)

@@ -14,7 +14,9 @@ use Rattle.cpe_applicability.specs.Board.{changed_places, has_changed, is_of, pl
 use Rattle.cpe_applicability.specs.Tickets.{first_place}
 use Rattle.cpe_applicability.specs.Held.{has_row_id, is_changed, place_in, ticket_of, tickets}
 use Rattle.cpe_applicability.specs.Invariant.{judged, part_verdict, state_in}
-use Rattle.cpe_applicability.proofs.RowLemmas.{all_at, all_keys, nat_same, lower_differs}
+use Rattle.ticket_list.proofs.RisingLemmas.{all_passing}
+use Rattle.cpe_applicability.proofs.EnteringLemmas.{nat_same}
+use Rattle.cpe_applicability.proofs.RowLemmas.{all_at, lower_differs}
 
 pub get-map : {X Y : Type 0} (f : X → Y) (xs : List X) (k : ℕ) → slice_get (map f xs) k ≡ option_map f (slice_get xs k)
 get-map f [] k = refl
@@ -52,7 +54,7 @@ module _ (p : Row → Bool) where
         → place_in t (x ∷ xs) ≡ cond b (Some 0) (option_map suc (first_place p xs))
     go true h more = let here : ticket_of x ≡ t = cc h in place-here t x xs here
     go false h more =
-        let above = subst (AllByRecursion (λ y. ticket_of x < y)) h (all_keys ticket_of (ticket_of x) p xs r.0) in
+        let above = subst (AllByRecursion (λ y. ticket_of x < y)) h (all_passing ticket_of (ticket_of x) p xs r.0) in
         place-later t x xs above.0 ∙ ap (option_map suc) (more h)
 
   -- ---- the places of those that pass
@@ -89,7 +91,7 @@ module _ (p : Row → Bool) where
     behind : (j : ℕ) → slice_get (tickets p xs) j ≡ Some t → (slice_get (tickets p xs) j ≡ Some t → place_in t xs ≡ slice_get (places p 0 xs) j)
         → place_in t (x ∷ xs) ≡ slice_get (places p 1 xs) j
     behind j h more =
-        place-later t x xs (all_at (λ y. ticket_of x < y) (tickets p xs) j t (all_keys ticket_of (ticket_of x) p xs r.0) h)
+        place-later t x xs (all_at (λ y. ticket_of x < y) (tickets p xs) j t (all_passing ticket_of (ticket_of x) p xs r.0) h)
         ∙ (ap (option_map suc) (more h) ∙ (sym (get-map suc (places p 0 xs) j) ∙ ap (λ (ns : List ℕ). slice_get ns j) (sym (places-suc 0 xs))))
 
     go : (b : Bool) (j : ℕ) → slice_get (map ticket_of (cond b (x ∷ filter p xs) (filter p xs))) j ≡ Some t

@@ -18,15 +18,17 @@ use Rattle.cpe_applicability.specs.Tickets.{first_place}
 use Rattle.cpe_applicability.specs.ByResult.{asks_one}
 use Rattle.cpe_applicability.specs.Entering.{among, is_empty, left_out}
 use Rattle.cpe_applicability.specs.Held.{asks, has_row_id, is_changed, is_plain, ticket_of, tickets, truths_by, uses_follow, uses_plain, verdict_by}
-use Rattle.cpe_applicability.specs.Invariant.{IsBoard, TellsEach, one_or_none, part_verdict, state_in}
+use Rattle.cpe_applicability.specs.Invariant.{IsBoard, TellsEach, part_verdict, state_in}
+use Rattle.cpe_inventory.specs.Results.{one_or_none}
 use Rattle.cpe_applicability.specs.Tickets.{without}
 use Rattle.ticket_list.specs.Rising.{IsRisingBy}
 use Rattle.cpe_applicability.specs.Told.{check_keys}
 use Rattle.cpe_applicability.specs.Truths.{truth_in, truth_or_unknown}
 use Rattle.cpe_applicability.specs.Users.{askers_at, users_at}
 use Rattle.cpe_applicability.proofs.BoardLemmas.{all_weaker, used_follow, used_plain}
-use Rattle.cpe_applicability.proofs.EnteringLemmas.{nat_decides, used-left}
-use Rattle.cpe_applicability.proofs.RowLemmas.{all_at, all_keys, higher_differs, lower_differs, members, nat_same, no_element, without_lowest}
+use Rattle.cpe_applicability.proofs.EnteringLemmas.{nat_decides, used-left, nat_same}
+use Rattle.ticket_list.proofs.RisingLemmas.{all_passing}
+use Rattle.cpe_applicability.proofs.RowLemmas.{all_at, higher_differs, lower_differs, members, no_element, without_lowest}
 use Rattle.cpe_applicability.proofs.VerdictLemmas.{each_same, verdict_same}
 
 abbrev pub removed : {X : Type 0} → ℕ → List X → List X
@@ -84,7 +86,7 @@ module _ {X : Type 0} (key : X → ℕ) (p : X → Bool) where
       ∙ subst (λ (r : X). map key (filter p xs) ≡ left_out (p r) (key r) (map key (filter p (x ∷ xs)))) same (go (p x))
     where
       go : (b : Bool) → map key (filter p xs) ≡ left_out b (key x) (map key (cond b (x ∷ filter p xs) (filter p xs)))
-      go true = sym (without_lowest (key x) (map key (filter p xs)) (all_keys key (key x) p xs h.0))
+      go true = sym (without_lowest (key x) (map key (filter p xs)) (all_passing key (key x) p xs h.0))
       go false = refl
   tickets-removed (suc k) r (x ∷ xs) h e =
       ap (λ (ys : List X). map key (filter p ys)) (next_place x k xs) ∙ go (p x) (tickets-removed k r xs h.1 e)

@@ -12,14 +12,12 @@ use Rattle.cpe_rows.specs.declared.truth.Truth.{Truth}
 use Rattle.cpe_rows.specs.declared.truth.Truth.TheVariants.{True, False, Error, Unknown}
 use Rattle.cpe_applicability.specs.declared.row.Row.{Row}
 use Rattle.cpe_applicability.specs.Entering.{among}
-use Rattle.cpe_applicability.specs.Tickets.{IsRising, put_in, without}
-use Rattle.ticket_list.specs.Rising.{IsRisingBy}
+use Rattle.cpe_applicability.specs.Tickets.{without}
+use Rattle.ticket_list.specs.Rising.{IsRisingBy, put_in}
+use Rattle.ticket_list.proofs.RisingLemmas.{all_passing}
 use Rattle.cpe_applicability.specs.Held.{at_place, at_ticket, at_tickets, is_changed, moved, place_in, settled, ticket_of, tickets}
 use Rattle.cpe_applicability.proofs.TicketLemmas.{without_none}
-use Rattle.cpe_applicability.proofs.EnteringLemmas.{nat_decides}
-
-pub nat_same : (n : ℕ) → nat_eq n n ≡ true
-nat_same n = grind (arith, nat_tests)
+use Rattle.cpe_applicability.proofs.EnteringLemmas.{nat_decides, nat_same}
 
 pub lower_differs : (a b : ℕ) → a < b → nat_eq a b ≡ false
 lower_differs a b h = grind (arith, nat_tests)
@@ -69,21 +67,6 @@ apart_numbers : (a b : ℕ) → nat_eq a b ≡ false → a ≡ b → ⊥
 apart_numbers a b h = grind (arith, nat_tests)
 
 module _ {X : Type 0} (key : X → ℕ) where
-  pub all_keys : (n : ℕ) (p : X → Bool) (xs : List X) → AllByRecursion (λ y. n < key y) xs → AllByRecursion (λ y. n < y) (map key (filter p xs))
-  all_keys n p [] h = tt
-  all_keys n p (x ∷ xs) h = go (p x) (all_keys n p xs h.1) where
-    go : (b : Bool) → AllByRecursion (λ y. n < y) (map key (filter p xs)) → AllByRecursion (λ y. n < y) (map key (cond b (x ∷ filter p xs) (filter p xs)))
-    go true more = (h.0, more)
-    go false more = more
-
-  -- the keys of those that pass rise
-  pub rising-filter : (p : X → Bool) (xs : List X) → IsRisingBy key xs → IsRising (map key (filter p xs))
-  rising-filter p [] h = tt
-  rising-filter p (x ∷ xs) h = go (p x) (rising-filter p xs h.1) where
-    go : (b : Bool) → IsRising (map key (filter p xs)) → IsRising (map key (cond b (x ∷ filter p xs) (filter p xs)))
-    go true more = (all_keys (key x) p xs h.0, more)
-    go false more = more
-
   module _ (f : X → X) (t : ℕ) where
     abbrev one : X → X
     one x = cond (nat_eq t (key x)) (f x) x
@@ -119,8 +102,8 @@ module _ {X : Type 0} (key : X → ℕ) where
       where
         go : (a b : Bool) → moved a b (key x) (map key (cond a (x ∷ filter p xs) (filter p xs))) ≡ map key (cond b (f x ∷ filter p xs) (filter p xs))
         go true true = ap (λ (n : ℕ). n ∷ map key (filter p xs)) (sym (keeps x))
-        go true false = without_lowest (key x) (map key (filter p xs)) (all_keys (key x) p xs h.0)
-        go false true = put_lowest (key x) (map key (filter p xs)) (all_keys (key x) p xs h.0) ∙ ap (λ (n : ℕ). n ∷ map key (filter p xs)) (sym (keeps x))
+        go true false = without_lowest (key x) (map key (filter p xs)) (all_passing key (key x) p xs h.0)
+        go false true = put_lowest (key x) (map key (filter p xs)) (all_passing key (key x) p xs h.0) ∙ ap (λ (n : ℕ). n ∷ map key (filter p xs)) (sym (keeps x))
         go false false = refl
     moved_is (suc k) r (x ∷ xs) h e = go (p x) (moved_is k r xs h.1 e) where
       lt : key x < key r
@@ -309,8 +292,7 @@ pub length-map : {X Y : Type 0} (f : X → Y) (xs : List X) → length (map f xs
 length-map f [] = refl
 length-map f (x ∷ xs) = ap suc (length-map f xs)
 
--- where every row of the tickets is settled, all are
-unchanged_is : (a b : Truth) → not (same_truth a b) ≡ false → a ≡ b
+pub unchanged_is : (a b : Truth) → not (same_truth a b) ≡ false → a ≡ b
 unchanged_is True True h = refl
 unchanged_is False False h = refl
 unchanged_is Error Error h = refl
@@ -335,6 +317,7 @@ settle_one ts r h = go (among ts (ticket_of r)) (is_changed r) refl h where
   go false true e h = absurd (let wrong : false ≡ true = h refl in cc)
   go false false e h = ap (λ (t : Truth). record r { was = t }) (sym (unchanged_is r.verdict r.was e))
 
+-- where every row of the tickets is settled, all are
 settle_these : (ts : List ℕ) (rows : List Row) → AllByRecursion (λ r. is_changed r ≡ true → among ts (ticket_of r) ≡ true) rows → at_tickets ts settled rows ≡ map settled rows
 settle_these ts [] h = refl
 settle_these ts (r ∷ rows) h = λ i. settle_one ts r h.0 i ∷ settle_these ts rows h.1 i

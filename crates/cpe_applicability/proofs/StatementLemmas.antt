@@ -22,7 +22,6 @@ use Rattle.cpe_rows.specs.declared.statement.Mode.{Mode}
 use Rattle.cpe_rows.specs.declared.statement.Mode.TheVariants.{Plain, Follow}
 use Rattle.cpe_rows.specs.declared.statement.Statement.{Statement}
 use Rattle.cpe_rows.specs.declared.truth.Truth.{Truth}
-use Rattle.cpe_rows.specs.declared.truth.Truth.TheVariants.{True, False, Error, Unknown}
 use Rattle.cpe_inventory.specs.Kept.{IsCounted}
 use Rattle.cpe_applicability.specs.declared.row.Row.{Row}
 use Rattle.cpe_applicability.specs.Board.{ChangesTruth, Judged, State, is_of, known, put_row, statements_of, truth_at, uses}
@@ -31,6 +30,7 @@ use Rattle.cpe_applicability.specs.Held.{is_plain, ticket_of, tickets, uses_foll
 use Rattle.cpe_applicability.specs.Invariant.{judged}
 use Rattle.cpe_applicability.proofs.BoardLemmas.{follow_one}
 use Rattle.cpe_applicability.proofs.PutLemmas.{map-last}
+use Rattle.cpe_applicability.proofs.RowLemmas.{unchanged_is}
 
 -- ---- by their ids
 
@@ -194,27 +194,9 @@ may_be_put js s h =
 
 -- ---- a truth that is kept already
 
-same_is : (a b : Truth) → not (same_truth a b) ≡ false → a ≡ b
-same_is True True h = refl
-same_is False False h = refl
-same_is Error Error h = refl
-same_is Unknown Unknown h = refl
-same_is True False h = absurd (cc)
-same_is True Error h = absurd (cc)
-same_is True Unknown h = absurd (cc)
-same_is False True h = absurd (cc)
-same_is False Error h = absurd (cc)
-same_is False Unknown h = absurd (cc)
-same_is Error True h = absurd (cc)
-same_is Error False h = absurd (cc)
-same_is Error Unknown h = absurd (cc)
-same_is Unknown True h = absurd (cc)
-same_is Unknown False h = absurd (cc)
-same_is Unknown Error h = absurd (cc)
-
 pub truth_stays : (b : State) (mode : Mode) (id : ℕ) (truth : Truth) → not (same_truth (truth_at b mode id) truth) ≡ false → ChangesTruth b b mode id truth
 truth_stays b mode id truth h = record {
-  here = λ used. same_is (truth_at b mode id) truth h;
+  here = λ used. unchanged_is (truth_at b mode id) truth h;
   other_ids = λ q ne. refl;
   other_mode = λ m q e. refl;
 }

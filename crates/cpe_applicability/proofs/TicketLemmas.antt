@@ -1,63 +1,10 @@
--- Rising lists of tickets: where a ticket belongs, and what is left without it.
-use Rattle.std.proofs.Common.{◌≡◌, ℕ, zero, suc, ◌+◌, ◌-◌, ◌<◌, ◌≤◌, Bool, true, false, not, cond, List, [], ◌∷◌, ◌++◌, length, take, drop, refl, sym, ap, ◌∙◌, inl, inr, arith}
+-- Rising lists of tickets: what is left without one.
+use Rattle.std.proofs.Common.{◌≡◌, ℕ, zero, suc, ◌+◌, ◌-◌, ◌<◌, ◌≤◌, Bool, true, false, not, cond, List, [], ◌∷◌, ◌++◌, length, take, drop, refl, sym, ap, ◌∙◌, arith}
 use Rattle.std.specs.Prelude.{nat_eq, nat_lt}
-use Rattle.std.specs.List.{AllByRecursion, slice_index_or, insert}
-use Rattle.std.specs.List.Sorted.{IsPartitionPoint, IsPartitionedBy}
-use Rattle.std.proofs.lemmas.Bool.{cases_Bool, both_ways}
+use Rattle.std.specs.List.{AllByRecursion, slice_index_or}
 use Rattle.std.proofs.lemmas.Bool.Decides.{nat_tests}
-use Rattle.std.proofs.lemmas.List.Elements.{All-from_recursion}
-use Rattle.cpe_applicability.specs.Tickets.{IsRising, put_in, without, ends_with, stands_at}
-use Rattle.ticket_list.specs.Rising.{IsRisingBy, front}
-
--- after an element that fails all others fail
-abbrev IsParted : {X : Type 0} → (X → Bool) → List X → Type 0
-IsParted p [] = Unit {0}
-IsParted p (x ∷ xs) = (p x ≡ false → AllByRecursion (λ y. p y ≡ false) xs) × IsParted p xs
-
-parted_by : {X : Type 0} (p : X → Bool) (xs : List X) → IsParted p xs → IsPartitionedBy p xs
-parted_by p [] s i j d le lt h = absurd (omega (arith, lt))
-parted_by p (x ∷ xs) s zero zero d le lt h = h
-parted_by p (x ∷ xs) s zero (suc j) d le lt h = elim (cases_Bool (p x)) [
-  | inl yes_ ↦ yes_
-  | inr no_ ↦ absurd (both_ways _ (All-from_recursion (λ y. p y ≡ false) xs (s.0 no_) j d (omega (arith, lt))) h)
-]
-parted_by p (x ∷ xs) s (suc i) zero d le lt h = absurd (omega (arith, le))
-parted_by p (x ∷ xs) s (suc i) (suc j) d le lt h = parted_by p xs s.1 i j d (omega (arith, le)) (omega (arith, lt)) h
-
-not_below : (x y t : ℕ) → x < y → nat_lt x t ≡ false → nat_lt y t ≡ false
-not_below x y t lt h = grind (arith, nat_tests)
-
-module _ {X : Type 0} (k : X → ℕ) (t : ℕ) where
-  abbrev below : X → Bool
-  below x = nat_lt (k x) t
-
-  fail_behind : (n : ℕ) (xs : List X) → AllByRecursion (λ y. n < k y) xs → nat_lt n t ≡ false → AllByRecursion (λ y. below y ≡ false) xs
-  fail_behind n [] h low = tt
-  fail_behind n (x ∷ xs) h low = (not_below n (k x) t h.0 low, fail_behind n xs h.1 low)
-
-  rising_parted : (xs : List X) → IsRisingBy k xs → IsParted below xs
-  rising_parted [] h = tt
-  rising_parted (x ∷ xs) h = (fail_behind (k x) xs h.0, rising_parted xs h.1)
-
-  pub rising_partitioned : (xs : List X) → IsRisingBy k xs → IsPartitionedBy below xs
-  rising_partitioned xs h = parted_by below xs (rising_parted xs h)
-
--- where the test ends
-pub front_is : {X : Type 0} (p : X → Bool) (xs : List X) (i : ℕ) → i ≤ length xs
-    → IsPartitionPoint (λ x. p x ≡ true) (λ x. p x ≡ false) xs i → i ≡ front p xs
-front_is p [] i le h = omega (arith, le)
-front_is p (x ∷ xs) zero le h = ap (λ (b : Bool). cond b (suc (front p xs)) 0) (sym (h.1 0 x (omega arith) (omega arith)))
-front_is p (x ∷ xs) (suc i) le h =
-    ap suc (front_is p xs i (omega (arith, le)) (λ k d low high. h.0 (suc k) d (omega arith) (omega (arith, high)), λ k d low high. h.1 (suc k) d (omega (arith, low)) (omega (arith, high))))
-    ∙ ap (λ (b : Bool). cond b (suc (front p xs)) 0) (sym (h.0 0 x (omega arith) (omega arith)))
-
-pub insert_front : (t : ℕ) (xs : List ℕ) → insert xs (front (λ x. nat_lt x t) xs) t ≡ put_in t xs
-insert_front t [] = refl
-insert_front t (x ∷ xs) = go (nat_lt x t) (insert_front t xs) where
-  go : (b : Bool) → insert xs (front (λ x. nat_lt x t) xs) t ≡ put_in t xs
-      → insert (x ∷ xs) (cond b (suc (front (λ x. nat_lt x t) xs)) 0) t ≡ cond b (x ∷ put_in t xs) (t ∷ (x ∷ xs))
-  go true h = ap (λ (u : List ℕ). x ∷ u) h
-  go false h = refl
+use Rattle.cpe_applicability.specs.Tickets.{without, ends_with, stands_at}
+use Rattle.ticket_list.specs.Rising.{IsRising, prefix}
 
 pub without_none : (t : ℕ) (xs : List ℕ) → AllByRecursion (λ y. nat_eq y t ≡ false) xs → without t xs ≡ xs
 without_none t [] h = refl
@@ -82,38 +29,35 @@ taken_below t x f xs lt h =
     ap (λ (n : ℕ). x ∷ (take f xs ++ drop n (x ∷ xs))) same
     ∙ (ap (λ (u : List ℕ). x ∷ u) h ∙ ap (λ (b : Bool). cond (not b) (x ∷ without t xs) (without t xs)) (sym (less_differs x t lt)))
 
-pub taken_out : (t : ℕ) (xs : List ℕ) → IsRising xs → stands_at xs (front (λ x. nat_lt x t) xs) t ≡ true
-    → take (front (λ x. nat_lt x t) xs) xs ++ drop (front (λ x. nat_lt x t) xs + 1) xs ≡ without t xs
+pub taken_out : (t : ℕ) (xs : List ℕ) → IsRising xs → stands_at xs (prefix (λ x. nat_lt x t) xs) t ≡ true
+    → take (prefix (λ x. nat_lt x t) xs) xs ++ drop (prefix (λ x. nat_lt x t) xs + 1) xs ≡ without t xs
 taken_out t [] r h = let wrong : false ≡ true = h in absurd (cc)
 taken_out t (x ∷ xs) r h = go (nat_lt x t) refl h (taken_out t xs r.1) where
-  go : (b : Bool) → nat_lt x t ≡ b → stands_at (x ∷ xs) (cond b (suc (front (λ x. nat_lt x t) xs)) 0) t ≡ true
-      → (stands_at xs (front (λ x. nat_lt x t) xs) t ≡ true → take (front (λ x. nat_lt x t) xs) xs ++ drop (front (λ x. nat_lt x t) xs + 1) xs ≡ without t xs)
-      → take (cond b (suc (front (λ x. nat_lt x t) xs)) 0) (x ∷ xs) ++ drop (cond b (suc (front (λ x. nat_lt x t) xs)) 0 + 1) (x ∷ xs) ≡ without t (x ∷ xs)
-  go true e h more = taken_below t x (front (λ x. nat_lt x t) xs) xs e (more h)
+  go : (b : Bool) → nat_lt x t ≡ b → stands_at (x ∷ xs) (cond b (suc (prefix (λ x. nat_lt x t) xs)) 0) t ≡ true
+      → (stands_at xs (prefix (λ x. nat_lt x t) xs) t ≡ true → take (prefix (λ x. nat_lt x t) xs) xs ++ drop (prefix (λ x. nat_lt x t) xs + 1) xs ≡ without t xs)
+      → take (cond b (suc (prefix (λ x. nat_lt x t) xs)) 0) (x ∷ xs) ++ drop (cond b (suc (prefix (λ x. nat_lt x t) xs)) 0 + 1) (x ∷ xs) ≡ without t (x ∷ xs)
+  go true e h more = taken_below t x (prefix (λ x. nat_lt x t) xs) xs e (more h)
   go false e h more =
       let none = without_none t xs (above_differ t x xs r.0 e) in
       let here : 0 + 1 ≡ suc 0 = omega arith in
       ap (λ (n : ℕ). drop n (x ∷ xs)) here
       ∙ (sym none ∙ ap (λ (b : Bool). cond (not b) (x ∷ without t xs) (without t xs)) (sym h))
 
-pub not_there : (t : ℕ) (xs : List ℕ) → IsRising xs → stands_at xs (front (λ x. nat_lt x t) xs) t ≡ false → xs ≡ without t xs
+pub not_there : (t : ℕ) (xs : List ℕ) → IsRising xs → stands_at xs (prefix (λ x. nat_lt x t) xs) t ≡ false → xs ≡ without t xs
 not_there t [] r h = refl
 not_there t (x ∷ xs) r h = go (nat_lt x t) refl h (not_there t xs r.1) where
-  go : (b : Bool) → nat_lt x t ≡ b → stands_at (x ∷ xs) (cond b (suc (front (λ x. nat_lt x t) xs)) 0) t ≡ false
-      → (stands_at xs (front (λ x. nat_lt x t) xs) t ≡ false → xs ≡ without t xs)
+  go : (b : Bool) → nat_lt x t ≡ b → stands_at (x ∷ xs) (cond b (suc (prefix (λ x. nat_lt x t) xs)) 0) t ≡ false
+      → (stands_at xs (prefix (λ x. nat_lt x t) xs) t ≡ false → xs ≡ without t xs)
       → x ∷ xs ≡ without t (x ∷ xs)
   go true e h more = ap (λ (u : List ℕ). x ∷ u) (more h) ∙ ap (λ (b : Bool). cond (not b) (x ∷ without t xs) (without t xs)) (sym (less_differs x t e))
   go false e h more = sym (without_none t (x ∷ xs) (h, above_differ t x xs r.0 e))
 
-pub taken_at : (t f : ℕ) (xs : List ℕ) → IsRising xs → f ≡ front (λ x. nat_lt x t) xs → stands_at xs f t ≡ true
+pub taken_at : (t f : ℕ) (xs : List ℕ) → IsRising xs → f ≡ prefix (λ x. nat_lt x t) xs → stands_at xs f t ≡ true
     → take f xs ++ drop (f + 1) xs ≡ without t xs
 taken_at t f xs r e h = (λ i. take (e i) xs ++ drop (e i + 1) xs) ∙ taken_out t xs r (ap (λ (n : ℕ). stands_at xs n t) (sym e) ∙ h)
 
-pub absent_at : (t f : ℕ) (xs : List ℕ) → IsRising xs → f ≡ front (λ x. nat_lt x t) xs → stands_at xs f t ≡ false → xs ≡ without t xs
+pub absent_at : (t f : ℕ) (xs : List ℕ) → IsRising xs → f ≡ prefix (λ x. nat_lt x t) xs → stands_at xs f t ≡ false → xs ≡ without t xs
 absent_at t f xs r e h = not_there t xs r (ap (λ (n : ℕ). stands_at xs n t) (sym e) ∙ h)
-
-pub put_at : (t f : ℕ) (xs : List ℕ) → f ≡ front (λ x. nat_lt x t) xs → insert xs f t ≡ put_in t xs
-put_at t f xs e = (λ i. insert xs (e i) t) ∙ insert_front t xs
 
 pub ends_is : (t : ℕ) (xs : List ℕ) → 1 ≤ length xs → ends_with t xs ≡ nat_eq (slice_index_or xs (length xs - 1) 0) t
 ends_is t [] h = absurd (omega (arith, h))

@@ -2,28 +2,21 @@
 use Rattle.std.proofs.Common.{◌≡◌, ℕ, zero, suc, ◌<◌, ◌||◌, Bool, true, false, not, cond, List, [], ◌∷◌, ◌++◌, take, refl, sym, ap, ◌∙◌}
 use Rattle.std.specs.Prelude.{nat_eq}
 use Rattle.std.specs.List.{AllByRecursion, list_any}
-use Rattle.cpe_applicability.specs.Tickets.{IsBelow, IsRising, ends_with, without}
-use Rattle.ticket_list.specs.Rising.{IsRisingBy}
+use Rattle.cpe_applicability.specs.Tickets.{IsBelow, ends_with, without}
+use Rattle.ticket_list.specs.Rising.{IsRising}
+use Rattle.ticket_list.proofs.RisingLemmas.{rising_last}
 use Rattle.cpe_applicability.specs.Entering.{entered, left_out}
 use Rattle.cpe_applicability.proofs.TicketLemmas.{without_none}
-use Rattle.cpe_applicability.proofs.RowLemmas.{lower_differs, nat_same}
+use Rattle.cpe_applicability.proofs.EnteringLemmas.{nat_same}
+use Rattle.cpe_applicability.proofs.RowLemmas.{lower_differs}
 
 pub not_last : (t : ℕ) (xs : List ℕ) → AllByRecursion (λ x. x < t) xs → ends_with t xs ≡ false
 not_last t [] h = refl
 not_last t (x ∷ []) h = lower_differs x t h.0
 not_last t (x ∷ (y ∷ xs)) h = not_last t (y ∷ xs) h.1
 
-module _ {X : Type 0} (key : X → ℕ) where
-  all_with : (n : ℕ) (xs : List X) (x : X) → AllByRecursion (λ y. n < key y) xs → n < key x → AllByRecursion (λ y. n < key y) (xs ++ x ∷ [])
-  all_with n [] x h lt = (lt, tt)
-  all_with n (y ∷ xs) x h lt = (h.0, all_with n xs x h.1 lt)
-
-  pub rising-last : (xs : List X) (x : X) → IsRisingBy key xs → AllByRecursion (λ y. key y < key x) xs → IsRisingBy key (xs ++ x ∷ [])
-  rising-last [] x h below = (tt, tt)
-  rising-last (y ∷ xs) x h below = (all_with (key y) xs x h.0 below.0, rising-last xs x h.1 below.1)
-
 pub rising-entered : (b : Bool) (t : ℕ) (xs : List ℕ) → IsBelow t xs → IsRising (entered b t xs)
-rising-entered true t xs h = rising-last (λ n. n) xs t h.0 h.1
+rising-entered true t xs h = rising_last (λ n. n) t xs h.0 h.1
 rising-entered false t xs h = h.0
 
 without_new : (t : ℕ) (xs : List ℕ) → AllByRecursion (λ x. x < t) xs → without t (xs ++ t ∷ []) ≡ xs
@@ -41,16 +34,16 @@ undone true false t xs h below = absurd (let wrong : false ≡ true = h refl in 
 undone false true t xs h below = without_none t xs (all_lower t xs below.1)
 undone false false t xs h below = refl
 
-pub any_front : {X : Type 0} (p : X → Bool) (k : ℕ) (xs : List X) → list_any p (take k xs) ≡ true → list_any p xs ≡ true
-any_front p zero xs h = absurd (let wrong : false ≡ true = h in cc)
-any_front p (suc k) [] h = absurd (let wrong : false ≡ true = h in cc)
-any_front p (suc k) (x ∷ xs) h = go (p x) h (any_front p k xs) where
+pub any_prefix : {X : Type 0} (p : X → Bool) (k : ℕ) (xs : List X) → list_any p (take k xs) ≡ true → list_any p xs ≡ true
+any_prefix p zero xs h = absurd (let wrong : false ≡ true = h in cc)
+any_prefix p (suc k) [] h = absurd (let wrong : false ≡ true = h in cc)
+any_prefix p (suc k) (x ∷ xs) h = go (p x) h (any_prefix p k xs) where
   go : (b : Bool) → (b || list_any p (take k xs)) ≡ true → (list_any p (take k xs) ≡ true → list_any p xs ≡ true) → (b || list_any p xs) ≡ true
   go true h more = refl
   go false h more = more h
 
-pub none_in_front : {X : Type 0} (p : X → Bool) (k : ℕ) (xs : List X) → list_any p xs ≡ false → list_any p (take k xs) ≡ false
-none_in_front p k xs h = go (list_any p (take k xs)) refl where
+pub none_in_prefix : {X : Type 0} (p : X → Bool) (k : ℕ) (xs : List X) → list_any p xs ≡ false → list_any p (take k xs) ≡ false
+none_in_prefix p k xs h = go (list_any p (take k xs)) refl where
   go : (b : Bool) → list_any p (take k xs) ≡ b → b ≡ false
-  go true e = sym (any_front p k xs e) ∙ h
+  go true e = sym (any_prefix p k xs e) ∙ h
   go false e = refl

@@ -17,7 +17,8 @@ use Rattle.cpe_applicability.specs.ByResult.{at_result, each_result, told_with}
 use Rattle.cpe_applicability.specs.Entering.{among, is_asked}
 use Rattle.ticket_list.specs.TicketList.{has_ticket}
 use Rattle.cpe_inventory.specs.Kept.{kept_truth}
-use Rattle.cpe_applicability.specs.Tickets.{first_place, put_in, without}
+use Rattle.cpe_applicability.specs.Tickets.{first_place, without}
+use Rattle.ticket_list.specs.Rising.{put_in}
 use Rattle.cpe_applicability.specs.Told.{check_keys, told}
 use Rattle.cpe_applicability.specs.Truths.{truth_in}
 

@@ -1,5 +1,5 @@
 -- How the parts of a board belong together.
-use Rattle.std.specs.Prelude.{◌≡◌, ◌≤◌, ◌<◌, ℕ, List, [], ◌∷◌, map, length, Option, Some, None, IsSome, nat_eq, ◌+◌, true, false, cond, vec_capacity}
+use Rattle.std.specs.Prelude.{◌≡◌, ◌≤◌, ◌<◌, ℕ, List, map, length, Some, IsSome, nat_eq, ◌+◌, true, false, cond, vec_capacity}
 use Rattle.std.specs.List.{AllByRecursion}
 use Rattle.std.specs.Map.{lookup}
 use Rattle.std.specs.Str.{bytes_eq}
@@ -16,6 +16,7 @@ use Rattle.cpe_applicability.specs.Board.{Judged, State}
 use Rattle.cpe_applicability.specs.ByResult.{asks_one, each_result}
 use Rattle.cpe_applicability.specs.Entering.{entered, is_asked, is_empty}
 use Rattle.cpe_applicability.specs.Held.{asks, each_verdict, follow_use, has_row_id, is_changed, plain_use, ticket_of, tickets, uses_follow, uses_plain, verdict_by, verdict_now}
+use Rattle.cpe_inventory.specs.Results.{one_or_none}
 use Rattle.ticket_list.specs.Rising.{IsRisingBy}
 use Rattle.cpe_applicability.specs.Told.{check_keys}
 use Rattle.cpe_applicability.specs.Users.{AreAsked, AreUsed, askers_at, users_at}
@@ -25,10 +26,6 @@ judged r = record { statement = r.held.value.statement; ids = r.held.value.ids.i
 
 abbrev pub state_in : Parts → State
 state_in b = record { rows = map judged b.rows.items; plain = b.plain.truths.entries; follow = b.follow.truths.entries; checks = b.results }
-
-abbrev pub one_or_none : Option ℕ → List ℕ
-one_or_none None = []
-one_or_none (Some t) = t ∷ []
 
 -- where the row asks for one check alone, it tells what its statement comes to by each result
 abbrev pub TellsEach : Parts → Row → Type 0

@@ -13,7 +13,7 @@ ghost use Rattle.cpe_applicability.specs.Board.{ChangesTruth, KeepsTruths, Takes
 ghost use Rattle.cpe_applicability.specs.Tickets.{first_place};
 ghost use Rattle.cpe_applicability.specs.Held.{has_row_id, is_changed};
 ghost use Rattle.cpe_applicability.specs.Entering.{left_out};
-ghost use Rattle.cpe_applicability.specs.Tickets.{IsRising};
+ghost use Rattle.ticket_list.specs.Rising.{IsRising};
 ghost use Rattle.cpe_applicability.specs.Invariant.{HasSameRows, HasSameUsers, IsBoard, IsEntered, IsLean, IsReady, new_row, state_in};
 ghost use Rattle.std.specs.HashMap.{spare};
 

@@ -2,9 +2,8 @@
 ghost use Rattle.std.specs.Prelude.{◌≡◌, ◌≤◌, ◌<◌, ◌+◌, ◌++◌, [], cond, map, Bool, drop, false, not, length, slice_get, take, vec_capacity};
 ghost use Rattle.std.specs.Option.{option_map};
 ghost use Rattle.cpe_rows.specs.Truth.{same_truth};
-ghost use Rattle.cpe_applicability.specs.Tickets.{IsRising};
+ghost use Rattle.ticket_list.specs.Rising.{IsRising, IsRisingBy};
 ghost use Rattle.cpe_applicability.specs.declared.row.Cause.TheVariants.{Check};
-ghost use Rattle.ticket_list.specs.Rising.{IsRisingBy};
 ghost use Rattle.cpe_applicability.specs.Held.{anew, at_ticket, at_tickets, by_result_after, each_verdict, is_changed, moved, place_in, settled, ticket_of, tickets, verdict_after, verdict_by};
 
 use crate::by_result::{ByResult, tell_each};

@@ -1,14 +1,14 @@
 // Rising lists of tickets.
 ghost use Rattle.std.specs.Prelude.{◌≡◌, ◌≤◌, ◌<◌, length, nat_lt, vec_capacity, OnOk, OnErr};
-ghost use Rattle.cpe_applicability.specs.Tickets.{IsRising, ends_with, put_in, stands_at, with_last, without};
-ghost use Rattle.ticket_list.specs.Rising.{front};
+ghost use Rattle.cpe_applicability.specs.Tickets.{ends_with, stands_at, with_last, without};
+ghost use Rattle.ticket_list.specs.Rising.{IsRising, prefix, put_in};
 
 use cpe_values::Memory;
 
 // How many tickets of a list are below one.
 fn count_below(list: &[u64], ticket: u64) -> usize
     requires { IsRising list.now }
-    ensures count { result ≡ front (λ x. nat_lt x ticket) list.now }
+    ensures count { result ≡ prefix (λ x. nat_lt x ticket) list.now }
     ensures bound { result ≤ length list.now }
 {
     list.partition_point(|other| *other < ticket)

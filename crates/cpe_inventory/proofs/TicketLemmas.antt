@@ -6,6 +6,7 @@ use Rattle.std.proofs.lemmas.Bool.Decides.{nat_tests}
 use Rattle.cpe_rows.specs.After.{without_first}
 use Rattle.ticket_list.specs.Rising.{IsRisingBy}
 use Rattle.ticket_list.specs.TicketList.{has_ticket, with_change, without_ticket}
+use Rattle.ticket_list.proofs.RisingLemmas.{all_passing}
 use Rattle.cpe_inventory.specs.Results.{one_or_none}
 
 same_number : (a b : ℕ) → a ≡ b → nat_eq a b ≡ true
@@ -56,13 +57,6 @@ module _ {X : Type 0} (number : X → ℕ) (p : X → Bool) where
 
   -- ---- just one passes
 
-  all_numbers : (n : ℕ) (xs : List X) → AllByRecursion (λ y. n < number y) xs → AllByRecursion (λ y. n < y) (numbers xs)
-  all_numbers n [] h = tt
-  all_numbers n (x ∷ xs) h = go (p x) (all_numbers n xs h.1) where
-    go : (b : Bool) → AllByRecursion (λ y. n < y) (numbers xs) → AllByRecursion (λ y. n < y) (map number (cond b (x ∷ filter p xs) (filter p xs)))
-    go true more = (h.0, more)
-    go false more = more
-
   later_differ : (n t : ℕ) (xs : List X) → n ≡ t → AllByRecursion (λ y. n < number y) xs → AllByRecursion (λ y. p y ≡ false) xs
       → AllByRecursion (λ y. has_ticket number t y ≡ p y) xs
   later_differ n t [] e above none = tt
@@ -80,7 +74,7 @@ module _ {X : Type 0} (number : X → ℕ) (p : X → Bool) where
         let none : numbers xs ≡ [] = cc h in
         (same_number (number x) t here ∙ sym e, later_differ (number x) t xs here rising.0 (none_pass xs none))
     go false e h more =
-        let above = subst (AllByRecursion (λ y. number x < y)) h (all_numbers (number x) xs rising.0) in
+        let above = subst (AllByRecursion (λ y. number x < y)) h (all_passing number (number x) p xs rising.0) in
         (lower_differs (number x) t above.0 ∙ sym e, more h)
 
   module _ (t : ℕ) (xs : List X) (rising : IsRisingBy number xs) (one : numbers xs ≡ t ∷ []) where

@@ -5,9 +5,8 @@ use Rattle.std.specs.List.{AllByRecursion, filter}
 use Rattle.std.proofs.lemmas.Bool.Decides.{nat_tests}
 use Rattle.ticket_list.specs.declared.slots.Slot.{Slot}
 use Rattle.ticket_list.specs.declared.slots.Slot.TheVariants.{Element, Mark}
-use Rattle.ticket_list.specs.Rising.{IsRisingBy}
+use Rattle.ticket_list.specs.Rising.{IsRisingBy, put_in}
 use Rattle.ticket_list.specs.TicketList.{with_change, without_ticket}
-use Rattle.ticket_list.specs.Marks.{put_in}
 use Rattle.ticket_list.specs.Slots.{AreSlots, changed_slot, elements, ends_with_element, is_element, marks_from, slot_for, slot_ticket, stands_at, with_element}
 use Rattle.ticket_list.proofs.SlotLemmas.{at_or_above, below, ends_with_last, last_marks}
 use Rattle.ticket_list.proofs.RisingLemmas.{rising_last}

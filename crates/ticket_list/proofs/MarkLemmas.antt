@@ -4,7 +4,7 @@ use Rattle.std.specs.Prelude.{get_or, nat_le, slice_get, Option, Some, None}
 use Rattle.std.specs.List.{AllByRecursion}
 use Rattle.ticket_list.proofs.RisingLemmas.{rising_drop, rising_take}
 use Rattle.std.proofs.lemmas.Bool.Decides.{nat_tests}
-use Rattle.ticket_list.specs.Marks.{IsRising}
+use Rattle.ticket_list.specs.Rising.{IsRising}
 use Rattle.ticket_list.specs.Slots.{skipped}
 
 abbrev or_zero : Option ℕ → ℕ

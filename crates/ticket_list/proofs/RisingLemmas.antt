@@ -1,13 +1,12 @@
--- Rising lists: where a test of numbers ends, and parts of them.
-use Rattle.std.proofs.Common.{◌≡◌, ℕ, zero, suc, ◌<◌, ◌≤◌, Bool, true, false, cond, List, [], ◌∷◌, ◌++◌, length, take, drop, refl, sym, ap, ◌∙◌, inl, inr, arith}
+-- Rising lists: where a test of numbers ends, parts of them, and the numbers of those that pass a test.
+use Rattle.std.proofs.Common.{◌≡◌, ℕ, zero, suc, ◌<◌, ◌≤◌, Bool, true, false, cond, List, [], ◌∷◌, ◌++◌, length, map, take, drop, refl, sym, ap, ◌∙◌, inl, inr, arith}
 use Rattle.std.specs.Prelude.{nat_lt}
-use Rattle.std.specs.List.{AllByRecursion, insert}
+use Rattle.std.specs.List.{AllByRecursion, filter, insert}
 use Rattle.std.specs.List.Sorted.{IsPartitionPoint, IsPartitionedBy}
 use Rattle.std.proofs.lemmas.Bool.{cases_Bool, both_ways}
 use Rattle.std.proofs.lemmas.Bool.Decides.{nat_tests}
 use Rattle.std.proofs.lemmas.List.Elements.{All-from_recursion}
-use Rattle.ticket_list.specs.Rising.{IsRisingBy, front}
-use Rattle.ticket_list.specs.Marks.{put_in}
+use Rattle.ticket_list.specs.Rising.{IsRising, IsRisingBy, prefix, put_in}
 
 -- after an element that fails all others fail
 abbrev IsParted : {X : Type 0} → (X → Bool) → List X → Type 0
@@ -43,24 +42,24 @@ module _ {X : Type 0} (k : X → ℕ) (t : ℕ) where
   rising_partitioned xs h = parted_by below xs (rising_parted xs h)
 
 -- where the test ends
-pub front_is : {X : Type 0} (p : X → Bool) (xs : List X) (i : ℕ) → i ≤ length xs
-    → IsPartitionPoint (λ x. p x ≡ true) (λ x. p x ≡ false) xs i → i ≡ front p xs
-front_is p [] i le h = omega (arith, le)
-front_is p (x ∷ xs) zero le h = ap (λ (b : Bool). cond b (suc (front p xs)) 0) (sym (h.1 0 x (omega arith) (omega arith)))
-front_is p (x ∷ xs) (suc i) le h =
-    ap suc (front_is p xs i (omega (arith, le)) (λ k d low high. h.0 (suc k) d (omega arith) (omega (arith, high)), λ k d low high. h.1 (suc k) d (omega (arith, low)) (omega (arith, high))))
-    ∙ ap (λ (b : Bool). cond b (suc (front p xs)) 0) (sym (h.0 0 x (omega arith) (omega arith)))
+pub prefix_is : {X : Type 0} (p : X → Bool) (xs : List X) (i : ℕ) → i ≤ length xs
+    → IsPartitionPoint (λ x. p x ≡ true) (λ x. p x ≡ false) xs i → i ≡ prefix p xs
+prefix_is p [] i le h = omega (arith, le)
+prefix_is p (x ∷ xs) zero le h = ap (λ (b : Bool). cond b (suc (prefix p xs)) 0) (sym (h.1 0 x (omega arith) (omega arith)))
+prefix_is p (x ∷ xs) (suc i) le h =
+    ap suc (prefix_is p xs i (omega (arith, le)) (λ k d low high. h.0 (suc k) d (omega arith) (omega (arith, high)), λ k d low high. h.1 (suc k) d (omega (arith, low)) (omega (arith, high))))
+    ∙ ap (λ (b : Bool). cond b (suc (prefix p xs)) 0) (sym (h.0 0 x (omega arith) (omega arith)))
 
-insert_front : (t : ℕ) (xs : List ℕ) → insert xs (front (λ x. nat_lt x t) xs) t ≡ put_in t xs
-insert_front t [] = refl
-insert_front t (x ∷ xs) = go (nat_lt x t) (insert_front t xs) where
-  go : (b : Bool) → insert xs (front (λ x. nat_lt x t) xs) t ≡ put_in t xs
-      → insert (x ∷ xs) (cond b (suc (front (λ x. nat_lt x t) xs)) 0) t ≡ cond b (x ∷ put_in t xs) (t ∷ (x ∷ xs))
+insert_prefix : (t : ℕ) (xs : List ℕ) → insert xs (prefix (λ x. nat_lt x t) xs) t ≡ put_in t xs
+insert_prefix t [] = refl
+insert_prefix t (x ∷ xs) = go (nat_lt x t) (insert_prefix t xs) where
+  go : (b : Bool) → insert xs (prefix (λ x. nat_lt x t) xs) t ≡ put_in t xs
+      → insert (x ∷ xs) (cond b (suc (prefix (λ x. nat_lt x t) xs)) 0) t ≡ cond b (x ∷ put_in t xs) (t ∷ (x ∷ xs))
   go true h = ap (λ (u : List ℕ). x ∷ u) h
   go false h = refl
 
-pub put_at : (t f : ℕ) (xs : List ℕ) → f ≡ front (λ x. nat_lt x t) xs → insert xs f t ≡ put_in t xs
-put_at t f xs e = (λ i. insert xs (e i) t) ∙ insert_front t xs
+pub put_at : (t f : ℕ) (xs : List ℕ) → f ≡ prefix (λ x. nat_lt x t) xs → insert xs f t ≡ put_in t xs
+put_at t f xs e = (λ i. insert xs (e i) t) ∙ insert_prefix t xs
 
 module _ {X : Type 0} (k : X → ℕ) where
   all_drop : (n j : ℕ) (xs : List X) → AllByRecursion (λ y. n < k y) xs → AllByRecursion (λ y. n < k y) (drop j xs)
@@ -82,6 +81,21 @@ module _ {X : Type 0} (k : X → ℕ) where
   rising_take zero xs h = tt
   rising_take (suc j) [] h = tt
   rising_take (suc j) (x ∷ xs) h = (all_take (k x) j xs h.0, rising_take j xs h.1)
+
+  pub all_passing : (n : ℕ) (p : X → Bool) (xs : List X) → AllByRecursion (λ y. n < k y) xs → AllByRecursion (λ y. n < y) (map k (filter p xs))
+  all_passing n p [] h = tt
+  all_passing n p (x ∷ xs) h = go (p x) (all_passing n p xs h.1) where
+    go : (b : Bool) → AllByRecursion (λ y. n < y) (map k (filter p xs)) → AllByRecursion (λ y. n < y) (map k (cond b (x ∷ filter p xs) (filter p xs)))
+    go true more = (h.0, more)
+    go false more = more
+
+  -- the numbers of those that pass rise
+  pub rising_passing : (p : X → Bool) (xs : List X) → IsRisingBy k xs → IsRising (map k (filter p xs))
+  rising_passing p [] h = tt
+  rising_passing p (x ∷ xs) h = go (p x) (rising_passing p xs h.1) where
+    go : (b : Bool) → IsRising (map k (filter p xs)) → IsRising (map k (cond b (x ∷ filter p xs) (filter p xs)))
+    go true more = (all_passing (k x) p xs h.0, more)
+    go false more = more
 
   -- one that is above all goes last
   all_last : (n : ℕ) (x : X) (xs : List X) → AllByRecursion (λ y. n < k y) xs → n < k x → AllByRecursion (λ y. n < k y) (xs ++ x ∷ [])

@@ -5,8 +5,7 @@ use Rattle.std.specs.List.{AllByRecursion, filter, slice_index_or}
 use Rattle.std.proofs.lemmas.Bool.Decides.{nat_tests}
 use Rattle.ticket_list.specs.declared.slots.Slot.{Slot}
 use Rattle.ticket_list.specs.declared.slots.Slot.TheVariants.{Element, Mark}
-use Rattle.ticket_list.specs.Rising.{front}
-use Rattle.ticket_list.specs.Marks.{IsRising}
+use Rattle.ticket_list.specs.Rising.{IsRising, prefix}
 use Rattle.ticket_list.specs.Slots.{element_at, elements, ends_with_element, is_element, marks_from, rank, skipped}
 use Rattle.ticket_list.proofs.MarkLemmas.{beyond, up_to}
 
@@ -20,15 +19,15 @@ last_length : (m : ℕ) (marks : List ℕ) → length (marks ++ m ∷ []) ≡ su
 last_length m [] = refl
 last_length m (k ∷ marks) = ap suc (last_length m marks)
 
-take_front : (m : ℕ) (marks : List ℕ) → take (length marks) (marks ++ m ∷ []) ≡ marks
-take_front m [] = refl
-take_front m (k ∷ marks) = ap (λ (u : List ℕ). k ∷ u) (take_front m marks)
+take_prefix : (m : ℕ) (marks : List ℕ) → take (length marks) (marks ++ m ∷ []) ≡ marks
+take_prefix m [] = refl
+take_prefix m (k ∷ marks) = ap (λ (u : List ℕ). k ∷ u) (take_prefix m marks)
 
 take_init : (m : ℕ) (marks : List ℕ) → take (length (marks ++ m ∷ []) - 1) (marks ++ m ∷ []) ≡ marks
 take_init m marks =
     let long = last_length m marks in
     let same : length (marks ++ m ∷ []) - 1 ≡ length marks = omega (arith, long) in
-    ap (λ (n : ℕ). take n (marks ++ m ∷ [])) same ∙ take_front m marks
+    ap (λ (n : ℕ). take n (marks ++ m ∷ [])) same ∙ take_prefix m marks
 
 module _ {X : Type 0} where
   marks_above : (n k : ℕ) (slots : List (Slot X)) → n < k → AllByRecursion (λ m. n < m) (marks_from k slots)
@@ -46,23 +45,23 @@ module _ {X : Type 0} where
   counted n (Element x ∷ slots) = let more = counted (suc n) slots in omega (arith, more)
   counted n (Mark t ∷ slots) = let more = counted (suc n) slots in omega (arith, more)
 
-  none_before : (j n : ℕ) (slots : List (Slot X)) → j ≤ n → front (λ m. nat_lt m j) (marks_from n slots) ≡ 0
+  none_before : (j n : ℕ) (slots : List (Slot X)) → j ≤ n → prefix (λ m. nat_lt m j) (marks_from n slots) ≡ 0
   none_before j n [] le = refl
   none_before j n (Element x ∷ slots) le = none_before j (suc n) slots (omega (arith, le))
-  none_before j n (Mark t ∷ slots) le = ap (λ (b : Bool). cond b (suc (front (λ m. nat_lt m j) (marks_from (suc n) slots))) 0) (at_or_above j n le)
+  none_before j n (Mark t ∷ slots) le = ap (λ (b : Bool). cond b (suc (prefix (λ m. nat_lt m j) (marks_from (suc n) slots))) 0) (at_or_above j n le)
 
   -- each slot before a place is a mark or an element
-  ranked_from : (n j k : ℕ) (slots : List (Slot X)) → j ≡ n + k → k ≤ length slots → front (λ m. nat_lt m j) (marks_from n slots) + rank k slots ≡ k
+  ranked_from : (n j k : ℕ) (slots : List (Slot X)) → j ≡ n + k → k ≤ length slots → prefix (λ m. nat_lt m j) (marks_from n slots) + rank k slots ≡ k
   ranked_from n j zero slots e le = let none = none_before j n slots (omega (arith, e)) in omega (arith, none)
   ranked_from n j (suc k) [] e le = absurd (omega (arith, le))
   ranked_from n j (suc k) (Element x ∷ slots) e le =
       let more = ranked_from (suc n) j k slots (omega (arith, e)) (omega (arith, le)) in omega (arith, more)
   ranked_from n j (suc k) (Mark t ∷ slots) e le =
       let more = ranked_from (suc n) j k slots (omega (arith, e)) (omega (arith, le)) in
-      let here = ap (λ (b : Bool). cond b (suc (front (λ m. nat_lt m j) (marks_from (suc n) slots))) 0) (below j n (omega (arith, e))) in
+      let here = ap (λ (b : Bool). cond b (suc (prefix (λ m. nat_lt m j) (marks_from (suc n) slots))) 0) (below j n (omega (arith, e))) in
       omega (arith, more, here)
 
-  pub ranked : (k : ℕ) (slots : List (Slot X)) → k ≤ length slots → front (λ m. nat_lt m k) (marks_from 0 slots) + rank k slots ≡ k
+  pub ranked : (k : ℕ) (slots : List (Slot X)) → k ≤ length slots → prefix (λ m. nat_lt m k) (marks_from 0 slots) + rank k slots ≡ k
   ranked k slots le = ranked_from 0 k k slots (omega arith) le
 
   no_skip : (k n : ℕ) (slots : List (Slot X)) → k < n → skipped k (marks_from n slots) ≡ k

@@ -1,5 +1,5 @@
 -- Rising lists.
-use Rattle.std.specs.Prelude.{ℕ, suc, ◌<◌, Bool, cond, List, [], ◌∷◌}
+use Rattle.std.specs.Prelude.{ℕ, suc, ◌<◌, Bool, nat_lt, cond, List, [], ◌∷◌}
 use Rattle.std.specs.List.{AllByRecursion}
 
 -- the number of each is below those of the ones after it
@@ -7,7 +7,16 @@ abbrev pub IsRisingBy : {X : Type 0} → (X → ℕ) → List X → Type 0
 IsRisingBy number [] = Unit {0}
 IsRisingBy number (x ∷ xs) = AllByRecursion (λ y. number x < number y) xs × IsRisingBy number xs
 
+-- the same of numbers themselves
+abbrev pub IsRising : List ℕ → Type 0
+IsRising xs = IsRisingBy (λ x. x) xs
+
 -- how many stand before the first that fails
-abbrev pub front : {X : Type 0} → (X → Bool) → List X → ℕ
-front p [] = 0
-front p (x ∷ xs) = cond (p x) (suc (front p xs)) 0
+abbrev pub prefix : {X : Type 0} → (X → Bool) → List X → ℕ
+prefix p [] = 0
+prefix p (x ∷ xs) = cond (p x) (suc (prefix p xs)) 0
+
+-- the number stands before the first that isn't below it
+abbrev pub put_in : ℕ → List ℕ → List ℕ
+put_in t [] = t ∷ []
+put_in t (x ∷ xs) = cond (nat_lt x t) (x ∷ put_in t xs) (t ∷ (x ∷ xs))

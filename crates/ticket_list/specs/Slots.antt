@@ -4,7 +4,7 @@ use Rattle.std.specs.List.{filter_map}
 use Rattle.std.specs.Option.{option_map_or}
 use Rattle.ticket_list.specs.declared.slots.Slot.{Slot}
 use Rattle.ticket_list.specs.declared.slots.Slot.TheVariants.{Element, Mark}
-use Rattle.ticket_list.specs.Rising.{IsRisingBy, front}
+use Rattle.ticket_list.specs.Rising.{IsRisingBy, prefix}
 use Rattle.ticket_list.specs.TicketList.{has_ticket}
 
 abbrev pub element_of : {X : Type 0} → Slot X → Option X
@@ -52,7 +52,7 @@ ends_with_element (slot ∷ (next ∷ slots)) = ends_with_element (next ∷ slot
 
 -- the first slot whose ticket isn't below this one
 abbrev pub slot_for : {X : Type 0} → (X → ℕ) → ℕ → List (Slot X) → ℕ
-slot_for ticket_of t slots = front (λ s. nat_lt (slot_ticket ticket_of s) t) slots
+slot_for ticket_of t slots = prefix (λ s. nat_lt (slot_ticket ticket_of s) t) slots
 
 -- the slots that are marks, counted from n
 abbrev pub marks_from : {X : Type 0} → ℕ → List (Slot X) → List ℕ

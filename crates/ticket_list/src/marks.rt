@@ -1,13 +1,12 @@
 // Where the marks stand, rising: how many stand before a slot, and where the element of a place stands.
 ghost use Rattle.std.specs.Prelude.{◌≡◌, ◌≤◌, ◌<◌, ◌+◌, ◌^◌, ℕ, drop, get_or, length, nat_lt, take, vec_capacity};
-ghost use Rattle.ticket_list.specs.Rising.{IsRisingBy, front};
+ghost use Rattle.ticket_list.specs.Rising.{IsRising, prefix, put_in};
 ghost use Rattle.ticket_list.specs.Slots.{skipped};
-ghost use Rattle.ticket_list.specs.Marks.{IsRising, put_in};
 
 // How many marks stand before a slot.
 pub(crate) fn count_before(marks: &[usize], slot: usize) -> usize
     requires { IsRising marks.now }
-    ensures count { result ≡ front (λ m. nat_lt m slot) marks.now }
+    ensures count { result ≡ prefix (λ m. nat_lt m slot) marks.now }
     ensures bound { result ≤ length marks.now }
 {
     marks.partition_point(|mark| *mark < slot)

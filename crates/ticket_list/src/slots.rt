@@ -3,7 +3,7 @@ ghost use Rattle.std.specs.Prelude.{◌≡◌, ◌≤◌, ◌<◌, ℕ, cond, le
 ghost use Rattle.std.specs.List.{filter};
 ghost use Rattle.std.specs.Option.{option_copied};
 ghost use Rattle.std.specs.Prelude.{false, not, true, IfNone, IfSome};
-ghost use Rattle.ticket_list.specs.Rising.{IsRisingBy, front};
+ghost use Rattle.ticket_list.specs.Rising.{IsRisingBy, prefix};
 ghost use Rattle.ticket_list.specs.Slots.{changed_slot, element_at, ends_with_element, is_element, slot_for, slot_ticket, stands_at};
 ghost use Rattle.ticket_list.specs.declared.slots.Slot.TheVariants.{Mark};
 
@@ -39,7 +39,7 @@ fn is_element<T>(slot: &Slot<T>) -> bool
 // How many slots have a lower ticket.
 fn count_below<T: Ticketed>(slots: &[Slot<T>], ticket: u64) -> usize
     requires { IsRisingBy (slot_ticket T.ticket_of) slots.now }
-    ensures count { result ≡ front (λ s. nat_lt (slot_ticket T.ticket_of s) ticket) slots.now }
+    ensures count { result ≡ prefix (λ s. nat_lt (slot_ticket T.ticket_of s) ticket) slots.now }
     ensures bound { result ≤ length slots.now }
 {
     slots.partition_point(|slot| slot_ticket(slot) < ticket)

@@ -5,24 +5,15 @@ use Rattle.cpe_rows.specs.declared.test.Test.{Test}
 use Rattle.cpe_applicability.specs.Users.{askers_at}
 use Rattle.cpe_applicability.specs.Entering.{entered_once, is_asked, IsEnteredOnceWhere}
 use Rattle.cpe_applicability.specs.Told.{check_keys}
-use Rattle.cpe_applicability.proofs.AskedLemmas.{asked_more, asked_still, asked_within, entered_twice}
+use Rattle.cpe_applicability.proofs.AskedLemmas.{asked_still, asked_within, entered_twice, with_child}
 use Rattle.cpe_applicability.proofs.ToldLemmas.{keys-logic}
 use Rattle.cpe_applicability.proofs.askers.+enter_all.Goals as goal
 
 pub loop-child-preserved : goal.loop-child-preserved
 loop-child-preserved t c =
-    let of = c.as_slice-child-items.result.now in
-    let i = c.loop-child.child-index in
-    let child = c.child-item.result in
     let ticket = c.args.ticket in (
-      λ q.
-          let old = askers_at c.args.askers.now.entries q in
-          let front = is_asked (flat_map check_keys (take i of)) q in
-          let more = asked_more of i child q c.loop-child-test.true ∙ ap (λ (u : Test). front || is_asked (check_keys u) q) (sym c.child-item.is) in
-          c.in_ok-enter_all-in-Logic.ensures.ok q
-          ∙ ap (entered_once (is_asked (check_keys child) q) ticket) (c.loop-child.invariant.0 q)
-          ∙ entered_twice front (is_asked (check_keys child) q) ticket old
-          ∙ ap (λ b. entered_once b ticket old) (sym more),
+      λ q. with_child (λ b xs. entered_once b ticket xs) (λ b e xs. entered_twice b e ticket xs) c.as_slice-child-items.result.now c.loop-child.child-index c.child-item.result c.loop-child-test.true c.child-item.is q
+          (askers_at c.args.askers.now.entries q) (askers_at c.loop-child.askers.entries q) (askers_at c.enter_all.new.askers.entries q) (c.loop-child.invariant.0 q) (c.in_ok-enter_all-in-Logic.ensures.ok q),
       λ asked. c.in_ok-enter_all-in-Logic.ensures.lists (c.loop-child.invariant.1 asked),
     )
 
@@ -42,12 +33,12 @@ returns-in_err-enter_all-in-Logic-clause-err t c =
     let test = ap check_keys c.in-Logic.is ∙ keys-logic c.in-Logic.operator c.in-Logic.negate c.in-Logic.of ∙ ap (flat_map check_keys) (sym c.as_slice-child-items.ensures) in
     let left : (q : CheckKey) → IsEnteredOnceWhere (is_asked (check_keys c.args.test.now) q) ticket (askers_at c.args.askers.now.entries q) (askers_at c.enter_all.new.askers.entries q) = λ q.
     let was = c.in_err-enter_all-in-Logic.ensures.err q in
-    let front = is_asked (flat_map check_keys (take i of)) q in
+    let prefix = is_asked (flat_map check_keys (take i of)) q in
     let asked = subst (λ (u : Test). was.entered ≡ true → is_asked (check_keys u) q ≡ true) c.child-item.is was.where_asked in
     record {
-      entered = front || was.entered;
+      entered = prefix || was.entered;
       where_asked = λ h. ap (λ (ks : List CheckKey). is_asked ks q) test ∙ asked_within of i child q was.entered c.loop-child-test.true asked h;
-      tickets = was.tickets ∙ ap (entered_once was.entered ticket) (c.loop-child.invariant.0 q) ∙ entered_twice front was.entered ticket (askers_at c.args.askers.now.entries q);
+      tickets = was.tickets ∙ ap (entered_once was.entered ticket) (c.loop-child.invariant.0 q) ∙ entered_twice prefix was.entered ticket (askers_at c.args.askers.now.entries q);
     } in
     search (rules, left)
 

@@ -1,13 +1,13 @@
-use Rattle.std.proofs.Common.{rules, List, ◌||◌, ◌<◌, sym, ap, subst, ◌∙◌, take, take_all, arith}
+use Rattle.std.proofs.Common.{rules, List, ◌<◌, sym, ap, subst, ◌∙◌, take, take_all, arith}
 use Rattle.std.specs.List.{flat_map}
 use Rattle.cpe_rows.specs.declared.test.CheckKey.{CheckKey}
 use Rattle.cpe_rows.specs.Shape.{depth_of}
 use Rattle.cpe_rows.specs.declared.test.Test.{Test, Logic}
-use Rattle.cpe_applicability.specs.Tickets.{IsRising}
+use Rattle.ticket_list.specs.Rising.{IsRising}
 use Rattle.cpe_applicability.specs.Users.{askers_at}
 use Rattle.cpe_applicability.specs.Entering.{is_asked, left_out}
 use Rattle.cpe_applicability.specs.Told.{check_keys}
-use Rattle.cpe_applicability.proofs.AskedLemmas.{asked_more, asked_still, depth_falls, left_twice}
+use Rattle.cpe_applicability.proofs.AskedLemmas.{asked_still, depth_falls, left_twice, with_child}
 use Rattle.cpe_applicability.proofs.EnteringLemmas.{rising-left}
 use Rattle.cpe_applicability.proofs.ToldLemmas.{keys-logic}
 use Rattle.cpe_applicability.proofs.askers.+leave_all.Goals as goal
@@ -25,18 +25,9 @@ leave_all-requires t c =
 
 pub loop-child-preserved : goal.loop-child-preserved
 loop-child-preserved t c =
-    let of = c.as_slice-child-items.result.now in
-    let i = c.loop-child.child-index in
-    let child = c.child-item.result in
     let ticket = c.args.ticket in (
-      λ q.
-          let old = askers_at c.args.askers.now.entries q in
-          let front = is_asked (flat_map check_keys (take i of)) q in
-          let more = asked_more of i child q c.loop-child-test.true ∙ ap (λ (u : Test). front || is_asked (check_keys u) q) (sym c.child-item.is) in
-          c.leave_all.ensures.tickets q
-          ∙ ap (left_out (is_asked (check_keys child) q) ticket) (c.loop-child.invariant.0 q)
-          ∙ left_twice front (is_asked (check_keys child) q) ticket old
-          ∙ ap (λ b. left_out b ticket old) (sym more),
+      λ q. with_child (λ b xs. left_out b ticket xs) (λ b e xs. left_twice b e ticket xs) c.as_slice-child-items.result.now c.loop-child.child-index c.child-item.result c.loop-child-test.true c.child-item.is q
+          (askers_at c.args.askers.now.entries q) (askers_at c.loop-child.askers.entries q) (askers_at c.leave_all.new.askers.entries q) (c.loop-child.invariant.0 q) (c.leave_all.ensures.tickets q),
       λ asked. c.leave_all.ensures.lists (c.loop-child.invariant.1 asked),
     )
 

@@ -1,12 +1,13 @@
 use Rattle.std.proofs.Common.{length, refl, sym, ap, subst, ◌∙◌, vec_capacity}
 use Rattle.cpe_applicability.specs.declared.row.Row.{Row}
-use Rattle.cpe_applicability.specs.Tickets.{IsRising}
+use Rattle.ticket_list.specs.Rising.{IsRising}
 use Rattle.cpe_applicability.specs.Held.{anew, is_changed, moved, ticket_of, tickets}
-use Rattle.cpe_applicability.proofs.RowLemmas.{changed_rows, fewer, found_row, moved_is, not_found, placed_row, rising-filter, room_for, same_at}
+use Rattle.ticket_list.proofs.RisingLemmas.{rising_passing}
+use Rattle.cpe_applicability.proofs.RowLemmas.{changed_rows, fewer, found_row, moved_is, not_found, placed_row, room_for, same_at}
 use Rattle.cpe_applicability.proofs.rows.refresh.Goals as goal
 
 pub move_ticket-requires-clause-rising : goal.move_ticket-requires-clause-rising
-move_ticket-requires-clause-rising c = subst IsRising (sym c.requires.changed) (rising-filter ticket_of is_changed c.args.rows.now.items c.requires.rising)
+move_ticket-requires-clause-rising c = subst IsRising (sym c.requires.changed) (rising_passing ticket_of is_changed c.args.rows.now.items c.requires.rising)
 
 pub move_ticket-requires-clause-room : goal.move_ticket-requires-clause-room
 move_ticket-requires-clause-room c e =

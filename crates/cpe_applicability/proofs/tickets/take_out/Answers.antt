@@ -1,7 +1,7 @@
 use Rattle.std.proofs.Common.{ℕ, List, ap, ◌∙◌, sym, arith}
 use Rattle.std.specs.Prelude.{nat_lt}
 use Rattle.cpe_applicability.specs.Tickets.{stands_at}
-use Rattle.ticket_list.specs.Rising.{front}
+use Rattle.ticket_list.specs.Rising.{prefix}
 use Rattle.cpe_applicability.proofs.TicketLemmas.{taken_at, absent_at, stands_within}
 use Rattle.cpe_applicability.proofs.tickets.take_out.Goals as goal
 
@@ -18,7 +18,7 @@ returns-then-stands_at-clause-items c =
     let t = c.args.ticket in
     let place = c.count_below-place.result in
     let xs : List ℕ = c.args.list.now.items in
-    let at = c.count_below-place.ensures.count ∙ ap (front (λ x. nat_lt x t)) c.deref.ensures.value in
+    let at = c.count_below-place.ensures.count ∙ ap (prefix (λ x. nat_lt x t)) c.deref.ensures.value in
     let there = ap (λ (u : List ℕ). stands_at u place t) (sym c.deref-2.ensures.value) ∙ (sym c.stands_at.ensures ∙ c.if-stands_at.true) in
     c.remove.ensures.by_index.2 ∙ taken_at t place xs c.requires.rising at there
 
@@ -27,6 +27,6 @@ returns-else-stands_at-clause-items c =
     let t = c.args.ticket in
     let place = c.count_below-place.result in
     let xs : List ℕ = c.args.list.now.items in
-    let at = c.count_below-place.ensures.count ∙ ap (front (λ x. nat_lt x t)) c.deref.ensures.value in
+    let at = c.count_below-place.ensures.count ∙ ap (prefix (λ x. nat_lt x t)) c.deref.ensures.value in
     let there = ap (λ (u : List ℕ). stands_at u place t) (sym c.deref-2.ensures.value) ∙ (sym c.stands_at.ensures ∙ c.if-stands_at.false) in
     absent_at t place xs c.requires.rising at there

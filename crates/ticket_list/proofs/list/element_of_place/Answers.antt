@@ -1,5 +1,5 @@
 use Rattle.std.proofs.Common.{ap, ◌∙◌, sym, subst}
-use Rattle.ticket_list.specs.Marks.{IsRising}
+use Rattle.ticket_list.specs.Rising.{IsRising}
 use Rattle.ticket_list.specs.Slots.{element_at, skipped}
 use Rattle.ticket_list.proofs.SlotLemmas.{element_of_place, marks_rise}
 use Rattle.ticket_list.proofs.list.element_of_place.Goals as goal

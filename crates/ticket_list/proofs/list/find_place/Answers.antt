@@ -1,7 +1,6 @@
 use Rattle.std.proofs.Common.{◌∙◌, ap, arith, sym, subst}
 use Rattle.std.specs.Prelude.{nat_lt, ℕ, List}
-use Rattle.ticket_list.specs.Rising.{front}
-use Rattle.ticket_list.specs.Marks.{IsRising}
+use Rattle.ticket_list.specs.Rising.{IsRising, prefix}
 use Rattle.ticket_list.specs.Slots.{elements}
 use Rattle.ticket_list.proofs.SlotLemmas.{marks_rise, ranked}
 use Rattle.ticket_list.proofs.FoundLemmas.{absent_others, found_within, others_place, place_here}
@@ -15,7 +14,7 @@ overflow_sub-result g c =
     let k = c.in-Some.slot in
     let slots = c.args.slots.now in
     let within = found_within g.T.Ticketed.ticket_of c.args.ticket slots k c.in-Some.ensures.stands in
-    let count = c.count_before.ensures.count ∙ ap (λ (u : List ℕ). front (λ m. nat_lt m k) u) c.requires.marked in
+    let count = c.count_before.ensures.count ∙ ap (λ (u : List ℕ). prefix (λ m. nat_lt m k) u) c.requires.marked in
     let total = ranked k slots (omega (arith, within)) in
     omega (arith, count, total)
 
@@ -24,7 +23,7 @@ returns-in-Some g c =
     let k = c.in-Some.slot in
     let slots = c.args.slots.now in
     let within = found_within g.T.Ticketed.ticket_of c.args.ticket slots k c.in-Some.ensures.stands in
-    let count = c.count_before.ensures.count ∙ ap (λ (u : List ℕ). front (λ m. nat_lt m k) u) c.requires.marked in
+    let count = c.count_before.ensures.count ∙ ap (λ (u : List ℕ). prefix (λ m. nat_lt m k) u) c.requires.marked in
     let total = ranked k slots (omega (arith, within)) in
     place_here g.T.Ticketed.ticket_of c.args.ticket slots k _ c.in-Some.ensures.slot c.in-Some.ensures.stands (omega (arith, count, total))
 

@@ -1,7 +1,6 @@
 use Rattle.std.proofs.Common.{◌∙◌, ap, sym, subst}
 use Rattle.std.specs.Prelude.{List, ℕ}
-use Rattle.ticket_list.specs.Rising.{IsRisingBy}
-use Rattle.ticket_list.specs.Marks.{IsRising, put_in}
+use Rattle.ticket_list.specs.Rising.{IsRising, IsRisingBy, put_in}
 use Rattle.ticket_list.specs.Slots.{elements, ends_with_element, marks_from, slot_ticket}
 use Rattle.ticket_list.proofs.SlotLemmas.{closed_elements, closed_ends, closed_marks, marks_rise}
 use Rattle.ticket_list.proofs.FoundLemmas.{element_here}

@@ -1,11 +1,11 @@
 use Rattle.std.proofs.Common.{rules}
 use Rattle.std.specs.Prelude.{nat_lt}
 use Rattle.std.proofs.lemmas.List.Sorted.{IsPartitionPoint-from_clause}
-use Rattle.ticket_list.proofs.RisingLemmas.{rising_partitioned, front_is}
+use Rattle.ticket_list.proofs.RisingLemmas.{rising_partitioned, prefix_is}
 use Rattle.ticket_list.proofs.marks.count_before.Goals as goal
 
 pub returns-clause-count : goal.returns-clause-count
 returns-clause-count c =
-    front_is (λ x. nat_lt x c.args.slot) c.args.marks.now c.partition_point.result c.partition_point.ensures.bound
+    prefix_is (λ x. nat_lt x c.args.slot) c.args.marks.now c.partition_point.result c.partition_point.ensures.bound
     (IsPartitionPoint-from_clause (λ x. nat_lt x c.args.slot) c.args.marks.now c.partition_point.result c.partition_point.ensures.partitioned
     (rising_partitioned (λ x. x) c.args.slot c.args.marks.now c.requires) (λ a r f called. search rules))

@@ -1,6 +1,6 @@
 use Rattle.std.proofs.Common.{rules, ◌≡◌, ◌+◌, ◌<◌, ◌/◌, ◌^◌, sym, subst}
 use Rattle.std.specs.Prelude.{length}
-use Rattle.ticket_list.specs.Marks.{IsRising}
+use Rattle.ticket_list.specs.Rising.{IsRising}
 use Rattle.ticket_list.specs.Slots.{skipped}
 use Rattle.ticket_list.proofs.MarkLemmas.{goes_before, goes_behind}
 use Rattle.ticket_list.proofs.marks.skip.Goals as goal

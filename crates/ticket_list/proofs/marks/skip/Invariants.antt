@@ -1,5 +1,5 @@
 use Rattle.std.proofs.Common.{◌≡◌, ◌+◌, ◌<◌, ◌^◌, length}
-use Rattle.ticket_list.specs.Marks.{IsRising}
+use Rattle.ticket_list.specs.Rising.{IsRising}
 use Rattle.ticket_list.specs.Slots.{skipped}
 use Rattle.ticket_list.proofs.marks.skip.Given as goal
 

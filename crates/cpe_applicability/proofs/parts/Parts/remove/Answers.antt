@@ -7,28 +7,28 @@ use Rattle.cpe_applicability.specs.declared.row.Held.{Held}
 use Rattle.cpe_applicability.specs.declared.row.Row.{Row}
 use Rattle.cpe_applicability.specs.Entering.{is_asked, left_out}
 use Rattle.cpe_applicability.specs.Held.{asks, follow_use, is_changed, plain_use, ticket_of, uses_follow, uses_plain}
-use Rattle.cpe_applicability.specs.Tickets.{IsRising}
+use Rattle.ticket_list.specs.Rising.{IsRising}
 use Rattle.cpe_applicability.specs.Told.{check_keys}
 use Rattle.cpe_applicability.specs.Users.{askers_at, users_at}
-use Rattle.cpe_applicability.proofs.RowLemmas.{rising-filter}
+use Rattle.ticket_list.proofs.RisingLemmas.{rising_passing}
 use Rattle.cpe_applicability.proofs.RemovedLemmas.{IsBoard-removed, keeps_used}
 use Rattle.cpe_applicability.proofs.parts.Parts.remove.Goals as goal
 
 pub leave_held-requires-clause-plain : goal.leave_held-requires-clause-plain
 leave_held-requires-clause-plain c q =
-    subst IsRising (sym (c.requires.board.plain q)) (rising-filter ticket_of (uses_plain q) c.args.self.now.rows.items c.requires.board.rising)
+    subst IsRising (sym (c.requires.board.plain q)) (rising_passing ticket_of (uses_plain q) c.args.self.now.rows.items c.requires.board.rising)
 
 pub leave_held-requires-clause-follow : goal.leave_held-requires-clause-follow
 leave_held-requires-clause-follow c q =
-    subst IsRising (sym (c.requires.board.follow q)) (rising-filter ticket_of (uses_follow q) c.args.self.now.rows.items c.requires.board.rising)
+    subst IsRising (sym (c.requires.board.follow q)) (rising_passing ticket_of (uses_follow q) c.args.self.now.rows.items c.requires.board.rising)
 
 pub leave_held-requires-clause-askers : goal.leave_held-requires-clause-askers
 leave_held-requires-clause-askers c k =
-    subst IsRising (sym (c.requires.board.askers k)) (rising-filter ticket_of (asks k) c.args.self.now.rows.items c.requires.board.rising)
+    subst IsRising (sym (c.requires.board.askers k)) (rising_passing ticket_of (asks k) c.args.self.now.rows.items c.requires.board.rising)
 
 pub strike-requires : goal.strike-requires
 strike-requires c =
-    subst IsRising (sym c.requires.board.changed) (rising-filter ticket_of is_changed c.args.self.now.rows.items c.requires.board.rising)
+    subst IsRising (sym c.requires.board.changed) (rising_passing ticket_of is_changed c.args.self.now.rows.items c.requires.board.rising)
 
 pub returns-clause-board : goal.returns-clause-board
 returns-clause-board c =
