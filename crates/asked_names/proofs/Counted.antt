@@ -13,8 +13,9 @@ use Rattle.cpe_rows.specs.declared.statement.Mode.{Mode}
 use Rattle.cpe_rows.specs.declared.statement.Statement.{Statement}
 use Rattle.product_orders.specs.Elements.{SameElements}
 use Rattle.numbered_names.specs.Shown.{different, one_if_some, times_named}
-use Rattle.numbered_names.proofs.Different.{less_different, none_named, one_once, one_some, some_named}
-use Rattle.numbered_names.proofs.Shown.{named_both, named_first, same_names}
+use Rattle.numbered_names.proofs.Different.{counts_same, less_different, none_named, one_once, one_some, some_named}
+pub use Rattle.numbered_names.proofs.Different.{first_removed}
+use Rattle.numbered_names.proofs.Shown.{named_both, named_first}
 use Rattle.asked_names.specs.Asked.{facts_in, facts_of, fresh_facts, is_referred, references_in, references_of, refers_to, same_mode}
 
 pub same_test : (a b : Values) → is_same a b ≡ same_name a b
@@ -86,31 +87,6 @@ fresh_counted : (mode : Mode) (others : List Statement) (s : Statement) (fact : 
 fresh_counted mode others s fact =
     left_out (λ n. not (is_referred mode others n)) fact (facts_of mode s)
     ∙ ap {B = ℕ} (λ (k : ℕ). cond (not (is_referred mode others fact)) k 0) (of_one mode fact s)
-
--- ---- lists in which each name stands equally often
-
-abbrev pub without : Values → List Values → List Values
-without n [] = []
-without n (m ∷ list) = cond (same_name n m) list (m ∷ without n list)
-
-pub first_removed : (f : Values → ℕ) (n : Values) (list : List Values) → 1 ≤ times_named n list → sum_by f list ≡ f n + sum_by f (without n list)
-first_removed f n [] h = absurd (omega (arith, h))
-first_removed f n (m ∷ list) h = by (same_name n m) refl (first_removed f n list)
-  where
-    by : (b : Bool) → same_name n m ≡ b → (1 ≤ times_named n list → sum_by f list ≡ f n + sum_by f (without n list)) → sum_by f (m ∷ list) ≡ f n + sum_by f (cond b list (m ∷ without n list))
-    by true e later = omega (arith, sum_by-cons f m list, ap f ((same_name-Decides n m).0 e))
-    by false e later = omega (arith, sum_by-cons f m list, sum_by-cons f m (without n list), later (omega (arith, h, named_first n m list, ap {B = ℕ} (λ (b : Bool). cond b 1 0) e)))
-
-itself : (n : Values) (list : List Values) → times_named n (n ∷ list) ≡ 1 + times_named n list
-itself n list = omega (arith, named_first n n list, ap {B = ℕ} (λ (b : Bool). cond b 1 0) (same_names n n refl))
-
-counts_same : (xs ys : List Values) → ((n : Values) → times_named n xs ≡ times_named n ys) → SameElements xs ys
-counts_same [] [] same f = refl
-counts_same [] (y ∷ ys) same f = absurd (omega (arith, same y, itself y ys))
-counts_same (x ∷ xs) ys same f =
-    let there : 1 ≤ times_named x ys = omega (arith, same x, itself x xs) in
-    let rest = counts_same xs (without x ys) (λ n. omega (arith, same n, named_first n x xs, first_removed (λ (m : Values). cond (same_name n m) 1 0) x ys there)) f in
-    omega (arith, sum_by-cons f x xs, first_removed f x ys there, rest)
 
 -- the facts of some statements and of one, after or before them
 pub facts_with : (mode : Mode) (others all : List Statement) (s : Statement) → ((p : Statement → Bool) → list_any p all ≡ (p s || list_any p others)) → SameElements (fresh_facts mode others s ++ facts_in mode others) (facts_in mode all)

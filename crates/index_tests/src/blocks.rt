@@ -60,9 +60,11 @@ fn asked_at(alloc: Global, number: usize) -> Option<Value> {
 // Adds a product that isn't there, and says whether it got the number.
 pub(crate) fn is_added(products: &mut Products, value: Value, number: usize) -> bool {
     if !value.is_lower() {
+        drop(value);
         return false;
     }
     if let Some(_) = products.find(&value) {
+        drop(value);
         return false;
     }
     match products.add(value) {
@@ -92,12 +94,11 @@ pub(crate) fn are_near_marked(
     if !asked.is_lower() {
         return false;
     }
+    let mut are_marked = true;
     for number in products.near(asked, side) {
-        if !is_marked_once(marks, number) {
-            return false;
-        }
+        are_marked &= is_marked_once(marks, number);
     }
-    true
+    are_marked
 }
 
 fn is_near(side: Side, asked: &Value, other: &Value) -> bool {
@@ -107,12 +108,16 @@ fn is_near(side: Side, asked: &Value, other: &Value) -> bool {
     }
 }
 
+fn is_near_at(alloc: Global, asked: &Value, side: Side, number: usize) -> Option<bool> {
+    let value = product_at(alloc, number)?;
+    let is_near = is_near(side, asked, &value);
+    drop(value);
+    Some(is_near)
+}
+
 fn are_marked_exactly(alloc: Global, asked: &Value, side: Side, marks: &[bool]) -> bool {
-    for number in 0..PRODUCTS {
-        let Some(value) = product_at(alloc, number) else {
-            return false;
-        };
-        if marks.get(number).copied() != Some(is_near(side, asked, &value)) {
+    for (number, marked) in marks.iter().enumerate() {
+        if is_near_at(alloc, asked, side, number) != Some(*marked) {
             return false;
         }
     }
@@ -125,12 +130,18 @@ fn is_answered(alloc: Global, products: &Products, asked: &Value, side: Side) ->
         && are_marked_exactly(alloc, asked, side, &marks)
 }
 
+fn is_answered_at(alloc: Global, products: &Products, side: Side, number: usize) -> bool {
+    let Some(asked) = asked_at(alloc, number) else {
+        return false;
+    };
+    let is_answered = is_answered(alloc, products, &asked, side);
+    drop(asked);
+    is_answered
+}
+
 fn are_answered(alloc: Global, products: &Products, side: Side) -> bool {
     for number in 0..QUESTIONS {
-        let Some(asked) = asked_at(alloc, number) else {
-            return false;
-        };
-        if !is_answered(alloc, products, &asked, side) {
+        if !is_answered_at(alloc, products, side, number) {
             return false;
         }
     }
@@ -139,7 +150,9 @@ fn are_answered(alloc: Global, products: &Products, side: Side) -> bool {
 
 fn agrees(alloc: Global, side: Side) -> bool {
     let mut products = Products::new(alloc);
-    are_added(alloc, &mut products) && are_answered(alloc, &products, side)
+    let agrees = are_added(alloc, &mut products) && are_answered(alloc, &products, side);
+    drop(products);
+    agrees
 }
 
 #[test]

@@ -8,7 +8,7 @@ use cpe_name::{Attribute, Wfn};
 use cpe_relation::{covers, near};
 use cpe_steps::Steps;
 use cpe_values::{Edge, Value};
-use name_index::Side;
+use name_index::{NameId, Side};
 use std::alloc::Global;
 use std::marker::Brand;
 use std::sync::ledger::{Blank, Ledger};
@@ -63,15 +63,20 @@ fn name_at(alloc: Global, number: usize) -> Option<Wfn> {
     name_of(alloc, product, version)
 }
 
-fn all_names(alloc: Global) -> Option<Vec<Wfn>> {
-    let mut names = Vec::new(alloc);
+fn is_pushed(alloc: Global, names: &mut Vec<Wfn>, number: usize) -> bool {
+    match name_at(alloc, number) {
+        Some(name) => names.push(name).is_ok(),
+        None => false,
+    }
+}
+
+fn are_pushed(alloc: Global, names: &mut Vec<Wfn>) -> bool {
     for number in 0..NAMES {
-        let name = name_at(alloc, number)?;
-        if names.push(name).is_err() {
-            return None;
+        if !is_pushed(alloc, names, number) {
+            return false;
         }
     }
-    Some(names)
+    true
 }
 
 fn is_put(shelf: &mut Shelf, name: &Wfn) -> bool {
@@ -91,7 +96,15 @@ fn are_near_marked(shelf: &Shelf, asked: &Wfn, side: Side, marks: &mut [bool]) -
     if !asked.is_lower() {
         return false;
     }
+    let mut are_marked = true;
     for id in shelf.near(asked, side) {
+        are_marked &= is_marked_once(marks, id.0);
+    }
+    are_marked
+}
+
+fn are_marked_once(ids: &[NameId], marks: &mut [bool]) -> bool {
+    for id in ids {
         if !is_marked_once(marks, id.0) {
             return false;
         }
@@ -112,12 +125,9 @@ fn are_covered_marked<L: Ledger>(
     let Ok(found) = shelf.covered_by(alloc, asked, steps) else {
         return false;
     };
-    for id in &found {
-        if !is_marked_once(marks, id.0) {
-            return false;
-        }
-    }
-    true
+    let are_marked = are_marked_once(&found, marks);
+    drop(found);
+    are_marked
 }
 
 /// What is asked of each name.
@@ -186,6 +196,22 @@ fn asked_at(alloc: Global, number: usize) -> Option<Wfn> {
     name_of(alloc, product, Value::Any)
 }
 
+fn is_answered_at<L: Ledger>(
+    alloc: Global,
+    shelf: &Shelf,
+    names: &[Wfn],
+    question: Question,
+    number: usize,
+    steps: &mut Steps<L>,
+) -> bool {
+    let Some(asked) = asked_at(alloc, number) else {
+        return false;
+    };
+    let is_answered = is_answered(alloc, shelf, names, question, &asked, steps);
+    drop(asked);
+    is_answered
+}
+
 fn is_each_answered<L: Ledger>(
     alloc: Global,
     shelf: &Shelf,
@@ -194,10 +220,7 @@ fn is_each_answered<L: Ledger>(
     steps: &mut Steps<L>,
 ) -> bool {
     for number in 0..QUESTIONS {
-        let Some(asked) = asked_at(alloc, number) else {
-            return false;
-        };
-        if !is_answered(alloc, shelf, names, question, &asked, steps) {
+        if !is_answered_at(alloc, shelf, names, question, number, steps) {
             return false;
         }
     }
@@ -210,10 +233,12 @@ fn are_answered<L: Ledger>(
     question: Question,
     steps: &mut Steps<L>,
 ) -> bool {
-    let Some(names) = all_names(alloc) else {
-        return false;
-    };
-    are_put(shelf, &names) && is_each_answered(alloc, shelf, &names, question, steps)
+    let mut names = Vec::new(alloc);
+    let are_answered = are_pushed(alloc, &mut names)
+        && are_put(shelf, &names)
+        && is_each_answered(alloc, shelf, &names, question, steps);
+    drop(names);
+    are_answered
 }
 
 fn is_answered_over<L: Ledger>(alloc: Global, question: Question, blank: Blank) -> bool
@@ -223,7 +248,9 @@ fn is_answered_over<L: Ledger>(alloc: Global, question: Question, blank: Blank) 
 {
     let mut steps = Steps::<L>::new(blank);
     let mut shelf = Shelf::new(alloc);
-    are_answered(alloc, &mut shelf, question, &mut steps)
+    let are_answered = are_answered(alloc, &mut shelf, question, &mut steps);
+    drop(shelf);
+    are_answered
 }
 
 fn agrees(alloc: Global, question: Question) -> bool {

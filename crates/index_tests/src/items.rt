@@ -16,7 +16,7 @@ use std::sync::ledger::{Blank, Ledger};
 use target_index::Met;
 
 #[derive(Drop)]
-struct KeptItems {
+pub(crate) struct KeptItems {
     names: HeldNames,
     list: ItemNames,
 }
@@ -49,18 +49,18 @@ fn push_item(alloc: Global, names: &mut HeldNames, list: &mut ItemNames, name: &
 }
 
 impl KeptItems {
-    fn new(alloc: Global) -> KeptItems {
+    pub(crate) fn new(alloc: Global) -> KeptItems {
         KeptItems {
             names: HeldNames::new(alloc),
             list: ItemNames::new(alloc),
         }
     }
 
-    fn push(&mut self, alloc: Global, name: &Wfn) -> bool {
+    pub(crate) fn push(&mut self, alloc: Global, name: &Wfn) -> bool {
         name.is_lower() && push_item(alloc, &mut self.names, &mut self.list, name)
     }
 
-    fn remove(&mut self, name: &Wfn) -> bool {
+    pub(crate) fn remove(&mut self, name: &Wfn) -> bool {
         match self.list.find(self.names.table(), name) {
             Some(id) => {
                 self.list.remove(self.names.table(), id);
@@ -68,6 +68,14 @@ impl KeptItems {
             }
             None => false,
         }
+    }
+
+    pub(crate) fn find(&self, name: &Wfn) -> Option<NameId> {
+        self.list.find(self.names.table(), name)
+    }
+
+    pub(crate) fn slots(&self) -> &[Option<NameId>] {
+        self.list.slots()
     }
 
     fn met<L: Ledger>(&self, alloc: Global, name: &Wfn, steps: &mut Steps<L>) -> Option<Met> {
@@ -91,14 +99,22 @@ fn vague_item(alloc: Global, product: &[u8]) -> Option<Wfn> {
 
 fn is_put(alloc: Global, items: &mut KeptItems, item: Option<Wfn>) -> bool {
     match item {
-        Some(name) => items.push(alloc, &name),
+        Some(name) => {
+            let is_put = items.push(alloc, &name);
+            drop(name);
+            is_put
+        }
         None => false,
     }
 }
 
 fn is_taken(items: &mut KeptItems, item: Option<Wfn>) -> bool {
     match item {
-        Some(name) => items.remove(&name),
+        Some(name) => {
+            let is_taken = items.remove(&name);
+            drop(name);
+            is_taken
+        }
         None => false,
     }
 }
@@ -112,6 +128,15 @@ fn are_put(alloc: Global, items: &mut KeptItems) -> bool {
         && is_put(alloc, items, item(alloc, b"p", b"3", Edge::None))
 }
 
+// Those of `p`.
+fn met<L: Ledger>(alloc: Global, items: &KeptItems, steps: &mut Steps<L>) -> Option<Met> {
+    let product = text(alloc, Edge::None, b"p", Edge::None)?;
+    let name = name_of(alloc, product, Value::Any)?;
+    let met = items.met(alloc, &name, steps);
+    drop(name);
+    met
+}
+
 // Whether these are the items that `p` covers, and that it may cover.
 fn are_met<L: Ledger>(
     alloc: Global,
@@ -120,16 +145,29 @@ fn are_met<L: Ledger>(
     maybe: &[NameId],
     steps: &mut Steps<L>,
 ) -> bool {
-    let Some(product) = text(alloc, Edge::None, b"p", Edge::None) else {
+    let Some(met) = met(alloc, items, steps) else {
         return false;
     };
-    let Some(name) = name_of(alloc, product, Value::Any) else {
-        return false;
-    };
-    match items.met(alloc, &name, steps) {
-        Some(met) => met.covered.as_slice() == covered && met.maybe.as_slice() == maybe,
-        None => false,
-    }
+    let are_met = met.covered.as_slice() == covered && met.maybe.as_slice() == maybe;
+    drop(met);
+    are_met
+}
+
+fn both_lists_are_told<L: Ledger>(
+    alloc: Global,
+    items: &mut KeptItems,
+    steps: &mut Steps<L>,
+) -> bool {
+    let some = [NameId(1), NameId(4)];
+    let left = [NameId(4)];
+    let maybe = [NameId(0), NameId(3)];
+    are_put(alloc, items)
+        && are_met(alloc, items, &some, &maybe, steps)
+        && is_taken(items, item(alloc, b"p", b"1", Edge::None))
+        && are_met(alloc, items, &left, &maybe, steps)
+        && is_taken(items, item(alloc, b"p", b"2", Edge::Star))
+        && is_taken(items, vague_item(alloc, b"p"))
+        && are_met(alloc, items, &left, &[], steps)
 }
 
 fn tells_both_lists<L: Ledger>(alloc: Global, blank: Blank) -> bool
@@ -139,16 +177,9 @@ fn tells_both_lists<L: Ledger>(alloc: Global, blank: Blank) -> bool
 {
     let mut steps = Steps::<L>::new(blank);
     let mut items = KeptItems::new(alloc);
-    let some = [NameId(1), NameId(4)];
-    let left = [NameId(4)];
-    let maybe = [NameId(0), NameId(3)];
-    are_put(alloc, &mut items)
-        && are_met(alloc, &items, &some, &maybe, &mut steps)
-        && is_taken(&mut items, item(alloc, b"p", b"1", Edge::None))
-        && are_met(alloc, &items, &left, &maybe, &mut steps)
-        && is_taken(&mut items, item(alloc, b"p", b"2", Edge::Star))
-        && is_taken(&mut items, vague_item(alloc, b"p"))
-        && are_met(alloc, &items, &left, &[], &mut steps)
+    let are_told = both_lists_are_told(alloc, &mut items, &mut steps);
+    drop(items);
+    are_told
 }
 
 fn are_told(alloc: Global) -> bool {

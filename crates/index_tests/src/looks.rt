@@ -39,7 +39,11 @@ fn count_covered<L: Ledger>(
     let covered = shelf.covered_by(alloc, &name, steps);
     drop(name);
     match covered {
-        Ok(found) => Some(found.len()),
+        Ok(found) => {
+            let count = found.len();
+            drop(found);
+            Some(count)
+        }
         Err(_) => None,
     }
 }
@@ -73,7 +77,9 @@ fn look_at_one<L: Ledger>(alloc: Global, steps: &mut Steps<L>) -> Option<usize>
     ensures { steps.new ≤ steps.old + 1 }
 {
     let mut shelf = Shelf::new(alloc);
-    count_of_five(alloc, &mut shelf, steps)
+    let count = count_of_five(alloc, &mut shelf, steps);
+    drop(shelf);
+    count
 }
 
 fn finds_one_over<L: Ledger>(alloc: Global, blank: Blank) -> bool

@@ -29,7 +29,7 @@ fn keeps_its_number(alloc: Global, three: &[Wfn]) -> bool {
         return false;
     };
     let mut names = HeldNames::new(alloc);
-    is_held(alloc, &mut names, name, 0)
+    let keeps = is_held(alloc, &mut names, name, 0)
         && is_held(alloc, &mut names, other, 1)
         && is_held(alloc, &mut names, name, 0)
         && names.hold_again(name)
@@ -38,7 +38,9 @@ fn keeps_its_number(alloc: Global, three: &[Wfn]) -> bool {
         && is_there(&names, name, 0)
         && names.release(name)
         && is_gone(&names, name, 0)
-        && is_there(&names, other, 1)
+        && is_there(&names, other, 1);
+    drop(names);
+    keeps
 }
 
 fn gives_its_number(alloc: Global, three: &[Wfn]) -> bool {
@@ -46,25 +48,35 @@ fn gives_its_number(alloc: Global, three: &[Wfn]) -> bool {
         return false;
     };
     let mut names = HeldNames::new(alloc);
-    is_held(alloc, &mut names, name, 0)
+    let gives = is_held(alloc, &mut names, name, 0)
         && is_held(alloc, &mut names, other, 1)
         && names.release(name)
         && is_held(alloc, &mut names, new, 0)
         && is_held(alloc, &mut names, name, 2)
         && is_there(&names, new, 0)
-        && is_there(&names, other, 1)
+        && is_there(&names, other, 1);
+    drop(names);
+    gives
 }
 
 fn keeps_a_number(alloc: Global) -> bool {
     match three_names(alloc) {
-        Some(names) => keeps_its_number(alloc, &names),
+        Some(names) => {
+            let keeps = keeps_its_number(alloc, &names);
+            drop(names);
+            keeps
+        }
         None => false,
     }
 }
 
 fn gives_a_number(alloc: Global) -> bool {
     match three_names(alloc) {
-        Some(names) => gives_its_number(alloc, &names),
+        Some(names) => {
+            let gives = gives_its_number(alloc, &names);
+            drop(names);
+            gives
+        }
         None => false,
     }
 }

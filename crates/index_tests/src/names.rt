@@ -43,6 +43,7 @@ fn checked(values: Values) -> Option<Wfn>
         return None;
     };
     if !name.is_lower() {
+        drop(name);
         return None;
     }
     Some(name)
@@ -58,20 +59,25 @@ pub(crate) fn name_of(alloc: Global, product: Value, version: Value) -> Option<W
     checked(values_of(product, version, part, vendor))
 }
 
-fn push_plain(alloc: Global, names: &mut Vec<Wfn>, product: &[u8]) -> Option<()> {
-    let product = text(alloc, Edge::None, product, Edge::None)?;
-    let name = name_of(alloc, product, Value::Any)?;
-    if names.push(name).is_err() {
-        return None;
+fn is_pushed(alloc: Global, names: &mut Vec<Wfn>, product: &[u8]) -> bool {
+    let Some(product) = text(alloc, Edge::None, product, Edge::None) else {
+        return false;
+    };
+    match name_of(alloc, product, Value::Any) {
+        Some(name) => names.push(name).is_ok(),
+        None => false,
     }
-    Some(())
 }
 
 // Three names of plain products, `foo`, `bar` and `mail`.
 pub(crate) fn three_names(alloc: Global) -> Option<Vec<Wfn>> {
     let mut names = Vec::new(alloc);
-    push_plain(alloc, &mut names, b"foo")?;
-    push_plain(alloc, &mut names, b"bar")?;
-    push_plain(alloc, &mut names, b"mail")?;
-    Some(names)
+    if is_pushed(alloc, &mut names, b"foo")
+        && is_pushed(alloc, &mut names, b"bar")
+        && is_pushed(alloc, &mut names, b"mail")
+    {
+        return Some(names);
+    }
+    drop(names);
+    None
 }

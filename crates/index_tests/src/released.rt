@@ -69,7 +69,11 @@ fn releases(alloc: Global, product: Value) -> bool {
     };
     let mut table = NameTable::new(alloc);
     let mut index = NameIndex::new(alloc);
-    is_released(&mut table, &mut index, &name)
+    let is_released = is_released(&mut table, &mut index, &name);
+    drop(index);
+    drop(table);
+    drop(name);
+    is_released
 }
 
 fn releases_a_text(alloc: Global) -> bool {

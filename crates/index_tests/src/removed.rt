@@ -14,18 +14,26 @@ fn is_put(alloc: Global, products: &mut Products, body: &[u8], number: usize) ->
 
 fn number_of(alloc: Global, products: &Products, body: &[u8]) -> Option<u32> {
     let value = text(alloc, Edge::None, body, Edge::None)?;
-    products.find(&value)
+    let number = products.find(&value);
+    drop(value);
+    number
+}
+
+fn goes(products: &mut Products, value: &Value) -> bool {
+    let Some(number) = products.find(value) else {
+        return false;
+    };
+    products.remove(number);
+    products.find(value).is_none()
 }
 
 fn is_removed(alloc: Global, products: &mut Products, body: &[u8]) -> bool {
     let Some(value) = text(alloc, Edge::None, body, Edge::None) else {
         return false;
     };
-    let Some(number) = products.find(&value) else {
-        return false;
-    };
-    products.remove(number);
-    products.find(&value).is_none()
+    let goes = goes(products, &value);
+    drop(value);
+    goes
 }
 
 // Whether these are the numbers of all products.
@@ -42,12 +50,14 @@ fn are_put(alloc: Global, products: &mut Products) -> bool {
 
 fn uses_a_number_again(alloc: Global) -> bool {
     let mut products = Products::new(alloc);
-    are_put(alloc, &mut products)
+    let uses_again = are_put(alloc, &mut products)
         && is_removed(alloc, &mut products, b"foo")
         && are_numbered(&products, [true, false, true])
         && number_of(alloc, &products, b"mail") == Some(2)
         && is_put(alloc, &mut products, b"new", 1)
-        && are_numbered(&products, [true, true, true])
+        && are_numbered(&products, [true, true, true]);
+    drop(products);
+    uses_again
 }
 
 #[test]

@@ -11,13 +11,13 @@ ghost use Rattle.name_index.specs.Table.{HasName, IsLive, Names, kept_at};
 ghost use Rattle.names_in_order.specs.InOrder.{AreLive, names_numbered, same_id};
 ghost use Rattle.names_in_order.specs.Marked.{numbers_in, without_first};
 ghost use Rattle.target_index.specs.Targets.{is_maybe};
-ghost use Rattle.items_in_order.specs.InOrder.{AreItems, met_count};
+ghost use Rattle.items_in_order.specs.InOrder.{AreFound, AreItems, met_count};
 
 use cpe_name::Wfn;
 use cpe_steps::Steps;
 use cpe_values::Memory;
 use name_index::{NameId, NameTable};
-use names_in_order::{MarkedNumbers, PushNumber};
+use names_in_order::{MarkedNumbers, PushNumber, find_number};
 use std::alloc::Global;
 use std::marker::{Brand, Model};
 use std::sync::ledger::{Blank, Ledger};
@@ -83,30 +83,6 @@ fn remove_number(
     numbers.remove(id);
 }
 
-// The number, if it is one of these.
-fn if_has(numbers: &MarkedNumbers, id: NameId) -> Option<NameId>
-    ensures { result ≡ cond (list_any (same_id id) numbers.now) (Some id) None }
-{
-    if numbers.has(id) {
-        return Some(id);
-    }
-    None
-}
-
-// The number of a name, if it is one of these.
-fn find_number(table: &NameTable, numbers: &MarkedNumbers, name: &Wfn) -> Option<NameId>
-    requires { AreLive table.now numbers.now }
-    ensures found { IfSome result (λ id. HasName table.now id.0 name.now) }
-    ensures has { IfSome result (λ id. list_any (same_id id) numbers.now ≡ true) }
-    ensures any { is_some result ≡ list_any (same_name name.now) (names_numbered table.now numbers.now) }
-{
-    table.lawful();
-    match table.find(name) {
-        Some(id) => if_has(numbers, id),
-        None => None,
-    }
-}
-
 // Those whose names the name covers, and those whose names it may cover, in their order.
 fn find_met<L: Ledger>(
     alloc: Global,
@@ -144,10 +120,8 @@ fn met_over<L: Ledger>(
     requires ledger { blank.name ≡ L.name }
     requires parts { blank.parts ≡ L.parts }
     requires some { 0 < blank.parts }
-    ensures live { IfOk result (λ m. AreLive table.now m.covered.items) }
-    ensures live_maybe { IfOk result (λ m. AreLive table.now m.maybe.items) }
-    ensures covered { IfOk result (λ m. names_numbered table.now m.covered.items ≡ filter (covers name.now) (names_numbered table.now names.now.numbers)) }
-    ensures maybe { IfOk result (λ m. names_numbered table.now m.maybe.items ≡ filter (maybe name.now) (names_numbered table.now names.now.numbers)) }
+    ensures covered { IfOk result (λ m. AreFound table.now (covers name.now) names.now.numbers m.covered.items) }
+    ensures maybe { IfOk result (λ m. AreFound table.now (maybe name.now) names.now.numbers m.maybe.items) }
 {
     let mut steps = Steps::<L>::new(blank);
     names.met(alloc, table, name, &mut steps)
@@ -246,10 +220,8 @@ impl ItemNames {
     ) -> Result<Met, Memory>
         requires order { AreItems table.now self.now.targets self.now.numbers }
         requires lower { IsLower name.now }
-        ensures live { IfOk result (λ m. AreLive table.now m.covered.items) }
-        ensures live_maybe { IfOk result (λ m. AreLive table.now m.maybe.items) }
-        ensures covered { IfOk result (λ m. names_numbered table.now m.covered.items ≡ filter (covers name.now) (names_numbered table.now self.now.numbers)) }
-        ensures maybe { IfOk result (λ m. names_numbered table.now m.maybe.items ≡ filter (maybe name.now) (names_numbered table.now self.now.numbers)) }
+        ensures covered { IfOk result (λ m. AreFound table.now (covers name.now) self.now.numbers m.covered.items) }
+        ensures maybe { IfOk result (λ m. AreFound table.now (maybe name.now) self.now.numbers m.maybe.items) }
         ensures steps { StepsWithin steps.old steps.new (met_count name.now (names_numbered table.now self.now.numbers)) }
     {
         find_met(alloc, table, &self.targets, &self.numbers, name, steps)
@@ -264,10 +236,8 @@ impl ItemNames {
     ) -> Result<Met, Memory>
         requires order { AreItems table.now self.now.targets self.now.numbers }
         requires lower { IsLower name.now }
-        ensures live { IfOk result (λ m. AreLive table.now m.covered.items) }
-        ensures live_maybe { IfOk result (λ m. AreLive table.now m.maybe.items) }
-        ensures covered { IfOk result (λ m. names_numbered table.now m.covered.items ≡ filter (covers name.now) (names_numbered table.now self.now.numbers)) }
-        ensures maybe { IfOk result (λ m. names_numbered table.now m.maybe.items ≡ filter (maybe name.now) (names_numbered table.now self.now.numbers)) }
+        ensures covered { IfOk result (λ m. AreFound table.now (covers name.now) self.now.numbers m.covered.items) }
+        ensures maybe { IfOk result (λ m. AreFound table.now (maybe name.now) self.now.numbers m.maybe.items) }
     {
         met_over::<Brand>(alloc, table, self, name, Blank::new(1))
     }

@@ -1,5 +1,5 @@
 -- What comes to numbers in an order, what goes, and which of them are found.
-use Rattle.std.proofs.Common.{◌≡◌, ◌≢◌, ℕ, zero, suc, ◌+◌, ◌≤◌, Bool, true, false, cond, ◌||◌, List, [], ◌∷◌, map, count_by, Option, Some, None, slice_get, refl, sym, ap, ◌∙◌, arith, eq-eqb, eqb-true}
+use Rattle.std.proofs.Common.{◌≡◌, ◌≢◌, ℕ, zero, suc, ◌+◌, ◌≤◌, Bool, true, false, cond, ◌||◌, List, [], ◌∷◌, map, Option, Some, None, slice_get, refl, sym, ap, ◌∙◌, arith, eq-eqb, eqb-true}
 use Rattle.std.specs.Prelude.{IfSome, is_some, nat_eq}
 use Rattle.std.specs.List.{AllByRecursion, Contains, IsDistinct, filter, list_any, sum_by}
 use Rattle.std.proofs.lemmas.Bool.{both_ways, false_from_ne_true}
@@ -10,20 +10,14 @@ use Rattle.std.proofs.lemmas.Map.Keys.{IsDistinct-head, IsDistinct-tail}
 use Rattle.cpe_name.specs.Eleven.{Values}
 use Rattle.cpe_name.specs.Equal.{same_name, same_name-Decides}
 use Rattle.cpe_relation.specs.NameRelation.{covers}
-use Rattle.cpe_relation.specs.Near.{near}
-use Rattle.product_orders.specs.declared.products.Side.TheVariants as side
 use Rattle.product_orders.specs.Elements.{SameElements}
 use Rattle.name_index.specs.declared.table.NameId.{NameId}
 use Rattle.name_index.specs.Table.{Names, Kept, find_kept, kept_or, kept_at, IsLive, AreNames, HasName}
-use Rattle.name_index.specs.Index.{Fits, ids, name_id, is_covered, is_near, times_held}
+use Rattle.name_index.specs.Index.{Fits, ids, is_covered, name_id, times_held}
 use Rattle.name_index.proofs.Postings.{sum_map}
 use Rattle.names_in_order.specs.InOrder.{AreInOrder, AreLive, names_numbered, same_id}
 use Rattle.names_in_order.specs.Marked.{without_first}
-use Rattle.names_in_order.specs.Places.{near_count}
-use Rattle.names_in_order.proofs.OrderLemmas.{its_live, its_name, kept_live, name_by_number}
-
-same_number : (a b : NameId) → same_id a b ≡ true → a ≡ b
-same_number a b h = ap name_id (eqb-true a.0 b.0 h)
+use Rattle.names_in_order.proofs.OrderLemmas.{its_live, its_name, kept_live, name_by_number, same_number}
 
 -- ---- whether a number is one of these
 
@@ -96,16 +90,18 @@ names_without_one table numbers id names live has =
 
 -- ---- what an index holds is let go
 
--- the number is held with its product
-pub held_stands : (table : Names) (held : List (ℕ × ℕ)) (numbers : List NameId) (id : NameId) → Fits held table → SameElements (ids held) numbers → list_any (same_id id) numbers ≡ true → Contains held (id.0, (kept_at table id.0).product)
-held_stands table held numbers id fits same has = go held (recursion_from_All (λ (x : ℕ × ℕ). (k : Kept) × (find_kept table x.0 ≡ Some k) × (k.product ≡ x.1)) held fits) once
+-- the number is held
+pub held_once : (held : List (ℕ × ℕ)) (numbers : List NameId) (id : NameId) → SameElements (ids held) numbers → list_any (same_id id) numbers ≡ true → 1 ≤ times_held held id.0
+held_once held numbers id same has =
+    omega (arith, same is_number, sum_map is_number (λ (x : ℕ × ℕ). name_id x.0) held, weighs_less is_number numbers id has, ap {B = ℕ} (λ (b : Bool). cond b 1 0) (eq-eqb id.0 id.0 refl))
   where
     is_number : NameId → ℕ
     is_number x = cond (same_id id x) 1 0
 
-    once : 1 ≤ times_held held id.0
-    once = omega (arith, same is_number, sum_map is_number (λ (x : ℕ × ℕ). name_id x.0) held, weighs_less is_number numbers id has, ap {B = ℕ} (λ (b : Bool). cond b 1 0) (eq-eqb id.0 id.0 refl))
-
+-- with its product
+pub held_stands : (table : Names) (held : List (ℕ × ℕ)) (numbers : List NameId) (id : NameId) → Fits held table → SameElements (ids held) numbers → list_any (same_id id) numbers ≡ true → Contains held (id.0, (kept_at table id.0).product)
+held_stands table held numbers id fits same has = go held (recursion_from_All (λ (x : ℕ × ℕ). (k : Kept) × (find_kept table x.0 ≡ Some k) × (k.product ≡ x.1)) held fits) (held_once held numbers id same has)
+  where
     is_id : ℕ × ℕ → ℕ
     is_id x = cond (nat_eq id.0 x.0) 1 0
 
@@ -122,30 +118,33 @@ held_stands table held numbers id fits same has = go held (recursion_from_All (�
             let c = more (omega (arith, h, sum_by-cons is_id x held, ap {B = ℕ} (λ (b : Bool). cond b 1 0) other)) in
             (suc c.0, omega (arith, c.1), c.2)
 
+-- what is left is held, and no other
+pub held_less : (held fewer : List (ℕ × ℕ)) (numbers : List NameId) (id : NameId) (product : ℕ) → SameElements (ids held) numbers → list_any (same_id id) numbers ≡ true → SameElements held ((id.0, product) ∷ fewer)
+    → SameElements (ids fewer) (without_first (same_id id) numbers)
+held_less held fewer numbers id product same has dropped f =
+    omega (
+      arith,
+      same f,
+      sum_map f (λ (x : ℕ × ℕ). name_id x.0) held,
+      sum_map f (λ (x : ℕ × ℕ). name_id x.0) fewer,
+      dropped (λ (x : ℕ × ℕ). f (name_id x.0)),
+      sum_by-cons (λ (x : ℕ × ℕ). f (name_id x.0)) (id.0, product) fewer,
+      weighs_less f numbers id has,
+    )
+
+-- and live
+pub live_less : (table : Names) (numbers : List NameId) (id : NameId) → AreLive table numbers → AreLive table (without_first (same_id id) numbers)
+live_less table numbers id live k x at = let r = was_there numbers id x k at in live r.0 x r.1
+
 pub removed_order : (table : Names) (held fewer : List (ℕ × ℕ)) (numbers : List NameId) (id : NameId) (product : ℕ) → AreInOrder table held numbers → list_any (same_id id) numbers ≡ true → Fits fewer table → SameElements held ((id.0, product) ∷ fewer)
     → AreInOrder table fewer (without_first (same_id id) numbers)
 removed_order table held fewer numbers id product a has fits dropped = record {
   fits = fits;
-  same = λ f.
-      omega (
-        arith,
-        a.same f,
-        sum_map f (λ (x : ℕ × ℕ). name_id x.0) held,
-        sum_map f (λ (x : ℕ × ℕ). name_id x.0) fewer,
-        dropped (λ (x : ℕ × ℕ). f (name_id x.0)),
-        sum_by-cons (λ (x : ℕ × ℕ). f (name_id x.0)) (id.0, product) fewer,
-        weighs_less f numbers id has,
-      );
-  live = λ k x at. let r = was_there numbers id x k at in a.live r.0 x r.1;
+  same = held_less held fewer numbers id product a.same has dropped;
+  live = live_less table numbers id a.live;
 }
 
 -- ---- the covered ones
-
--- how many are near
-pub near_ones : (table : Names) (held : List (ℕ × ℕ)) (numbers : List NameId) (name : Values) → SameElements (ids held) numbers → count_by (is_near table side.Source name.product) (ids held) ≡ near_count name (names_numbered table numbers)
-near_ones table held numbers name same =
-    same (λ (id : NameId). cond (is_near table side.Source name.product id) 1 0)
-    ∙ sym (sum_map (λ (n : Values). cond (near name.product n.product) 1 0) (λ (id : NameId). (kept_at table id.0).name) numbers)
 
 -- each that is left by a test was there
 passed_there : (q : NameId → Bool) (numbers : List NameId) (x : NameId) (k : ℕ) → slice_get (filter q numbers) k ≡ Some x → (j : ℕ) × (slice_get numbers j ≡ Some x)
@@ -160,14 +159,22 @@ passed_there q (y ∷ ys) x k at = by (q y) k at (passed_there q ys x)
 pub covered_live : (table : Names) (numbers : List NameId) (q : NameId → Bool) → AreLive table numbers → AreLive table (filter q numbers)
 covered_live table numbers q live k x at = let r = passed_there q numbers x k at in live r.0 x r.1
 
-pub covered_names : (table : Names) (numbers : List NameId) (name : Values) → names_numbered table (filter (is_covered table name) numbers) ≡ filter (covers name) (names_numbered table numbers)
-covered_names table [] name = refl
-covered_names table (x ∷ xs) name = by (is_covered table name x) (covered_names table xs name)
+-- whether the name of a number passes
+abbrev pub passes : (Values → Bool) → Names → NameId → Bool
+passes test table id = test (kept_at table id.0).name
+
+-- the names of those whose names pass
+pub passing_names : (test : Values → Bool) (table : Names) (numbers : List NameId) → names_numbered table (filter (passes test table) numbers) ≡ filter test (names_numbered table numbers)
+passing_names test table [] = refl
+passing_names test table (x ∷ xs) = by (passes test table x) (passing_names test table xs)
   where
-    by : (b : Bool) → names_numbered table (filter (is_covered table name) xs) ≡ filter (covers name) (names_numbered table xs)
-        → names_numbered table (cond b (x ∷ filter (is_covered table name) xs) (filter (is_covered table name) xs)) ≡ cond b ((kept_at table x.0).name ∷ filter (covers name) (names_numbered table xs)) (filter (covers name) (names_numbered table xs))
+    by : (b : Bool) → names_numbered table (filter (passes test table) xs) ≡ filter test (names_numbered table xs)
+        → names_numbered table (cond b (x ∷ filter (passes test table) xs) (filter (passes test table) xs)) ≡ cond b ((kept_at table x.0).name ∷ filter test (names_numbered table xs)) (filter test (names_numbered table xs))
     by true rest = ap (λ (ns : List Values). (kept_at table x.0).name ∷ ns) rest
     by false rest = rest
+
+pub covered_names : (table : Names) (numbers : List NameId) (name : Values) → names_numbered table (filter (is_covered table name) numbers) ≡ filter (covers name) (names_numbered table numbers)
+covered_names table numbers name = passing_names (covers name) table numbers
 
 -- ---- the number of a name
 

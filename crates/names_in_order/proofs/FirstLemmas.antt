@@ -1,5 +1,5 @@
 -- The first place at which one of some numbers stands.
-use Rattle.std.proofs.Common.{◌≡◌, ◌≢◌, ◌∙◌, ℕ, zero, suc, ◌<◌, Bool, true, false, cond, List, [], ◌∷◌, ◌++◌, ◌||◌, get_or, Option, Some, None, slice_get, refl, sym, ap, subst, inl, inr, arith, ltb-true, ltb-false}
+use Rattle.std.proofs.Common.{◌≡◌, ◌≢◌, ◌∙◌, ℕ, zero, suc, Bool, true, false, cond, List, [], ◌∷◌, ◌++◌, ◌||◌, get_or, Option, Some, None, slice_get, refl, sym, ap, subst, inl, inr, arith, ltb-true, ltb-false}
 use Rattle.std.specs.Prelude.{find, nat_lt}
 use Rattle.std.specs.List.{list_any}
 use Rattle.std.proofs.lemmas.Bool.{false_from_ne_true, or_left, or_right}
@@ -8,7 +8,8 @@ use Rattle.std.proofs.lemmas.Option.{none-some, same_Some}
 use Rattle.name_index.specs.declared.table.NameId.{NameId}
 use Rattle.names_in_order.specs.InOrder.{same_id}
 use Rattle.names_in_order.specs.Marked.{HavePlaces, IsFirstPlace, earlier, found_place, numbers_in}
-use Rattle.names_in_order.proofs.MarkedLemmas.{Slots, found_or_nowhere, itself, once, same_number}
+use Rattle.names_in_order.proofs.MarkedLemmas.{Slots, found_or_nowhere, once}
+use Rattle.names_in_order.proofs.OrderLemmas.{itself, same_number}
 
 -- one of the numbers, or of these and one more
 any_more : (x id : NameId) (ids : List NameId) → list_any (same_id x) (ids ++ id ∷ []) ≡ (list_any (same_id x) ids || same_id x id)

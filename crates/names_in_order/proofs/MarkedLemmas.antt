@@ -1,5 +1,5 @@
 -- Numbers by place, with marks, and the place of each.
-use Rattle.std.proofs.Common.{◌≡◌, ◌≢◌, ◌⊎◌, ℕ, zero, suc, ◌+◌, ◌^◌, ◌<◌, ◌≤◌, Bool, true, false, cond, List, [], ◌∷◌, ◌++◌, length, get_or, set, take, drop, Option, Some, None, slice_get, refl, sym, ap, subst, ◌∙◌, inl, inr, arith, eq-eqb, eqb-true, append_assoc}
+use Rattle.std.proofs.Common.{◌≡◌, ◌≢◌, ◌⊎◌, ℕ, zero, suc, ◌+◌, ◌^◌, ◌<◌, ◌≤◌, Bool, true, false, cond, List, [], ◌∷◌, ◌++◌, length, get_or, set, take, drop, Option, Some, None, slice_get, refl, sym, ap, subst, ◌∙◌, inl, inr, arith, append_assoc}
 use Rattle.std.specs.Prelude.{IfSome, IsSome}
 use Rattle.std.specs.List.{AllByRecursion, IsDistinct, cons_option, filter, filter_map, list_any, range_with_len, sum_by}
 use Rattle.std.specs.List.Sorted.{IsSorted, IsPermutation}
@@ -15,16 +15,11 @@ use Rattle.name_index.specs.declared.table.NameId.{NameId}
 use Rattle.name_index.specs.Index.{name_id}
 use Rattle.names_in_order.specs.InOrder.{same_id}
 use Rattle.names_in_order.specs.Marked.{AreClosing, AreMarked, HavePlaces, PutsInOrder, closing_numbers, found_place, is_slot_of, numbers_in, places_of, standing_at, without_first}
+use Rattle.names_in_order.proofs.OrderLemmas.{itself, old_place, same_number, set_other, set_same}
 use Rattle.names_in_order.proofs.Rising.{sorted_filter}
 
 abbrev pub Slots : Type 0
 Slots = List (Option NameId)
-
-pub same_number : (a b : NameId) → same_id a b ≡ true → a ≡ b
-same_number a b h = ap name_id (eqb-true a.0 b.0 h)
-
-pub itself : (a : NameId) → same_id a a ≡ true
-itself a = eq-eqb a.0 a.0 refl
 
 -- ---- the numbers of slots
 
@@ -124,27 +119,9 @@ written (slot ∷ slots) (suc n) new id (suc k) e = elim (written slots n new id
 
 -- ---- what is kept
 
-module _ {A : Type 0} where
-  kept_same : (xs : List A) (n : ℕ) (y : A) → n < length xs → slice_get (set xs n y) n ≡ Some y
-  kept_same [] n y lt = absurd (omega (arith, lt))
-  kept_same (x ∷ xs) zero y lt = refl
-  kept_same (x ∷ xs) (suc n) y lt = kept_same xs n y (omega (arith, lt))
-
-  kept_other : (xs : List A) (n m : ℕ) (y : A) → m ≢ n → slice_get (set xs n y) m ≡ slice_get xs m
-  kept_other [] n m y ne = refl
-  kept_other (x ∷ xs) zero zero y ne = absurd (ne refl)
-  kept_other (x ∷ xs) zero (suc m) y ne = refl
-  kept_other (x ∷ xs) (suc n) zero y ne = refl
-  kept_other (x ∷ xs) (suc n) (suc m) y ne = kept_other xs n m y (λ e. ne (ap suc e))
-
-  kept_more : (xs : List A) (y x : A) (k : ℕ) → slice_get xs k ≡ Some x → slice_get (xs ++ y ∷ []) k ≡ Some x
-  kept_more [] y x k e = absurd (none-some x e)
-  kept_more (z ∷ xs) y x zero e = e
-  kept_more (z ∷ xs) y x (suc k) e = kept_more xs y x k e
-
 -- a place that is kept of one number more says nothing
 pub longer : (slots : Slots) (places : List ℕ) (place : ℕ) → HavePlaces slots places → HavePlaces slots (places ++ place ∷ [])
-longer slots places place placed k id at = kept_more places place k id.0 (placed k id at)
+longer slots places place placed k id at = old_place places place k id.0 (placed k id at)
 
 -- ---- each number by its place
 
@@ -215,17 +192,13 @@ module _ (slots : Slots) (places : List ℕ) (placed : HavePlaces slots places) 
       apart (None ∷ rest) one = apart rest (λ j k id a b. omega (arith, one (suc j) (suc k) id a b))
       apart (Some x ∷ rest) one = IsDistinct-cons same_id x (numbers_in rest) (none_same x rest (λ k at. absurd (omega (arith, one 0 (suc k) x refl at)))) (apart rest (λ j k id a b. omega (arith, one (suc j) (suc k) id a b)))
 
-  -- a mark in a place
-  pub marked_places : (k : ℕ) → HavePlaces (set slots k None) places
-  marked_places k j id at = placed j id (stood slots k j id at)
-
 pub put_places : (slots : Slots) (places : List ℕ) (id : NameId) → HavePlaces slots places → list_any (same_id id) (numbers_in slots) ≡ false → id.0 < length places → HavePlaces (slots ++ Some id ∷ []) (set places id.0 (length slots))
 put_places slots places id placed fresh known k x at = elim (last_slot slots id x k at) [
   | inl old ↦
-      kept_other places id.0 x.0 (length slots) (λ e. both_ways (list_any (same_id id) (numbers_in slots)) fresh (among id slots k (old ∙ ap {B = Option NameId} (λ (n : ℕ). Some (name_id n)) e)))
+      set_other places id.0 x.0 (length slots) (λ e. both_ways (list_any (same_id id) (numbers_in slots)) fresh (among id slots k (old ∙ ap {B = Option NameId} (λ (n : ℕ). Some (name_id n)) e)))
       ∙ placed k x old
   | inr last ↦
-      ap (λ (y : NameId). slice_get (set places id.0 (length slots)) y.0) (sym last.1) ∙ kept_same places id.0 (length slots) known ∙ ap {B = Option ℕ} (λ (n : ℕ). Some n) (sym last.0)
+      ap (λ (y : NameId). slice_get (set places id.0 (length slots)) y.0) (sym last.1) ∙ set_same places id.0 (length slots) known ∙ ap {B = Option ℕ} (λ (n : ℕ). Some n) (sym last.0)
 ]
 
 pub put_marked : (slots : Slots) (old places : List ℕ) (len : ℕ) (id : NameId) → AreMarked slots old len → HavePlaces slots places → list_any (same_id id) (numbers_in slots) ≡ false → id.0 < length places → length slots < 2 ^ 32 → AreMarked (slots ++ Some id ∷ []) (set places id.0 (length slots)) (len + 1)
@@ -251,13 +224,13 @@ module _ (slots : Slots) (places : List ℕ) (read write : ℕ) (closing : AreCl
 
   here_now : (k : ℕ) (x : NameId) → k ≡ write → id ≡ x → slice_get (set places id.0 write) x.0 ≡ Some k
   here_now k x place is =
-      ap (λ (y : NameId). slice_get (set places id.0 write) y.0) (sym is) ∙ kept_same places id.0 write (slice_get_within places id.0 read kept) ∙ ap {B = Option ℕ} (λ (n : ℕ). Some n) (sym place)
+      ap (λ (y : NameId). slice_get (set places id.0 write) y.0) (sym is) ∙ set_same places id.0 write (slice_get_within places id.0 read kept) ∙ ap {B = Option ℕ} (λ (n : ℕ). Some n) (sym place)
 
-  front : take (write + 1) (set slots write (Some id)) ≡ take write slots ++ Some id ∷ []
-  front = take_more_set slots write (Some id) write_within
+  prefix : take (write + 1) (set slots write (Some id)) ≡ take write slots ++ Some id ∷ []
+  prefix = take_more_set slots write (Some id) write_within
 
-  front_numbers : numbers_in (take (write + 1) (set slots write (Some id))) ≡ numbers_in (take write slots) ++ id ∷ []
-  front_numbers = ap (λ (ss : Slots). numbers_in ss) front ∙ numbers-append (take write slots) (Some id ∷ [])
+  prefix_numbers : numbers_in (take (write + 1) (set slots write (Some id))) ≡ numbers_in (take write slots) ++ id ∷ []
+  prefix_numbers = ap (λ (ss : Slots). numbers_in ss) prefix ∙ numbers-append (take write slots) (Some id ∷ [])
 
   pub closing_more : AreClosing (set slots write (Some id)) (set places id.0 write) (read + 1) (write + 1)
   closing_more = record {
@@ -265,16 +238,16 @@ module _ (slots : Slots) (places : List ℕ) (read write : ℕ) (closing : AreCl
     moved = λ k x lt at. elim (written slots write id x k at) [
       | inl old ↦
           let was : slice_get places x.0 ≡ Some k = closing.moved k x (between k lt old.0) old.1 in
-          kept_other places id.0 x.0 write (apart k x (λ is. absurd (omega (arith, between k lt old.0, is, closing.behind))) was) ∙ was
+          set_other places id.0 x.0 write (apart k x (λ is. absurd (omega (arith, between k lt old.0, is, closing.behind))) was) ∙ was
       | inr new ↦ here_now k x new.0 new.1
     ];
     left = λ k x le at. elim (written slots write id x k at) [
       | inl old ↦
           let was : slice_get places x.0 ≡ Some k = closing.left k x (omega (arith, le)) old.1 in
-          kept_other places id.0 x.0 write (apart k x (λ is. absurd (omega (arith, le, is))) was) ∙ was
+          set_other places id.0 x.0 write (apart k x (λ is. absurd (omega (arith, le, is))) was) ∙ was
       | inr new ↦ here_now k x new.0 new.1
     ];
-    full = ap length front_numbers ∙ omega (arith, length-append (numbers_in (take write slots)) (id ∷ []), closing.full);
+    full = ap length prefix_numbers ∙ omega (arith, length-append (numbers_in (take write slots)) (id ∷ []), closing.full);
     few = omega (arith, length-set slots write (Some id), closing.few);
   }
     where
@@ -285,7 +258,7 @@ module _ (slots : Slots) (places : List ℕ) (read write : ℕ) (closing : AreCl
   closing_same =
       let back : drop (read + 1) (set slots write (Some id)) ≡ drop (read + 1) slots = drop-set-lt (read + 1) slots write (Some id) (omega (arith, closing.behind)) in
       let next : numbers_in (drop read slots) ≡ numbers_in (get_or slots read None ∷ drop (read + 1) slots) = at_drop_more (λ (ss : Slots). numbers_in ss) slots read None within in
-      (λ i. front_numbers i ++ numbers_in (back i))
+      (λ i. prefix_numbers i ++ numbers_in (back i))
       ∙ append_assoc (numbers_in (take write slots)) (id ∷ []) (numbers_in (drop (read + 1) slots))
       ∙ ap (λ (ns : List NameId). numbers_in (take write slots) ++ ns) (sym (next ∙ ap (λ (slot : Option NameId). cons_option slot (numbers_in (drop (read + 1) slots))) here))
 

@@ -35,12 +35,12 @@ module _ {A : Type 0} where
   old_or_last (z ∷ xs) y x zero e = inl e
   old_or_last (z ∷ xs) y x (suc k) e = elim (old_or_last xs y x k e) [ inl at ↦ inl at | inr last ↦ inr (ap suc last.0, last.1) ]
 
-  set_same : (xs : List A) (n : ℕ) (y : A) → n < length xs → slice_get (set xs n y) n ≡ Some y
+  pub set_same : (xs : List A) (n : ℕ) (y : A) → n < length xs → slice_get (set xs n y) n ≡ Some y
   set_same [] n y lt = absurd (omega (arith, lt))
   set_same (x ∷ xs) zero y lt = refl
   set_same (x ∷ xs) (suc n) y lt = set_same xs n y (omega (arith, lt))
 
-  set_other : (xs : List A) (n m : ℕ) (y : A) → m ≢ n → slice_get (set xs n y) m ≡ slice_get xs m
+  pub set_other : (xs : List A) (n m : ℕ) (y : A) → m ≢ n → slice_get (set xs n y) m ≡ slice_get xs m
   set_other [] n m y ne = refl
   set_other (x ∷ xs) zero zero y ne = absurd (ne refl)
   set_other (x ∷ xs) zero (suc m) y ne = refl
@@ -79,10 +79,10 @@ module _ {X Y : Type 0} (p : X → Bool) (q : Y → Bool) (f : X → Y) where
 abbrev pub no_id : NameId
 no_id = name_id 0
 
-same_number : (a b : NameId) → same_id a b ≡ true → a ≡ b
+pub same_number : (a b : NameId) → same_id a b ≡ true → a ≡ b
 same_number a b h = ap name_id (eqb-true a.0 b.0 h)
 
-itself : (a : NameId) → same_id a a ≡ true
+pub itself : (a : NameId) → same_id a a ≡ true
 itself a = eq-eqb a.0 a.0 refl
 
 -- the place that is kept of a number, if the number stands there

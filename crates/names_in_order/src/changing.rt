@@ -64,8 +64,8 @@ fn if_has(numbers: &MarkedNumbers, id: NameId) -> Option<NameId>
     None
 }
 
-// The number of a name, if it is one of these.
-fn find_number(table: &NameTable, numbers: &MarkedNumbers, name: &Wfn) -> Option<NameId>
+/// The number of a name, if it is one of these. It is found by its hash.
+pub fn find_number(table: &NameTable, numbers: &MarkedNumbers, name: &Wfn) -> Option<NameId>
     requires { AreLive table.now numbers.now }
     ensures found { IfSome result (λ id. HasName table.now id.0 name.now) }
     ensures has { IfSome result (λ id. list_any (same_id id) numbers.now ≡ true) }

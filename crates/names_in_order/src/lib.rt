@@ -16,6 +16,6 @@ mod marked;
 mod numbers;
 
 pub use added::PushNumber;
-pub use changing::ChangingNames;
+pub use changing::{ChangingNames, find_number};
 pub use growing::{GrowingNames, NamesInOrder};
 pub use marked::MarkedNumbers;

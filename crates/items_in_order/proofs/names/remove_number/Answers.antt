@@ -1,10 +1,10 @@
 use Rattle.std.proofs.Common.{◌≢◌, List, ℕ, Some, slice_get, sym, subst}
 use Rattle.name_index.specs.declared.table.NameId.{NameId}
 use Rattle.name_index.specs.Table.{kept_at}
-use Rattle.names_in_order.proofs.ChangeLemmas.{not_left, stands_at}
+use Rattle.names_in_order.proofs.ChangeLemmas.{held_once, not_left, stands_at}
 use Rattle.target_index.specs.Targets.{held}
 use Rattle.items_in_order.specs.InOrder.{AreItems}
-use Rattle.items_in_order.proofs.Changes.{held_once, removed_items}
+use Rattle.items_in_order.proofs.Changes.{removed_items}
 use Rattle.items_in_order.proofs.names.remove_number.Goals as goal
 
 pub drop_name-requires-clause-held : goal.drop_name-requires-clause-held

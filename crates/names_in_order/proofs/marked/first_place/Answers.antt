@@ -1,4 +1,4 @@
-use Rattle.std.proofs.Common.{◌∙◌, ◌++◌, ◌∷◌, ◌<◌, ◌≤◌, ◌+◌, [], List, ℕ, Option, get_or, length, slice_get, take, ap, subst, sym, take_all}
+use Rattle.std.proofs.Common.{◌∙◌, ◌+◌, List, ℕ, Option, get_or, slice_get, take, ap, subst, sym, take_all}
 use Rattle.std.proofs.lemmas.List.{take_more}
 use Rattle.name_index.specs.declared.table.NameId.{NameId}
 use Rattle.name_index.specs.Index.{name_id}

@@ -12,8 +12,8 @@ returns-clause-covered g c =
     let table = c.self.inside.table.now in
     c.in_ok-covered.ensures
     ∙ ap (λ (ids : List NameId). names_kept table ids) c.deref.ensures.value
-    ∙ kept_numbered table c.in_ok-ids.ids.covered.items c.in_ok-ids.ensures.live
-    ∙ c.in_ok-ids.ensures.covered
+    ∙ kept_numbered table c.in_ok-ids.ids.covered.items c.in_ok-ids.ensures.covered.live
+    ∙ c.in_ok-ids.ensures.covered.names
     ∙ ap (filter (covers c.args.name.now)) c.self.view_is
 
 pub returns-clause-maybe : goal.returns-clause-maybe
@@ -21,6 +21,6 @@ returns-clause-maybe g c =
     let table = c.self.inside.table.now in
     c.in_ok-maybes.ensures
     ∙ ap (λ (ids : List NameId). names_kept table ids) c.deref-2.ensures.value
-    ∙ kept_numbered table c.in_ok-ids.ids.maybe.items c.in_ok-ids.ensures.live_maybe
-    ∙ c.in_ok-ids.ensures.maybe
+    ∙ kept_numbered table c.in_ok-ids.ids.maybe.items c.in_ok-ids.ensures.maybe.live
+    ∙ c.in_ok-ids.ensures.maybe.names
     ∙ ap (filter (maybe c.args.name.now)) c.self.view_is

@@ -1,9 +1,9 @@
-use Rattle.std.proofs.Common.{◌∙◌, List, ℕ, None, Option, Some, get_or, ap, subst, sym}
+use Rattle.std.proofs.Common.{◌∙◌, ℕ, None, Option, Some, get_or, ap, subst}
 use Rattle.std.specs.Prelude.{find}
 use Rattle.std.specs.List.{list_any}
 use Rattle.name_index.specs.declared.table.NameId.{NameId}
 use Rattle.names_in_order.specs.InOrder.{same_id}
-use Rattle.names_in_order.specs.Marked.{IsFirstPlace, numbers_in}
+use Rattle.names_in_order.specs.Marked.{IsFirstPlace}
 use Rattle.names_in_order.proofs.FirstLemmas.{first_is}
 use Rattle.names_in_order.proofs.MarkedLemmas.{Slots}
 use Rattle.names_in_order.proofs.marked.MarkedNumbers.first_of.Goals as goal
