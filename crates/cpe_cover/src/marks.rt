@@ -1,11 +1,10 @@
 // Marks of the names that a name with a special covers.
-ghost use Rattle.std.specs.Prelude.{◌≡◌, ◌<◌, ◌||◌, ◌&&◌, ℕ, nat_eq, IfOk, OnOk, length, if◌then◌else◌};
+ghost use Rattle.std.specs.Prelude.{◌≡◌, ◌<◌, ◌||◌, ℕ, nat_eq, IfOk, OnOk, length, if◌then◌else◌};
 ghost use Rattle.std.specs.List.{AllByRecursion, list_any};
 ghost use Rattle.cpe_name.specs.Lower.{IsLower};
 ghost use Rattle.cpe_rows.specs.Names.{has_wildcards};
-ghost use Rattle.cpe_relation.specs.NameRelation.{covers};
 ghost use Rattle.cpe_steps.specs.Within.{StepsWithin};
-ghost use Rattle.names_in_order.specs.Places.{name_at, near_count};
+ghost use Rattle.names_in_order.specs.Places.{name_at};
 ghost use Rattle.cpe_cover.specs.Marks.{AreMarks, is_marked, matches};
 ghost use Rattle.cpe_cover.specs.Names.{looks_of_patterns, pattern_looks};
 
@@ -37,26 +36,7 @@ fn mark_places(marks: &mut [bool], places: &[usize])
     }
 }
 
-// Marks the names that a name covers.
-fn mark_covered<L: Ledger>(
-    alloc: Global,
-    names: &NamesInOrder<'_>,
-    name: &Wfn,
-    marks: &mut [bool],
-    steps: &mut Steps<L>,
-) -> Result<(), Memory>
-    requires lower { IsLower name.now }
-    requires len { length marks.old ≡ length names.now }
-    ensures len { length marks.new ≡ length marks.old }
-    ensures marked { OnOk result ((k : ℕ) → k < length names.now → is_marked marks.new k ≡ (is_marked marks.old k || covers name.now (name_at names.now k))) }
-    ensures steps { StepsWithin steps.old steps.new (near_count name.now names.now) }
-{
-    let places = names.covered_places(alloc, name, steps)?;
-    mark_places(marks, &places);
-    Ok(())
-}
-
-// The same, where the name has a special.
+// Marks the names that a name covers, where it has a special.
 fn mark_matched<L: Ledger>(
     alloc: Global,
     names: &NamesInOrder<'_>,
@@ -70,9 +50,11 @@ fn mark_matched<L: Ledger>(
     ensures marked { OnOk result ((k : ℕ) → k < length names.now → is_marked marks.new k ≡ (is_marked marks.old k || matches name.now (name_at names.now k))) }
     ensures steps { StepsWithin steps.old steps.new (pattern_looks names.now name.now) }
 {
-    if has_wildcards(name) {
-        return mark_covered(alloc, names, name, marks, steps);
+    if !has_wildcards(name) {
+        return Ok(());
     }
+    let places = names.covered_places(alloc, name, steps)?;
+    mark_places(marks, &places);
     Ok(())
 }
 

@@ -3,14 +3,12 @@ ghost use Rattle.std.specs.Prelude.{◌≡◌, ◌++◌, ◌∷◌, [], OnOk, On
 ghost use Rattle.std.specs.List.{list_any};
 ghost use Rattle.cpe_name.specs.Equal.{same_name};
 ghost use Rattle.cpe_name.specs.Lower.{IsLower};
-ghost use Rattle.name_index.specs.Table.{kept_at};
-ghost use Rattle.names_in_order.specs.InOrder.{names_numbered};
-ghost use Rattle.owned_names.specs.Owned.{AreOwn, IsNew};
 
 use cpe_name::Wfn;
 use cpe_values::Memory;
-use name_index::{NameId, NameTable};
+use name_index::NameTable;
 use names_in_order::{GrowingNames, NamesInOrder};
+use owned_names::add_name;
 use std::alloc::Global;
 use std::marker::Model;
 
@@ -32,38 +30,6 @@ impl Model for OwnNames {
     ghost view = { λ n. names_numbered n.table n.names.numbers };
 
     ghost invariant = { λ n. AreOwn n.table n.names.held n.names.numbers };
-}
-
-// Puts a held number last, or lets its name go where memory ran out.
-fn put_last(table: &mut NameTable, names: &mut GrowingNames, id: NameId) -> Result<(), Memory>
-    requires own { IsNew table.old names.old.held names.old.numbers id }
-    ensures own { AreOwn table.new names.new.held names.new.numbers }
-    ensures ok { OnOk result (names_numbered table.new names.new.numbers ≡ names_numbered table.old names.old.numbers ++ (kept_at table.old id.0).name ∷ []) }
-    ensures err { OnErr result (names_numbered table.new names.new.numbers ≡ names_numbered table.old names.old.numbers) }
-{
-    names_in_order::law::orders_stay();
-    match names.push(table, id) {
-        Ok(()) => Ok(()),
-        Err(memory) => {
-            table.release(id);
-            Err(memory)
-        }
-    }
-}
-
-// Puts a name last that is new.
-fn add_name(table: &mut NameTable, names: &mut GrowingNames, name: Wfn) -> Result<(), Memory>
-    requires own { AreOwn table.old names.old.held names.old.numbers }
-    requires lower { IsLower name }
-    requires fresh { list_any (same_name name) (names_numbered table.old names.old.numbers) ≡ false }
-    ensures own { AreOwn table.new names.new.held names.new.numbers }
-    ensures ok { OnOk result (names_numbered table.new names.new.numbers ≡ names_numbered table.old names.old.numbers ++ name ∷ []) }
-    ensures err { OnErr result (names_numbered table.new names.new.numbers ≡ names_numbered table.old names.old.numbers) }
-{
-    name_index::law::fitting_laws();
-    names_in_order::law::orders_stay();
-    let id = table.hold_moved(name)?;
-    put_last(table, names, id)
 }
 
 impl OwnNames {

@@ -18,6 +18,7 @@ use Rattle.cpe_ranges.specs.Kept.{IsWeight}
 use Rattle.cpe_ranges.specs.Weight.{advisory_weight, weight}
 use Rattle.cpe_ranges.specs.Step.{after, faults, full, full_by, is_any, when}
 use Rattle.cpe_advisories.specs.declared.advisory.Advisory.{Advisory}
+use Rattle.cpe_advisories.specs.declared.edit.AdviceEdit.{AdviceEdit}
 use Rattle.cpe_advisories.specs.declared.edit.AdviceEdit.TheVariants as edit
 use Rattle.cpe_advisories.specs.declared.edit.AdviceFault.{AdviceFault}
 use Rattle.cpe_advisories.specs.declared.edit.AdviceFault.TheVariants as fault
@@ -30,6 +31,15 @@ weighs_item rows n = let one = total-added name_weight rows.items n in omega (ar
 
 pub weighs_put : (rows : AdviceRows) (a : Advisory) → weight (after rows (edit.Put a)) ≡ weight rows + advisory_weight a
 weighs_put rows a = let one = total-added advisory_weight rows.advisories a in omega (arith, one)
+
+-- with what an edit adds, the number that is kept is the weight that the edit leaves, capped
+pub weight_after : {number found : ℕ} {kept given : AdviceRows} (part : ℕ) (e : AdviceEdit) → found ≡ capped (number + part) → IsWeight number kept → weight (after kept e) ≡ weight kept + part
+    → kept ≡ given → found ≡ capped (weight (after given e))
+weight_after {number} {found} {kept} {given} part e is weighs sum same =
+    is
+    ∙ ap (λ (w : ℕ). capped (w + part)) weighs.weighs
+    ∙ ap capped (sym sum)
+    ∙ ap (λ (r : AdviceRows). capped (weight (after r e))) same
 
 -- ---- what is dropped
 

@@ -159,7 +159,7 @@ fn find_affected<L: Ledger>(
     ensures found { IfOk result (λ found. (id : List ℕ) → found ≡ filter (affects (advisory_from (id, terms.now))) items.now) }
     ensures steps { StepsWithin steps.old steps.new (near_count terms.now.name items.now) }
 {
-    let covered = items.covered(alloc, &terms.name, steps)?;
+    let covered = items.all().covered(alloc, &terms.name, steps)?;
     Ok(in_range(covered, terms))
 }
 
@@ -182,7 +182,7 @@ impl Advisories {
         if has_wildcards(name) {
             return Some(AdviceFault::Wildcards);
         }
-        if self.items.has(name) {
+        if self.items.all().has(name) {
             return Some(AdviceFault::Exists);
         }
         full_by(

@@ -1,27 +1,22 @@
 // Items that an owner keeps with a table of their own.
-ghost use Rattle.std.specs.Prelude.{◌≡◌, ◌∷◌, ◌++◌, [], IfOk, OnOk, OnErr, false, filter, length, true};
+ghost use Rattle.std.specs.Prelude.{◌≡◌, ◌∷◌, ◌++◌, [], OnOk, OnErr, false, length, true};
 ghost use Rattle.std.specs.Bool.{OnFalse};
 ghost use Rattle.std.specs.List.{list_any};
 ghost use Rattle.cpe_name.specs.Lower.{IsLower};
-ghost use Rattle.cpe_relation.specs.NameRelation.{covers};
 ghost use Rattle.cpe_rows.specs.Names.{is_same};
 ghost use Rattle.cpe_rows.specs.Prelude.{without_first};
-ghost use Rattle.cpe_steps.specs.Within.{StepsWithin};
 ghost use Rattle.name_index.specs.Table.{kept_at};
 ghost use Rattle.names_in_order.specs.InOrder.{names_numbered, same_id};
-ghost use Rattle.names_in_order.specs.Places.{near_count};
-ghost use Rattle.owned_names.specs.Owned.{AreOwn, IsNew};
+ghost use Rattle.owned_names.specs.Owned.{AreOwn};
 
 use crate::view::ItemView;
 use cpe_name::Wfn;
-use cpe_rows::List;
-use cpe_steps::Steps;
 use cpe_values::Memory;
 use name_index::{NameId, NameTable};
 use names_in_order::ChangingNames;
+use owned_names::add_name;
 use std::alloc::Global;
 use std::marker::Model;
-use std::sync::ledger::Ledger;
 
 /// Names in lower case in the order in which they came, in a table that nothing else uses. Contracts see them as the list of these
 /// names.
@@ -42,39 +37,6 @@ impl Model for Items {
     ghost view = { λ i. names_numbered i.table i.names.numbers };
 
     ghost invariant = { λ i. AreOwn i.table i.names.held i.names.numbers };
-}
-
-// Puts a held number last, or lets its name go where memory runs out.
-fn put_last(table: &mut NameTable, names: &mut ChangingNames, id: NameId) -> Result<(), Memory>
-    requires own { IsNew table.old names.old.held names.old.numbers id }
-    ensures own { AreOwn table.new names.new.held names.new.numbers }
-    ensures ok { OnOk result (names_numbered table.new names.new.numbers ≡ names_numbered table.old names.old.numbers ++ (kept_at table.old id.0).name ∷ []) }
-    ensures err { OnErr result (names_numbered table.new names.new.numbers ≡ names_numbered table.old names.old.numbers) }
-{
-    names_in_order::law::orders_stay();
-    match names.push(table, id) {
-        Ok(()) => Ok(()),
-        Err(memory) => {
-            table.release(id);
-            Err(memory)
-        }
-    }
-}
-
-// Puts a name last that is new.
-fn add_name(table: &mut NameTable, names: &mut ChangingNames, name: Wfn) -> Result<(), Memory>
-    requires own { AreOwn table.old names.old.held names.old.numbers }
-    requires lower { IsLower name }
-    requires fresh { list_any (is_same name) (names_numbered table.old names.old.numbers) ≡ false }
-    ensures own { AreOwn table.new names.new.held names.new.numbers }
-    ensures ok { OnOk result (names_numbered table.new names.new.numbers ≡ names_numbered table.old names.old.numbers ++ name ∷ []) }
-    ensures err { OnErr result (names_numbered table.new names.new.numbers ≡ names_numbered table.old names.old.numbers) }
-{
-    name_index::law::fitting_laws();
-    cpe_inventory::law::item_laws();
-    names_in_order::law::orders_stay();
-    let id = table.hold_moved(name)?;
-    put_last(table, names, id)
 }
 
 // Takes a number out, and lets its name go.
@@ -128,11 +90,11 @@ impl Items {
         self.names.len()
     }
 
-    /// Whether an item has this name.
-    pub(crate) fn has(&self, name: &Wfn) -> bool
-        ensures { result ≡ list_any (is_same name.now) self.now }
+    /// The items, found by their hashes and products.
+    pub(crate) fn all(&self) -> ItemView<'_>
+        ensures { result ≡ self.now }
     {
-        ItemView::new(&self.table, &self.names).has(name)
+        ItemView::new(&self.table, &self.names)
     }
 
     /// Puts an item of a new name last, which is in lower case. The name is moved.
@@ -145,6 +107,7 @@ impl Items {
         ensures ok { OnOk result (self.new ≡ self.old ++ name ∷ []) }
         ensures err { OnErr result (self.new ≡ self.old) }
     {
+        cpe_inventory::law::item_laws();
         add_name(&mut self.table, &mut self.names, name)
     }
 
@@ -155,23 +118,5 @@ impl Items {
         ensures unchanged { OnFalse result (self.new ≡ self.old) }
     {
         remove_name(&mut self.table, &mut self.names, name)
-    }
-
-    /// The items that a name in lower case covers (NIST IR 7696), in their order. A step is a look at an item: it looks at most once
-    /// at each to whose product that of the name is near, and at no other.
-    ///
-    /// # Errors
-    /// Only that memory ran out. The bound on steps holds then, too.
-    pub(crate) fn covered<L: Ledger>(
-        &self,
-        alloc: Global,
-        name: &Wfn,
-        steps: &mut Steps<L>,
-    ) -> Result<List<Wfn>, Memory>
-        requires { IsLower name.now }
-        ensures found { IfOk result (λ found. found ≡ filter (covers name.now) self.now) }
-        ensures steps { StepsWithin steps.old steps.new (near_count name.now self.now) }
-    {
-        ItemView::new(&self.table, &self.names).covered(alloc, name, steps)
     }
 }

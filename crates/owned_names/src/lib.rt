@@ -1,3 +1,7 @@
-//! Laws alone: a table of names that one list of names has for itself, each held once. They stand in `proofs/OwnLemmas`: what is so of
-//! table and list where a name comes last, where memory ran out before it came, and where one goes.
+//! A table of names that one list of names has for itself, each held once. A name is put last by [`add_name`], into either kind of list
+//! ([`PushHeld`]). What else is so of table and list, as where one goes, stands in `proofs/OwnLemmas`.
 #![tactic(auto)]
+
+mod added;
+
+pub use added::{PushHeld, add_name};

@@ -3,18 +3,18 @@ use Rattle.std.proofs.lemmas.Result.{on_err_weaker, on_ok_weaker}
 use Rattle.name_index.specs.Table.{kept_at}
 use Rattle.names_in_order.specs.InOrder.{names_numbered}
 use Rattle.owned_names.proofs.OwnLemmas.{held_new, name_free, new_name}
-use Rattle.cpe_cover.proofs.own.add_name.Goals as goal
+use Rattle.owned_names.proofs.added.add_name.Goals as goal
 
 pub hold_moved-requires-clause-few : goal.hold_moved-requires-clause-few
-hold_moved-requires-clause-few c id has =
-    let names = c.args.names.now in
+hold_moved-requires-clause-few g c id has =
+    let names = g.N.PushHeld.roll c.args.names.now in
     absurd (name_free c.args.table.now names.held names.numbers c.args.name c.requires.own c.requires.fresh id has)
 
 pub put_last-requires : goal.put_last-requires
-put_last-requires c =
+put_last-requires g c =
     let old = c.args.table.now in
     let mid = c.hold_moved.new.self in
-    let names = c.args.names.now in
+    let names = g.N.PushHeld.roll c.args.names.now in
     let name = c.args.name in
     let id = c.in_ok-id.id in
     let held = c.in_ok-id.ensures.held in
@@ -27,10 +27,10 @@ put_last-requires c =
     }
 
 pub returns-clause-ok : goal.returns-clause-ok
-returns-clause-ok c =
+returns-clause-ok g c =
     let old = c.args.table.now in
     let mid = c.hold_moved.new.self in
-    let names = c.args.names.now in
+    let names = g.N.PushHeld.roll c.args.names.now in
     let name = c.args.name in
     let id = c.in_ok-id.id in
     let held = c.in_ok-id.ensures.held in
@@ -40,7 +40,7 @@ returns-clause-ok c =
     on_ok_weaker c.put_last.result (λ e. e ∙ (λ i. same i ++ is i ∷ [])) c.put_last.ensures.ok
 
 pub returns-clause-err : goal.returns-clause-err
-returns-clause-err c =
-    let names = c.args.names.now in
+returns-clause-err g c =
+    let names = g.N.PushHeld.roll c.args.names.now in
     let same = c.orders_stay.ensures.held_names c.args.table.now c.hold_moved.new.self c.in_ok-id.id.0 c.args.name names.held names.numbers c.in_ok-id.ensures.held c.requires.own.order in
     on_err_weaker c.put_last.result (λ e. e ∙ same) c.put_last.ensures.err
