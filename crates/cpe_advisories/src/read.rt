@@ -1,20 +1,19 @@
 // The record of a line.
-ghost use Rattle.std.specs.Prelude.{◌≡◌, IfOk, MatchResult, Ok, Err, Option, option_map, true};
+ghost use Rattle.std.specs.Prelude.{◌≡◌, IfOk, Err, Option, option_map, true};
 ghost use Rattle.serde_json.specs.View.{view};
 ghost use Rattle.cpe_members.specs.Forms.{text_in};
 ghost use Rattle.cpe_members.specs.Line.{value_of};
-ghost use Rattle.cpe_members.specs.Names.{lowered};
-ghost use Rattle.cpe_uri.specs.EitherBinding.{read_any, SaysFault};
+ghost use Rattle.cpe_uri.specs.EitherBinding.{read_any};
 ghost use Rattle.cpe_advisories.specs.Gives.{Gives, GivesBy};
 ghost use Rattle.cpe_advisories.specs.Reading.{advice_by, advice_of, advisory_in, bound_of, bounds_in, flag_at, id_at, json_of, key_of, name_at, named, record_kind_at, version_at, version_in, required};
 ghost use Rattle.cpe_advisories.specs.Valid.{is_valid_advice};
 
 use crate::record_kind::{RecordKind, record_kind_of};
 use crate::{AdviceEdit, AdviceMember, AdviceQuery, AdviceReadFault, Advisory, Bound};
-use cpe_members::{flag_in, text_in, value_of};
+use cpe_members::{flag_in, lowered, text_in, unbound, value_of};
 use cpe_name::Wfn;
 use cpe_rows::{Text, is_id};
-use cpe_uri::{UriFault, unbind_any};
+use cpe_uri::UriFault;
 use serde_json::Value;
 use std::alloc::Global;
 
@@ -64,20 +63,6 @@ fn id_at(alloc: Global, source: &Value) -> Result<Text, AdviceReadFault>
         }
         None => Err(AdviceReadFault::Member(AdviceMember::Id)),
     }
-}
-
-// With less said, so that callers see the one fact that they need.
-fn unbound(alloc: Global, text: &[u8]) -> Result<Wfn, UriFault>
-    ensures { MatchResult result (λ name. read_any text.now ≡ Ok name) (λ fault. SaysFault fault (read_any text.now)) }
-{
-    unbind_any(alloc, text)
-}
-
-#[tactic(auto, unfolding(cpe_members::specs::Names::lowered))]
-fn lowered(name: Wfn) -> Wfn
-    ensures { result ≡ lowered name }
-{
-    name.into_lower()
 }
 
 fn read_name(alloc: Global, text: &str) -> Result<Wfn, AdviceReadFault>

@@ -3,7 +3,7 @@ use Rattle.std.proofs.Common.{◌≡◌, ℕ, suc, ◌+◌, ◌<◌, ◌≤◌, 
 use Rattle.std.specs.Borrow.{Bor}
 use Rattle.std.specs.Option.{option_copied, option_map_or}
 use Rattle.std.proofs.lemmas.List.{drop_all}
-use Rattle.std.proofs.lemmas.Option.{slice_get-get_or, slice_get_within}
+use Rattle.std.proofs.lemmas.Option.{slice_get-get_or, slice_get_read}
 use Rattle.cpe_rows.specs.Rows.{Rows}
 use Rattle.cpe_rows.specs.declared.statement.Mode.{Mode}
 use Rattle.cpe_rows.specs.declared.truth.Truth.{Truth}
@@ -50,18 +50,17 @@ module _ (q : Test → Why → Bool) where
         and_no true = refl
         and_no false = refl
 
-  -- one more child
-  pub child_step : (xs : List Test) (ws : List (Option Why)) (i k : ℕ) (x : Test) (passed : Bool) → slice_get xs i ≡ Some x → k ≡ i
-      → length xs ≡ length ws
-      → passed ≡ option_map_or (q x) (option_map_or (λ (w : Option Why). w) (slice_get ws k) None) true
-      → all_pass (map q (drop i xs)) (drop k ws) ≡ (passed && all_pass (map q (drop (i + 1) xs)) (drop (k + 1) ws))
-  child_step xs ws i k x passed at same many said =
-      let within : i < length xs = slice_get_within xs i x at in
-      let o = get_or ws k None in
-      let given : slice_get ws k ≡ Some o = slice_get-get_or ws k None (omega arith) in
-      let here : passed ≡ option_map_or (q x) o true = said ∙ ap (λ (w : Option (Option Why)). option_map_or (q x) (option_map_or (λ
-      (v : Option Why). v) w None) true) given in
-      (λ j. all_pass (map q (drop_at xs i x at j)) (drop_at ws k o given j))
+  -- one more child of a loop over the children, with what is given at its place
+  pub child_step : (xs : List Test) (ws given : List (Option Why)) (i k : ℕ) (x : Test) (o : Option Why) (passed verdict : Bool)
+      → i < length xs → x ≡ get_or xs i x → k ≡ i → length xs ≡ length ws
+      → given ≡ ws → o ≡ option_map_or (λ (w : Option Why). w) (slice_get given k) None → passed ≡ option_map_or (q x) o true → passed ≡ verdict
+      → all_pass (map q (drop i xs)) (drop k ws) ≡ (verdict && all_pass (map q (drop (i + 1) xs)) (drop (k + 1) ws))
+  child_step xs ws given i k x o passed verdict within is same many lent at said told =
+      let w = get_or ws k None in
+      let there : slice_get given k ≡ Some w = ap (λ (vs : List (Option Why)). slice_get vs k) lent ∙ slice_get-get_or ws k None (omega arith) in
+      let here : verdict ≡ option_map_or (q x) w true = sym told ∙ (said
+      ∙ ap (λ (v : Option Why). option_map_or (q x) v true) (at ∙ ap (λ (v : Option (Option Why)). option_map_or (λ (u : Option Why). u) v None) there)) in
+      (λ j. all_pass (map q (drop_at xs i x (slice_get_read xs (length xs) i x refl within is) j)) (drop_at ws k w (slice_get-get_or ws k None (omega arith)) j))
       ∙ ap (λ b. b && all_pass (map q (drop (i + 1) xs)) (drop (k + 1) ws)) (sym here)
 
   -- after the last child

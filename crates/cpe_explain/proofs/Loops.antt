@@ -1,8 +1,10 @@
 -- Loops that go over rows by their places, up to the most rows that there may be.
-use Rattle.std.proofs.Common.{◌≡◌, ℕ, zero, suc, ◌+◌, ◌-◌, ◌≤◌, ◌<◌, List, [], ◌∷◌, ◌++◌, Bool, true, false, cond, ◌||◌, Some, None, find, map, take, drop, length, slice_get, refl, ap, sym, ◌∙◌, add-one, arith}
+use Rattle.std.proofs.Common.{◌≡◌, ℕ, zero, suc, ◌+◌, ◌-◌, ◌≤◌, ◌<◌, List, [], ◌∷◌, ◌++◌, Bool, true, false, cond, ◌||◌, Some, None, find, map, take, drop, length, get_or, option_map, slice_get, refl, ap, sym, ◌∙◌, add-one, arith}
+use Rattle.std.specs.Borrow.{Bor}
 use Rattle.std.specs.List.{list_any, last_or}
 use Rattle.std.proofs.lemmas.Bool.Decides.{nat_tests}
-use Rattle.std.proofs.lemmas.Option.{slice_get_within}
+use Rattle.std.proofs.lemmas.Option.{slice_get_within, slice_get_read, slice_get_past, slice_get-map}
+use Rattle.cpe_name.specs.Eleven.{Values}
 use Rattle.cpe_rows.specs.Rows.{Rows}
 use Rattle.cpe_rows.specs.Lawful.{IsLawful}
 use Rattle.cpe_rows.specs.declared.entry.Entry.{Entry}
@@ -38,9 +40,7 @@ module _ {A : Type 0} where
   take_past (y ∷ xs) (suc k) e = ap (λ zs. y ∷ zs) (take_past xs k e)
 
   pub none_past : (xs : List A) (k : ℕ) → length xs ≤ k → slice_get xs k ≡ None
-  none_past [] k h = refl
-  none_past (y ∷ xs) zero h = absurd (omega arith)
-  none_past (y ∷ xs) (suc k) h = none_past xs k (omega arith)
+  none_past xs k past = slice_get_past xs k past
 
   -- the last
   pub last_is : (xs : List A) → slice_get xs (length xs - 1) ≡ last_or None xs
@@ -77,6 +77,18 @@ module _ {A : Type 0} where
 
     pub any_next : (x : A) → AnyLeft → slice_get xs k ≡ Some x → p x ≡ false → list_any p (drop (k + 1) xs) ≡ list_any p xs
     any_next x left e h = sym (ap (list_any p) (drop_at xs k x e) ∙ ap (λ b. b || list_any p (drop (k + 1) xs)) h) ∙ left
+
+-- a name that is lent
+abbrev pub now : Bor Values → Values
+now name = name.now
+
+-- a list is gone over by what each in it stands for
+module _ {A B : Type 0} (shown : A → B) (xs : List A) (k : ℕ) where
+  pub shown_at : (x : A) → k < length xs → x ≡ get_or xs k x → slice_get (map shown xs) k ≡ Some (shown x)
+  shown_at x within is = slice_get-map shown xs k ∙ ap (option_map shown) (slice_get_read xs (length xs) k x refl within is)
+
+  pub shown_past : length xs ≤ k → slice_get (map shown xs) k ≡ None
+  shown_past past = slice_get-map shown xs k ∙ ap (option_map shown) (slice_get_past xs k past)
 
 -- those that stand elsewhere are listed up to a place
 module _ {A B : Type 0} (f : A → B) (xs : List B) where

@@ -1,5 +1,5 @@
 -- Reading a list item by item, up to the first fault.
-use Rattle.std.proofs.Common.{◌≡◌, ℕ, ◌+◌, suc, List, [], ◌∷◌, ◌++◌, length, ◌<◌, map, take, drop, get_or, refl, ap, sym, ◌∙◌, subst, arith, length-take-le}
+use Rattle.std.proofs.Common.{◌≡◌, ℕ, ◌+◌, suc, List, [], ◌∷◌, ◌++◌, length, ◌<◌, map, take, drop, get_or, refl, ap, sym, ◌∙◌, subst, arith, length-take-le, take_all, ◌≤◌}
 use Rattle.std.proofs.lemmas.List.{map_more, map-append, map-id, length-map}
 use Rattle.std.proofs.Math.Seq.{split_at}
 use Rattle.std.specs.Prelude.{Bool, true, false, MatchBool, Result, Ok, Err}
@@ -73,3 +73,7 @@ module _ {A B E : Type 0} (f : ℕ → A → Result B E) (n i : ℕ) (xs : List 
 
   pub all_from_ends : (is_memory : E → Bool) (e : E) → FailsUnless is_memory e (f (n + i) (get_or xs i d)) → FailsUnless is_memory e (all_from f n xs)
   all_from_ends is_memory e k = subst (λ zs. FailsUnless is_memory e (all_from f n zs)) (map-id xs) (all_from_fails (λ x. x) f n i xs d below is_memory ys e same k)
+
+-- a loop read all
+pub all_from-whole : {X A B E : Type 0} (view : X → A) (f : ℕ → A → Result B E) (n i : ℕ) (xs : List X) (ys : List B) → length xs ≤ i → all_from f n (map view (take i xs)) ≡ Ok ys → all_from f n (map view xs) ≡ Ok ys
+all_from-whole view f n i xs ys past h = ap (λ vs. all_from f n (map view vs)) (sym (take_all i xs past)) ∙ h

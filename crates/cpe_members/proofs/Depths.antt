@@ -1,5 +1,7 @@
 -- What an array in an object has is less deep than the object.
-use Rattle.std.proofs.Common.{◌≡◌, ℕ, ◌<◌, ◌≤◌, zero, suc, List, length, get_or, Ordering, Less, Equal, Greater, refl, sym, subst, arith}
+use Rattle.std.proofs.Common.{◌≡◌, ℕ, ◌<◌, ◌≤◌, zero, suc, List, map, length, get_or, Ordering, Less, Equal, Greater, refl, sym, ap, ◌∙◌, subst, arith}
+use Rattle.std.proofs.Math.ListN.{get_or-map}
+use Rattle.std.proofs.lemmas.List.{length-map}
 use Rattle.std.specs.Prelude.{Option, Some, None, option_and_then, option_map}
 use Rattle.std.specs.Ordering.{nat_cmp, match_ordering}
 use Rattle.std.specs.Cmp.Lexicographic.{slice_cmp}
@@ -38,10 +40,18 @@ found : (k : List ℕ) (ms : Members) (o : Option Data) (ds : List Data) (i : �
 found k ms None ds i x p h e = let no_way : ⊥ = cc in absurd no_way
 found k ms (Some d) ds i x p h e = omega (arith, member_depth k ms d p, array_depth d ds i x h e)
 
-pub below_depth : (k : List ℕ) (d : Data) (ds : List Data) (i : ℕ) (x : Data) → i < length ds → Some ds ≡ option_map list_of (option_and_then as_array (get k d)) → depth (get_or ds i x) < depth d
+below_depth : (k : List ℕ) (d : Data) (ds : List Data) (i : ℕ) (x : Data) → i < length ds → Some ds ≡ option_map list_of (option_and_then as_array (get k d)) → depth (get_or ds i x) < depth d
 below_depth k null ds i x h e = let no_way : ⊥ = cc in absurd no_way
 below_depth k (boolean b) ds i x h e = let no_way : ⊥ = cc in absurd no_way
 below_depth k (number n) ds i x h e = let no_way : ⊥ = cc in absurd no_way
 below_depth k (string s) ds i x h e = let no_way : ⊥ = cc in absurd no_way
 below_depth k (array its) ds i x h e = let no_way : ⊥ = cc in absurd no_way
 below_depth k (object ms) ds i x h e = found k ms (get_member k ms) ds i x refl h e
+
+-- the same of a value that is seen so, at its place in that array
+pub item_falls : {X : Type 0} (view : X → Data) (k : List ℕ) (d : Data) (xs : List X) (i : ℕ) (x : X) → i < length xs → x ≡ get_or xs i x
+    → Some (map view xs) ≡ option_map list_of (option_and_then as_array (get k d)) → depth (view x) < depth d
+item_falls view k d xs i x within is there =
+    let here : i < length (map view xs) = omega (arith, length-map xs view, within) in
+    let same : get_or (map view xs) i (view x) ≡ view x = get_or-map view xs i x ∙ ap view (sym is) in
+    subst (λ z. depth z < depth d) same (below_depth k d (map view xs) i (view x) here there)

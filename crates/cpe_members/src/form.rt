@@ -97,7 +97,7 @@ pub fn date_at(source: &Value, member: Member) -> Result<Date, RecordFault>
 
 /// The items of the array at a key, where there is one. It takes no memory.
 #[tactic(auto, using(crate::proofs::Lists::list_of_view))]
-pub(crate) fn array_in<'v>(source: &'v Value, key: &str) -> Option<&'v [Value]>
+pub fn array_in<'v>(source: &'v Value, key: &str) -> Option<&'v [Value]>
     ensures { option_map (λ s. map view s.now) result
         ≡ option_map list_of (option_and_then as_array (get key.now (view source.now))) }
 {

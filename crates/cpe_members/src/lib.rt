@@ -25,11 +25,13 @@ mod provenance;
 mod words;
 
 pub use draft::test_at;
-pub use form::{date_at, flag_in, flag_or_false, text_at, text_in, text_of, text_or_empty};
+pub use form::{
+    array_in, date_at, flag_in, flag_or_false, text_at, text_in, text_of, text_or_empty,
+};
 pub use format::{Format, format_at};
 pub use line::value_of;
 pub use member::{Member, NameSpot, NotName, RecordFault};
-pub use name::{name_at, successors_at};
+pub use name::{lowered, name_at, successors_at, unbound};
 pub use provenance::provenance_or_empty;
 pub use words::{
     attribute_word, kind_of, kind_word, mode_of, mode_word, note_kind_of, note_kind_word,

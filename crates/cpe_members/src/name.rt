@@ -18,15 +18,20 @@ use cpe_values::Memory;
 use serde_json::Value;
 use std::alloc::Global;
 
-// With less said, so that callers see the one fact that they need.
-fn unbound(alloc: Global, text: &[u8]) -> Result<Wfn, UriFault>
+/// The name that a text is as a URI or a formatted string, as [`unbind_any`] reads it. It says less, so that callers see the one fact
+/// that they need.
+///
+/// # Errors
+/// The place at which the text goes wrong, exactly where it is no name's; else that memory ran out.
+pub fn unbound(alloc: Global, text: &[u8]) -> Result<Wfn, UriFault>
     ensures { MatchResult result (λ name. read_any text.now ≡ Ok name) (λ fault. SaysFault fault (read_any text.now)) }
 {
     unbind_any(alloc, text)
 }
 
+/// The name with every letter in lower case.
 #[tactic(auto, unfolding(crate::specs::Names::lowered))]
-pub(crate) fn lowered(name: Wfn) -> Wfn
+pub fn lowered(name: Wfn) -> Wfn
     ensures { result ≡ lowered name }
 {
     name.into_lower()

@@ -1,7 +1,8 @@
 -- Tokens that are put piece by piece.
-use Rattle.std.proofs.Common.{◌≡◌, ℕ, List, [], ◌∷◌, ◌++◌, Bool, true, false, map, refl, ap, sym, ◌∙◌, if◌then◌else◌}
+use Rattle.std.proofs.Common.{◌≡◌, ℕ, ◌≤◌, List, [], ◌∷◌, ◌++◌, Bool, true, false, length, map, take, take_all, refl, ap, sym, ◌∙◌, if◌then◌else◌}
 use Rattle.std.specs.List.{flat_map}
 use Rattle.std.proofs.lemmas.List.{append_assoc}
+use Rattle.std.proofs.lemmas.List.Folds.{flat_map-map}
 use Rattle.json.specs.Token.{Token, key, end_array, end_object}
 use Rattle.json.specs.Json.{Json, Members, member}
 use Rattle.json.specs.Json as json
@@ -14,7 +15,6 @@ use Rattle.cpe_uri.specs.Canon.{is_any}
 use Rattle.cpe_fs.specs.Grammar.{component}
 use Rattle.cpe_records.specs.Written.{items_by}
 use Rattle.cpe_records.specs.NameObject.{with_values, value_tokens}
-use Rattle.cpe_records.specs.WrittenRecord.{items_of}
 
 -- a piece, and what was put behind it
 pub two : {A : Type 0} (o a b t u : List A) → t ≡ o ++ a → u ≡ t ++ b → u ≡ o ++ (a ++ b)
@@ -27,16 +27,19 @@ closed f (x ∷ xs) rest =
     append_assoc (json_tokens (f x)) (items_tokens (items_by f xs)) rest
     ∙ (ap (λ (z : List Token). json_tokens (f x) ++ z) (closed f xs rest) ∙ sym (append_assoc (json_tokens (f x)) (flat_map (λ x. json_tokens (f x)) xs) (end_array ∷ rest)))
 
+-- the same of items that are made of others
+pub closed_made : {A B : Type 0} (f : B → Json) (g : A → B) (xs : List A) (rest : List Token) → items_tokens (items_by f (map g xs)) ++ rest ≡ flat_map (λ x. json_tokens (f (g x))) xs ++ end_array ∷ rest
+closed_made f g xs rest = closed f (map g xs) rest ∙ ap (λ ts. ts ++ end_array ∷ rest) (flat_map-map (λ y. json_tokens (f y)) g xs)
+
 -- three pieces, one after the other
 pub three : {A : Type 0} (o a b c t u v : List A) → t ≡ o ++ a → u ≡ t ++ b → v ≡ u ++ c → v ≡ o ++ (a ++ (b ++ c))
 three o a b c t u v h k l = two o a (b ++ c) t v h (two t b c u v k l)
 
--- the same where each item is made beforehand
-pub closed_made : {A : Type 0} (f : A → Json) (xs : List A) (rest : List Token) → items_tokens (items_of (map f xs)) ++ rest ≡ flat_map (λ x. json_tokens (f x)) xs ++ end_array ∷ rest
-closed_made f [] rest = refl
-closed_made f (x ∷ xs) rest =
-    append_assoc (json_tokens (f x)) (items_tokens (items_of (map f xs))) rest
-    ∙ (ap (λ (z : List Token). json_tokens (f x) ++ z) (closed_made f xs rest) ∙ sym (append_assoc (json_tokens (f x)) (flat_map (λ x. json_tokens (f x)) xs) (end_array ∷ rest)))
+-- a piece, what a loop put of each in a list, and a piece after these
+pub looped : {X A : Type 0} (f : X → List A) (of xs : List X) (i : ℕ) → length xs ≤ i → xs ≡ of → (o a b t u v : List A)
+    → t ≡ o ++ a → u ≡ t ++ flat_map f (take i xs) → v ≡ u ++ b → v ≡ o ++ (a ++ (flat_map f of ++ b))
+looped f of xs i past is o a b t u v h k l =
+    three o a (flat_map f of) b t u v h (k ∙ ap (λ ys. t ++ flat_map f ys) (take_all i xs past ∙ is)) l
 
 one_value : (b : Bool) (k s : List ℕ) (rest : Members) → members_tokens (if b then rest else member k (json.string s) rest) ≡ (if b then [] else key k ∷ Token.string s ∷ []) ++ members_tokens rest
 one_value true k s rest = refl

@@ -1,8 +1,8 @@
 -- A record as JSON, in the second format: without spaces, the members of each object sorted by their keys, and each member of its kind,
 -- also where it is what an absent one would be.
 use Rattle.std.specs.Prelude.{ℕ, List, [], ◌∷◌, ◌++◌, codes}
-use Rattle.json.specs.Token.{Token, begin_object, begin_array, key}
-use Rattle.json.specs.Json.{Json, boolean, string, array, object, Items, no_items, item, Members, no_members, member}
+use Rattle.json.specs.Token.{Token, begin_object, begin_array, end_object, key}
+use Rattle.json.specs.Json.{Json, boolean, string, array, object, Items, Members, no_members, member}
 use Rattle.json.specs.Tree.{json_tokens}
 use Rattle.json.specs.Print.{print}
 use Rattle.cpe_name.specs.Eleven.{Values}
@@ -39,8 +39,7 @@ abbrev pub check_json : CheckKey → Json
 check_json k = object (member (codes "check") (key_json k) no_members)
 
 abbrev pub items_of : List Json → Items
-items_of [] = no_items
-items_of (j ∷ js) = item j (items_of js)
+items_of = items_by (λ j. j)
 
 abbrev pub test_step : Test-F Json → Json
 test_step (Test-F.Logic operator negate of) = object (
@@ -90,6 +89,10 @@ abbrev pub change_head : RecordKind → Values → Deprecation → List ℕ → 
 change_head v n d date comment =
     begin_object ∷ key (codes "comment") ∷ Token.string comment ∷ key (codes "date") ∷ Token.string date ∷ key (codes "do") ∷ Token.string (record_word v)
     ∷ key (codes "kind") ∷ Token.string (kind_word d.kind) ∷ key (codes "name") ∷ (json_tokens (name_object n) ++ key (codes "successors") ∷ begin_array ∷ [])
+
+-- the tokens of a title, of the format behind it, and of a record's end
+abbrev pub titled_end : List ℕ → List Token
+titled_end title = key (codes "title") ∷ Token.string title ∷ key (codes "v") ∷ Token.string (codes "2") ∷ end_object ∷ []
 
 abbrev pub edit_json : Edit → Json
 edit_json (edit.Entry e) = object (

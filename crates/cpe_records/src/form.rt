@@ -9,7 +9,7 @@ ghost use Rattle.cpe_records.specs.Puts.{Puts};
 ghost use Rattle.cpe_records.specs.Reading.{record_of};
 ghost use Rattle.cpe_records.specs.Taken.{is_valid_record, IsFormedQuery, IsFormedRecord};
 ghost use Rattle.cpe_records.specs.declared.read.Record.{Record};
-ghost use Rattle.cpe_records.specs.WrittenRecord.{about_json, about_id_json, change_head, change_json, edit_json, query_json, record_json, record_text};
+ghost use Rattle.cpe_records.specs.WrittenRecord.{about_json, about_id_json, change_head, change_json, edit_json, query_json, record_json, record_text, titled_end};
 
 use crate::ascii::date_str;
 use crate::object::{put_around_name, put_name_objects};
@@ -60,6 +60,22 @@ fn put_about_id(writer: &mut Writer, kind: RecordKind, id: &Text) -> Result<(), 
     )
 }
 
+// The last members of a record that has a title, and its end.
+fn put_titled_end(writer: &mut Writer, title: &Text) -> Result<(), Memory>
+    ensures { Puts result writer.old writer.new (titled_end title.now) }
+{
+    put(
+        writer,
+        &[
+            Token::Key("title"),
+            Token::String(title.as_str()),
+            Token::Key("v"),
+            Token::String("2"),
+            Token::EndObject,
+        ],
+    )
+}
+
 fn put_entry_record(alloc: Global, writer: &mut Writer, entry: &Entry) -> Result<(), Memory>
     ensures { Puts result writer.old writer.new (json_tokens (edit_json (edit.Entry entry.now))) }
 {
@@ -76,16 +92,7 @@ fn put_entry_record(alloc: Global, writer: &mut Writer, entry: &Entry) -> Result
         &[Token::Key("provenance")],
     )?;
     put_provenance(writer, &entry.provenance)?;
-    put(
-        writer,
-        &[
-            Token::Key("title"),
-            Token::String(entry.title.as_str()),
-            Token::Key("v"),
-            Token::String("2"),
-            Token::EndObject,
-        ],
-    )?;
+    put_titled_end(writer, &entry.title)?;
     Ok(())
 }
 
@@ -191,16 +198,7 @@ fn put_statement(alloc: Global, writer: &mut Writer, statement: &Statement) -> R
         ],
     )?;
     put_test(alloc, writer, &statement.test)?;
-    put(
-        writer,
-        &[
-            Token::Key("title"),
-            Token::String(statement.title.as_str()),
-            Token::Key("v"),
-            Token::String("2"),
-            Token::EndObject,
-        ],
-    )?;
+    put_titled_end(writer, &statement.title)?;
     Ok(())
 }
 

@@ -39,4 +39,4 @@ mod write;
 pub use cpe_members::{Format, Member, NameSpot, RecordFault};
 pub use form::{append_record, write_record, written_is_read};
 pub use read::{Record, read_record};
-pub use write::{append_entry, write_entry};
+pub use write::{append_entry, put, put_names, write_entry};

@@ -17,7 +17,10 @@ use json::{Token, Writer};
 use std::alloc::Global;
 
 /// Puts tokens, one after the other.
-pub(crate) fn put(writer: &mut Writer, tokens: &[Token<'_>]) -> Result<(), Memory>
+///
+/// # Errors
+/// Out of memory alone.
+pub fn put(writer: &mut Writer, tokens: &[Token<'_>]) -> Result<(), Memory>
     requires { AllByRecursion (λ t. IsPrintable (token_of t)) tokens.now }
     ensures { Puts result writer.old writer.new (map token_of tokens.now) }
 {
@@ -37,7 +40,11 @@ fn put_name(alloc: Global, writer: &mut Writer, name: &Wfn) -> Result<(), Memory
     Ok(())
 }
 
-fn put_names(alloc: Global, writer: &mut Writer, names: &[Wfn]) -> Result<(), Memory>
+/// Puts names as formatted strings, one after the other.
+///
+/// # Errors
+/// Out of memory alone.
+pub fn put_names(alloc: Global, writer: &mut Writer, names: &[Wfn]) -> Result<(), Memory>
     ensures { Puts result writer.old writer.new (flat_map (λ n. json_tokens (name_json n)) names.now) }
 {
     for name in names {

@@ -1,7 +1,5 @@
 pub mod Mapped
-pub mod Arrays
 pub mod Givens
-pub mod Pieces
 pub mod Levels
 pub mod Names
 pub mod Forms

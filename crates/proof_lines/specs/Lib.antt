@@ -3,4 +3,3 @@ pub mod Levels
 pub mod Written
 pub mod Reading
 pub mod Whole
-pub mod Puts

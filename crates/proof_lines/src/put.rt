@@ -1,63 +1,16 @@
 // Certificates as JSON, a token at a time.
-ghost use Rattle.std.specs.Prelude.{◌≡◌, flat_map, map};
-ghost use Rattle.std.specs.List.{AllByRecursion};
-ghost use Rattle.std.specs.Str.{IsAscii};
-ghost use Rattle.json.specs.Print.{IsPrintable};
-ghost use Rattle.json.specs.Reads.{token_of};
 ghost use Rattle.json.specs.Tree.{json_tokens};
-ghost use Rattle.cpe_records.specs.Written.{name_json};
-ghost use Rattle.proof_lines.specs.Puts.{Puts};
+ghost use Rattle.cpe_records.specs.Puts.{Puts};
 ghost use Rattle.proof_lines.specs.Written.{pair_json, plain_json, why_json, proof_json};
 
 use cpe_explain::{Proof, Why};
-use cpe_fs::bind_fs;
 use cpe_members::truth_word;
 use cpe_name::Wfn;
+use cpe_records::{put, put_names};
 use cpe_rows::Truth;
 use cpe_values::Memory;
 use json::{Token, Writer};
 use std::alloc::Global;
-
-// Puts tokens, one after the other.
-fn put(writer: &mut Writer, tokens: &[Token<'_>]) -> Result<(), Memory>
-    requires { AllByRecursion (λ t. IsPrintable (token_of t)) tokens.now }
-    ensures { Puts result writer.old writer.new (map token_of tokens.now) }
-{
-    for token in tokens {
-        writer.token(*token)?;
-    }
-    Ok(())
-}
-
-// A formatted string as a text.
-fn ascii_str(bytes: &[u8]) -> &str
-    requires { IsAscii bytes.now }
-    ensures { result.now ≡ bytes.now }
-{
-    match std::str::from_utf8(bytes) {
-        Ok(text) => text,
-        Err(_) => unreachable!(),
-    }
-}
-
-#[tactic(auto, unfolding(cpe_records::specs::Written::name_json))]
-fn put_name(alloc: Global, writer: &mut Writer, name: &Wfn) -> Result<(), Memory>
-    ensures { Puts result writer.old writer.new (json_tokens (name_json name.now)) }
-{
-    name.lawful();
-    let text = bind_fs(alloc, name)?;
-    put(writer, &[Token::String(ascii_str(text.as_slice()))])?;
-    Ok(())
-}
-
-fn put_names(alloc: Global, writer: &mut Writer, names: &[Wfn]) -> Result<(), Memory>
-    ensures { Puts result writer.old writer.new (flat_map (λ n. json_tokens (name_json n)) names.now) }
-{
-    for name in names {
-        put_name(alloc, writer, name)?;
-    }
-    Ok(())
-}
 
 fn put_pair(
     alloc: Global,

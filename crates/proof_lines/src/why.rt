@@ -1,21 +1,18 @@
 // What a certificate says of a test, in two passes: its form at any depth, and its depth.
-ghost use Rattle.std.specs.Prelude.{◌≡◌, Ok, IfErr, MatchResult, map, nat_le, option_and_then, option_map};
-ghost use Rattle.serde_json.specs.Find.{as_array, get};
-ghost use Rattle.cpe_members.specs.Forms.{list_of};
+ghost use Rattle.std.specs.Prelude.{◌≡◌, Ok, IfErr, map, nat_le};
 ghost use Rattle.serde_json.specs.View.{view};
-ghost use Rattle.cpe_uri.specs.EitherBinding.{read_any, SaysFault};
+ghost use Rattle.cpe_uri.specs.EitherBinding.{read_any};
 ghost use Rattle.cpe_members.specs.FirstFault.{all_from};
-ghost use Rattle.cpe_members.specs.Names.{lowered};
 ghost use Rattle.proof_lines.specs.Gives.{Gives, GivesBy};
 ghost use Rattle.proof_lines.specs.Levels.{levels};
 ghost use Rattle.proof_lines.specs.Reading.{truth_at, named, name_in, items_at, names_at, logic_in, pair_in, plain_in, leaf_in, there, given_of, within_limit, why_at};
 
 use crate::ProofFault;
 use cpe_explain::Why;
-use cpe_members::{text_in, truth_of};
+use cpe_members::{array_in, lowered, text_in, truth_of, unbound};
 use cpe_name::Wfn;
 use cpe_rows::{List, MOST_LEVELS, Truth};
-use cpe_uri::{UriFault, unbind_any};
+use cpe_uri::UriFault;
 use serde_json::Value;
 use std::alloc::Global;
 
@@ -28,20 +25,6 @@ fn truth_at(source: &Value) -> Result<Truth, ProofFault>
         Some(text) => truth_of(text).ok_or(ProofFault::Why),
         None => Err(ProofFault::Why),
     }
-}
-
-// With less said, so that callers see the one fact that they need.
-fn unbound(alloc: Global, text: &[u8]) -> Result<Wfn, UriFault>
-    ensures { MatchResult result (λ name. read_any text.now ≡ Ok name) (λ fault. SaysFault fault (read_any text.now)) }
-{
-    unbind_any(alloc, text)
-}
-
-#[tactic(auto, unfolding(cpe_members::specs::Names::lowered))]
-fn lowered(name: Wfn) -> Wfn
-    ensures { result ≡ lowered name }
-{
-    name.into_lower()
 }
 
 fn named(alloc: Global, text: &str) -> Result<Wfn, ProofFault>
@@ -60,21 +43,6 @@ fn name_in(alloc: Global, source: &Value) -> Result<Wfn, ProofFault>
     match source.as_str() {
         Some(text) => named(alloc, text),
         None => Err(ProofFault::Why),
-    }
-}
-
-// The items of the array at a key, where there is one.
-#[tactic(auto, using(crate::proofs::Arrays::list_of_view))]
-fn array_in<'v>(source: &'v Value, key: &str) -> Option<&'v [Value]>
-    ensures { option_map (λ s. map view s.now) result
-        ≡ option_map list_of (option_and_then as_array (get key.now (view source.now))) }
-{
-    match source.get(key) {
-        Some(value) => match value.as_array() {
-            Some(items) => Some(items.as_slice()),
-            None => None,
-        },
-        None => None,
     }
 }
 

@@ -1,6 +1,5 @@
-use Rattle.std.proofs.Common.{◌≡◌, ◌+◌, ◌&&◌, Bool, true, false, List, map, drop, length, Option, Some, None, slice_get, ap, sym, ◌∙◌, refl}
-use Rattle.std.specs.Option.{option_map_or}
-use Rattle.std.proofs.lemmas.Option.{slice_get_read}
+use Rattle.std.proofs.Common.{◌≡◌, ◌+◌, ◌&&◌, Bool, true, false, List, map, length, ap, sym, ◌∙◌}
+use Rattle.std.specs.Option.{option_copied}
 use Rattle.cpe_rows.specs.declared.test.Test.{Test}
 use Rattle.cpe_explain.specs.Tested.{all_pass, is_settled, test_passes}
 use Rattle.cpe_explain.specs.declared.proof.Why.{Why}
@@ -29,18 +28,11 @@ returns-then-not-branch g t c =
     let k = c.loop-child.k in
     let many : length children ≡ length w.given = ap length c.as_slice-child-items.ensures ∙ (sym c.len.ensures ∙ (c.if-len.false
     ∙ c.len-in-Logic.ensures)) in
-    let child : Test = c.child-item.result in
-    let rest : Bool = all_pass (map q (drop (i + 1) children)) (drop (k + 1) w.given) in
-    let at : slice_get children i ≡ Some child = slice_get_read children (length children) i child refl c.loop-child-test.true c.child-item.is in
-    let said : c.in_ok-passes-in-Logic.field-0 ≡ option_map_or (q child) (option_map_or (λ (v : Option Why). v) (slice_get w.given k) None) true
-    = c.in_ok-passes-in-Logic.ensures
-    ∙ ap (λ (o : Option Why). option_map_or (q child) o true)
-    (c.given_at.ensures ∙ ap (λ (ws : List (Option Why)). option_map_or (λ (v : Option Why). v) (slice_get ws k) None) c.as_slice.ensures) in
-    let step : all_pass (map q (drop i children)) (drop k w.given) ≡ (c.in_ok-passes-in-Logic.field-0 && rest)
-    = child_step q children w.given i k child c.in_ok-passes-in-Logic.field-0 at c.loop-child.invariant.place many said in
+    let step = child_step q children w.given c.as_slice.result.now i k c.child-item.result (option_copied c.given_at.result) c.in_ok-passes-in-Logic.field-0 false
+    c.loop-child-test.true c.child-item.is c.loop-child.invariant.place many c.as_slice.ensures c.given_at.ensures c.in_ok-passes-in-Logic.ensures c.if-not-branch.true in
     let none : all_pass (map q l.of) w.given ≡ false
     = ap (λ (ts : List Test). all_pass (map q ts) w.given) (sym c.as_slice-child-items.ensures)
-    ∙ (sym c.loop-child.invariant.left ∙ (step ∙ ap (λ b. b && rest) c.if-not-branch.true)) in
+    ∙ (sym c.loop-child.invariant.left ∙ step) in
     sym (at_logic rows mode c.args.test.now c.args.why c.in-Some.why l.operator l.negate l.of w.truth w.given l.is c.in-Some.is w.is
     ∙ ap (λ b. b && is_settled l.operator l.negate w.truth w.given) none)
 
@@ -56,18 +48,11 @@ loop-child-preserved g t c =
     let k = c.loop-child.k in
     let many : length children ≡ length w.given = ap length c.as_slice-child-items.ensures ∙ (sym c.len.ensures ∙ (c.if-len.false
     ∙ c.len-in-Logic.ensures)) in
-    let child : Test = c.child-item.result in
-    let rest : Bool = all_pass (map q (drop (i + 1) children)) (drop (k + 1) w.given) in
-    let at : slice_get children i ≡ Some child = slice_get_read children (length children) i child refl c.loop-child-test.true c.child-item.is in
-    let said : c.in_ok-passes-in-Logic.field-0 ≡ option_map_or (q child) (option_map_or (λ (v : Option Why). v) (slice_get w.given k) None) true
-    = c.in_ok-passes-in-Logic.ensures
-    ∙ ap (λ (o : Option Why). option_map_or (q child) o true)
-    (c.given_at.ensures ∙ ap (λ (ws : List (Option Why)). option_map_or (λ (v : Option Why). v) (slice_get ws k) None) c.as_slice.ensures) in
-    let step : all_pass (map q (drop i children)) (drop k w.given) ≡ (c.in_ok-passes-in-Logic.field-0 && rest)
-    = child_step q children w.given i k child c.in_ok-passes-in-Logic.field-0 at c.loop-child.invariant.place many said in
+    let step = child_step q children w.given c.as_slice.result.now i k c.child-item.result (option_copied c.given_at.result) c.in_ok-passes-in-Logic.field-0 true
+    c.loop-child-test.true c.child-item.is c.loop-child.invariant.place many c.as_slice.ensures c.given_at.ensures c.in_ok-passes-in-Logic.ensures c.if-not-branch.false in
     record {
       place = ap (λ n. n + 1) c.loop-child.invariant.place;
-      left = sym (step ∙ ap (λ b. b && rest) c.if-not-branch.false) ∙ c.loop-child.invariant.left;
+      left = sym step ∙ c.loop-child.invariant.left;
     }
 
 pub returns-after-loop-child : goal.returns-after-loop-child

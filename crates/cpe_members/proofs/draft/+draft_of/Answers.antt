@@ -1,16 +1,13 @@
-use Rattle.std.proofs.Common.{◌≡◌, ◌<◌, map, length, get_or, not, codes, sym, ap, ◌∙◌, subst, arith, rules, take_all}
-use Rattle.std.proofs.Math.ListN.{get_or-map}
+use Rattle.std.proofs.Common.{◌<◌, map, not, codes, sym, ap, ◌∙◌, subst, rules}
 use Rattle.cpe_members.specs.declared.member.RecordFault.TheVariants as fault
 use Rattle.cpe_members.specs.declared.member.Member.TheVariants as part
-use Rattle.std.specs.Prelude.{Ok}
-use Rattle.std.proofs.lemmas.List.{length-map}
 use Rattle.serde_json.specs.Data.{depth}
 use Rattle.serde_json.specs.Find.{get}
 use Rattle.serde_json.specs.View.{view}
-use Rattle.cpe_members.specs.Gives.{all_from, Fails, Gives, is_out_of_memory}
+use Rattle.cpe_members.specs.Gives.{Fails, Gives, is_out_of_memory}
 use Rattle.cpe_members.specs.Tests.{draft_of, logic_in}
-use Rattle.cpe_members.proofs.AllFrom.{all_from-more, all_from_fails}
-use Rattle.cpe_members.proofs.Depths.{below_depth}
+use Rattle.cpe_members.proofs.AllFrom.{all_from-more, all_from-whole, all_from_fails}
+use Rattle.cpe_members.proofs.Depths.{item_falls}
 use Rattle.cpe_members.proofs.Drafts.{draft_of-logic, logic_fails, looked_up, looked_up-items, looked_up-none}
 use Rattle.cpe_members.proofs.draft.+draft_of.Goals as goal
 
@@ -22,13 +19,8 @@ returns-in_default t c =
 
 pub draft_of-requires : goal.draft_of-requires
 draft_of-requires t c =
-    let i = c.loop-item.item-index in
-    let items = c.in-Some.items.now in
-    let here : i < length (map view items) = omega (arith, length-map items view, c.loop-item-test.true) in
-    let falls : depth (get_or (map view items) i (view c.item-item.result)) < depth (view c.args.source.now) =
-    below_depth (codes "of") (view c.args.source.now) (map view items) i (view c.item-item.result) here c.in-Some.ensures in
-    let same : get_or (map view items) i (view c.item-item.result) ≡ view c.item-item.result = get_or-map view items i c.item-item.result ∙ ap view (sym c.item-item.is) in
-    let smaller : depth (view c.item-item.result) < depth (view c.args.source.now) = subst (λ d. depth d < depth (view c.args.source.now)) same falls in
+    let smaller : depth (view c.item-item.result) < depth (view c.args.source.now) =
+    item_falls view (codes "of") (view c.args.source.now) c.in-Some.items.now c.loop-item.item-index c.item-item.result c.loop-item-test.true c.item-item.is c.in-Some.ensures in
     search (rules, smaller)
 
 pub returns-in-Err : goal.returns-in-Err
@@ -52,7 +44,6 @@ returns t c =
     let d = view c.args.source.now in
     let items = c.in-Some.items.now in
     let logic = draft_of-logic (λ v. view v.now) c.args.format d c.get.result c.get.ensures (c.is_none.ensures ∙ ap not c.if-is_none.false) in
-    let all : all_from (λ k. draft_of c.args.format) 1 (map view items) ≡ Ok c.loop-item.of =
-    ap (λ vs. all_from (λ k. draft_of c.args.format) 1 (map view vs)) (sym (take_all c.loop-item.item-index items c.loop-item-test.false)) ∙ c.loop-item.invariant in
+    let all = all_from-whole view (λ k. draft_of c.args.format) 1 c.loop-item.item-index items c.loop-item.of c.loop-item-test.false c.loop-item.invariant in
     let children = looked_up-items c.args.format (get (codes "of") d) (map view items) c.in-Some.ensures ∙ all in
     subst (Gives c.logic_of.result) (sym (logic ∙ ap (logic_in d) children)) c.logic_of.ensures

@@ -1,8 +1,9 @@
 use Rattle.std.proofs.Common.{◌≡◌, List, [], ◌∷◌, ◌++◌, codes}
-use Rattle.json.specs.Token.{Token, string, key, begin_object, end_object}
+use Rattle.json.specs.Token.{Token, string, key, begin_object}
 use Rattle.json.specs.Tree.{json_tokens}
 use Rattle.cpe_records.specs.NameObject.{name_object}
 use Rattle.cpe_records.specs.Written.{provenance_json}
+use Rattle.cpe_records.specs.WrittenRecord.{titled_end}
 use Rattle.cpe_records.proofs.Pieces.{around}
 use Rattle.cpe_records.proofs.form.put_entry_record.Goals as goal
 
@@ -13,12 +14,10 @@ returns c =
     let name : List Token = json_tokens (name_object e.name) in
     let between : List Token = key (codes "provenance") ∷ [] in
     let provenance : List Token = json_tokens (provenance_json e.provenance) in
-    let rest : List Token = key (codes "title") ∷ string e.title ∷ key (codes "v") ∷ string (codes "2") ∷ end_object ∷ [] in
     let t1 = c.put_around_name.new.writer.tokens in
     let t2 = c.put_provenance.new.writer.tokens in
-    let t3 = c.put.new.writer.tokens in
-    let h1 : t1 ≡ c.args.writer.now.tokens ++ (before ++ (name ++ between)) = cc (c.in_ok-put_around_name.ensures.1, c.word.ensures) in
-    let h3 : t3 ≡ t2 ++ rest = cc (c.in_ok-put.ensures.1, c.as_str.ensures) in (
-      cc (c.in_ok-put_around_name.ensures.0, c.in_ok-put_provenance.ensures.0, c.in_ok-put.ensures.0),
-      around c.args.writer.now.tokens before name between provenance rest t1 t2 t3 h1 c.in_ok-put_provenance.ensures.1 h3,
+    let t3 = c.put_titled_end.new.writer.tokens in
+    let h1 : t1 ≡ c.args.writer.now.tokens ++ (before ++ (name ++ between)) = cc (c.in_ok-put_around_name.ensures.1, c.word.ensures) in (
+      cc (c.in_ok-put_around_name.ensures.0, c.in_ok-put_provenance.ensures.0, c.in_ok-put_titled_end.ensures.0),
+      around c.args.writer.now.tokens before name between provenance (titled_end e.title) t1 t2 t3 h1 c.in_ok-put_provenance.ensures.1 c.in_ok-put_titled_end.ensures.1,
     )

@@ -1,12 +1,10 @@
-use Rattle.std.proofs.Common.{◌≡◌, List, [], ◌∷◌, ◌++◌, codes, take_all, ap, subst, sym, ◌∙◌}
-use Rattle.std.specs.Prelude.{OnOk}
-use Rattle.std.specs.List.{flat_map}
+use Rattle.std.proofs.Common.{◌≡◌, List, [], ◌∷◌, ◌++◌, codes, ap, subst, sym, ◌∙◌}
 use Rattle.json.specs.Token.{Token, string, boolean, key, begin_object, begin_array, end_array, end_object}
 use Rattle.json.specs.Tree.{json_tokens}
 use Rattle.cpe_members.specs.Words.{operator_word}
+use Rattle.cpe_records.specs.Puts.{Puts}
 use Rattle.cpe_records.specs.WrittenRecord.{test_json}
-use Rattle.cpe_rows.specs.declared.test.Test.{Test}
-use Rattle.cpe_records.proofs.Pieces.{three, closed_made}
+use Rattle.cpe_records.proofs.Pieces.{looped, closed_made}
 use Rattle.cpe_records.proofs.TestForms.{json-logic, json-fact, json-check}
 use Rattle.cpe_records.proofs.test.+put_test.Goals as goal
 
@@ -19,23 +17,21 @@ returns-in_ok-put-in-Logic-2 t c =
     let t2 = c.loop-child.writer.tokens in
     let t3 = c.put-in-Logic.new.writer.tokens in
     let before : List Token = begin_object ∷ key (codes "negate") ∷ boolean c.in-Logic.negate ∷ key (codes "of") ∷ begin_array ∷ [] in
-    let tests : List Token = flat_map (λ t. json_tokens (test_json t)) of in
     let rest : List Token = key (codes "op") ∷ string (operator_word c.in-Logic.operator) ∷ end_object ∷ [] in
-    let h2 : t2 ≡ t1 ++ tests =
-    c.loop-child.invariant.1 ∙ ap (λ (ts : List Test). t1 ++ flat_map (λ t. json_tokens (test_json t)) ts) (take_all c.loop-child.child-index items c.loop-child-test.false ∙ c.as_slice-child-items.ensures) in
     let h3 : t3 ≡ t2 ++ end_array ∷ rest = cc (c.in_ok-put-in-Logic-2.ensures.1, c.operator_word.ensures) in
-    let all : t3 ≡ start ++ (before ++ (tests ++ end_array ∷ rest)) = three start before tests (end_array ∷ rest) t1 t2 t3 c.in_ok-put-in-Logic.ensures.1 h2 h3 in (
+    let all = looped (λ t. json_tokens (test_json t)) of items c.loop-child.child-index c.loop-child-test.false c.as_slice-child-items.ensures
+    start before (end_array ∷ rest) t1 t2 t3 c.in_ok-put-in-Logic.ensures.1 c.loop-child.invariant.1 h3 in (
       cc (c.in_ok-put-in-Logic.ensures.0, c.loop-child.invariant.0, c.in_ok-put-in-Logic-2.ensures.0),
-      all ∙ (ap (λ (z : List Token). start ++ (before ++ z)) (sym (closed_made test_json of rest))
+      all ∙ (ap (λ (z : List Token). start ++ (before ++ z)) (sym (closed_made (λ j. j) test_json of rest))
           ∙ ap (λ j. start ++ json_tokens j) (sym (json-logic c.args.test.now c.in-Logic.operator c.in-Logic.negate of c.in-Logic.is))),
     )
 
 pub returns-in-Fact : goal.returns-in-Fact
 returns-in-Fact t c =
-    subst (λ j. OnOk c.put_fact.result ((c.put_fact.new.writer.before ≡ c.args.writer.now.before) × (c.put_fact.new.writer.tokens ≡ c.args.writer.now.tokens ++ json_tokens j)))
+    subst (λ j. Puts c.put_fact.result c.args.writer.now c.put_fact.new.writer (json_tokens j))
     (sym (json-fact c.args.test.now c.in-Fact.name c.in-Fact.is)) c.put_fact.ensures
 
 pub returns-in-Check : goal.returns-in-Check
 returns-in-Check t c =
-    subst (λ j. OnOk c.put_check.result ((c.put_check.new.writer.before ≡ c.args.writer.now.before) × (c.put_check.new.writer.tokens ≡ c.args.writer.now.tokens ++ json_tokens j)))
+    subst (λ j. Puts c.put_check.result c.args.writer.now c.put_check.new.writer (json_tokens j))
     (sym (json-check c.args.test.now c.in-Check.key c.in-Check.is)) c.put_check.ensures

@@ -12,11 +12,11 @@ returns c =
     let opened = c.put.new.writer.tokens in
     let noted = c.put_notes.new.writer.tokens in
     let ended = c.put-2.new.writer.tokens in
-    let front : List Token = begin_object ∷ key (codes "authority") ∷ string c.args.provenance.now.authority ∷ key (codes "changes") ∷ begin_array ∷ [] in
+    let prefix : List Token = begin_object ∷ key (codes "authority") ∷ string c.args.provenance.now.authority ∷ key (codes "changes") ∷ begin_array ∷ [] in
     let notes : List Token = flat_map (λ n. json_tokens (note_json n)) c.args.provenance.now.notes in
     let rest : List Token = key (codes "submitter") ∷ string c.args.provenance.now.submitter ∷ end_object ∷ [] in
-    let first : opened ≡ start ++ front = cc (c.in_ok-put.ensures.1, c.as_str.ensures) in
+    let first : opened ≡ start ++ prefix = cc (c.in_ok-put.ensures.1, c.as_str.ensures) in
     let second : noted ≡ opened ++ notes = cc (c.in_ok-put_notes.ensures.1, c.as_slice.ensures) in
     let third : ended ≡ noted ++ end_array ∷ rest = cc (c.in_ok-put-2.ensures.1, c.as_str-2.ensures) in
-    let all : ended ≡ start ++ (front ++ (notes ++ end_array ∷ rest)) = two start front _ opened ended first (two opened notes (end_array ∷ rest) noted ended second third) in
-    (cc (c.in_ok-put.ensures.0, c.in_ok-put_notes.ensures.0, c.in_ok-put-2.ensures.0), all ∙ ap (λ (z : List Token). start ++ (front ++ z)) (sym (closed note_json c.args.provenance.now.notes rest)))
+    let all : ended ≡ start ++ (prefix ++ (notes ++ end_array ∷ rest)) = two start prefix _ opened ended first (two opened notes (end_array ∷ rest) noted ended second third) in
+    (cc (c.in_ok-put.ensures.0, c.in_ok-put_notes.ensures.0, c.in_ok-put-2.ensures.0), all ∙ ap (λ (z : List Token). start ++ (prefix ++ z)) (sym (closed note_json c.args.provenance.now.notes rest)))

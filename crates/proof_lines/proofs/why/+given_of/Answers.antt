@@ -1,12 +1,8 @@
-use Rattle.std.proofs.Common.{◌≡◌, ◌<◌, map, length, get_or, not, codes, sym, ap, ◌∙◌, subst, arith, rules, take_all}
-use Rattle.std.proofs.Math.ListN.{get_or-map}
-use Rattle.std.specs.Prelude.{Ok}
-use Rattle.std.proofs.lemmas.List.{length-map}
+use Rattle.std.proofs.Common.{◌<◌, map, not, codes, sym, ap, ◌∙◌, subst, rules}
 use Rattle.serde_json.specs.Data.{depth}
 use Rattle.serde_json.specs.View.{view}
-use Rattle.cpe_members.specs.FirstFault.{all_from}
-use Rattle.cpe_members.proofs.AllFrom.{all_from-more, all_from_fails}
-use Rattle.cpe_members.proofs.Depths.{below_depth}
+use Rattle.cpe_members.proofs.AllFrom.{all_from-more, all_from-whole, all_from_fails}
+use Rattle.cpe_members.proofs.Depths.{item_falls}
 use Rattle.proof_lines.specs.Gives.{Fails, Gives, is_out_of_memory}
 use Rattle.proof_lines.specs.Reading.{given_of, logic_in, there}
 use Rattle.proof_lines.proofs.Givens.{has_of, none_there, all_there, child_fails}
@@ -20,13 +16,8 @@ returns-in_default t c =
 
 pub given_of-requires : goal.given_of-requires
 given_of-requires t c =
-    let i = c.loop-item.item-index in
-    let items = c.in-Some.items.now in
-    let here : i < length (map view items) = omega (arith, length-map items view, c.loop-item-test.true) in
-    let falls : depth (get_or (map view items) i (view c.item-item.result)) < depth (view c.args.source.now) =
-    below_depth (codes "of") (view c.args.source.now) (map view items) i (view c.item-item.result) here c.in-Some.ensures in
-    let same : get_or (map view items) i (view c.item-item.result) ≡ view c.item-item.result = get_or-map view items i c.item-item.result ∙ ap view (sym c.item-item.is) in
-    let smaller : depth (view c.item-item.result) < depth (view c.args.source.now) = subst (λ d. depth d < depth (view c.args.source.now)) same falls in
+    let smaller : depth (view c.item-item.result) < depth (view c.args.source.now) =
+    item_falls view (codes "of") (view c.args.source.now) c.in-Some.items.now c.loop-item.item-index c.item-item.result c.loop-item-test.true c.item-item.is c.in-Some.ensures in
     search (rules, smaller)
 
 pub returns-in-Err : goal.returns-in-Err
@@ -48,7 +39,6 @@ returns t c =
     let d = view c.args.source.now in
     let items = c.in-Some.items.now in
     let has_it = has_of (λ v. view v.now) d c.get.result c.get.ensures (c.is_none.ensures ∙ ap not c.if-is_none.false) in
-    let all : all_from (λ k. given_of) 1 (map view items) ≡ Ok c.loop-item.of =
-    ap (λ vs. all_from (λ k. given_of) 1 (map view vs)) (sym (take_all c.loop-item.item-index items c.loop-item-test.false)) ∙ c.loop-item.invariant in
+    let all = all_from-whole view (λ k. given_of) 1 c.loop-item.item-index items c.loop-item.of c.loop-item-test.false c.loop-item.invariant in
     let is = all_there d (sym c.is_null.ensures ∙ c.if-is_null.false) has_it (map view items) c.in-Some.ensures ∙ ap (λ r. there (logic_in d r)) all in
     subst (Gives c.logic_of.result) (sym is) c.logic_of.ensures
