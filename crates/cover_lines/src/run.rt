@@ -9,14 +9,14 @@ ghost use Rattle.cover_lines.specs.Lines.{cover_session, most_steps};
 use crate::speaker::Cover;
 use cpe_cover::Names;
 use cpe_io::{Sink, Source};
-use cpe_session::{Status, answer_lines};
+use cpe_session::{Status, answer_from};
 use cpe_steps::Steps;
 use std::alloc::Global;
 use std::sync::ledger::Ledger;
 
 /// Adds the name of each line of the source, and writes at its end those that no other of them covers.
 ///
-/// What stands written at each status is said as for every command that answers lines ([`answer_lines`]). A step is a look at a name, and
+/// What stands written at each status is said as for every command that answers lines ([`answer_from`]). A step is a look at a name, and
 /// only the end takes some.
 pub fn cover<S: Source, K: Sink, L: Ledger>(
     alloc: Global,
@@ -31,32 +31,5 @@ pub fn cover<S: Source, K: Sink, L: Ledger>(
     ensures complete { ¬ Rose (S.faults source.old) (S.faults source.new) → ¬ Rose (K.faults sink.old) (K.faults sink.new)
         → Completes (S.left source.old) (task cover_session []) result }
 {
-    let mut names = Names::new(alloc);
-    let status = answer_all(alloc, &mut names, source, sink, steps);
-    let_go(names);
-    status
-}
-
-// Over names that are lent.
-fn answer_all<S: Source, K: Sink, L: Ledger>(
-    alloc: Global,
-    names: &mut Names,
-    source: &mut S,
-    sink: &mut K,
-    steps: &mut Steps<L>,
-) -> Status
-    requires { names.old ≡ [] }
-    ensures ran { Ran (S.left source.old) (S.left source.new) (K.held sink.old) (K.held sink.new) (task cover_session [])
-        (λ taken status. StepsWithin steps.old steps.new (most_steps taken)) result }
-    ensures source { Counted Status.ReadFault (S.faults source.old) (S.faults source.new) result }
-    ensures sink { Counted Status.WriteFault (K.faults sink.old) (K.faults sink.new) result }
-    ensures complete { ¬ Rose (S.faults source.old) (S.faults source.new) → ¬ Rose (K.faults sink.old) (K.faults sink.new)
-        → Completes (S.left source.old) (task cover_session []) result }
-{
-    answer_lines(alloc, &Cover, names, source, sink, steps)
-}
-
-// By one call: in place each list of them would split the proof.
-fn let_go(names: Names) {
-    drop(names);
+    answer_from(alloc, &Cover, Names::new(alloc), source, sink, steps)
 }

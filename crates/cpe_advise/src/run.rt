@@ -10,14 +10,14 @@ ghost use Rattle.cpe_advise.specs.Records.{advice_session, most_steps};
 use crate::speaker::Advise;
 use cpe_io::{Sink, Source};
 use cpe_ranges::Advisories;
-use cpe_session::{Status, answer_lines};
+use cpe_session::{Status, answer_from};
 use cpe_steps::Steps;
 use std::alloc::Global;
 use std::sync::ledger::Ledger;
 
 /// Answers each line of the source as a record, over items and advisories that begin with none.
 ///
-/// What stands written at each status is said as for every command that answers lines ([`answer_lines`]). A step is a look at the
+/// What stands written at each status is said as for every command that answers lines ([`answer_from`]). A step is a look at the
 /// name of an item, and only a question takes some.
 pub fn advise<S: Source, K: Sink, L: Ledger>(
     alloc: Global,
@@ -32,32 +32,5 @@ pub fn advise<S: Source, K: Sink, L: Ledger>(
     ensures complete { ¬ Rose (S.faults source.old) (S.faults source.new) → ¬ Rose (K.faults sink.old) (K.faults sink.new)
         → Completes (S.left source.old) (task advice_session no_rows) result }
 {
-    let mut advisories = Advisories::new(alloc);
-    let status = answer_all(alloc, &mut advisories, source, sink, steps);
-    let_go(advisories);
-    status
-}
-
-// Over items and advisories that are lent.
-fn answer_all<S: Source, K: Sink, L: Ledger>(
-    alloc: Global,
-    advisories: &mut Advisories,
-    source: &mut S,
-    sink: &mut K,
-    steps: &mut Steps<L>,
-) -> Status
-    requires { advisories.old ≡ no_rows }
-    ensures ran { Ran (S.left source.old) (S.left source.new) (K.held sink.old) (K.held sink.new) (task advice_session no_rows)
-        (λ taken status. StepsWithin steps.old steps.new (most_steps taken)) result }
-    ensures source { Counted Status.ReadFault (S.faults source.old) (S.faults source.new) result }
-    ensures sink { Counted Status.WriteFault (K.faults sink.old) (K.faults sink.new) result }
-    ensures complete { ¬ Rose (S.faults source.old) (S.faults source.new) → ¬ Rose (K.faults sink.old) (K.faults sink.new)
-        → Completes (S.left source.old) (task advice_session no_rows) result }
-{
-    answer_lines(alloc, &Advise, advisories, source, sink, steps)
-}
-
-// By one call: in place each list and each map of them would split the proof.
-fn let_go(advisories: Advisories) {
-    drop(advisories);
+    answer_from(alloc, &Advise, Advisories::new(alloc), source, sink, steps)
 }

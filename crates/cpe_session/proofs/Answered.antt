@@ -2,7 +2,7 @@
 use Rattle.std.proofs.Common.{◌≡◌, ℕ, ◌+◌, ◌≤◌, Bool, false, List, [], ◌∷◌, ◌++◌, length, Option, sym, ap, ◌∙◌, subst, inl, inr, arith, append_assoc, append-nil}
 use Rattle.std.specs.Io.KnownBytes.{Appends}
 use Rattle.std.proofs.KnownBytes.{Appends-nil, Appends-trans}
-use Rattle.cpe_io.specs.Writes.{BeginsWith, AppendsFront}
+use Rattle.cpe_io.specs.Writes.{BeginsWith, AppendsPrefix}
 use Rattle.cpe_session.specs.declared.status.Status.{Status}
 use Rattle.cpe_session.specs.declared.status.Status.TheVariants as status
 use Rattle.cpe_session.specs.Session.{Session, Stage, next_says, next_writes, after_next, start, stage_after, out_from, next_cost, costs, total_cost}
@@ -73,9 +73,9 @@ module _ {State : Type 0} {held0 held : Option (List ℕ)} {session : Session St
   -- a flush writes a prefix of what is gathered
   pub Answered-poured : {held_now : Option (List ℕ)} {kept : List ℕ} → Pours held held_now text kept [] → Answered held0 held_now session first steps0 steps seen kept s
   Answered-poured {held_now = held_now} {kept = kept} pours = record {
-    written = answered.written ++ pours.front;
-    wrote = Appends-trans held0 held held_now answered.written pours.front answered.wrote pours.appends;
-    so_far = append_assoc answered.written pours.front kept ∙ ap (λ (l : List ℕ). answered.written ++ l) (sym pours.splits ∙ append-nil text) ∙ answered.so_far;
+    written = answered.written ++ pours.prefix;
+    wrote = Appends-trans held0 held held_now answered.written pours.prefix answered.wrote pours.appends;
+    so_far = append_assoc answered.written pours.prefix kept ∙ ap (λ (l : List ℕ). answered.written ++ l) (sym pours.splits ∙ append-nil text) ∙ answered.so_far;
     stage = answered.stage;
     later = answered.later;
     spent = answered.spent;
@@ -122,12 +122,12 @@ module _ {State : Type 0} {held0 held : Option (List ℕ)} {session : Session St
         ∙ append_assoc answered.written text (out_from session s later ++ end)
 
     -- a prefix of what is gathered, after what is written, is a prefix of what all lines write
-    pub begins_front : (front : List ℕ) → BeginsWith text front → BeginsWith (spoken (speech session first) all).text (answered.written ++ front)
-    begins_front front begins = record {
+    pub begins_prefix : (prefix : List ℕ) → BeginsWith text prefix → BeginsWith (spoken (speech session first) all).text (answered.written ++ prefix)
+    begins_prefix prefix begins = record {
       rest = begins.rest ++ rest;
       splits = goes_on ∙ ap (λ (t : List ℕ). answered.written ++ (t ++ rest)) begins.splits
-          ∙ ap (λ (t : List ℕ). answered.written ++ t) (append_assoc front begins.rest rest)
-          ∙ sym (append_assoc answered.written front (begins.rest ++ rest));
+          ∙ ap (λ (t : List ℕ). answered.written ++ t) (append_assoc prefix begins.rest rest)
+          ∙ sym (append_assoc answered.written prefix (begins.rest ++ rest));
     }
 
     pub begins_written : BeginsWith (spoken (speech session first) all).text answered.written
@@ -168,10 +168,10 @@ module _ {State : Type 0} {held0 held : Option (List ℕ)} {session : Session St
         subst (λ (ls : List (Option (List ℕ))). steps_now ≤ steps0 + total_cost session first ls) (sym same)
         (omega (arith, counts.1, answered.spent, ap (λ (t : Stage State). session.end_cost t.state) answered.stage))
 
-    end_begins : (front : List ℕ) → BeginsWith (text ++ session.ends s.state) front → BeginsWith (spoken (speech session first) all).text (answered.written ++ front)
-    end_begins front begins = record {
+    end_begins : (prefix : List ℕ) → BeginsWith (text ++ session.ends s.state) prefix → BeginsWith (spoken (speech session first) all).text (answered.written ++ prefix)
+    end_begins prefix begins = record {
       rest = begins.rest;
-      splits = end_text ∙ ap (λ (t : List ℕ). answered.written ++ t) begins.splits ∙ sym (append_assoc answered.written front begins.rest);
+      splits = end_text ∙ ap (λ (t : List ℕ). answered.written ++ t) begins.splits ∙ sym (append_assoc answered.written prefix begins.rest);
     }
 
     module _ {held_now : Option (List ℕ)} {steps_now : ℕ} {whole_ones : List (Option (List ℕ))} (counts : StepsWithin steps steps_now (session.end_cost s.state)) where
@@ -188,21 +188,21 @@ module _ {State : Type 0} {held0 held : Option (List ℕ)} {session : Session St
             reached = record { state = left end_state; later = omega (arith, answered.later, counts.0); within = end_within counts };
           }
 
-      ended_front : (ending : Status) → ((written : List ℕ) → EndTold (spoken (speech session first) all) written ending) → StateAt session first s.state all whole_ones ending
-          → AppendsFront held held_now (text ++ session.ends s.state) → Ended held0 held_now session first s.state steps0 steps_now all whole_ones ending
-      ended_front ending tells left front = record {
-        written = answered.written ++ front.front;
-        wrote = Appends-trans held0 held held_now answered.written front.front answered.wrote front.appends;
-        begins = end_begins front.front front.begins;
-        told = tells (answered.written ++ front.front);
+      ended_prefix : (ending : Status) → ((written : List ℕ) → EndTold (spoken (speech session first) all) written ending) → StateAt session first s.state all whole_ones ending
+          → AppendsPrefix held held_now (text ++ session.ends s.state) → Ended held0 held_now session first s.state steps0 steps_now all whole_ones ending
+      ended_prefix ending tells left prefix = record {
+        written = answered.written ++ prefix.prefix;
+        wrote = Appends-trans held0 held held_now answered.written prefix.prefix answered.wrote prefix.appends;
+        begins = end_begins prefix.prefix prefix.begins;
+        told = tells (answered.written ++ prefix.prefix);
         reached = record { state = left; later = omega (arith, answered.later, counts.0); within = end_within counts };
       }
 
       pub Answered-ended : (ending : Status) → Finishes held held_now (text ++ session.ends s.state) s.refused ending → Ended held0 held_now session first s.state steps0 steps_now all whole_ones ending
       Answered-ended status.Done finishes = ended_all status.Done (λ written it. it) (λ it. it) finishes.0 finishes.1
       Answered-ended status.SomeRefused finishes = ended_all status.SomeRefused (λ written it. it) (λ it. it) finishes.0 finishes.1
-      Answered-ended status.WriteFault finishes = ended_front status.WriteFault (λ _. tt) left_by_all finishes
-      Answered-ended status.Memory finishes = ended_front status.Memory (λ _. tt) left_by_all finishes
+      Answered-ended status.WriteFault finishes = ended_prefix status.WriteFault (λ _. tt) left_by_all finishes
+      Answered-ended status.Memory finishes = ended_prefix status.Memory (λ _. tt) left_by_all finishes
       Answered-ended status.Usage finishes = absurd finishes
       Answered-ended status.ReadFault finishes = absurd finishes
       Answered-ended status.Endless finishes = absurd finishes

@@ -64,7 +64,7 @@ fn without_return(piece: &[u8]) -> &[u8]
     ensures { result.now ≡ strip_carriage_return piece.now }
 {
     match piece {
-        [front @ .., b'\r'] => front,
+        [prefix @ .., b'\r'] => prefix,
         _ => piece,
     }
 }

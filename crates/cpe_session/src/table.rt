@@ -1,7 +1,7 @@
 // Texts of many rows, and long ones.
 ghost use Rattle.std.specs.Prelude.{◌≡◌, ◌<◌, ◌++◌, ℕ, List, OnOk};
 ghost use Rattle.cpe_io.specs.Causes.{HasSinkCause};
-ghost use Rattle.cpe_io.specs.Writes.{AppendsFront};
+ghost use Rattle.cpe_io.specs.Writes.{AppendsPrefix};
 ghost use Rattle.cpe_session.specs.Pages.{Pours};
 ghost use Rattle.cpe_session.specs.Table.{rows_text};
 
@@ -34,7 +34,7 @@ pub fn pour_table<R: Table, K: Sink>(
     sink: &mut K,
 ) -> Result<(), SinkFault>
     ensures ok { OnOk result (Pours (K.held sink.old) (K.held sink.new) page.old page.new (rows_text (R.text table.now) (R.count table.now))) }
-    ensures front { AppendsFront (K.held sink.old) (K.held sink.new) (page.old ++ rows_text (R.text table.now) (R.count table.now)) }
+    ensures prefix { AppendsPrefix (K.held sink.old) (K.held sink.new) (page.old ++ rows_text (R.text table.now) (R.count table.now)) }
     ensures cause { HasSinkCause (K.faults sink.old) (K.faults sink.new) result }
 {
     let count = table.len();
@@ -53,7 +53,7 @@ fn pour_row<R: Table, K: Sink>(
 ) -> Result<(), SinkFault>
     requires { k < R.count table.now }
     ensures ok { OnOk result (Pours (K.held sink.old) (K.held sink.new) page.old page.new (R.text table.now k)) }
-    ensures front { AppendsFront (K.held sink.old) (K.held sink.new) (page.old ++ R.text table.now k) }
+    ensures prefix { AppendsPrefix (K.held sink.old) (K.held sink.new) (page.old ++ R.text table.now k) }
     ensures cause { HasSinkCause (K.faults sink.old) (K.faults sink.new) result }
 {
     if table.put(alloc, k, page).is_err() {
@@ -65,7 +65,7 @@ fn pour_row<R: Table, K: Sink>(
 /// Gives what is gathered, and then a text, to the sink. The text is not copied.
 pub fn pour_text<K: Sink>(page: &mut Page, text: &[u8], sink: &mut K) -> Result<(), SinkFault>
     ensures ok { OnOk result (Pours (K.held sink.old) (K.held sink.new) page.old page.new text.now) }
-    ensures front { AppendsFront (K.held sink.old) (K.held sink.new) (page.old ++ text.now) }
+    ensures prefix { AppendsPrefix (K.held sink.old) (K.held sink.new) (page.old ++ text.now) }
     ensures cause { HasSinkCause (K.faults sink.old) (K.faults sink.new) result }
 {
     page.flush_if_due(false, sink)?;

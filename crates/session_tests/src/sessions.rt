@@ -130,6 +130,14 @@ fn add_up<L: Ledger>(
     Ok((status, sink))
 }
 
+// Whether a run ended so, and wrote this.
+fn ended_so(run: Result<(Status, MemSink), Memory>, status: Status, output: &[u8]) -> bool {
+    match run {
+        Ok((ended, sink)) => ended == status && sink.bytes() == output,
+        Err(_) => false,
+    }
+}
+
 fn comes_to(
     alloc: Global,
     quiet: bool,
@@ -139,10 +147,8 @@ fn comes_to(
     status: Status,
     output: &[u8],
 ) -> bool {
-    match add_up::<Brand>(alloc, quiet, input, read_fails, write_fails, Blank::new(1)) {
-        Ok((ended, sink)) => ended == status && sink.bytes() == output,
-        Err(_) => false,
-    }
+    let run = add_up::<Brand>(alloc, quiet, input, read_fails, write_fails, Blank::new(1));
+    ended_so(run, status, output)
 }
 
 fn answers(alloc: Global, quiet: bool, input: &[u8], status: Status, output: &[u8]) -> bool {
@@ -282,10 +288,8 @@ fn made_come_to(
     status: Status,
     output: &[u8],
 ) -> bool {
-    match add_up_made::<Brand>(alloc, count, write_fails, Blank::new(1)) {
-        Ok((ended, sink)) => ended == status && sink.bytes() == output,
-        Err(_) => false,
-    }
+    let run = add_up_made::<Brand>(alloc, count, write_fails, Blank::new(1));
+    ended_so(run, status, output)
 }
 
 #[test]

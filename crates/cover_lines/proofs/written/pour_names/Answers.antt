@@ -1,6 +1,6 @@
 use Rattle.std.proofs.Common.{◌++◌, ℕ, List, subst}
 use Rattle.std.proofs.lemmas.Result.{on_ok_weaker}
-use Rattle.cpe_io.specs.Writes.{AppendsFront}
+use Rattle.cpe_io.specs.Writes.{AppendsPrefix}
 use Rattle.cpe_session.specs.Pages.{Pours}
 use Rattle.cover_lines.specs.Lines.{name_line}
 use Rattle.cover_lines.proofs.LineRows.{row_each}
@@ -12,6 +12,6 @@ returns-clause-ok g c =
     (subst (λ (text : List ℕ). Pours (g.K.Sink.held c.args.sink.now) (g.K.Sink.held c.pour_table.new.sink) c.args.page.now c.pour_table.new.page text) (row_each name_line c.args.names.now))
     c.pour_table.ensures.ok
 
-pub returns-clause-front : goal.returns-clause-front
-returns-clause-front g c =
-    subst (λ (text : List ℕ). AppendsFront (g.K.Sink.held c.args.sink.now) (g.K.Sink.held c.pour_table.new.sink) (c.args.page.now ++ text)) (row_each name_line c.args.names.now) c.pour_table.ensures.front
+pub returns-clause-prefix : goal.returns-clause-prefix
+returns-clause-prefix g c =
+    subst (λ (text : List ℕ). AppendsPrefix (g.K.Sink.held c.args.sink.now) (g.K.Sink.held c.pour_table.new.sink) (c.args.page.now ++ text)) (row_each name_line c.args.names.now) c.pour_table.ensures.prefix
