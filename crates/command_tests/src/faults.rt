@@ -96,7 +96,7 @@ fn goes_in_all_pieces(alloc: Global, session: &Session) -> bool {
         && goes_in_pieces(alloc, session, &[1, 2, ALL], 3)
 }
 
-fn front(bytes: &[u8], count: usize) -> &[u8] {
+fn prefix(bytes: &[u8], count: usize) -> &[u8] {
     bytes.get(..count).unwrap_or(bytes)
 }
 
@@ -147,7 +147,7 @@ fn stops_at_each_read(alloc: Global, session: &Session) -> bool {
             return false;
         }
         if *byte == b'\n' {
-            lines = front(session.input, read.saturating_add(1));
+            lines = prefix(session.input, read.saturating_add(1));
         }
     }
     stops_at_end(alloc, session, lines)
@@ -169,7 +169,7 @@ fn stops_at_write(alloc: Global, session: &Session, write: usize) -> bool {
         most: 1,
         writes: &[write as u64],
     };
-    let output = front(session.output, write);
+    let output = prefix(session.output, write);
     goes(alloc, session, &ends, Status::WriteFault, output)
 }
 

@@ -43,7 +43,7 @@ enum End {
 
 // ---- edits
 
-fn of_fs(alloc: Global, fs: &[u8]) -> Result<Wfn, Memory> {
+pub fn of_fs(alloc: Global, fs: &[u8]) -> Result<Wfn, Memory> {
     match unbind_fs(alloc, fs) {
         Ok(name) => Ok(name),
         Err(_) => Err(Memory),
@@ -68,16 +68,20 @@ fn no_provenance(alloc: Global) -> Result<Provenance, Memory> {
 }
 
 // An entry that weighs 62: its formatted string has 29 bytes, its title one.
-fn an_entry(alloc: Global) -> Result<Edit, Memory> {
+pub fn entry(alloc: Global) -> Result<Entry, Memory> {
     let provenance = no_provenance(alloc)?;
     let title = Text::new(alloc, "P")?;
     let name = of_fs(alloc, b"cpe:2.3:a:v:p:1:*:*:*:*:*:*:*")?;
-    Ok(Edit::Entry(Entry {
+    Ok(Entry {
         name,
         title,
         provenance,
         deprecation: None,
-    }))
+    })
+}
+
+fn an_entry(alloc: Global) -> Result<Edit, Memory> {
+    Ok(Edit::Entry(entry(alloc)?))
 }
 
 fn marked(alloc: Global, marks: u32) -> Value {

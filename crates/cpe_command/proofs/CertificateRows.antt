@@ -1,7 +1,7 @@
 -- The certificates of all statements, a row for each.
 use Rattle.std.proofs.Common.{◌≡◌, ℕ, List, [], ◌++◌, length, slice_get, Option, subst}
 use Rattle.std.specs.Option.{option_map_or}
-use Rattle.cpe_io.specs.Writes.{AppendsFront}
+use Rattle.cpe_io.specs.Writes.{AppendsPrefix}
 use Rattle.cpe_session.specs.Pages.{Pours}
 use Rattle.cpe_session.specs.Table.{rows_text}
 use Rattle.cpe_rows.specs.Rows.{Rows}
@@ -19,6 +19,6 @@ certificates-poured rows held held_now page page_now =
 
 -- or a prefix of them
 pub certificates-begun : (rows : Rows) (held held_now : Option (List ℕ)) (page : List ℕ)
-    → AppendsFront held held_now (page ++ lines rows) → AppendsFront held held_now (page ++ certificate_lines rows)
+    → AppendsPrefix held held_now (page ++ lines rows) → AppendsPrefix held held_now (page ++ certificate_lines rows)
 certificates-begun rows held held_now page =
-    subst (λ (text : List ℕ). AppendsFront held held_now (page ++ text)) (row_each (certificate_line rows) rows.statements)
+    subst (λ (text : List ℕ). AppendsPrefix held held_now (page ++ text)) (row_each (certificate_line rows) rows.statements)

@@ -1,6 +1,6 @@
 -- What is said of a snapshot is one thing, and it was written.
 use Rattle.std.proofs.Common.{◌≡◌, ℕ, ◌<◌, ◌≤◌, length, arith, List, [], ◌++◌, Option, Some, refl, sym, ap, ◌∙◌, inl, inr, subst, append_assoc}
-use Rattle.cpe_io.specs.Writes.{AppendsFront}
+use Rattle.cpe_io.specs.Writes.{AppendsPrefix}
 use Rattle.cpe_rows.specs.Lawful.{IsLawful}
 use Rattle.cpe_rows.specs.Rows.{Rows}
 use Rattle.cpe_snapshot.specs.States.{most_bytes, Snap, StatesAreClear}
@@ -79,5 +79,5 @@ module _ {held held_now : Option (List ℕ)} (page page_then text more : List �
   Pours-put_more pours = Pours-trans (Pours-put held page page_then text put) pours
 
   -- or a prefix of it
-  pub front_put_more : AppendsFront held held_now (page_then ++ more) → AppendsFront held held_now (page ++ (text ++ more))
-  front_put_more = subst (λ (l : List ℕ). AppendsFront held held_now l) (ap (λ (l : List ℕ). l ++ more) put ∙ append_assoc page text more)
+  pub prefix_put_more : AppendsPrefix held held_now (page_then ++ more) → AppendsPrefix held held_now (page ++ (text ++ more))
+  prefix_put_more = subst (λ (l : List ℕ). AppendsPrefix held held_now l) (ap (λ (l : List ℕ). l ++ more) put ∙ append_assoc page text more)

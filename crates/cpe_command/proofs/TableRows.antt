@@ -2,7 +2,7 @@
 use Rattle.std.proofs.Common.{◌≡◌, ℕ, List, [], ◌++◌, length, slice_get, codes, Option, sym, ap, ◌∙◌, subst, append_assoc}
 use Rattle.std.specs.Option.{option_map_or}
 use Rattle.std.specs.Fmt.{decimal}
-use Rattle.cpe_io.specs.Writes.{AppendsFront}
+use Rattle.cpe_io.specs.Writes.{AppendsPrefix}
 use Rattle.cpe_session.specs.Pages.{Pours}
 use Rattle.cpe_session.specs.Table.{rows_text}
 use Rattle.cpe_rows.specs.Rows.{Rows}
@@ -28,11 +28,11 @@ pub table-poured : (rows : Rows) (count : ℕ) (held held_now : Option (List ℕ
     → count ≡ length rows.statements → page_then ≡ page ++ head count
     → Pours held held_now page_then page_now (lines rows) → Pours held held_now page page_now (verdict_table rows)
 table-poured rows count held held_now page page_then page_now counted put pours =
-    record { front = pours.front; appends = pours.appends; splits = sym (with_table rows count page page_then counted put) ∙ pours.splits }
+    record { prefix = pours.prefix; appends = pours.appends; splits = sym (with_table rows count page page_then counted put) ∙ pours.splits }
 
 -- or a prefix of them
 pub table-begun : (rows : Rows) (count : ℕ) (held held_now : Option (List ℕ)) (page page_then : List ℕ)
     → count ≡ length rows.statements → page_then ≡ page ++ head count
-    → AppendsFront held held_now (page_then ++ lines rows) → AppendsFront held held_now (page ++ verdict_table rows)
+    → AppendsPrefix held held_now (page_then ++ lines rows) → AppendsPrefix held held_now (page ++ verdict_table rows)
 table-begun rows count held held_now page page_then counted put =
-    subst (λ (text : List ℕ). AppendsFront held held_now text) (with_table rows count page page_then counted put)
+    subst (λ (text : List ℕ). AppendsPrefix held held_now text) (with_table rows count page page_then counted put)

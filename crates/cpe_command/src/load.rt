@@ -3,7 +3,7 @@ ghost use Rattle.std.specs.Prelude.{◌≡◌, ◌++◌, ◌<◌, ℕ, List, OnO
 ghost use Rattle.std.specs.List.{flat_map};
 ghost use Rattle.std.specs.declared.option.Option.{Option};
 ghost use Rattle.cpe_io.specs.Causes.{HasSinkCause};
-ghost use Rattle.cpe_io.specs.Writes.{AppendsFront};
+ghost use Rattle.cpe_io.specs.Writes.{AppendsPrefix};
 ghost use Rattle.cpe_session.specs.Pages.{Pours};
 ghost use Rattle.cpe_session.specs.Ran.{Ran, Anything, Counted};
 ghost use Rattle.cpe_session.specs.Task.{Fixed};
@@ -19,13 +19,10 @@ use cpe_rows::Counts;
 use cpe_session::{Listener, Page, Status, write_text};
 use cpe_snapshot::LoadFault;
 use cpe_steps::Steps;
-use engine_snapshot::read_snapshot;
+use engine_snapshot::{MOST_BYTES, read_snapshot};
 use std::alloc::{AllocError, Global};
 use std::marker::Brand;
 use std::sync::ledger::{Blank, Ledger};
-
-/// The most bytes that a snapshot has.
-const MOST_BYTES: usize = 536_870_936;
 
 /// What is written for an input that is no snapshot.
 const REFUSAL: &[u8] = b"refused snapshot\n";
@@ -116,7 +113,7 @@ fn pour_state<K: Sink>(
     sink: &mut K,
 ) -> Result<(), SinkFault>
     ensures ok { OnOk result (Pours (K.held sink.old) (K.held sink.new) page.old page.new (state_text engine.now)) }
-    ensures front { AppendsFront (K.held sink.old) (K.held sink.new) (page.old ++ state_text engine.now) }
+    ensures prefix { AppendsPrefix (K.held sink.old) (K.held sink.new) (page.old ++ state_text engine.now) }
     ensures cause { HasSinkCause (K.faults sink.old) (K.faults sink.new) result }
 {
     match push_counts(page, &engine.counts()) {

@@ -2,7 +2,7 @@
 ghost use Rattle.std.specs.Prelude.{◌≡◌, ◌++◌, [], IfOk, OnOk, length, slice_get, None, codes};
 ghost use Rattle.std.specs.Option.{option_map_or};
 ghost use Rattle.cpe_io.specs.Causes.{HasSinkCause};
-ghost use Rattle.cpe_io.specs.Writes.{AppendsFront};
+ghost use Rattle.cpe_io.specs.Writes.{AppendsPrefix};
 ghost use Rattle.cpe_session.specs.Pages.{Pours};
 ghost use Rattle.proof_lines.specs.Written.{proof_text};
 ghost use Rattle.cpe_replies.specs.Proofs.{certificate_line, certificate_lines, checked_line};
@@ -60,7 +60,7 @@ pub(crate) fn pour_certificates<K: Sink>(
     sink: &mut K,
 ) -> Result<(), SinkFault>
     ensures ok { OnOk result (Pours (K.held sink.old) (K.held sink.new) page.old page.new (certificate_lines engine.now)) }
-    ensures front { AppendsFront (K.held sink.old) (K.held sink.new) (page.old ++ certificate_lines engine.now) }
+    ensures prefix { AppendsPrefix (K.held sink.old) (K.held sink.new) (page.old ++ certificate_lines engine.now) }
     ensures cause { HasSinkCause (K.faults sink.old) (K.faults sink.new) result }
 {
     pour_table(alloc, &Certificates { engine }, page, sink)

@@ -1,14 +1,14 @@
 // The snapshot of the rows.
 ghost use Rattle.std.specs.Prelude.{◌++◌, OnOk};
 ghost use Rattle.cpe_io.specs.Causes.{HasSinkCause};
-ghost use Rattle.cpe_io.specs.Writes.{AppendsFront};
+ghost use Rattle.cpe_io.specs.Writes.{AppendsPrefix};
 ghost use Rattle.cpe_session.specs.Pages.{Pours};
 ghost use Rattle.cpe_snapshot.specs.States.{snapshot};
 
 use cpe_engine::Engine;
 use cpe_io::{Sink, SinkFault};
 use cpe_session::{Page, pour_text};
-use engine_snapshot::write_snapshot;
+use snapshot_writer::write_snapshot;
 use std::alloc::Global;
 
 /// Gives what is gathered, and then the snapshot of the rows, to the sink.
@@ -22,7 +22,7 @@ pub(crate) fn pour_snapshot<K: Sink>(
     sink: &mut K,
 ) -> Result<(), SinkFault>
     ensures ok { OnOk result (Pours (K.held sink.old) (K.held sink.new) page.old page.new (snapshot engine.now)) }
-    ensures front { AppendsFront (K.held sink.old) (K.held sink.new) (page.old ++ snapshot engine.now) }
+    ensures prefix { AppendsPrefix (K.held sink.old) (K.held sink.new) (page.old ++ snapshot engine.now) }
     ensures cause { HasSinkCause (K.faults sink.old) (K.faults sink.new) result }
 {
     match write_snapshot(alloc, engine) {

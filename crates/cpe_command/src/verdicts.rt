@@ -3,7 +3,7 @@ ghost use Rattle.std.specs.Prelude.{◌≡◌, ◌++◌, [], OnOk, codes, length
 ghost use Rattle.std.specs.Option.{option_map_or};
 ghost use Rattle.std.specs.Fmt.{decimal};
 ghost use Rattle.cpe_io.specs.Causes.{HasSinkCause};
-ghost use Rattle.cpe_io.specs.Writes.{AppendsFront};
+ghost use Rattle.cpe_io.specs.Writes.{AppendsPrefix};
 ghost use Rattle.cpe_session.specs.Pages.{Pours};
 ghost use Rattle.cpe_replies.specs.Replies.{statement_line, verdict_table};
 
@@ -50,7 +50,7 @@ pub(crate) fn pour_verdicts<K: Sink>(
     sink: &mut K,
 ) -> Result<(), SinkFault>
     ensures ok { OnOk result (Pours (K.held sink.old) (K.held sink.new) page.old page.new (verdict_table engine.now)) }
-    ensures front { AppendsFront (K.held sink.old) (K.held sink.new) (page.old ++ verdict_table engine.now) }
+    ensures prefix { AppendsPrefix (K.held sink.old) (K.held sink.new) (page.old ++ verdict_table engine.now) }
     ensures cause { HasSinkCause (K.faults sink.old) (K.faults sink.new) result }
 {
     match push_head(page, engine.statements_len()) {

@@ -187,11 +187,11 @@ first_there xs i d lt = drop_more xs i d lt
 
 pub taken_next : (of : List Test) (i : ℕ) (child : Test) → i < length of → child ≡ get_or of i child → flat_map fact_names (take (i + 1) of) ≡ flat_map fact_names (take i of) ++ fact_names child
 taken_next of i child lt is =
-    let front = flat_map fact_names (take i of) in
+    let prefix = flat_map fact_names (take i of) in
     ap (flat_map fact_names) (take_more of i child lt)
     ∙ flat_map-append fact_names (take i of) (get_or of i child ∷ [])
-    ∙ ap (λ ns. front ++ ns) (append-nil (fact_names (get_or of i child)))
-    ∙ ap (λ x. front ++ fact_names x) (sym is)
+    ∙ ap (λ ns. prefix ++ ns) (append-nil (fact_names (get_or of i child)))
+    ∙ ap (λ x. prefix ++ fact_names x) (sym is)
 
 length_both : (xs ys : List Values) → length (xs ++ ys) ≡ length xs + length ys
 length_both [] ys = omega arith

@@ -10,5 +10,6 @@ mod WriteLemmas
 pub mod StateLemmas
 mod SmallCases
 mod ToldLemmas
+pub mod TextLemmas
 mod ShortLemmas
 pub mod NameLemmas

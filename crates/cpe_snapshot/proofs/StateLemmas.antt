@@ -34,7 +34,7 @@ named_once es (k ∷ ks) (n ∷ ns) (m ∷ ms) a b =
     let others = named_once es ks ns ms a.1 b.1 in
     λ i. first i ∷ others i
 
-deprecation_once : (es : List PlacedEntry) (p : Option PlacedDeprecation) (d f : Option Deprecation) → IsMeantDeprecation es p d → IsMeantDeprecation es p f → d ≡ f
+pub deprecation_once : (es : List PlacedEntry) (p : Option PlacedDeprecation) (d f : Option Deprecation) → IsMeantDeprecation es p d → IsMeantDeprecation es p f → d ≡ f
 deprecation_once es None None None a b = refl
 deprecation_once es None None (Some f) a b = absurd b
 deprecation_once es None (Some d) f a b = absurd a

@@ -68,7 +68,7 @@ fn children(
 // How children of at most so many levels are joined, and these.
 #[cycle(levels)]
 #[tactic(auto, unfolding(crate::specs::Reading::logic_at, crate::specs::Reading::list_at))]
-fn joined(alloc: Global, cursor: &mut Cursor<'_>, levels: u32) -> Result<Test, LoadFault>
+fn read_joined(alloc: Global, cursor: &mut Cursor<'_>, levels: u32) -> Result<Test, LoadFault>
     ensures { Took result cursor.new (logic_at (test_at levels) cursor.old) }
 {
     let operator = operator(cursor)?;
@@ -90,7 +90,7 @@ fn logic(alloc: Global, cursor: &mut Cursor<'_>, levels: u32) -> Result<Test, Lo
     if levels == 0 {
         Err(LoadFault::NotSnapshot)
     } else {
-        joined(alloc, cursor, levels - 1)
+        read_joined(alloc, cursor, levels - 1)
     }
 }
 

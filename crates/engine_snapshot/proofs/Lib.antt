@@ -10,6 +10,4 @@ mod ReadLemmas
 mod EntriesLemmas
 mod OtherLemmas
 mod SnapshotLemmas
-mod TextLemmas
 mod WithinLemmas
-mod WriteLemmas

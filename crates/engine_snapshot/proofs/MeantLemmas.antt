@@ -1,8 +1,7 @@
 -- Deprecations that are meant, one after the other.
-use Rattle.std.proofs.Common.{◌≡◌, refl, sym, ap, subst, ◌∙◌, ℕ, zero, suc, ◌+◌, ◌<◌, List, [], ◌∷◌, ◌++◌, length, map, take, get_or, Option, Some, None, slice_get, arith, true}
+use Rattle.std.proofs.Common.{◌≡◌, refl, sym, ap, subst, ◌∙◌, ℕ, zero, suc, ◌+◌, ◌<◌, List, [], ◌∷◌, ◌++◌, length, map, take, get_or, Option, Some, None, arith, true}
 use Rattle.std.specs.Prelude.{is_none}
 use Rattle.std.specs.List.{list_all}
-use Rattle.std.specs.Option.{option_map}
 use Rattle.std.proofs.lemmas.List.{take_more, length-map}
 use Rattle.std.proofs.lemmas.Bool.{and_parts}
 use Rattle.cpe_name.specs.Eleven.{Values}
@@ -12,13 +11,11 @@ use Rattle.cpe_engine.specs.Adopting.{each_deprecated}
 use Rattle.cpe_snapshot.specs.States.{AreMeantEntries, AreNamed, IsMeantDeprecation}
 use Rattle.cpe_snapshot.specs.declared.rows.PlacedDeprecation.{PlacedDeprecation}
 use Rattle.cpe_snapshot.specs.declared.rows.PlacedEntry.{PlacedEntry}
+use Rattle.cpe_snapshot.proofs.StateLemmas.{deprecation_once, name_at}
 use Rattle.engine_snapshot.specs.Meant.{active_placed, AreMeantDeprecations, name_in, undeprecated}
 use Rattle.engine_snapshot.proofs.RowLemmas.{AreActive}
 
 -- ---- names
-
-abbrev pub name_at : List PlacedEntry → ℕ → Option Values
-name_at ps k = option_map (λ (p : PlacedEntry). p.name) (slice_get ps k)
 
 pub name_there : (es : List Entry) (k : ℕ) → name_at (map undeprecated es) k ≡ name_in es k
 name_there [] zero = refl
@@ -87,31 +84,6 @@ none_meant all (q ∷ os) zero o (d ∷ ds) below none are = none d are.0
 none_meant all (q ∷ os) (suc i) o (d ∷ ds) below none are = none_meant all os i o ds (omega (arith, below)) none are.1
 
 -- ---- no two are meant
-
-some_same : {A : Type 0} (x y : A) → ◌≡◌ {A = Option A} (Some x) (Some y) → x ≡ y
-some_same x y e = cc
-
-named_once : (es : List PlacedEntry) (ks : List ℕ) (ns ms : List Values) → AreNamed es ks ns → AreNamed es ks ms → ns ≡ ms
-named_once es [] [] [] a b = refl
-named_once es [] [] (m ∷ ms) a b = absurd b
-named_once es [] (n ∷ ns) ms a b = absurd a
-named_once es (k ∷ ks) [] ms a b = absurd a
-named_once es (k ∷ ks) (n ∷ ns) [] a b = absurd b
-named_once es (k ∷ ks) (n ∷ ns) (m ∷ ms) a b =
-    let first : n ≡ m = some_same n m (sym a.0 ∙ b.0) in
-    let others = named_once es ks ns ms a.1 b.1 in
-    λ i. first i ∷ others i
-
-deprecation_once : (es : List PlacedEntry) (p : Option PlacedDeprecation) (d f : Option Deprecation) → IsMeantDeprecation es p d → IsMeantDeprecation es p f → d ≡ f
-deprecation_once es None None None a b = refl
-deprecation_once es None None (Some f) a b = absurd b
-deprecation_once es None (Some d) f a b = absurd a
-deprecation_once es (Some p) None f a b = absurd a
-deprecation_once es (Some p) (Some d) None a b = absurd b
-deprecation_once es (Some p) (Some d) (Some f) a b =
-    let kinds = sym a.0 ∙ b.0 in
-    let names = named_once es p.successors d.successors f.successors a.1 b.1 in
-    λ i. Some (record { kind = kinds i; successors = names i })
 
 pub meant_once : (es : List PlacedEntry) (os : List (Option PlacedDeprecation)) (ds fs : List (Option Deprecation)) → AreMeantDeprecations es os ds → AreMeantDeprecations es os fs → ds ≡ fs
 meant_once es [] [] [] a b = refl

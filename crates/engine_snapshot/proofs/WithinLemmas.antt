@@ -18,7 +18,7 @@ use Rattle.cpe_snapshot.specs.declared.rows.PlacedRows.{PlacedRows}
 use Rattle.cpe_snapshot.specs.Told.{IsToldNote, IsToldEntry, IsToldKey, IsToldStep, IsToldTest, IsToldStatement, IsToldResult, AreCounted, AreTold}
 use Rattle.cpe_snapshot.specs.States.{AreMeantEntries, IsMeant, AreMeant, pair_of, IsString, IsTextEntry, IsTextKey, keys_of, IsTextStatement, AreTexts, SnapshotsAreWithin, StatesHaveOne}
 use Rattle.engine_snapshot.specs.Within.{SnapsAreWithin}
-use Rattle.engine_snapshot.proofs.TextLemmas.{joined, keys_check, keys_fact, keys_logic}
+use Rattle.cpe_snapshot.proofs.TextLemmas.{all_appended, keys_check, keys_fact, keys_logic}
 
 -- ---- entries
 
@@ -48,7 +48,7 @@ key_said k told = record { system = told.0.1; href = told.1.1; id = told.2.1 }
 each_said : (levels : ℕ) → ((t : Test) → IsToldTest levels t → AllByRecursion IsTextKey (keys_of t)) → (of : List Test) → AllByRecursion (IsToldTest levels) of
     → AllByRecursion IsTextKey (flat_map keys_of of)
 each_said levels said [] told = tt
-each_said levels said (t ∷ of) told = joined IsTextKey (keys_of t) (flat_map keys_of of) (said t told.0) (each_said levels said of told.1)
+each_said levels said (t ∷ of) told = all_appended IsTextKey (keys_of t) (flat_map keys_of of) (said t told.0) (each_said levels said of told.1)
 
 step_said : (AreChildren : List Test → Type 0) (t : Test) → ((of : List Test) → AreChildren of → AllByRecursion IsTextKey (flat_map keys_of of)) → IsToldStep AreChildren (out-Test t)
     → AllByRecursion IsTextKey (keys_of t)

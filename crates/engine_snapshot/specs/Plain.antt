@@ -5,10 +5,10 @@ use Rattle.cpe_rows.specs.Rows.{Rows, no_rows}
 use Rattle.cpe_rows.specs.declared.entry.Entry.{Entry}
 use Rattle.cpe_engine.specs.Adopting.{with_deprecations}
 use Rattle.cpe_snapshot.specs.States.{pair_of}
-use Rattle.engine_snapshot.specs.declared.rows.PlainRows.{PlainRows}
+use Rattle.engine_snapshot.specs.declared.rows.OwnedRows.{OwnedRows}
 use Rattle.engine_snapshot.specs.declared.rows.PartedRows.{PartedRows}
 
-abbrev pub plain_state : PlainRows → Rows
+abbrev pub plain_state : OwnedRows → Rows
 plain_state p = record { entries = p.entries; items = p.items; statements = p.statements; checks = map pair_of p.checks }
 
 -- entries and nothing else

@@ -10,7 +10,7 @@ ghost use Rattle.engine_snapshot.specs.Plain.{AreParted, entries_alone, parted_s
 
 use crate::edits::{add_checks, add_entries, add_items, add_statements};
 use crate::parted::part;
-use crate::rows::{PartedRows, PlainRows};
+use crate::rows::{OwnedRows, PartedRows};
 use cpe_engine::{AdoptFault, Engine};
 use cpe_name::Wfn;
 use cpe_rows::{Deprecation, Entry, List, Statement};
@@ -109,7 +109,7 @@ pub(crate) fn adopt_parted<L: Ledger>(
 /// The rows aren't lawful: no edits leave them. Or memory runs out.
 pub fn adopt<L: Ledger>(
     alloc: Global,
-    rows: PlainRows,
+    rows: OwnedRows,
     steps: &mut Steps<L>,
 ) -> Result<Engine, AdoptFault>
     ensures ok { IfOk result (λ e. e ≡ plain_state rows) }

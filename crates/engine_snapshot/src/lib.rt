@@ -1,8 +1,8 @@
-//! Snapshots of an engine: what it keeps as bytes, and an engine that keeps what bytes say.
+//! An engine that keeps what the bytes of a snapshot say.
 //!
-//! An engine is written row by row, in time by the length of its snapshot ([`write_snapshot`]). A snapshot is read row by row, too
-//! ([`read_snapshot`]): the edit that puts a row is made before the next is read, so that no rows stand beside the engine, its own are
-//! lawful as those of any engine, and what isn't the snapshot of lawful rows is refused. Rows may be adopted from elsewhere ([`adopt`]).
+//! A snapshot is read row by row ([`read_snapshot`]): the edit that puts a row is made before the next is read, so that no rows stand
+//! beside the engine, its own are lawful as those of any engine, and what isn't the snapshot of lawful rows is refused. Rows may be
+//! adopted from elsewhere ([`adopt`]). The snapshot of an engine is written by `snapshot_writer`.
 #![tactic(auto)]
 
 mod adopting;
@@ -16,10 +16,7 @@ mod puts;
 mod read;
 mod rows;
 mod runs;
-mod texts;
-mod write;
 
 pub use adopting::adopt;
-pub use read::read_snapshot;
-pub use rows::PlainRows;
-pub use write::write_snapshot;
+pub use read::{MOST_BYTES, read_snapshot};
+pub use rows::OwnedRows;

@@ -3,7 +3,7 @@ ghost use Rattle.std.specs.Prelude.{◌≡◌, ◌++◌, ◌∷◌, [], IfOk, On
 ghost use Rattle.std.specs.List.{AllByRecursion};
 ghost use Rattle.engine_snapshot.specs.Plain.{active_entry, AreParted, parted_state, plain_state};
 
-use crate::rows::{PartedRows, PlainRows};
+use crate::rows::{OwnedRows, PartedRows};
 use cpe_rows::{Deprecation, Entry, List};
 use cpe_values::Memory;
 use std::alloc::Global;
@@ -52,11 +52,11 @@ fn part_entries(
 ///
 /// # Errors
 /// Only that memory ran out.
-pub(crate) fn part(alloc: Global, rows: PlainRows) -> Result<PartedRows, Memory>
+pub(crate) fn part(alloc: Global, rows: OwnedRows) -> Result<PartedRows, Memory>
     ensures parted { IfOk result (λ p. AreParted p) }
     ensures state { IfOk result (λ p. parted_state p ≡ plain_state rows) }
 {
-    let PlainRows {
+    let OwnedRows {
         entries,
         items,
         statements,

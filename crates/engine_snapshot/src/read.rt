@@ -16,8 +16,8 @@ use cpe_steps::Steps;
 use std::alloc::Global;
 use std::sync::ledger::Ledger;
 
-// No snapshot has more bytes: 24 more than rows may weigh.
-const MOST_BYTES: usize = 536_870_936;
+/// The most bytes that a snapshot has: 24 more than rows may weigh.
+pub const MOST_BYTES: usize = 536_870_936;
 
 // Lets an engine go that has some of the rows.
 fn let_go(engine: Engine, fault: LoadFault) -> LoadFault

@@ -5,7 +5,7 @@ use cpe_snapshot::KeptResult;
 
 /// Rows that no engine keeps yet, each list in its order.
 #[derive(Debug, Drop)]
-pub struct PlainRows {
+pub struct OwnedRows {
     /// The entries of the dictionary.
     pub entries: List<Entry>,
     /// The items of the inventory.

@@ -100,12 +100,12 @@ impl PlacedDeprecations {
         ensures { OnOk result (self.new ≡ self.old ++ deprecation ∷ []) }
     {
         match deprecation {
-            Some(placed) => self.push_run(alloc, placed),
+            Some(placed) => self.end_run(alloc, placed),
             None => self.count_active(),
         }
     }
 
-    // One entry more that has none.
+    // One entry more that has none. More than can be counted would be more than memory has.
     fn count_active(&mut self) -> Result<(), Memory>
         ensures { OnOk result (self.new ≡ self.old ++ None ∷ []) }
     {
@@ -116,8 +116,8 @@ impl PlacedDeprecations {
         Ok(())
     }
 
-    // One entry more that has this one.
-    fn push_run(&mut self, alloc: Global, placed: PlacedDeprecation) -> Result<(), Memory>
+    // One entry more that has this one, and ends the run.
+    fn end_run(&mut self, alloc: Global, placed: PlacedDeprecation) -> Result<(), Memory>
         ensures { OnOk result (self.new ≡ self.old ++ Some placed ∷ []) }
     {
         let deprecation = BoxedDeprecation::new(alloc, placed)?;

@@ -13,7 +13,7 @@ use Rattle.cpe_rows.specs.Verdict.{fact_truth}
 use Rattle.cpe_rows.specs.declared.entry.Entry.{Entry}
 use Rattle.cpe_rows.specs.declared.statement.Mode.{Mode}
 use Rattle.cpe_rows.specs.declared.truth.Truth.{Truth}
-use Rattle.cpe_applicability.proofs.UndoLemmas.{any_front}
+use Rattle.cpe_applicability.proofs.UndoLemmas.{any_prefix}
 use Rattle.numbered_names.specs.Shown.{name_at, names_at}
 use Rattle.followed_facts.specs.Followed.{ends_at, Followed, has_end, OthersStay}
 use Rattle.kept_facts.specs.Kept.{AreLive}
@@ -52,7 +52,7 @@ module _ (xs : List NameId) (i : ℕ) (d : NameId) (lt : i < length xs) (q : ℕ
   pub end_nowhere : has_end xs q ≡ false → (q ≢ x.0) × (has_end (take i xs) q ≡ false)
   end_nowhere off = (
     λ e. true≢false (sym (list_any_at (λ (y : NameId). nat_eq y.0 q) xs i d lt (eq-eqb x.0 q (sym e))) ∙ off),
-    false_from_ne_true (has_end (take i xs) q) (λ t. true≢false (sym (any_front (λ (y : NameId). nat_eq y.0 q) i xs t) ∙ off)),
+    false_from_ne_true (has_end (take i xs) q) (λ t. true≢false (sym (any_prefix (λ (y : NameId). nat_eq y.0 q) i xs t) ∙ off)),
   )
 
 pub whole : (xs : List NameId) (i : ℕ) → length xs ≤ i → take i xs ≡ xs

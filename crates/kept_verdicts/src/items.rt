@@ -76,8 +76,9 @@ fn items_to_all(alloc: Global, registry: &Registry, ends: &[NameId]) -> Result<V
 }
 
 impl KeptVerdicts {
-    /// The items of which a name in lower case covers an end (NIST IR 7697, 7698), in any order. It looks only at ends whose product the
-    /// name's meets, counts no steps, and goes back from each that is covered to the items that lead there.
+    /// The numbers of items, in any order, among which each item stands exactly where a name in lower case covers an end of it (NIST IR
+    /// 7696, 7697), once for each such end. It looks only at ends whose product the name's meets, which no clause says, counts no
+    /// steps, and goes back from each end that is covered to the items that lead there.
     ///
     /// # Errors
     /// Only that memory ran out.
@@ -98,7 +99,7 @@ impl KeptVerdicts {
         items_to_all(alloc, registry, &ends.covered)
     }
 
-    /// The items of which a name in lower case may cover an end, as [`items_covered`](KeptVerdicts::items_covered).
+    /// The same of the ends that the name may cover, as [`items_covered`](KeptVerdicts::items_covered).
     ///
     /// # Errors
     /// Only that memory ran out.

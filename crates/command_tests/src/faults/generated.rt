@@ -1,7 +1,7 @@
 // Commands that read nothing: no read is made, so none fails, and a write that fails leaves a prefix of the output.
 ghost use Rattle.std.specs.Prelude.{◌<◌, ◌≤◌};
 
-use crate::faults::{ALL, Ends, front, goes_over};
+use crate::faults::{ALL, Ends, goes_over, prefix};
 use crate::runs::words_of;
 use cpe_command::{MOST_LINES, Status, generated};
 use std::alloc::Global;
@@ -25,7 +25,7 @@ fn goes_unread(
 }
 
 fn stops_at_write(alloc: Global, words: &[String], output: &[u8], write: usize) -> bool {
-    let left = front(output, write);
+    let left = prefix(output, write);
     goes_unread(alloc, words, 1, &[write as u64], Status::WriteFault, left)
 }
 

@@ -4,7 +4,7 @@ use Rattle.cpe_rows.specs.Counts.{counts_of}
 use Rattle.cpe_rows.specs.declared.counts.Counts.{Counts}
 use Rattle.cpe_replies.specs.Replies.{verdict_table}
 use Rattle.cpe_command.specs.Loading.{counts_text}
-use Rattle.cpe_command.proofs.LoadLemmas.{Pours-put_more, front_put_more}
+use Rattle.cpe_command.proofs.LoadLemmas.{Pours-put_more, prefix_put_more}
 use Rattle.cpe_command.proofs.load.pour_state.Goals as goal
 
 pub returns-in-Ok-clause-ok : goal.returns-in-Ok-clause-ok
@@ -14,8 +14,8 @@ returns-in-Ok-clause-ok g c =
     (Pours-put_more c.args.page.now c.push_counts.new.page (counts_text (counts_of c.args.engine.now)) (verdict_table c.args.engine.now) put)
     c.pour_verdicts.ensures.ok
 
-pub returns-in-Ok-clause-front : goal.returns-in-Ok-clause-front
-returns-in-Ok-clause-front g c =
+pub returns-in-Ok-clause-prefix : goal.returns-in-Ok-clause-prefix
+returns-in-Ok-clause-prefix g c =
     let put = c.in-Ok.ensures ∙ ap (λ (counts : Counts). c.args.page.now ++ counts_text counts) c.counts.ensures in
-    front_put_more c.args.page.now c.push_counts.new.page (counts_text (counts_of c.args.engine.now)) (verdict_table c.args.engine.now) put
-    c.pour_verdicts.ensures.front
+    prefix_put_more c.args.page.now c.push_counts.new.page (counts_text (counts_of c.args.engine.now)) (verdict_table c.args.engine.now) put
+    c.pour_verdicts.ensures.prefix

@@ -8,7 +8,7 @@ returns-in-Ok-clause-ok g c =
     (table-poured c.args.engine.now c.statements_len.result _ _ c.args.page.now c.push_head.new.page c.pour_table.new.page c.statements_len.ensures c.in-Ok.ensures)
     c.pour_table.ensures.ok
 
-pub returns-in-Ok-clause-front : goal.returns-in-Ok-clause-front
-returns-in-Ok-clause-front g c =
+pub returns-in-Ok-clause-prefix : goal.returns-in-Ok-clause-prefix
+returns-in-Ok-clause-prefix g c =
     table-begun c.args.engine.now c.statements_len.result _ _ c.args.page.now c.push_head.new.page c.statements_len.ensures c.in-Ok.ensures
-    c.pour_table.ensures.front
+    c.pour_table.ensures.prefix

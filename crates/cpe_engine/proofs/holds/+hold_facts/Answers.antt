@@ -41,12 +41,12 @@ loop-child-preserved t c =
     let e = c.in_ok-hold_facts-in-Logic.ensures in
     let old = c.args.registry.now in
     let now = c.loop-child.registry in
-    let front = names_at old.table c.args.ids.now.items in
+    let prefix = names_at old.table c.args.ids.now.items in
     let taken = taken_next of i child lt c.child-item.is in
     let rest = rest_length of i child lt c.child-item.is in
     record {
       grows = grows_both old now c.hold_facts.new.registry c.args.ids.now.items c.loop-child.ids.items c.hold_facts.new.ids.items inv.grows e.grows;
-      names = e.names ∙ ap (λ (ns : List Values). ns ++ fact_names child) inv.names ∙ append_assoc front (flat_map fact_names (take i of)) (fact_names child) ∙ ap (λ (ns : List Values). front ++ ns) (sym taken);
+      names = e.names ∙ ap (λ (ns : List Values). ns ++ fact_names child) inv.names ∙ append_assoc prefix (flat_map fact_names (take i of)) (fact_names child) ∙ ap (λ (ns : List Values). prefix ++ ns) (sym taken);
       few = λ n f. e.few (length (flat_map fact_names (drop (i + 1) of)) + n)
           (few_less now.table (length (fact_names child) + (length (flat_map fact_names (drop (i + 1) of)) + n)) (length (flat_map fact_names (drop i of)) + n) (omega (arith, rest)) (inv.few n f));
     }
@@ -54,9 +54,9 @@ loop-child-preserved t c =
 pub returns-after-loop-child-clause-names : goal.returns-after-loop-child-clause-names
 returns-after-loop-child-clause-names t c =
     let of = c.as_slice-child-items.result.now in
-    let front = names_at c.args.registry.now.table c.args.ids.now.items in
+    let prefix = names_at c.args.registry.now.table c.args.ids.now.items in
     let names = ap fact_names c.in-Logic.is ∙ names-logic c.in-Logic.operator c.in-Logic.negate c.in-Logic.of ∙ ap (flat_map fact_names) (sym c.as_slice-child-items.ensures) in
-    c.loop-child.invariant.names ∙ ap (λ (ns : List Values). front ++ ns) (ap (flat_map fact_names) (take_all c.loop-child.child-index of c.loop-child-test.false) ∙ sym names)
+    c.loop-child.invariant.names ∙ ap (λ (ns : List Values). prefix ++ ns) (ap (flat_map fact_names) (take_all c.loop-child.child-index of c.loop-child-test.false) ∙ sym names)
 
 pub returns-after-loop-child-clause-few : goal.returns-after-loop-child-clause-few
 returns-after-loop-child-clause-few t c =

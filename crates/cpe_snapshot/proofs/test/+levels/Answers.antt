@@ -13,4 +13,4 @@ pub logic-returns-then-levels-eq0 : goal.logic-returns-then-levels-eq0
 logic-returns-then-levels-eq0 t c = ap (λ n. logic_within n c.args.cursor.now) c.if-levels-eq0.true ∙ none_within c.args.cursor.now
 
 pub logic-returns-else-levels-eq0 : goal.logic-returns-else-levels-eq0
-logic-returns-else-levels-eq0 t c = subst (λ r. Took c.joined.result c.joined.new.cursor r) (sym (within_is c.args.levels c.args.cursor.now c.if-levels-eq0.false)) c.joined.ensures
+logic-returns-else-levels-eq0 t c = subst (λ r. Took c.read_joined.result c.read_joined.new.cursor r) (sym (within_is c.args.levels c.args.cursor.now c.if-levels-eq0.false)) c.read_joined.ensures

@@ -15,5 +15,5 @@ decreases-test l = 4 * l.levels + 1
 abbrev pub invariant-children-loop : goal.invariant-children-loop
 invariant-children-loop l = with_prefix l.of (many (test_at l.levels) (l.count - l.counter) l.cursor) ≡ many (test_at l.levels) l.count l.fn.cursor
 
-abbrev pub decreases-joined : goal.decreases-joined
-decreases-joined l = 4 * l.levels + 3
+abbrev pub decreases-read_joined : goal.decreases-read_joined
+decreases-read_joined l = 4 * l.levels + 3
