@@ -103,6 +103,12 @@ class Client:
 
 
 if __name__ == "__main__":
+    if sys.argv[1:2] == ["--help"]:
+        print(__doc__)
+        sys.exit(0)
+    if not set(sys.argv[1:2]) & set(WORDS):
+        print(f"usage: pipe.py WORD.. < LINES, where the first word is one of {', '.join(WORDS)}", file=sys.stderr)
+        sys.exit(2)
     with Client(*sys.argv[1:]) as of_lines:
         for answer in of_lines.ask_all(line.rstrip("\n") for line in sys.stdin):
             print(answer.number, *answer.lines, sep="\t")

@@ -65,6 +65,13 @@ def _bytes(text: Text) -> bytes:
     return text.encode() if isinstance(text, str) else bytes(memoryview(text))
 
 
+def _word(word: Optional[str]) -> Optional[bytes]:
+    # (in C a word ends at a zero byte, and an empty second one is none)
+    if word is not None and (not word or "\0" in word):
+        raise ValueError("a word is empty or has a zero byte in it")
+    return None if word is None else word.encode()
+
+
 def _judge(code: int, number: int) -> None:
     """Raises what a code means that is neither DONE nor SHORT."""
     if code in (REFUSED, TARGET_REFUSED):
@@ -128,7 +135,7 @@ class Session:
         self.status: Optional[int] = None
         self._session = ctypes.c_void_p()
         self._room = ctypes.create_string_buffer(4096)
-        _judge(_library.cpe_session_open(word.encode(), second.encode() if second else None, ctypes.byref(self._session)), 0)
+        _judge(_library.cpe_session_open(_word(word), _word(second), ctypes.byref(self._session)), 0)
 
     def line(self, line: Text) -> bytes:
         """What the program would write for this line, which is given without its newline."""

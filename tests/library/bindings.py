@@ -31,6 +31,8 @@ def try_each():
     assert raises(cpe.Refused, cpe.covers, FS, "cpe:/x").target and not raises(cpe.Refused, cpe.relate, "x", FS).target
     raises(TypeError, cpe.unbind, 3)
     raises(ValueError, cpe.Session, "make", "5")
+    raises(ValueError, cpe.Session, "unbind\0")
+    raises(ValueError, cpe.Session, "unbind", "")
     with cpe.Session("unbind") as session:
         assert session.line(FS) == wfn.encode() + b"\n"
         raises(ValueError, session.line, "a\nb")
