@@ -1,8 +1,9 @@
 // Rows that an engine adopts from elsewhere. That its rows are then these, and that lawful ones are adopted, is proved; here that some are.
 ghost use Rattle.std.specs.Prelude.{◌≡◌, ◌<◌};
 
-use crate::limits::{counts_of, entry, of_fs};
-use cpe_rows::{Counts, List};
+use crate::limits::{counts_of, entry};
+use cpe_engine::Engine;
+use cpe_rows::{Counts, Entry, List};
 use cpe_steps::Steps;
 use cpe_values::Memory;
 use engine_snapshot::{OwnedRows, adopt};
@@ -10,21 +11,30 @@ use std::alloc::Global;
 use std::marker::Brand;
 use std::sync::ledger::{Blank, Ledger};
 
-// An item, and an entry, or the same one twice.
-fn rows(alloc: Global, is_twice: bool) -> Result<OwnedRows, Memory> {
+fn put_entry(alloc: Global, entries: &mut List<Entry>) -> Result<(), Memory> {
+    entries.push(entry(alloc)?)
+}
+
+// An entry, or the same one twice.
+fn rows(alloc: Global, is_twice: bool) -> OwnedRows {
     let mut entries = List::new(alloc);
-    entries.push(entry(alloc)?)?;
+    let _ = put_entry(alloc, &mut entries);
     if is_twice {
-        entries.push(entry(alloc)?)?;
+        let _ = put_entry(alloc, &mut entries);
     }
-    let mut items = List::new(alloc);
-    items.push(of_fs(alloc, b"cpe:2.3:a:*:*:*:*:*:*:*:*:*:*")?)?;
-    Ok(OwnedRows {
+    OwnedRows {
         entries,
-        items,
+        items: List::new(alloc),
         statements: List::new(alloc),
         checks: List::new(alloc),
-    })
+    }
+}
+
+// How the rows of an engine count, which is let go.
+fn counted(engine: Engine) -> Counts {
+    let counts = counts_of(&engine);
+    drop(engine);
+    counts
 }
 
 // How the rows count where an engine adopts them.
@@ -34,8 +44,8 @@ fn adopted<L: Ledger>(alloc: Global, is_twice: bool, blank: Blank) -> Option<Cou
     requires some { 0 < blank.parts }
 {
     let mut steps = Steps::<L>::new(blank);
-    match adopt(alloc, rows(alloc, is_twice).ok()?, &mut steps) {
-        Ok(engine) => Some(counts_of(&engine)),
+    match adopt(alloc, rows(alloc, is_twice), &mut steps) {
+        Ok(engine) => Some(counted(engine)),
         Err(_) => None,
     }
 }
@@ -49,11 +59,11 @@ fn lawful_rows_are_adopted(rt: HostRuntime) {
     let all = Counts {
         entries: 1,
         deprecated: 0,
-        items: 1,
+        items: 0,
         statements: 0,
         facts: 0,
         checks: 0,
-        weight: 123,
+        weight: 62,
     };
     assert!(rt; counts(rt.alloc(), false) == Some(all));
 }

@@ -43,7 +43,7 @@ enum End {
 
 // ---- edits
 
-pub fn of_fs(alloc: Global, fs: &[u8]) -> Result<Wfn, Memory> {
+fn of_fs(alloc: Global, fs: &[u8]) -> Result<Wfn, Memory> {
     match unbind_fs(alloc, fs) {
         Ok(name) => Ok(name),
         Err(_) => Err(Memory),
