@@ -25,7 +25,7 @@ use Rattle.cpe_command.specs.Command.{command_of, usage}
 use Rattle.cpe_command.specs.Loading.{load_says, LoadLeaves}
 use Rattle.cpe_command.specs.Names.{name_session}
 use Rattle.cpe_command.specs.Pairs.{pair_session}
-use Rattle.cpe_command.specs.Records.{record_session}
+use Rattle.record_lines.specs.Records.{record_session}
 
 -- What a command means, by the bytes that a run takes of its input, where it takes some.
 pub record Meaning : Type 1 where

@@ -11,7 +11,6 @@ ghost use Rattle.cpe_snapshot.specs.States.{Snap, most_bytes};
 ghost use Rattle.cpe_drill.specs.Summary.{number_line};
 ghost use Rattle.cpe_command.specs.Loading.{counts_text, IsNoSnapshot, load_says, LoadLeaves, refusal_told, state_text, state_told};
 
-use crate::verdicts::pour_verdicts;
 use cpe_drill::{NumberLine, push_number_lines};
 use cpe_engine::Engine;
 use cpe_io::{Sink, SinkFault, write_all};
@@ -20,8 +19,10 @@ use cpe_session::{Listener, Page, Status, write_text};
 use cpe_snapshot::LoadFault;
 use cpe_steps::Steps;
 use engine_snapshot::{MOST_BYTES, read_snapshot};
+use record_lines::pour_verdicts;
 use std::alloc::{AllocError, Global};
 use std::marker::Brand;
+use std::mem::replace;
 use std::sync::ledger::{Blank, Ledger};
 
 /// What is written for an input that is no snapshot.
@@ -55,7 +56,7 @@ impl Listener for Load {
         match load_counted::<Brand>(alloc, input, Blank::new(1)) {
             Ok(engine) => {
                 engine.lawful();
-                *state = engine;
+                put(state, engine);
                 write_state(alloc, state, sink)
             }
             Err(LoadFault::NotSnapshot) => refuse(sink),
@@ -69,6 +70,13 @@ impl Listener for Load {
         engine_snapshot::law::snapshots_are_within();
         refuse(sink)
     }
+}
+
+// Puts an engine in the place of another, which is let go by a call: in place, letting go of all that it keeps would be proved there.
+fn put(state: &mut Engine, engine: Engine)
+    ensures { state.new ≡ engine }
+{
+    drop(replace(state, engine));
 }
 
 // Steps are counted in a ledger of its own: no bound on those of a load is said.

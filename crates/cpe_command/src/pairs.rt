@@ -1,5 +1,5 @@
 // What a line of a source and a target says.
-ghost use Rattle.std.specs.Prelude.{◌≡◌, ◌≤◌, ◌+◌, ◌*◌, ◌∷◌, ◌++◌, Ok, IfOk, OnOk, codes, length, take};
+ghost use Rattle.std.specs.Prelude.{◌≡◌, ◌≤◌, ◌+◌, ◌*◌, ◌∷◌, ◌++◌, Ok, IfOk, OnOk, codes, drop, length, take, true};
 ghost use Rattle.std.specs.List.{flat_map};
 ghost use Rattle.cpe_io.specs.Halves.{halves};
 ghost use Rattle.cpe_session.specs.Pages.{Puts};
@@ -153,11 +153,52 @@ fn put_line(room: &mut [u8], at: usize, whole: Relation, each: &Relations) -> us
     ensures line { take result room.new ≡ take at room.old ++ (relation_text whole ++ flat_map (λ w. 32 ∷ relation_text (relation_of each.now w)) attributes ++ codes "\n") }
 {
     let behind_whole = put(room, at, relation_word(whole));
-    let behind_each = put_each(room, behind_whole, each, &ATTRIBUTES);
+    let behind_each = put_all(room, behind_whole, each);
     put_byte(room, behind_each, b'\n')
 }
 
+// All eleven, each after a space. Where those after the version are EQUAL, as of most names, they are put at once.
+fn put_all(room: &mut [u8], at: usize, relations: &Relations) -> usize
+    requires { at + WORD * length attributes ≤ length room.old }
+    ensures within { result ≤ at + WORD * length attributes }
+    ensures length { length room.new ≡ length room.old }
+    ensures words { take result room.new ≡ take at room.old ++ flat_map (λ w. 32 ∷ relation_text (relation_of relations.now w)) attributes }
+{
+    let behind_early = put_each(room, at, relations, &ATTRIBUTES[..4]);
+    if are_equal_late(relations) {
+        return put(
+            room,
+            behind_early,
+            b" EQUAL EQUAL EQUAL EQUAL EQUAL EQUAL EQUAL",
+        );
+    }
+    put_each(room, behind_early, relations, &ATTRIBUTES[4..])
+}
+
+// Whether each after the version is EQUAL.
+#[inline(always)]
+#[tactic(auto, using(crate::proofs::RelationTexts::equal_late))]
+fn are_equal_late(relations: &Relations) -> bool
+    ensures { result ≡ true → flat_map (λ w. 32 ∷ relation_text (relation_of relations.now w)) (drop 4 attributes) ≡ codes " EQUAL EQUAL EQUAL EQUAL EQUAL EQUAL EQUAL" }
+{
+    is_equal(relations.update)
+        && is_equal(relations.edition)
+        && is_equal(relations.language)
+        && is_equal(relations.sw_edition)
+        && is_equal(relations.target_sw)
+        && is_equal(relations.target_hw)
+        && is_equal(relations.other)
+}
+
+#[inline(always)]
+fn is_equal(relation: Relation) -> bool
+    ensures { result ≡ true → relation ≡ Relation.Equal }
+{
+    matches!(relation, Relation::Equal)
+}
+
 // Each after a space.
+#[inline(always)]
 fn put_each(room: &mut [u8], at: usize, relations: &Relations, which: &[Attribute]) -> usize
     requires { at + WORD * length which.now ≤ length room.old }
     ensures within { result ≤ at + WORD * length which.now }

@@ -34,9 +34,9 @@ use Rattle.numbered_names.specs.Shown.{holds_in, Shows}
 use Rattle.cpe_registry.specs.Registered.{Registered}
 use Rattle.kept_verdicts.specs.Kept.{Stands, Verdicts}
 use Rattle.cpe_engine.specs.Adopting.{given_weight, IsBare, with_deprecations}
-use Rattle.cpe_engine.specs.Parts.{AreKept, AreOf, rows_in}
-use Rattle.cpe_engine.specs.declared.parts.Parts.{Parts}
-use Rattle.cpe_engine.proofs.PartsLemmas.{by_lists, stay_kept, weight_within}
+use Rattle.engine_parts.specs.Parts.{AreKept, AreOf, rows_in}
+use Rattle.engine_parts.specs.declared.parts.Parts.{Parts}
+use Rattle.engine_parts.proofs.PartsLemmas.{by_lists, stay_kept, weight_within}
 
 -- ---- weight
 

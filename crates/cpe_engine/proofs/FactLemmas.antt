@@ -1,11 +1,9 @@
 -- Fact references and the items that show their truth.
-use Rattle.std.proofs.Common.{inl, inr, not, cond, ltb, eqb-true, ℕ, ◌≡◌, ◌≤◌, ◌||◌, List, [], Bool, true, false, Option, Some, None, find, is_some, length, position, slice_get, refl, ap, sym, ◌∙◌}
-use Rattle.std.specs.List.{list_any, position_or_len}
-use Rattle.std.specs.Prelude.{count_by}
-use Rattle.std.proofs.lemmas.Bool.{cases_Bool, ltb-false}
+use Rattle.std.proofs.Common.{not, cond, ltb, ℕ, ◌≡◌, ◌≤◌, ◌||◌, List, [], Bool, true, false, Option, Some, None, find, is_some, length, position, slice_get, refl, ap, sym, ◌∙◌}
+use Rattle.std.specs.List.{position_or_len}
+use Rattle.std.proofs.lemmas.Bool.{ltb-false}
 use Rattle.std.proofs.lemmas.List.Folds.{find_at}
 use Rattle.std.proofs.lemmas.Option.{same_Some, slice_get_past}
-use Rattle.kept_verdicts.proofs.UseLemmas.{none_counted}
 use Rattle.std.specs.Option.{option_copied, option_map_or}
 use Rattle.std.specs.Borrow.{Bor}
 use Rattle.cpe_name.specs.Eleven.{Values}
@@ -97,10 +95,3 @@ module _ {A : Type 0} (p : A → Bool) (xs : List A) where
     go : (b : Bool) → ltb (position_or_len p xs) (length xs) ≡ b → cond b (Some (position_or_len p xs)) None ≡ None → length xs ≤ position_or_len p xs
     go true e f = absurd (let w : ⊥ = cc in w)
     go false e f = ltb-false (position_or_len p xs) (length xs) e
-
--- a statement uses what some use
-pub use_some : {X : Type 0} (p : X → Bool) (xs : List X) → (count_by p xs ≡ 0 → ⊥) → list_any p xs ≡ true
-use_some p xs h = elim (cases_Bool (list_any p xs)) [
-  | inl t ↦ t
-  | inr f ↦ absurd (h (eqb-true (count_by p xs) 0 (none_counted p xs ∙ ap not f)))
-]

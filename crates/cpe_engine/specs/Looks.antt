@@ -1,17 +1,12 @@
--- How many looks at names an answer may take, or an edit, which keeps the verdicts. A statement's verdict is kept, so that to ask for it is no
--- look; but a name that comes, goes or is asked then, of an item, of a fact reference, or of their ends where deprecations lead, is looked at,
--- and the names on the other side whose product its own meets are looked at for it.
+-- How many looks at names an answer may take, or an edit (`edit_looks`). A statement's verdict is kept, so that to ask for it is no look.
 use Rattle.std.specs.Prelude.{ℕ, map}
 use Rattle.names_in_order.specs.Places.{near_count}
 use Rattle.items_in_order.specs.InOrder.{met_count}
-use Rattle.cpe_rows.specs.After.{after}
 use Rattle.cpe_rows.specs.Rows.{Rows}
 use Rattle.cpe_rows.specs.declared.entry.Entry.{Entry}
-use Rattle.cpe_rows.specs.declared.edit.Edit.{Edit}
-use Rattle.cpe_rows.specs.declared.edit.Edit.TheVariants as edit
 use Rattle.cpe_rows.specs.declared.edit.Query.{Query}
 use Rattle.cpe_rows.specs.declared.edit.Query.TheVariants.{Search, Items}
-use Rattle.kept_verdicts.specs.Looks.{item_looks, lead_looks, statement_looks}
+pub use Rattle.made_edits.specs.Looks.{edit_looks}
 
 -- for a search as many as entries have a product to which the asked one is near, for items as many as have a product that the asked one
 -- meets, and for each other query none
@@ -19,14 +14,3 @@ abbrev pub looks : Rows → Query → ℕ
 looks rows (Search asked active_only) = near_count asked (map (λ (e : Entry). e.name) rows.entries)
 looks rows (Items asked) = met_count asked rows.items
 looks rows query = 0
-
--- for an item as many as it and its ends take, for a statement as many as its fact references take, for a change of a deprecation as many
--- as the ends take of all that leads to the entry, before and after it, and for each other edit none
-abbrev pub edit_looks : Rows → Edit → ℕ
-edit_looks rows (edit.Item n) = item_looks rows n
-edit_looks rows (edit.DropItem n) = item_looks rows n
-edit_looks rows (edit.PutStatement s) = statement_looks rows s
-edit_looks rows (edit.Deprecate n d date comment) = lead_looks rows (after rows (edit.Deprecate n d date comment)) n
-edit_looks rows (edit.Amend n d date comment) = lead_looks rows (after rows (edit.Amend n d date comment)) n
-edit_looks rows (edit.Restore n date comment) = lead_looks rows (after rows (edit.Restore n date comment)) n
-edit_looks rows e = 0

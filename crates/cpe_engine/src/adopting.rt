@@ -4,12 +4,12 @@ ghost use Rattle.cpe_rows.specs.Prelude.{IsLawful};
 ghost use Rattle.cpe_rows.specs.Weight.{total};
 ghost use Rattle.cpe_weight.specs.Capped.{capped};
 ghost use Rattle.cpe_engine.specs.Adopting.{given_weight, IsBare, with_deprecations};
-ghost use Rattle.cpe_engine.specs.Parts.{AreKept, rows_in};
+ghost use Rattle.engine_parts.specs.Parts.{AreKept, rows_in};
 
 use crate::engine::Engine;
-use crate::parts::Parts;
 use cpe_rows::{Deprecation, List, MOST_WEIGHT};
 use cpe_weight::with_deprecation;
+use engine_parts::Parts;
 use filled_graph::FillFault;
 
 /// Why rows can't be taken over.
@@ -40,7 +40,7 @@ impl Engine {
         ensures unlawful { IfErr result (λ f. f ≡ AdoptFault.Unlawful → IsLawful (with_deprecations self deprecations) → ⊥) }
     {
         let Engine { alloc, mut parts } = self;
-        match parts.deprecate_all(deprecations) {
+        match deprecate_all(&mut parts, deprecations) {
             Ok(()) => Ok(Engine { alloc, parts }),
             Err(fault) => Err(let_go(parts, fault)),
         }
@@ -55,31 +55,32 @@ fn let_go(parts: Parts, fault: AdoptFault) -> AdoptFault
     fault
 }
 
-impl Parts {
-    // Gives each entry the deprecation at its place, or none.
-    fn deprecate_all(&mut self, deprecations: List<Option<Deprecation>>) -> Result<(), AdoptFault>
-        requires kept { AreKept self.old }
-        requires bare { IsBare (rows_in self.old) }
-        requires even { length deprecations ≡ length (rows_in self.old).entries }
-        ensures kept { OnOk result (AreKept self.new) }
-        ensures ok { OnOk result (rows_in self.new ≡ with_deprecations (rows_in self.old) deprecations) }
-        ensures unlawful { IfErr result (λ f. f ≡ AdoptFault.Unlawful → IsLawful (with_deprecations (rows_in self.old) deprecations) → ⊥) }
-    {
-        kept_verdicts::law::entries_alone_say_nothing();
-        let weight = with_all(self.weight, deprecations.as_slice());
-        if weight > MOST_WEIGHT {
-            drop(deprecations);
-            return Err(AdoptFault::Unlawful);
+// Gives each entry the deprecation at its place, or none.
+fn deprecate_all(
+    parts: &mut Parts,
+    deprecations: List<Option<Deprecation>>,
+) -> Result<(), AdoptFault>
+    requires kept { AreKept parts.old }
+    requires bare { IsBare (rows_in parts.old) }
+    requires even { length deprecations ≡ length (rows_in parts.old).entries }
+    ensures kept { OnOk result (AreKept parts.new) }
+    ensures ok { OnOk result (rows_in parts.new ≡ with_deprecations (rows_in parts.old) deprecations) }
+    ensures unlawful { IfErr result (λ f. f ≡ AdoptFault.Unlawful → IsLawful (with_deprecations (rows_in parts.old) deprecations) → ⊥) }
+{
+    kept_verdicts::law::entries_alone_say_nothing();
+    let weight = with_all(parts.weight, deprecations.as_slice());
+    if weight > MOST_WEIGHT {
+        drop(deprecations);
+        return Err(AdoptFault::Unlawful);
+    }
+    match parts.registry.deprecate_all(deprecations) {
+        Ok(()) => {
+            parts.registry.dictionary().lawful();
+            parts.weight = weight;
+            Ok(())
         }
-        match self.registry.deprecate_all(deprecations) {
-            Ok(()) => {
-                self.registry.dictionary().lawful();
-                self.weight = weight;
-                Ok(())
-            }
-            Err(FillFault::Unlawful) => Err(AdoptFault::Unlawful),
-            Err(FillFault::Memory) => Err(AdoptFault::Memory),
-        }
+        Err(FillFault::Unlawful) => Err(AdoptFault::Unlawful),
+        Err(FillFault::Memory) => Err(AdoptFault::Memory),
     }
 }
 

@@ -11,7 +11,7 @@ ghost use Rattle.cpe_rows.specs.Lent.{entry_lent};
 ghost use Rattle.cpe_steps.specs.Within.{StepsWithin};
 ghost use Rattle.cpe_engine.specs.Looks.{edit_looks, looks};
 
-use crate::parts::Parts;
+use crate::made::{commit, foresee};
 use cpe_inventory::ItemSlots;
 use cpe_name::Wfn;
 use cpe_rows::{
@@ -20,6 +20,7 @@ use cpe_rows::{
 };
 use cpe_steps::Steps;
 use cpe_values::Memory;
+use engine_parts::Parts;
 use std::alloc::Global;
 use std::marker::Model;
 use std::sync::ledger::Ledger;
@@ -35,7 +36,7 @@ impl Model for Engine {
     ghost use Rattle.std.specs.Coded.{codes};
     ghost use Rattle.cpe_rows.specs.Rows.{Rows};
     ghost use Rattle.cpe_rows.specs.contracts.test.Test as test;
-    ghost use Rattle.cpe_engine.specs.Parts.{AreKept, rows_in};
+    ghost use Rattle.engine_parts.specs.Parts.{AreKept, rows_in};
 
     ghost Value = { Rows };
 
@@ -193,12 +194,9 @@ impl Engine {
     {
         self.parts.forget_changes();
         let numbered = self.parts.number(self.alloc, edit)?;
-        match self.parts.foresee(self.alloc, &numbered) {
+        match foresee(&self.parts, self.alloc, &numbered) {
             Ok((checked, room)) => {
-                Ok(
-                    self.parts
-                        .commit(self.alloc, numbered, checked, room, steps)?,
-                )
+                Ok(commit(&mut self.parts, self.alloc, numbered, checked, room, steps)?)
             }
             Err(fault) => Err(self.parts.refuse(numbered, fault)),
         }

@@ -1,108 +1,19 @@
 // An engine as rows of which certificates are made, and by which they are tested.
-ghost use Rattle.std.specs.Prelude.{◌≡◌, IfOk, IfSome, None, find, length, slice_get, true};
-ghost use Rattle.std.specs.List.{filter_map};
+ghost use Rattle.std.specs.Prelude.{◌≡◌, IfOk, IfSome, None, find, slice_get, true};
 ghost use Rattle.std.specs.Option.{option_copied, option_map_or};
-ghost use Rattle.cpe_name.specs.Lower.{IsLower};
-ghost use Rattle.cpe_rows.specs.Prelude.{Rows};
 ghost use Rattle.cpe_rows.specs.Verdict.{fact_truth, finds_item, is_followed, truth};
-ghost use Rattle.name_index.specs.Table.{Names};
-ghost use Rattle.numbered_names.specs.Shown.{name_at};
-ghost use Rattle.kept_verdicts.specs.Kept.{Stands};
 ghost use Rattle.cpe_explain.specs.Leading.{followed};
 ghost use Rattle.cpe_explain.specs.Relates.{related};
 
 use crate::engine::Engine;
-use crate::leading::{ends_of, first_followed, first_shown};
 use cpe_explain::{ExplainedRows, PlainRows, Relates};
-use cpe_inventory::ItemSlots;
 use cpe_name::Wfn;
-use cpe_registry::Registry;
 use cpe_rows::{CheckKey, Deprecation, EntryRef, Mode, Statement, Text, Truth};
 use cpe_values::Memory;
-use items_in_order::Items;
-use kept_verdicts::KeptVerdicts;
-use name_index::NameId;
+use shown_items::{
+    ends_of, first_by_product, first_followed, first_related, first_shown, item_of, kept_truth,
+};
 use std::alloc::Global;
-
-// ---- items by their slots
-
-// The item at a place, where some slots may be empty.
-fn nth_item<'t>(slots: &ItemSlots<'t>, k: usize) -> Option<&'t Wfn>
-    ensures { option_copied result ≡ slice_get (filter_map (λ slot. slot) slots.now) k }
-{
-    let mut left = k;
-    for slot in 0..slots.len() {
-        if let Some(item) = slots.at(slot) {
-            if left == 0 {
-                return Some(item);
-            }
-            left -= 1;
-        }
-    }
-    None
-}
-
-// The same, where it is known how many items there are: where no slot is empty it is found in one step.
-fn item_of<'t>(slots: &ItemSlots<'t>, count: usize, k: usize) -> Option<&'t Wfn>
-    requires { count ≡ length (filter_map (λ slot. slot) slots.now) }
-    ensures { option_copied result ≡ slice_get (filter_map (λ slot. slot) slots.now) k }
-{
-    if slots.len() == count {
-        return slots.at(k);
-    }
-    nth_item(slots, k)
-}
-
-// The first item to which a name in lower case stands so. It is found by the name's product.
-fn first_by_product<'t>(
-    items: &Items<'t>,
-    alloc: Global,
-    relates: Relates,
-    name: &Wfn,
-) -> Result<Option<&'t Wfn>, Memory>
-    requires { IsLower name.now }
-    ensures { IfOk result (λ item. option_copied item ≡ find (related relates name.now) items.now) }
-{
-    match relates {
-        Relates::Covers => items.first_covered(alloc, name),
-        Relates::MayCover => items.first_maybe(alloc, name),
-    }
-}
-
-// The first item to which a name stands so.
-fn first_related<'t>(slots: &ItemSlots<'t>, relates: Relates, name: &Wfn) -> Option<&'t Wfn>
-    ensures { option_copied result ≡ find (related relates name.now) (filter_map (λ slot. slot) slots.now) }
-{
-    for slot in 0..slots.len() {
-        if let Some(item) = slots.at(slot) {
-            if relates.holds(name, item) {
-                return Some(item);
-            }
-        }
-    }
-    None
-}
-
-// ---- truths that are kept
-
-fn numbered_truth(verdicts: &KeptVerdicts, id: NameId, mode: Mode) -> Option<Truth>
-    ensures { (names : Names) (rows : Rows) → Stands names verdicts.now rows → IfSome result (λ truth. truth ≡ fact_truth rows mode (name_at names id)) }
-{
-    if verdicts.users_of(id, mode) == 0 {
-        return None;
-    }
-    Some(verdicts.truth_of(id, mode))
-}
-
-// The truth of a fact reference, where a statement of the mode has it.
-fn kept_truth(registry: &Registry, verdicts: &KeptVerdicts, mode: Mode, name: &Wfn) -> Option<Truth>
-    ensures { (rows : Rows) → Stands registry.now.table verdicts.now rows → IfSome result (λ truth. truth ≡ fact_truth rows mode name.now) }
-{
-    match registry.find(name) {
-        Some(id) => numbered_truth(verdicts, id, mode),
-        None => None,
-    }
-}
 
 fn truth_of(is_covered: bool, may_be: bool) -> Truth
     ensures { result ≡ truth is_covered may_be }
@@ -112,8 +23,6 @@ fn truth_of(is_covered: bool, may_be: bool) -> Truth
     }
     if may_be { Truth::Unknown } else { Truth::False }
 }
-
-// ---- the engine
 
 impl Engine {
     /// The item at a place from 0. There is none exactly where the place is the number of items or more. It takes no memory. Where no

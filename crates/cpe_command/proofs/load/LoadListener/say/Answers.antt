@@ -1,16 +1,22 @@
-use Rattle.std.proofs.Common.{Some, []}
+use Rattle.std.proofs.Common.{Some, [], sym, subst}
+use Rattle.cpe_rows.specs.Lawful.{IsLawful}
+use Rattle.cpe_rows.specs.Rows.{Rows}
+use Rattle.cpe_snapshot.specs.States.{Snap}
 use Rattle.cpe_command.proofs.LoadLemmas.{Answers-refusal, Answers-state, first_left, state_left}
 use Rattle.cpe_command.proofs.load.LoadListener.say.Goals as goal
 
 -- the state was told
 pub returns-in-Ok-clause-answers : goal.returns-in-Ok-clause-answers
 returns-in-Ok-clause-answers g c =
-    Answers-state c.write_state.result c.in-Ok.engine c.args.input.now c.states_have_snapshots.ensures.clear c.lawful.ensures
-    c.in-Ok.ensures.loaded (c.write_state.ensures.ran (Some []))
+    let lawful = subst (λ (rows : Rows). IsLawful rows) (sym c.put.ensures) c.lawful.ensures in
+    let snap = subst (λ (rows : Rows). Snap rows c.args.input.now) (sym c.put.ensures) c.in-Ok.ensures.loaded in
+    Answers-state c.write_state.result c.put.new.state c.args.input.now c.states_have_snapshots.ensures.clear lawful snap
+    (c.write_state.ensures.ran (Some []))
 
 pub returns-in-Ok-clause-leaves : goal.returns-in-Ok-clause-leaves
 returns-in-Ok-clause-leaves g c =
-    state_left c.write_state.result c.args.state.now c.in-Ok.engine c.args.input.now c.in-Ok.ensures.loaded (c.write_state.ensures.ran (Some []))
+    let snap = subst (λ (rows : Rows). Snap rows c.args.input.now) (sym c.put.ensures) c.in-Ok.ensures.loaded in
+    state_left c.write_state.result c.args.state.now c.put.new.state c.args.input.now snap (c.write_state.ensures.ran (Some []))
 
 -- no state has this snapshot
 pub returns-in-Err-NotSnapshot-clause-answers : goal.returns-in-Err-NotSnapshot-clause-answers

@@ -1,0 +1,4 @@
+pub mod PartsLemmas
+pub mod NumberedLemmas
+pub mod HoldLemmas
+pub mod StatementLemmas

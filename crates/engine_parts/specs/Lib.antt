@@ -1,0 +1,6 @@
+pub mod Numbered
+pub mod Parts
+pub mod Holding
+pub mod Planned
+pub mod Checked
+pub mod Moved

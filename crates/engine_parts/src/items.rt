@@ -1,0 +1,56 @@
+// Items that come and go get their numbers.
+ghost use Rattle.std.specs.Prelude.{◌≡◌, [], IfErr, IfOk, OnErr, true};
+ghost use Rattle.cpe_rows.specs.Prelude.{causes, first_some, is_valid_edit, IsCause};
+ghost use Rattle.cpe_rows.specs.declared.edit.Edit.TheVariants as edit;
+ghost use Rattle.engine_parts.specs.Numbered.{IsFound, names_coming};
+ghost use Rattle.engine_parts.specs.Parts.{AreKept, AreOf, edit_in, rows_in};
+
+use crate::numbered::Numbered;
+use crate::parts::Parts;
+use cpe_name::Wfn;
+use cpe_rows::EditFault;
+use cpe_values::Memory;
+
+impl Parts {
+    /// An item that comes: its name is held.
+    ///
+    /// # Errors
+    /// Only that memory ran out; all is then as it was.
+    pub(crate) fn number_item(&mut self, name: Wfn) -> Result<Numbered, Memory>
+        requires kept { AreKept self.old }
+        requires valid { is_valid_edit (edit.Item name) ≡ true }
+        ensures rows { rows_in self.new ≡ rows_in self.old }
+        ensures verdicts { self.new.verdicts ≡ self.old.verdicts }
+        ensures weight { self.new.weight ≡ self.old.weight }
+        ensures edit { IfOk result (λ n. edit_in self.new n ≡ edit.Item name) }
+        ensures found { IfOk result (IsFound self.new.registry.table) }
+        ensures are { IfOk result (λ n. AreOf self.new.registry self.new.verdicts (rows_in self.old) (names_coming self.new.registry.table n)) }
+        ensures err { OnErr result (AreOf self.new.registry self.new.verdicts (rows_in self.old) []) }
+    {
+        cpe_rows::law::names_are_equal();
+        numbered_names::law::lists_are_shown();
+        numbered_names::law::tables_are_lists();
+        kept_verdicts::law::verdicts_stand();
+        asked_names::law::lawful_rows_ask_few();
+        let id = self.registry.hold_moved(name)?;
+        Ok(Numbered::Item(id))
+    }
+
+    /// An item that goes, by its name, which is let go.
+    ///
+    /// # Errors
+    /// That nothing has this name.
+    pub(crate) fn number_dropped_item(&self, name: Wfn) -> Result<Numbered, EditFault>
+        ensures edit { IfOk result (λ n. edit_in self.now n ≡ edit.DropItem name) }
+        ensures found { IfOk result (IsFound self.now.registry.table) }
+        ensures coming { IfOk result (λ n. names_coming self.now.registry.table n ≡ []) }
+        ensures err { IfErr result (λ f. IsCause f (first_some (causes (rows_in self.now) (edit.DropItem name)))) }
+    {
+        let found = self.registry.find(&name);
+        drop(name);
+        match found {
+            Some(id) => Ok(Numbered::DropItem(id)),
+            None => Err(EditFault::Unknown),
+        }
+    }
+}

@@ -1,0 +1,4 @@
+pub mod MadeLemmas
+pub mod ChangeLemmas
+pub mod TurnedLemmas
+pub mod StatementLemmas

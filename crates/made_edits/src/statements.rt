@@ -1,0 +1,183 @@
+// Statements that are put and dropped.
+ghost use Rattle.std.specs.Prelude.{◌≡◌, ◌<◌, ◌≤◌, ◌^◌, ◌∷◌, [], IfOk, IfSome, None, OnErr, OnOk, Some, slice_get, true};
+ghost use Rattle.std.specs.List.{list_any};
+ghost use Rattle.std.specs.Option.{option_map};
+ghost use Rattle.cpe_steps.specs.Within.{StepsWithin};
+ghost use Rattle.cpe_rows.specs.Prelude.{after, change, changes, has_id, IsLawful, Rows, verdict};
+ghost use Rattle.cpe_rows.specs.declared.edit.Edit.TheVariants as edit;
+ghost use Rattle.name_index.specs.Table.{Names};
+ghost use Rattle.kept_verdicts.specs.Kept.{Stands};
+ghost use Rattle.engine_parts.specs.Parts.{AreOf, edit_in, rows_in};
+ghost use Rattle.made_edits.specs.Looks.{edit_looks};
+ghost use Rattle.made_edits.specs.Ready.{IsReady};
+ghost use Rattle.made_edits.specs.Told.{dropped_by, put_by};
+
+use cpe_rows::{Changed, List, Room, Statement, Text, Truth};
+use cpe_steps::Steps;
+use cpe_values::Memory;
+use engine_parts::{Numbered, Parts, release_all};
+use kept_verdicts::KeptVerdicts;
+use name_index::NameId;
+use std::alloc::Global;
+use std::sync::ledger::Ledger;
+
+/// Puts a statement last that has no fault, or lets the names of its fact references go. It alone changes, without a verdict
+/// before.
+///
+/// # Errors
+/// Only that memory ran out; the rows are then as they were.
+pub(crate) fn put_statement<L: Ledger>(
+    parts: &mut Parts,
+    alloc: Global,
+    statement: Statement,
+    ids: Vec<NameId>,
+    room: Room<Changed>,
+    steps: &mut Steps<L>,
+) -> Result<List<Changed>, Memory>
+    requires { IsReady parts.old (Numbered.PutStatement statement ids) room }
+    ensures ok { OnOk result (AreOf parts.new.registry parts.new.verdicts (after (rows_in parts.old) (edit_in parts.old (Numbered.PutStatement statement ids))) []) }
+    ensures err { OnErr result (AreOf parts.new.registry parts.new.verdicts (rows_in parts.old) []) }
+    ensures weight { parts.new.weight ≡ parts.old.weight }
+    ensures changes { IfOk result (λ cs. cs ≡ changes (rows_in parts.old) (edit_in parts.old (Numbered.PutStatement statement ids))) }
+    ensures steps { StepsWithin steps.old steps.new (edit_looks (rows_in parts.old) (edit_in parts.old (Numbered.PutStatement statement ids))) }
+{
+    asked_names::law::statements_ask();
+    cpe_rows::law::statements_stand_alone();
+    numbered_names::law::lists_are_shown();
+    let place = parts.verdicts.len();
+    match parts
+        .verdicts
+        .put(alloc, &parts.registry, statement, &ids, steps)
+    {
+        Ok(()) => Ok(put_change(room, place, truth_at(&parts.verdicts, place))),
+        Err(memory) => {
+            drop(room);
+            release_all(&mut parts.registry, &ids);
+            Err(memory)
+        }
+    }
+}
+
+/// Drops the statement of an id, which is there, and lets the names of its fact references go. It alone changes, without a
+/// verdict after.
+///
+/// # Errors
+/// Only that memory ran out; all is then as it was.
+pub(crate) fn drop_statement<L: Ledger>(
+    parts: &mut Parts,
+    alloc: Global,
+    id: Text,
+    room: Room<Changed>,
+    steps: &mut Steps<L>,
+) -> Result<List<Changed>, Memory>
+    requires { IsReady parts.old (Numbered.DropStatement id) room }
+    ensures ok { OnOk result (AreOf parts.new.registry parts.new.verdicts (after (rows_in parts.old) (edit_in parts.old (Numbered.DropStatement id))) []) }
+    ensures err { OnErr result (AreOf parts.new.registry parts.new.verdicts (rows_in parts.old) []) }
+    ensures weight { parts.new.weight ≡ parts.old.weight }
+    ensures changes { IfOk result (λ cs. cs ≡ changes (rows_in parts.old) (edit_in parts.old (Numbered.DropStatement id))) }
+    ensures steps { StepsWithin steps.old steps.new (edit_looks (rows_in parts.old) (edit_in parts.old (Numbered.DropStatement id))) }
+{
+    cpe_rows::law::statements_stand_alone();
+    let place = parts.verdicts.place_of(&id);
+    let truth = parts.verdicts.verdict(&id);
+    let changes = dropped_change(room, place, truth);
+    match take_statement(parts, alloc, &id, steps) {
+        Ok(()) => Ok(changes),
+        Err(memory) => {
+            drop(changes);
+            Err(memory)
+        }
+    }
+}
+
+// The same, without the change.
+fn take_statement<L: Ledger>(
+    parts: &mut Parts,
+    alloc: Global,
+    id: &Text,
+    steps: &mut Steps<L>,
+) -> Result<(), Memory>
+    requires lawful { IsLawful (rows_in parts.old) }
+    requires are { AreOf parts.old.registry parts.old.verdicts (rows_in parts.old) [] }
+    requires has { list_any (has_id id.now) (rows_in parts.old).statements ≡ true }
+    ensures ok { OnOk result (AreOf parts.new.registry parts.new.verdicts (after (rows_in parts.old) (edit.DropStatement id.now)) []) }
+    ensures err { OnErr result (AreOf parts.new.registry parts.new.verdicts (rows_in parts.old) []) }
+    ensures weight { parts.new.weight ≡ parts.old.weight }
+    ensures steps { steps.new ≡ steps.old }
+{
+    asked_names::law::statements_ask();
+    numbered_names::law::lists_are_shown();
+    let ids = parts
+        .verdicts
+        .drop_statement(alloc, parts.registry.table(), id, steps)?;
+    release_all(&mut parts.registry, &ids);
+    Ok(())
+}
+
+// The verdict of the statement at a place, if there is one.
+fn truth_at(verdicts: &KeptVerdicts, place: usize) -> Option<Truth>
+    ensures { (names : Names) (rows : Rows) → Stands names verdicts.now rows → result ≡ option_map (verdict rows) (slice_get rows.statements place) }
+{
+    match verdicts.at(place) {
+        Some((_, truth)) => Some(truth),
+        None => None,
+    }
+}
+
+// A statement that is put at a place has this verdict then.
+fn put_change(room: Room<Changed>, place: usize, truth: Option<Truth>) -> List<Changed>
+    requires few { place < 2 ^ 32 }
+    requires empty { room.list ≡ [] }
+    requires spare { 1 ≤ room.spare }
+    ensures { result ≡ put_by place truth }
+{
+    match truth {
+        Some(truth) => one_change(room, place, None, Some(truth)),
+        None => room.into_list(),
+    }
+}
+
+// A statement that is dropped had this place and this verdict.
+fn dropped_change(room: Room<Changed>, place: Option<usize>, truth: Option<Truth>) -> List<Changed>
+    requires few { IfSome place (λ k. k < 2 ^ 32) }
+    requires empty { room.list ≡ [] }
+    requires spare { 1 ≤ room.spare }
+    ensures { result ≡ dropped_by place truth }
+{
+    match place {
+        Some(place) => lost_change(room, place, truth),
+        None => room.into_list(),
+    }
+}
+
+fn lost_change(room: Room<Changed>, place: usize, truth: Option<Truth>) -> List<Changed>
+    requires few { place < 2 ^ 32 }
+    requires empty { room.list ≡ [] }
+    requires spare { 1 ≤ room.spare }
+    ensures { result ≡ dropped_by (Some place) truth }
+{
+    match truth {
+        Some(truth) => one_change(room, place, Some(truth), None),
+        None => room.into_list(),
+    }
+}
+
+fn one_change(
+    room: Room<Changed>,
+    place: usize,
+    before: Option<Truth>,
+    after: Option<Truth>,
+) -> List<Changed>
+    requires few { place < 2 ^ 32 }
+    requires empty { room.list ≡ [] }
+    requires spare { 1 ≤ room.spare }
+    ensures { result ≡ change place before after ∷ [] }
+{
+    let mut room = room;
+    room.put_last(Changed {
+        place: place as u32,
+        before,
+        after,
+    });
+    room.into_list()
+}

@@ -1,0 +1,24 @@
+-- The certificates of all statements, a row for each.
+use Rattle.std.proofs.Common.{ℕ, List, [], ◌++◌, length, slice_get, Option, subst}
+use Rattle.std.specs.Option.{option_map_or}
+use Rattle.cpe_io.specs.Writes.{AppendsPrefix}
+use Rattle.cpe_session.specs.Pages.{Pours}
+use Rattle.cpe_session.specs.Table.{rows_text}
+use Rattle.cpe_rows.specs.Rows.{Rows}
+use Rattle.cpe_replies.specs.Proofs.{certificate_line, certificate_lines}
+use Rattle.cover_lines.proofs.LineRows.{row_each}
+
+abbrev pub lines : Rows → List ℕ
+lines rows = rows_text (λ k. option_map_or (certificate_line rows) (slice_get rows.statements k) []) (length rows.statements)
+
+-- the lines were poured
+pub certificates-poured : (rows : Rows) (held held_now : Option (List ℕ)) (page page_now : List ℕ)
+    → Pours held held_now page page_now (lines rows) → Pours held held_now page page_now (certificate_lines rows)
+certificates-poured rows held held_now page page_now =
+    subst (λ (text : List ℕ). Pours held held_now page page_now text) (row_each (certificate_line rows) rows.statements)
+
+-- or a prefix of them
+pub certificates-begun : (rows : Rows) (held held_now : Option (List ℕ)) (page : List ℕ)
+    → AppendsPrefix held held_now (page ++ lines rows) → AppendsPrefix held held_now (page ++ certificate_lines rows)
+certificates-begun rows held held_now page =
+    subst (λ (text : List ℕ). AppendsPrefix held held_now (page ++ text)) (row_each (certificate_line rows) rows.statements)

@@ -1,0 +1,32 @@
+-- In lawful rows the test of a certificate says what its definition does.
+use Rattle.std.proofs.Common.{◌≡◌, Bool, Option, Some, None, if◌then◌else◌, refl, ap, sym}
+use Rattle.std.specs.Prelude.{find}
+use Rattle.std.specs.Option.{option_map_or}
+use Rattle.std.proofs.lemmas.Bool.{false_from_ne_true}
+use Rattle.cpe_rows.specs.Rows.{Rows, has_id}
+use Rattle.cpe_rows.specs.Lawful.{IsLawful}
+use Rattle.cpe_rows.specs.declared.statement.Statement.{Statement}
+use Rattle.cpe_explain.specs.Checks.{IsSaid, IsChecked}
+use Rattle.cpe_explain.specs.Tested.{test_passes}
+use Rattle.cpe_explain.specs.declared.proof.Checked.{Checked}
+use Rattle.cpe_explain.specs.declared.proof.Checked.TheVariants.{Holds, Fails, Absent}
+use Rattle.cpe_explain.specs.declared.proof.Proof.{Proof}
+use Rattle.cpe_explain.specs.declared.proof.Why.{Why}
+use Rattle.cpe_explain.proofs.Told.{told}
+use Rattle.record_lines.specs.Checking.{checked}
+
+module _ (rows : Rows) (lawful : IsLawful rows) where
+  said_is : (w : Why) (o : Option Statement) (said : Checked) → IsSaid rows w o said
+      → said ≡ option_map_or (λ s. if test_passes rows s.mode s.test w then Holds else Fails) o Absent
+  said_is w None Absent h = refl
+  said_is w None Holds h = absurd h
+  said_is w None Fails h = absurd h
+  said_is w (Some s) Absent h = absurd h
+  said_is w (Some s) Holds h = ap (λ (b : Bool). if b then Holds else Fails) (sym ((told rows lawful s.mode s.test w).1 h))
+  said_is w (Some s) Fails h =
+      ap (λ (b : Bool). if b then Holds else Fails)
+      (sym (false_from_ne_true (test_passes rows s.mode s.test w) (λ passes. h ((told rows lawful s.mode s.test w).0 passes))))
+
+  pub checked_is : (p : Proof) (said : Checked) → IsChecked rows p said → said ≡ checked rows p
+  unfolding checked
+  checked_is p said h = said_is p.why (find (has_id p.id) rows.statements) said h

@@ -1,0 +1,5 @@
+pub mod Edits
+mod TableRows
+mod WatchLemmas
+mod CheckLemmas
+mod CertificateRows

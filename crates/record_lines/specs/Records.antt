@@ -1,0 +1,98 @@
+-- What a line of a record says under `resolve`, `evaluate`, `watch`, `explain`, `check` and `save`, what it makes of the rows (NIST IR 7697),
+-- and what is written at the end (NIST IR 7698).
+use Rattle.std.specs.Prelude.{ℕ, Bool, true, false, List, [], Option, Some, None, Ok, Err}
+use Rattle.std.specs.declared.result.Result.{Result}
+use Rattle.cpe_session.specs.Session.{Session, Saying}
+use Rattle.cpe_rows.specs.Rows.{Rows}
+use Rattle.cpe_rows.specs.Step.{step}
+use Rattle.cpe_rows.specs.Answers.{answer}
+use Rattle.cpe_rows.specs.Changes.{changes}
+use Rattle.cpe_rows.specs.declared.edit.Edit as edit
+use Rattle.cpe_rows.specs.declared.edit.Query as query
+use Rattle.cpe_rows.specs.declared.fault.EditFault.{EditFault}
+use Rattle.cpe_records.specs.Reading.{record_of}
+use Rattle.cpe_records.specs.declared.read.Record.{Record}
+use Rattle.cpe_records.specs.declared.read.Record.TheVariants.{Edit, Query}
+use Rattle.cpe_members.specs.declared.member.RecordFault.{RecordFault}
+use Rattle.cpe_drill.specs.Looks.{record_looks}
+use Rattle.cpe_snapshot.specs.States.{snapshot}
+use Rattle.cpe_replies.specs.Replies.{reply_text, verdict_table, changes_text}
+use Rattle.cpe_replies.specs.Reasons.{record_fault_text, edit_fault_text, proof_fault_text}
+use Rattle.cpe_replies.specs.Proofs.{certificate_lines, checked_line}
+use Rattle.cpe_explain.specs.declared.proof.Proof.{Proof}
+use Rattle.proof_lines.specs.Reading.{proof_of}
+use Rattle.proof_lines.specs.declared.fault.ProofFault.{ProofFault}
+use Rattle.record_lines.specs.Checking.{checked}
+use Rattle.record_lines.specs.declared.records.RecordCommand.{RecordCommand}
+use Rattle.record_lines.specs.declared.records.RecordCommand.TheVariants.{Resolve, Evaluate, Watch, Explain, Check, Save}
+
+-- what an accepted edit, the line of this number, writes where it leaves the next rows: nothing, or under `watch` the verdicts that it changes
+abbrev pub edit_text : RecordCommand → ℕ → Rows → edit.Edit → Rows → List ℕ
+edit_text Resolve number rows e next = []
+edit_text Evaluate number rows e next = []
+edit_text Watch number rows e next = changes_text number next e (changes rows e)
+edit_text Explain number rows e next = []
+edit_text Check number rows e next = []
+edit_text Save number rows e next = []
+
+-- what a query writes: its answer, but nothing under `save`
+abbrev pub query_text : RecordCommand → Rows → query.Query → List ℕ
+query_text Resolve rows q = reply_text (answer rows q)
+query_text Evaluate rows q = reply_text (answer rows q)
+query_text Watch rows q = reply_text (answer rows q)
+query_text Explain rows q = reply_text (answer rows q)
+query_text Check rows q = reply_text (answer rows q)
+query_text Save rows q = []
+
+-- an accepted edit writes this text of the rows that it leaves
+abbrev pub by_step : (Rows → List ℕ) → Result Rows EditFault → Saying Rows
+by_step text (Ok next) = Ok (text next, next)
+by_step text (Err fault) = Err (edit_fault_text fault)
+
+-- an edit is applied, and a query is answered
+abbrev pub by_record : RecordCommand → ℕ → Rows → Result Record RecordFault → Saying Rows
+by_record command number rows (Ok (Edit e)) = by_step (edit_text command number rows e) (step rows e)
+by_record command number rows (Ok (Query q)) = Ok (query_text command rows q, rows)
+by_record command number rows (Err fault) = Err (record_fault_text fault)
+
+-- the certificate that a line is; but under `check` no line is one
+abbrev pub proof_in : RecordCommand → List ℕ → Result (Option Proof) ProofFault
+proof_in Resolve text = Ok None
+proof_in Evaluate text = Ok None
+proof_in Watch text = Ok None
+proof_in Explain text = Ok None
+proof_in Check text = proof_of text
+proof_in Save text = Ok None
+
+-- what is said of a certificate in these rows; a line that is none says what its record does
+abbrev pub by_proof : Rows → Result (Option Proof) ProofFault → Saying Rows → Saying Rows
+by_proof rows (Ok (Some p)) record_says = Ok (checked_line p.id (checked rows p), rows)
+by_proof rows (Ok None) record_says = record_says
+by_proof rows (Err fault) record_says = Err (proof_fault_text fault)
+
+-- what is written at the end of the input
+abbrev pub ending : RecordCommand → Rows → List ℕ
+ending Resolve rows = []
+ending Evaluate rows = verdict_table rows
+ending Watch rows = []
+ending Explain rows = certificate_lines rows
+ending Check rows = []
+ending Save rows = snapshot rows
+
+-- whether a refused line writes nothing
+abbrev pub is_quiet : RecordCommand → Bool
+is_quiet Resolve = false
+is_quiet Evaluate = false
+is_quiet Watch = false
+is_quiet Explain = false
+is_quiet Check = false
+is_quiet Save = true
+
+abbrev pub record_session : RecordCommand → Session Rows
+record_session command = record {
+  says = λ rows number text. by_proof rows (proof_in command text) (by_record command number rows (record_of text));
+  quiet = is_quiet command;
+  ends = ending command;
+  cost = λ rows number text. record_looks rows (record_of text);
+  end_cost = λ rows. 0;
+}

@@ -1,0 +1,126 @@
+// The verdicts that an edit changes.
+ghost use Rattle.std.specs.Prelude.{◌≡◌, ◌++◌, true, IfOk, OnErr, OnOk};
+ghost use Rattle.std.specs.Option.{option_map};
+ghost use Rattle.std.specs.List.{flat_map};
+ghost use Rattle.cpe_steps.specs.Within.{StepsWithin};
+ghost use Rattle.cpe_session.specs.Pages.{IsBeforeOrAfter, IsSaid};
+ghost use Rattle.cpe_rows.specs.Step.{step};
+ghost use Rattle.cpe_rows.specs.Valid.{is_valid_edit};
+ghost use Rattle.cpe_engine.specs.Looks.{edit_looks};
+ghost use Rattle.cpe_replies.specs.Replies.{change_line, changed_id, dropped_id, statement_id};
+ghost use Rattle.cpe_replies.specs.Reasons.{reason_text};
+ghost use Rattle.record_lines.specs.Records.{by_step, edit_text};
+
+use crate::records::RecordCommand;
+use cpe_engine::Engine;
+use cpe_replies::{RecordReason, push_change};
+use cpe_rows::{Changed, Edit, EditFault, Text};
+use cpe_session::Page;
+use cpe_steps::Steps;
+use std::alloc::{AllocError, Global};
+use std::sync::ledger::Ledger;
+
+/// Applies an edit, and puts the verdicts that it changes after what is gathered; or tells why it can't be applied.
+#[inline(never)]
+pub(crate) fn say_changes<L: Ledger>(
+    alloc: Global,
+    engine: &mut Engine,
+    page: &mut Page,
+    number: u64,
+    edit: Edit,
+    steps: &mut Steps<L>,
+) -> Result<Option<RecordReason>, AllocError>
+    requires { is_valid_edit edit ≡ true }
+    ensures said { IfOk result (λ refused. IsSaid (by_step (edit_text RecordCommand.Watch number engine.old edit) (step engine.old edit))
+        engine.old engine.new page.old page.new (option_map reason_text refused)) }
+    ensures err { OnErr result (IsBeforeOrAfter (by_step (edit_text RecordCommand.Watch number engine.old edit) (step engine.old edit)) engine.old engine.new) }
+    ensures counts { StepsWithin steps.old steps.new (edit_looks engine.old edit) }
+{
+    match copy_dropped_id(alloc, &edit) {
+        Ok(dropped) => say_applied(engine, page, number, edit, &dropped, steps),
+        Err(_) => {
+            drop(edit);
+            Err(AllocError)
+        }
+    }
+}
+
+// The same, where the id of the statement that the edit drops is at hand.
+fn say_applied<L: Ledger>(
+    engine: &mut Engine,
+    page: &mut Page,
+    number: u64,
+    edit: Edit,
+    dropped: &Option<Text>,
+    steps: &mut Steps<L>,
+) -> Result<Option<RecordReason>, AllocError>
+    requires valid { is_valid_edit edit ≡ true }
+    requires drops { dropped.now ≡ dropped_id edit }
+    ensures said { IfOk result (λ refused. IsSaid (by_step (edit_text RecordCommand.Watch number engine.old edit) (step engine.old edit))
+        engine.old engine.new page.old page.new (option_map reason_text refused)) }
+    ensures err { OnErr result (IsBeforeOrAfter (by_step (edit_text RecordCommand.Watch number engine.old edit) (step engine.old edit)) engine.old engine.new) }
+    ensures counts { StepsWithin steps.old steps.new (edit_looks engine.old edit) }
+{
+    match engine.apply(edit, steps) {
+        Ok(changes) => {
+            push_changes(page, number, engine, dropped, changes.as_slice())?;
+            Ok(None)
+        }
+        Err(EditFault::Memory) => Err(AllocError),
+        Err(fault) => Ok(Some(RecordReason::Refused(fault))),
+    }
+}
+
+// The id of the statement that an edit drops: after the edit the rows have it no more.
+fn copy_dropped_id(alloc: Global, edit: &Edit) -> Result<Option<Text>, AllocError>
+    ensures { IfOk result (λ id. id ≡ dropped_id edit.now) }
+{
+    let Edit::DropStatement(id) = edit else {
+        return Ok(None);
+    };
+    match id.copy(alloc) {
+        Ok(id) => Ok(Some(id)),
+        Err(_) => Err(AllocError),
+    }
+}
+
+// A line for each change. The engine has made the edit.
+fn push_changes(
+    page: &mut Page,
+    number: u64,
+    engine: &Engine,
+    dropped: &Option<Text>,
+    changes: &[Changed],
+) -> Result<(), AllocError>
+    ensures { OnOk result (page.new ≡ page.old
+        ++ flat_map (λ c. change_line number (changed_id engine.now.statements dropped.now c) c) changes.now) }
+{
+    for change in changes {
+        let id = changed_id(engine, dropped, change);
+        push_change(page, number, id, change)?;
+    }
+    Ok(())
+}
+
+// The id of a statement that changed.
+fn changed_id<'t>(engine: &'t Engine, dropped: &'t Option<Text>, change: &Changed) -> &'t str
+    ensures { result.now ≡ changed_id engine.now.statements dropped.now change.now }
+{
+    if change.after.is_some() {
+        return statement_id(engine, change.place as usize);
+    }
+    match dropped {
+        Some(id) => id.as_str(),
+        None => "",
+    }
+}
+
+// The id of the statement at a place from 0.
+fn statement_id(engine: &Engine, place: usize) -> &str
+    ensures { result.now ≡ statement_id engine.now.statements place }
+{
+    match engine.statement_at(place) {
+        Some((statement, _)) => statement.id.as_str(),
+        None => "",
+    }
+}

@@ -1,0 +1,283 @@
+// What a line of a record says.
+ghost use Rattle.std.specs.Prelude.{◌≡◌, ◌++◌, [], ℕ, List, true, None, Err, IfOk, OnErr, OnOk};
+ghost use Rattle.std.specs.Option.{option_map};
+ghost use Rattle.cpe_steps.specs.Within.{StepsWithin};
+ghost use Rattle.cpe_session.specs.Pages.{IsBeforeOrAfter, IsSaid};
+ghost use Rattle.cpe_rows.specs.Step.{step};
+ghost use Rattle.cpe_rows.specs.Answers.{answer};
+ghost use Rattle.cpe_rows.specs.Valid.{is_valid_edit, is_valid_query};
+ghost use Rattle.cpe_engine.specs.Looks.{edit_looks, looks};
+ghost use Rattle.cpe_replies.specs.Replies.{reply_text};
+ghost use Rattle.cpe_replies.specs.Reasons.{reason_text, record_fault_text};
+ghost use Rattle.proof_lines.specs.Gives.{Gives};
+ghost use Rattle.record_lines.specs.Records.{by_proof, by_step, edit_text, proof_in, query_text, record_session};
+
+use crate::changes::say_changes;
+use crate::proofs::{pour_certificates, say_checked};
+use crate::save::pour_snapshot;
+use crate::verdicts::pour_verdicts;
+use cpe_engine::Engine;
+use cpe_explain::Proof;
+use cpe_io::{Sink, SinkFault};
+use cpe_members::RecordFault;
+use cpe_name::Wfn;
+use cpe_records::{Record, read_record};
+use cpe_replies::{RecordReason, push_chain_lent, push_reply};
+use cpe_rows::{Edit, EditFault, Query};
+use cpe_session::{Line, Page, Speaker};
+use cpe_steps::Steps;
+use proof_lines::{ProofFault, read_proof};
+use std::alloc::{AllocError, Global};
+use std::sync::ledger::Ledger;
+
+/// Each line is a record: an edit is applied to the rows that the engine keeps, and a query is answered from them.
+#[derive(Clone, Copy, Debug, PartialEq, Eq)]
+pub enum RecordCommand {
+    /// Nothing is written at the end of the input.
+    Resolve,
+    /// The verdicts of all statements are written there.
+    Evaluate,
+    /// The verdicts that an edit changes are written after it, and nothing at the end.
+    Watch,
+    /// The certificates of the verdicts are written there, one of each statement.
+    Explain,
+    /// A line may be a certificate, too, and it is told whether it holds. Nothing is written at the end.
+    Check,
+    /// No line writes anything, and the snapshot of the rows is written at the end.
+    Save,
+}
+
+impl Speaker for RecordCommand {
+    type State = Engine;
+
+    type Reason = RecordReason;
+
+    ghost session = { record_session };
+
+    fn is_quiet(&self) -> bool {
+        match self {
+            RecordCommand::Resolve
+            | RecordCommand::Evaluate
+            | RecordCommand::Watch
+            | RecordCommand::Explain
+            | RecordCommand::Check => false,
+            RecordCommand::Save => true,
+        }
+    }
+
+    fn say<L: Ledger>(
+        &self,
+        alloc: Global,
+        state: &mut Engine,
+        page: &mut Page,
+        line: &Line<'_>,
+        steps: &mut Steps<L>,
+    ) -> Result<Option<RecordReason>, AllocError> {
+        match read_record(alloc, line.text) {
+            Ok(Record::Edit(edit)) => self.say_edit(alloc, state, page, line.number, edit, steps),
+            Ok(Record::Query(query)) => self.say_query(alloc, state, page, query, steps),
+            Err(RecordFault::Memory) => Err(AllocError),
+            Err(fault) => self.say_unread(alloc, state, page, line.text, fault),
+        }
+    }
+
+    fn say_end<K: Sink, L: Ledger>(
+        &self,
+        alloc: Global,
+        state: &Engine,
+        page: &mut Page,
+        sink: &mut K,
+        steps: &mut Steps<L>,
+    ) -> Result<(), SinkFault> {
+        let _ = steps;
+        match self {
+            RecordCommand::Resolve | RecordCommand::Watch | RecordCommand::Check => Ok(()),
+            RecordCommand::Evaluate => pour_verdicts(alloc, state, page, sink),
+            RecordCommand::Explain => pour_certificates(alloc, state, page, sink),
+            RecordCommand::Save => pour_snapshot(alloc, state, page, sink),
+        }
+    }
+}
+
+impl RecordCommand {
+    // The certificate of a line, where the command takes any.
+    fn proof_in(&self, alloc: Global, text: &[u8]) -> Result<Option<Proof>, ProofFault>
+        ensures { Gives result (proof_in self.now text.now) }
+    {
+        match self {
+            RecordCommand::Check => read_proof(alloc, text),
+            RecordCommand::Resolve
+            | RecordCommand::Evaluate
+            | RecordCommand::Watch
+            | RecordCommand::Explain
+            | RecordCommand::Save => Ok(None),
+        }
+    }
+
+    // Tells what the rows say of a line that is no record but a certificate, where the command takes any; or why it is no record.
+    #[inline(never)]
+    fn say_unread(
+        &self,
+        alloc: Global,
+        engine: &Engine,
+        page: &mut Page,
+        text: &[u8],
+        fault: RecordFault,
+    ) -> Result<Option<RecordReason>, AllocError>
+        ensures { IfOk result (λ refused. IsSaid (by_proof engine.now (proof_in self.now text.now) (Err (record_fault_text fault)))
+            engine.now engine.now page.old page.new (option_map reason_text refused)) }
+    {
+        match self.proof_in(alloc, text) {
+            Ok(Some(proof)) => say_checked(alloc, engine, page, proof),
+            Ok(None) => Ok(Some(RecordReason::Unread(fault))),
+            Err(ProofFault::Memory) => Err(AllocError),
+            Err(fault) => Ok(Some(RecordReason::Unproved(fault))),
+        }
+    }
+
+    // Applies an edit, and writes what the command tells of it; or tells why it can't be applied.
+    fn say_edit<L: Ledger>(
+        &self,
+        alloc: Global,
+        engine: &mut Engine,
+        page: &mut Page,
+        number: u64,
+        edit: Edit,
+        steps: &mut Steps<L>,
+    ) -> Result<Option<RecordReason>, AllocError>
+        requires { is_valid_edit edit ≡ true }
+        ensures said { IfOk result (λ refused. IsSaid (by_step (edit_text self.now number engine.old edit) (step engine.old edit))
+            engine.old engine.new page.old page.new (option_map reason_text refused)) }
+        ensures err { OnErr result (IsBeforeOrAfter (by_step (edit_text self.now number engine.old edit) (step engine.old edit)) engine.old engine.new) }
+        ensures counts { StepsWithin steps.old steps.new (edit_looks engine.old edit) }
+    {
+        match self {
+            RecordCommand::Resolve
+            | RecordCommand::Evaluate
+            | RecordCommand::Explain
+            | RecordCommand::Check
+            | RecordCommand::Save => make_edit(engine, edit, steps),
+            RecordCommand::Watch => say_changes(alloc, engine, page, number, edit, steps),
+        }
+    }
+
+    // Answers a query; where the rows are only saved it is not asked.
+    fn say_query<L: Ledger>(
+        &self,
+        alloc: Global,
+        engine: &Engine,
+        page: &mut Page,
+        query: Query,
+        steps: &mut Steps<L>,
+    ) -> Result<Option<RecordReason>, AllocError>
+        requires { is_valid_query query ≡ true }
+        ensures said { IfOk result (λ refused. (refused ≡ None) × (page.new ≡ page.old ++ query_text self.now engine.now query)) }
+        ensures counts { StepsWithin steps.old steps.new (looks engine.now query) }
+    {
+        match self {
+            RecordCommand::Resolve
+            | RecordCommand::Evaluate
+            | RecordCommand::Watch
+            | RecordCommand::Explain
+            | RecordCommand::Check => say_answer(alloc, engine, page, query, steps),
+            RecordCommand::Save => {
+                drop(query);
+                Ok(None)
+            }
+        }
+    }
+}
+
+// Applies an edit, or tells why it can't be applied. Nothing is written for one that was.
+#[inline(never)]
+fn make_edit<L: Ledger>(
+    engine: &mut Engine,
+    edit: Edit,
+    steps: &mut Steps<L>,
+) -> Result<Option<RecordReason>, AllocError>
+    requires { is_valid_edit edit ≡ true }
+    ensures said { IfOk result (λ refused.
+        (page : List ℕ) → IsSaid (by_step (λ next. []) (step engine.old edit)) engine.old engine.new page page (option_map reason_text refused)) }
+    ensures err { OnErr result (engine.new ≡ engine.old) }
+    ensures counts { StepsWithin steps.old steps.new (edit_looks engine.old edit) }
+{
+    match engine.apply(edit, steps) {
+        Ok(changes) => {
+            drop(changes);
+            Ok(None)
+        }
+        Err(EditFault::Memory) => Err(AllocError),
+        Err(fault) => Ok(Some(RecordReason::Refused(fault))),
+    }
+}
+
+// Puts the answer to a query after what is gathered.
+fn say_answer<L: Ledger>(
+    alloc: Global,
+    engine: &Engine,
+    page: &mut Page,
+    query: Query,
+    steps: &mut Steps<L>,
+) -> Result<Option<RecordReason>, AllocError>
+    requires { is_valid_query query ≡ true }
+    ensures said { IfOk result (λ refused. (refused ≡ None) × (page.new ≡ page.old ++ reply_text (answer engine.now query))) }
+    ensures counts { StepsWithin steps.old steps.new (looks engine.now query) }
+{
+    match query {
+        Query::Chain(name) => say_chain(alloc, engine, page, name),
+        other => say_reply(alloc, engine, page, other, steps),
+    }
+}
+
+// The same for a query for a chain. The names that it has are lent, and none is copied.
+#[inline(never)]
+fn say_chain(
+    alloc: Global,
+    engine: &Engine,
+    page: &mut Page,
+    name: Wfn,
+) -> Result<Option<RecordReason>, AllocError>
+    ensures { IfOk result (λ refused. (refused ≡ None) × (page.new ≡ page.old ++ reply_text (answer engine.now (Query.Chain name)))) }
+{
+    let said = push_chain_of(alloc, engine, page, &name);
+    drop(name);
+    said?;
+    Ok(None)
+}
+
+// Puts the lines of a chain after what is gathered.
+fn push_chain_of(
+    alloc: Global,
+    engine: &Engine,
+    page: &mut Page,
+    name: &Wfn,
+) -> Result<(), AllocError>
+    ensures { OnOk result (page.new ≡ page.old ++ reply_text (answer engine.now (Query.Chain name.now))) }
+{
+    match engine.chain_lent(alloc, name) {
+        Ok(links) => push_chain_lent(alloc, page, name, &links),
+        Err(_) => Err(AllocError),
+    }
+}
+
+// The same for each query.
+#[inline(never)]
+fn say_reply<L: Ledger>(
+    alloc: Global,
+    engine: &Engine,
+    page: &mut Page,
+    query: Query,
+    steps: &mut Steps<L>,
+) -> Result<Option<RecordReason>, AllocError>
+    requires { is_valid_query query ≡ true }
+    ensures said { IfOk result (λ refused. (refused ≡ None) × (page.new ≡ page.old ++ reply_text (answer engine.now query))) }
+    ensures counts { StepsWithin steps.old steps.new (looks engine.now query) }
+{
+    match engine.answer(alloc, query, steps) {
+        Ok(reply) => {
+            push_reply(alloc, page, &reply)?;
+            Ok(None)
+        }
+        Err(_) => Err(AllocError),
+    }
+}

@@ -1,0 +1,6 @@
+use Rattle.cpe_explain.specs.Relates.{related}
+use Rattle.shown_items.proofs.SlotLemmas.{IsLeft}
+use Rattle.shown_items.proofs.slots.first_related.Given as goal
+
+abbrev pub invariant-loop-slot : goal.invariant-loop-slot
+invariant-loop-slot l = IsLeft (related l.relates l.name) l.slots l.slot
