@@ -4,7 +4,6 @@ use Rattle.std.specs.Prelude.{filter}
 use Rattle.std.specs.List.{list_any, sum_by}
 use Rattle.std.proofs.lemmas.Bool.{true≢false}
 use Rattle.std.proofs.lemmas.List.Folds.{list_any-append}
-use Rattle.std.proofs.lemmas.List.Sums.{sum_by-cons}
 use Rattle.cpe_name.specs.Eleven.{Values}
 use Rattle.cpe_name.specs.Equal.{same_name, same_name-Decides}
 use Rattle.cpe_rows.specs.FactNames.{fact_names}
@@ -12,6 +11,7 @@ use Rattle.cpe_rows.specs.Names.{is_same}
 use Rattle.cpe_rows.specs.declared.statement.Mode.{Mode}
 use Rattle.cpe_rows.specs.declared.statement.Statement.{Statement}
 use Rattle.product_orders.specs.Elements.{SameElements}
+use Rattle.product_orders.proofs.Sums.{one_at_most, sum_passing}
 use Rattle.numbered_names.specs.Shown.{different, one_if_some, times_named}
 use Rattle.numbered_names.proofs.Different.{counts_same, less_different, none_named, one_once, one_some, some_named}
 pub use Rattle.numbered_names.proofs.Different.{first_removed}
@@ -50,12 +50,8 @@ counted mode statements fact =
     ∙ some_stands fact (references_in mode statements)
     ∙ ap {B = ℕ} (λ (b : Bool). cond b 1 0) (same_referred mode statements fact)
 
-pub at_most_one : (b : Bool) → cond b 1 0 ≤ 1
-at_most_one true = omega arith
-at_most_one false = omega arith
-
 pub counted_once : (mode : Mode) (statements : List Statement) (fact : Values) → times_named fact (facts_in mode statements) ≤ 1
-counted_once mode statements fact = omega (arith, counted mode statements fact, at_most_one (is_referred mode statements fact))
+counted_once mode statements fact = omega (arith, counted mode statements fact, one_at_most (is_referred mode statements fact))
 
 -- ---- the fresh facts of a statement
 
@@ -119,16 +115,8 @@ fewer_of mode s weight = by (same_mode mode s.mode)
     by true = less_different weight (fact_names s.test)
     by false = omega arith
 
-less_filtered : (p : Values → Bool) (weight : Values → ℕ) (list : List Values) → sum_by weight (filter p list) ≤ sum_by weight list
-less_filtered p weight [] = omega arith
-less_filtered p weight (x ∷ list) = by (p x) (less_filtered p weight list)
-  where
-    by : (b : Bool) → sum_by weight (filter p list) ≤ sum_by weight list → sum_by weight (cond b (x ∷ filter p list) (filter p list)) ≤ sum_by weight (x ∷ list)
-    by true later = omega (arith, later, sum_by-cons weight x list, sum_by-cons weight x (filter p list))
-    by false later = omega (arith, later, sum_by-cons weight x list)
-
 pub fewer_fresh : (mode : Mode) (others : List Statement) (s : Statement) (weight : Values → ℕ) → sum_by weight (fresh_facts mode others s) ≤ sum_by weight (references_of mode s)
-fewer_fresh mode others s weight = omega (arith, less_filtered (λ n. not (is_referred mode others n)) weight (facts_of mode s), fewer_of mode s weight)
+fewer_fresh mode others s weight = omega (arith, sum_passing weight (λ n. not (is_referred mode others n)) (facts_of mode s), fewer_of mode s weight)
 
 pub fewer_in : (mode : Mode) (statements : List Statement) (weight : Values → ℕ) → sum_by weight (facts_in mode statements) ≤ sum_by weight (references_in mode statements)
 fewer_in mode statements weight = less_different weight (references_in mode statements)

@@ -6,7 +6,7 @@ use Rattle.std.proofs.lemmas.Bool.{and_parts, not-true, cases_Bool, both_ways, o
 use Rattle.std.proofs.lemmas.List.Sums.{sum_by-cons}
 use Rattle.cpe_name.specs.Eleven.{Values}
 use Rattle.product_orders.specs.Elements.{SameElements}
-use Rattle.product_orders.proofs.Sums.{sum_agree, sum_both, sum_none}
+use Rattle.product_orders.proofs.Sums.{one_at_most, sum_agree, sum_both, sum_none}
 use Rattle.cpe_rows.specs.Chains.{chain, ends, is_active, leads_to}
 use Rattle.cpe_rows.specs.Lawful.{are_different}
 use Rattle.cpe_rows.specs.Names.{is_same}
@@ -17,7 +17,7 @@ use Rattle.cpe_name.specs.Equal.{same_name, same_name-Decides}
 use Rattle.numbered_names.specs.Shown.{one_if_some, times_named}
 use Rattle.numbered_names.proofs.Different.{none_named, one_some}
 use Rattle.numbered_names.proofs.Shown.{named_first}
-use Rattle.asked_names.proofs.Counted.{at_most_one, same_test, some_stands}
+use Rattle.asked_names.proofs.Counted.{same_test, some_stands}
 use Rattle.asked_names.specs.Asked.{entry_names, source_names}
 use Rattle.asked_names.proofs.Names.{sum_flat}
 
@@ -137,7 +137,7 @@ apart_once x (y ∷ list) d = by (same_name x y) refl (apart_once x list)
     none = none_named y list (ap (λ (p : Values → Bool). list_any p list) (λ i m. sym (same_test y m) i) ∙ not-true (list_any (is_same y) list) parts.0)
 
     by : (b : Bool) → same_name x y ≡ b → (are_different is_same list ≡ true → times_named x list ≤ 1) → times_named x (y ∷ list) ≤ 1
-    by true e later = omega (arith, named_first x y list, at_most_one (same_name x y), ap (λ (m : Values). times_named m list) ((same_name-Decides x y).0 e), none)
+    by true e later = omega (arith, named_first x y list, one_at_most (same_name x y), ap (λ (m : Values). times_named m list) ((same_name-Decides x y).0 e), none)
     by false e later = omega (arith, named_first x y list, ap {B = ℕ} (λ (b : Bool). cond b 1 0) e, later parts.1)
 
 -- so the sources that stand in the list lead, once each

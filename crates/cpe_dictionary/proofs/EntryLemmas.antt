@@ -6,7 +6,6 @@ use Rattle.std.specs.Option.{option_map_or}
 use Rattle.std.proofs.lemmas.Bool.{both_ways}
 use Rattle.std.proofs.lemmas.Option.{none-some, same_Some}
 use Rattle.std.proofs.lemmas.List.Quantifiers.{position-Some}
-use Rattle.std.proofs.lemmas.Iterator.Adapters.{position_from-zero}
 use Rattle.cpe_name.specs.Eleven.{Values}
 use Rattle.cpe_name.specs.Equal.{same_name, same_name-Decides}
 use Rattle.cpe_name.specs.Names.{any_values}
@@ -16,11 +15,11 @@ use Rattle.cpe_rows.specs.Rows.{is_named}
 use Rattle.cpe_rows.specs.declared.entry.Deprecation.{Deprecation}
 use Rattle.cpe_rows.specs.declared.entry.Entry.{Entry}
 use Rattle.cpe_rows.specs.declared.entry.Note.{Note}
+use Rattle.cpe_rows.proofs.Lists.{has_place}
 use Rattle.names_in_order.proofs.OrderLemmas.{same_position}
 use Rattle.cpe_dictionary.specs.declared.kept.Details.{Details}
 use Rattle.cpe_dictionary.specs.Kept.{entry_from, entries_of, names_of, rewritten, rewritten_details, details_written, written}
 use Rattle.cpe_dictionary.proofs.KeptLemmas.{any_named}
-use Rattle.cpe_dictionary.proofs.SeenLemmas.{placed}
 
 -- ---- names, and how many there are
 
@@ -73,7 +72,7 @@ place_by_name n ns ds h =
     ap (position (same_name n)) (sym (names_are ns ds h)) ∙ same_position (is_named n) (same_name n) (λ (e : Entry). e.name) (entries_of ns ds) (λ k e at. refl)
 
 pub there_by_name : (n : Values) (es : List Entry) → is_some (position (is_named n) es) ≡ list_any (is_named n) es
-there_by_name n es = ap is_some (position_from-zero (is_named n) es) ∙ placed (is_named n) 0 es
+there_by_name n es = has_place (is_named n) es
 
 -- what is found stands after a reference
 pub behind_reference : {R : Type 0} (now : R → Details) (n : Values) (o : Option R) → option_map (λ d. entry_from (n, now d)) o ≡ option_map (with_name n) (option_map now o)

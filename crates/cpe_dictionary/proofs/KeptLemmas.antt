@@ -8,6 +8,7 @@ use Rattle.cpe_rows.specs.Rows.{is_named}
 use Rattle.cpe_rows.specs.Answers.{rows_found, row_of}
 use Rattle.cpe_rows.specs.declared.entry.Entry.{Entry}
 use Rattle.cpe_rows.specs.declared.reply.Row.{Row}
+use Rattle.cpe_rows.proofs.Lists.{both_pass}
 use Rattle.cpe_relation.specs.NameRelation.{covers}
 use Rattle.names_in_order.specs.Places.{places_covered, rows_at}
 use Rattle.names_in_order.proofs.Rows.{covered_rows}
@@ -19,14 +20,6 @@ any_named n [] = refl
 any_named n (e ∷ es) = ap (λ (b : Bool). same_name n e.name || b) (any_named n es)
 
 -- ---- what is found
-
-both_pass : (p q : Entry → Bool) (es : List Entry) → filter q (filter p es) ≡ filter (λ e. p e && q e) es
-both_pass p q [] = refl
-both_pass p q (e ∷ es) = by (p e) (both_pass p q es)
-  where
-    by : (b : Bool) → filter q (filter p es) ≡ filter (λ x. p x && q x) es → filter q (cond b (e ∷ filter p es) (filter p es)) ≡ cond (b && q e) (e ∷ filter (λ x. p x && q x) es) (filter (λ x. p x && q x) es)
-    by true h = ap (λ (xs : List Entry). cond (q e) (e ∷ xs) xs) h
-    by false h = h
 
 pub found_at : (n : Values) (active_only : Bool) (es : List Entry) → map row_of (filter (is_wanted active_only) (rows_at es (places_covered n (names_of es)))) ≡ rows_found n active_only es
 found_at n active_only es =

@@ -18,7 +18,8 @@ use Rattle.cpe_dictionary.specs.Causes.{state_causes}
 use Rattle.cpe_dictionary.specs.Kept.{rows_of}
 use Rattle.cpe_rows.proofs.CauseLemmas.{first_behind, first_before, cause_moves}
 use Rattle.cpe_dictionary.proofs.DictionaryLemmas.{no_entry}
-use Rattle.cpe_dictionary.proofs.SeenLemmas.{placed, position_past}
+use Rattle.cpe_rows.proofs.Lists.{has_place}
+use Rattle.cpe_dictionary.proofs.SeenLemmas.{position_past}
 
 -- ---- one list of causes after another
 
@@ -55,7 +56,7 @@ state_known es n k active place state = ap (λ (o : Option Entry). option_map_or
     go (Some e) h = ap not (same_Some (is_active e) active h)
 
 entry_known : (es : List Entry) (n : Values) (k : ℕ) → position (is_named n) es ≡ Some k → is_entry (rows_of es) n ≡ true
-entry_known es n k place = sym (ap is_some (position_from-zero (is_named n) es) ∙ placed (is_named n) 0 es) ∙ ap is_some place
+entry_known es n k place = sym (has_place (is_named n) es) ∙ ap is_some place
 
 pub unknown_first : (es : List Entry) (n : Values) (wanted : Bool) → position (is_named n) es ≡ None → first_some (state_causes es n wanted) ≡ Some fault.Unknown
 unknown_first es n wanted h = ap (λ (b : Bool). first_some (when (not b) fault.Unknown ∷ state wanted ∷ [])) (no_entry es n h)

@@ -12,6 +12,7 @@ use Rattle.cpe_name.specs.Eleven.{Values}
 use Rattle.cpe_rows.specs.Faults.{place_of, repeated_from}
 use Rattle.cpe_rows.specs.Rows.{is_named}
 use Rattle.cpe_rows.specs.declared.entry.Entry.{Entry}
+use Rattle.cpe_rows.proofs.Lists.{has_place}
 use Rattle.cpe_dictionary.specs.Numbers.{numbers_of}
 use Rattle.names_in_order.proofs.Rows.{item_first}
 
@@ -60,14 +61,6 @@ is_unknown es n = not (list_any (is_named n) es)
 pub place_from_start : (es : List Entry) (ns : List Values) → place_of (is_unknown es) ns ≡ option_map (λ k. k + 1) (position_from (is_unknown es) 0 ns)
 place_from_start es ns = ap (option_map (λ k. k + 1)) (position_from-zero (is_unknown es) ns)
 
-pub placed : (p : Entry → Bool) (i : ℕ) (es : List Entry) → is_some (position_from p i es) ≡ list_any p es
-placed p i [] = refl
-placed p i (e ∷ es) = go (p e) (placed p (i + 1) es)
-  where
-    go : (b : Bool) → is_some (position_from p (i + 1) es) ≡ list_any p es → is_some (cond b (Some i) (position_from p (i + 1) es)) ≡ (b || list_any p es)
-    go true h = refl
-    go false h = h
-
 -- a place that is counted on from i is no less
 pub position_past : (p : Entry → Bool) (i : ℕ) (es : List Entry) (k : ℕ) → position_from p i es ≡ Some k → i ≤ k
 position_past p i [] k h = absurd (none-some k h)
@@ -78,7 +71,7 @@ position_past p i (e ∷ es) k h = go (p e) h (position_past p (i + 1) es k)
     go false at rest = let less = rest at in omega arith
 
 pub unknown_by_place : (es : List Entry) (n : Values) → is_unknown es n ≡ not (is_some (position (is_named n) es))
-unknown_by_place es n = ap not (sym (ap is_some (position_from-zero (is_named n) es) ∙ placed (is_named n) 0 es))
+unknown_by_place es n = ap not (sym (has_place (is_named n) es))
 
 module _ (es : List Entry) (ns : List Values) (i : ℕ) (n : Values) (first : drop i ns ≡ n ∷ drop (i + 1) ns) where
   at_name : (k : ℕ) → position_from (is_unknown es) k (drop i ns) ≡ cond (not (is_some (position (is_named n) es))) (Some k) (position_from (is_unknown es) (k + 1) (drop (i + 1) ns))

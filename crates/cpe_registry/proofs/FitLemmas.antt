@@ -7,7 +7,7 @@ use Rattle.std.proofs.lemmas.List.{length-map}
 use Rattle.cpe_name.specs.Eleven.{Values}
 use Rattle.name_index.specs.declared.table.NameId.{NameId}
 use Rattle.name_index.specs.Index.{name_id}
-use Rattle.name_index.specs.Table.{AreNames, find_kept, HasName, Holding, Holds, IsLive, Kept, kept_at, kept_or, Names, Releases}
+use Rattle.name_index.specs.Table.{AreNames, find_kept, HasName, Holds, IsLive, Kept, kept_at, kept_or, Names, Releases}
 use Rattle.names_in_order.specs.InOrder.{AreInOrder, IsSafe, names_numbered}
 use Rattle.numbered_names.specs.Shown.{holds_in, Shows, times_named}
 use Rattle.cpe_rows.specs.Names.{is_same}
@@ -34,22 +34,6 @@ fits_still old new s order same fits = record {
 -- entries have the names of their numbers
 pub names_stored : (table : Names) (s : Stored) → FitsTable table s → names_of (entries_in table s) ≡ names_numbered table s.names.numbers
 names_stored table s fits = names_are (names_numbered table s.names.numbers) s.details (length-map s.names.numbers (λ (x : NameId). (kept_at table x.0).name) ∙ fits.even)
-
--- ---- a name that is held
-
-pub held_live : (old new : Names) (id : ℕ) (name : Values) → Holds old new id name → IsLive new id
-held_live old new id name h = by (find_kept old id) h.held
-  where
-    by : (o : Option Kept) → Holding o name (find_kept new id) → IsLive new id
-    by None held = subst IsSome (sym held.1) refl
-    by (Some k) held = subst IsSome (sym held.1) refl
-
-pub held_name : (old new : Names) (id : ℕ) (name : Values) → Holds old new id name → (kept_at new id).name ≡ name
-held_name old new id name h = by (find_kept old id) h.held
-  where
-    by : (o : Option Kept) → Holding o name (find_kept new id) → (kept_at new id).name ≡ name
-    by None held = ap (λ (p : Option Kept). (kept_or p).name) held.1
-    by (Some k) held = ap (λ (p : Option Kept). (kept_or p).name) held.1 ∙ held.0
 
 -- ---- a number that is released
 

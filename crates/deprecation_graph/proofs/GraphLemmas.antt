@@ -6,6 +6,7 @@ use Rattle.std.specs.List.Sorted.{IsStrictlyIncreasing}
 use Rattle.std.proofs.lemmas.List.{length-set, length_push, length-append}
 use Rattle.std.proofs.lemmas.Option.{slice_get_past}
 use Rattle.std.proofs.lemmas.List.Elements.{Contains-append_left, Contains-append_right, Contains-get_or}
+use Rattle.list_pool.proofs.SlotReads.{slice_get-set_same, slice_get-set_other, slice_get_push, slice_get-push_other}
 use Rattle.deprecation_graph.specs.declared.limits.TheConstants.{MOST_ENDS, MOST_SUCCESSORS, MOST_NODES}
 use Rattle.deprecation_graph.specs.Paths.{HasEdge, IsPathFrom, last_from, Leads, IsClosed, IsAcyclic}
 use Rattle.deprecation_graph.specs.Chains.{reaches, chain_of}
@@ -17,28 +18,6 @@ use Rattle.deprecation_graph.proofs.ChainLemmas.{reaches-leads, leads-reaches, C
 use Rattle.deprecation_graph.proofs.ChangeLemmas.{old_or_through, others_alike, still_leads, acyclic_after}
 
 -- ---- a node that is written, and one that is put last
-
-slice_get-set_same : (nodes : List Node) (a : ℕ) (n : Node) → a < length nodes → slice_get (slice_set nodes a n) a ≡ Some n
-slice_get-set_same [] a n lt = absurd (omega arith)
-slice_get-set_same (x ∷ xs) zero n lt = refl
-slice_get-set_same (x ∷ xs) (suc a) n lt = slice_get-set_same xs a n (omega arith)
-
-slice_get-set_other : (nodes : List Node) (a b : ℕ) (n : Node) → b ≢ a → slice_get (slice_set nodes a n) b ≡ slice_get nodes b
-slice_get-set_other [] a b n ne = refl
-slice_get-set_other (x ∷ xs) zero zero n ne = absurd (ne refl)
-slice_get-set_other (x ∷ xs) zero (suc b) n ne = refl
-slice_get-set_other (x ∷ xs) (suc a) zero n ne = refl
-slice_get-set_other (x ∷ xs) (suc a) (suc b) n ne = slice_get-set_other xs a b n (λ e. ne (ap suc e))
-
-pub slice_get-push_other : (nodes : List Node) (b : ℕ) (n : Node) → b ≢ length nodes → slice_get (nodes ++ n ∷ []) b ≡ slice_get nodes b
-slice_get-push_other [] zero n ne = absurd (ne refl)
-slice_get-push_other [] (suc b) n ne = refl
-slice_get-push_other (x ∷ xs) zero n ne = refl
-slice_get-push_other (x ∷ xs) (suc b) n ne = slice_get-push_other xs b n (λ e. ne (ap suc e))
-
-pub slice_get-push_last : (nodes : List Node) (n : Node) → slice_get (nodes ++ n ∷ []) (length nodes) ≡ Some n
-slice_get-push_last [] n = refl
-slice_get-push_last (x ∷ xs) n = slice_get-push_last xs n
 
 pub next_in-changed : (nodes : List Node) (a : ℕ) (to : Option (List ℕ)) → a < length nodes → next_in (changed_nodes nodes a to) a ≡ successors to
 next_in-changed nodes a to lt = ap next_or_none (slice_get-set_same nodes a (node_of to) lt) ∙ next_of to
@@ -247,8 +226,8 @@ module _ (nodes : List Node) (a : ℕ) (to : Option (List ℕ)) (ok : IsLawful n
 
 next_in-push : (nodes : List Node) (x : ℕ) → next_in (nodes ++ node_of None ∷ []) x ≡ next_in nodes x
 next_in-push nodes x = elim (cases_eq x (length nodes)) [
-  | inl e ↦ ap (next_in (nodes ++ node_of None ∷ [])) e ∙ ap next_or_none (slice_get-push_last nodes (node_of None)) ∙ sym (ap next_or_none (slice_get_past nodes x (omega arith)))
-  | inr ne ↦ ap next_or_none (slice_get-push_other nodes x (node_of None) ne)
+  | inl e ↦ ap (next_in (nodes ++ node_of None ∷ [])) e ∙ ap next_or_none (slice_get_push nodes (node_of None)) ∙ sym (ap next_or_none (slice_get_past nodes x (omega arith)))
+  | inr ne ↦ ap next_or_none (slice_get-push_other nodes (node_of None) x ne)
 ]
 
 -- the successors as a whole
@@ -283,7 +262,7 @@ module _ (nodes : List Node) (ok : IsLawful nodes) where
       length-le_rising (ends_in (nodes ++ node_of None ∷ []) x) (ends_in nodes x) rising (λ y c.
           let h = Contains-ends_push x y lt c in
           let in_nodes : y < length nodes = Leads-below ok.closed below h.0 in
-          (Contains-ends (next_in nodes) (active_in nodes) (length nodes) x ok.closed below y).1 (h.0, sym (ap active_or_not (slice_get-push_other nodes y (node_of None) (λ e. omega arith))) ∙ h.1)),
+          (Contains-ends (next_in nodes) (active_in nodes) (length nodes) x ok.closed below y).1 (h.0, sym (ap active_or_not (slice_get-push_other nodes (node_of None) y (λ e. omega arith))) ∙ h.1)),
     )
     | inr past ↦ omega (arith, length-le_rising (ends_in (nodes ++ node_of None ∷ []) x) (x ∷ []) rising (λ y c. (0, omega arith, leads_alone nodes x y past (Contains-ends_push x y lt c).0)))
   ]
@@ -302,7 +281,7 @@ module _ (nodes : List Node) (ok : IsLawful nodes) where
     where
       bare : (x : ℕ) → active_in (nodes ++ node_of None ∷ []) x ≡ true → (x ≡ length nodes) ⊎ (x ≢ length nodes) → next_in nodes x ≡ []
       bare x e (inl same) = ap next_or_none (slice_get_past nodes x (omega arith))
-      bare x e (inr ne) = ok.bare x (sym (ap active_or_not (slice_get-push_other nodes x (node_of None) ne)) ∙ e)
+      bare x e (inr ne) = ok.bare x (sym (ap active_or_not (slice_get-push_other nodes (node_of None) x ne)) ∙ e)
 
 -- ---- numbers below the count
 

@@ -3,6 +3,7 @@ use Rattle.std.proofs.Common.{◌≡◌, ◌≢◌, ◌↔◌, ℕ, ◌<◌, tru
 use Rattle.std.specs.List.{Contains}
 use Rattle.std.specs.List.Sorted.{IsStrictlyIncreasing}
 use Rattle.std.proofs.lemmas.List.{length-set, length_push}
+use Rattle.list_pool.proofs.SlotReads.{slice_get_push, slice_get-push_other}
 use Rattle.deprecation_graph.specs.Paths.{Leads, IsClosed}
 use Rattle.deprecation_graph.specs.Graph.{Node, active_or_not, next_in, active_in, chain_in, ends_in, sources_in, node_of, changed_nodes, NamesNodes, IsLawful}
 use Rattle.deprecation_graph.specs.Laws.{IsUntouched, ChangesAreLocal, SourcesStay, AdditionsAreLocal, AdditionsAreAlone}
@@ -10,7 +11,7 @@ use Rattle.deprecation_graph.proofs.Rising.{same_rising, Contains-cases}
 use Rattle.deprecation_graph.proofs.PathLemmas.{Leads-below, Leads-self}
 use Rattle.deprecation_graph.proofs.ChainLemmas.{Contains-chain, Contains-ends, Contains-sources, chain_rising, ends_rising, sources_rising}
 use Rattle.deprecation_graph.proofs.ChangeLemmas.{others_alike, source_before}
-use Rattle.deprecation_graph.proofs.GraphLemmas.{next_in-other, closed_after, same_ends, same_next, closed_push, slice_get-push_other, slice_get-push_last, leads_alone}
+use Rattle.deprecation_graph.proofs.GraphLemmas.{next_in-other, closed_after, same_ends, same_next, closed_push, leads_alone}
 
 module _ (nodes : List Node) (a : ℕ) (to : Option (List ℕ)) (ok : IsLawful nodes) (change : NamesNodes nodes a to) where
   closed_now : IsClosed (next_in (changed_nodes nodes a to)) (length (changed_nodes nodes a to))
@@ -64,7 +65,7 @@ module _ (nodes : List Node) (ok : IsLawful nodes) where
   ends_more x y lt = Contains-ends (next_in (nodes ++ node_of None ∷ [])) (active_in (nodes ++ node_of None ∷ [])) (length (nodes ++ node_of None ∷ [])) x closed_more lt y
 
   active_old : (y : ℕ) → y < length nodes → active_in (nodes ++ node_of None ∷ []) y ≡ active_in nodes y
-  active_old y lt = ap active_or_not (slice_get-push_other nodes y (node_of None) (λ e. omega arith))
+  active_old y lt = ap active_or_not (slice_get-push_other nodes (node_of None) y (λ e. omega arith))
 
   more : (x : ℕ) → x < length nodes → x < length (nodes ++ node_of None ∷ [])
   more x lt = omega (arith, length_push nodes (node_of None))
@@ -103,7 +104,7 @@ module _ (nodes : List Node) (ok : IsLawful nodes) where
   addition_ends = same_rising (ends_in (nodes ++ node_of None ∷ []) (length nodes)) (length nodes ∷ []) (ends_rising (next_in (nodes ++ node_of None ∷ [])) (active_in (nodes ++ node_of None ∷ [])) (length (nodes ++ node_of None ∷ [])) (length nodes)) (one_rising (length nodes)) (λ y.
       let new = ends_more (length nodes) y last_in in (
         λ c. (0, omega arith, leads_alone nodes (length nodes) y (omega arith) (leads_old (length nodes) y (new.0 c).0)),
-        λ c. subst (Contains (ends_in (nodes ++ node_of None ∷ []) (length nodes))) (sym (in_one (length nodes) y c)) ((ends_more (length nodes) (length nodes) last_in).1 (Leads-self (length nodes), ap active_or_not (slice_get-push_last nodes (node_of None)))),
+        λ c. subst (Contains (ends_in (nodes ++ node_of None ∷ []) (length nodes))) (sym (in_one (length nodes) y c)) ((ends_more (length nodes) (length nodes) last_in).1 (Leads-self (length nodes), ap active_or_not (slice_get_push nodes (node_of None)))),
       ))
 
 pub additions_are_local_law : AdditionsAreLocal

@@ -5,11 +5,11 @@ ghost use Rattle.deprecation_graph.specs.Graph.{next_in, edge_count, changed_nod
 ghost use Rattle.deprecation_graph.specs.Faults.{change_fault};
 ghost use Rattle.deprecation_graph.specs.Kept.{nodes_in, IsKept, Regrows, HasRoom, KeepsRoom};
 
-use crate::fault::Memory;
 use crate::groups::{join_all, recount};
 use crate::kept::{KeptGraph, successors};
 use crate::limits::{MOST_EDGES, MOST_NODES};
 use crate::mirror::{link_all, unlink_all};
+use out_of_memory::Memory;
 
 /// Makes room for so many nodes and edges.
 pub(crate) fn reserve_kept(kept: &mut KeptGraph, nodes: usize, edges: usize) -> Result<(), Memory>

@@ -4,11 +4,12 @@ ghost use Rattle.std.specs.Option.{option_copied};
 
 use crate::changes::{reserve_kept, set_kept};
 use crate::check::{check_change, find_chain, find_ends, find_sources, is_led_to};
-use crate::fault::{GraphFault, Memory};
+use crate::fault::GraphFault;
 use crate::groups::Member;
 use crate::kept::{Change, KeptGraph, successors};
 use crate::limits::{MOST_EDGES, MOST_NODES};
 use crate::lists::Lists;
+use out_of_memory::Memory;
 use std::alloc::Global;
 use std::marker::Model;
 

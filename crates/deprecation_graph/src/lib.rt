@@ -25,6 +25,7 @@ mod lists;
 mod mirror;
 mod search;
 
-pub use fault::{GraphFault, Memory};
+pub use fault::GraphFault;
 pub use graph::DeprecationGraph;
 pub use limits::{MOST_EDGES, MOST_ENDS, MOST_NODES, MOST_SUCCESSORS};
+pub use out_of_memory::Memory;

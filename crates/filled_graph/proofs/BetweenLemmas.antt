@@ -5,6 +5,7 @@ use Rattle.std.specs.List.Sorted.{IsStrictlyIncreasing}
 use Rattle.std.proofs.lemmas.Bool.{cases_Bool, cases_eq, both_ways, le-ltb}
 use Rattle.std.proofs.lemmas.List.{length-set, same_lists}
 use Rattle.std.proofs.lemmas.Option.{slice_get-get_or, same_Some}
+use Rattle.list_pool.proofs.SlotReads.{slice_get-set_same, slice_get-set_other}
 use Rattle.deprecation_graph.specs.declared.limits.TheConstants.{MOST_ENDS}
 use Rattle.deprecation_graph.specs.Paths.{HasEdge, Leads, IsClosed, IsAcyclic}
 use Rattle.deprecation_graph.specs.Chains.{reaches}
@@ -93,18 +94,6 @@ between_same {nodes} {now} {was} {is} between same = record {
 }
 
 -- ---- a node gets its successors, which are done
-
-slice_get-set_same : (nodes : List Node) (a : ℕ) (n : Node) → a < length nodes → slice_get (slice_set nodes a n) a ≡ Some n
-slice_get-set_same [] a n lt = absurd (omega arith)
-slice_get-set_same (x ∷ xs) zero n lt = refl
-slice_get-set_same (x ∷ xs) (suc a) n lt = slice_get-set_same xs a n (omega arith)
-
-slice_get-set_other : (nodes : List Node) (a b : ℕ) (n : Node) → b ≢ a → slice_get (slice_set nodes a n) b ≡ slice_get nodes b
-slice_get-set_other [] a b n ne = refl
-slice_get-set_other (x ∷ xs) zero zero n ne = absurd (ne refl)
-slice_get-set_other (x ∷ xs) zero (suc b) n ne = refl
-slice_get-set_other (x ∷ xs) (suc a) zero n ne = refl
-slice_get-set_other (x ∷ xs) (suc a) (suc b) n ne = slice_get-set_other xs a b n (λ e. ne (ap suc e))
 
 position_from-None : (p : ℕ → Bool) (k : ℕ) (xs : List ℕ) → ((x : ℕ) → Contains xs x → p x ≡ false) → position_from p k xs ≡ None
 position_from-None p k [] h = refl

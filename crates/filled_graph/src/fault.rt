@@ -1,4 +1,7 @@
 // Why no graph has given nodes; one reason is that memory ran out.
+ghost use Rattle.std.specs.Prelude.{◌≡◌};
+ghost use Rattle.filled_graph.specs.declared.fault.FillFault.TheVariants as fault;
+
 use deprecation_graph::Memory;
 use thiserror::Error;
 
@@ -15,9 +18,6 @@ pub enum FillFault {
 }
 
 impl From<Memory> for FillFault {
-    ghost use Rattle.std.specs.Prelude.{◌≡◌};
-    ghost use Rattle.filled_graph.specs.declared.fault.FillFault.TheVariants as fault;
-
     ghost from_gives = { λ _ e. e ≡ fault.Memory };
 
     fn from(_error: Memory) -> FillFault {

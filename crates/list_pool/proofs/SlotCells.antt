@@ -15,7 +15,7 @@ use Rattle.list_pool.specs.Store.{walk, lists_of, next_in, value_in, Linked, End
 use Rattle.std.proofs.lemmas.List.{length_push}
 use Rattle.list_pool.proofs.SlotChanges.{Rewrites-then, Rewrites-set, Rewrites-takes, lists_updated, IsPool-changed}
 use Rattle.list_pool.proofs.SlotsPlaced.{head_is_no_cell, keeps_takes, keeps_head, keeps_cell, stands_pushed, stands_nowhere}
-use Rattle.list_pool.proofs.SlotWalks.{found, find-lists_of, length-walk, cell_of, list_at_head}
+use Rattle.list_pool.proofs.SlotWalks.{found, find-lists_of, length-walk, cell_of, head_not_cell, list_at_head, list_in_cell}
 
 -- what stands after a cell
 abbrev pub FollowedBy : ℕ → Option Row → Type 0
@@ -34,6 +34,34 @@ Linked-at s l at (y ∷ ys) zero x few h e =
     after [] p = p
     after (z ∷ zs) p = (p.1, omega (arith, slice_get_within s h.0 _ p.2))
 
+-- ---- the row of a cell
+
+pub record RowOf (s : List Slot) (cell name k : ℕ) : Type 0 where
+  pub head : HeadRow
+  pub is : slice_get s name ≡ Some (Head head)
+  pub value : ℕ
+  pub here : slice_get (walk s head.first head.len) k ≡ Some (cell, value)
+
+pub row_of : (s : List Slot) (cell name k : ℕ) → cell_at (lists_of s) name k ≡ Some cell → RowOf s cell name k
+row_of s cell name k h = by_slot (slice_get s name) refl
+  where
+    by_row : (hd : HeadRow) → slice_get s name ≡ Some (Head hd) → (o : Option Row) → slice_get (walk s hd.first hd.len) k ≡ o → option_map (λ (x : Row). x.0) o ≡ Some cell → RowOf s cell name k
+    by_row hd e None r f = absurd cc
+    by_row hd e (Some x) r f = record { head = hd; is = e; value = x.1; here = r ∙ ap (λ (c : ℕ). Some (c, x.1)) (same_Some x.0 cell f) }
+
+    nothing : list_at (lists_of s) name ≡ [] → ⊥
+    nothing e =
+        let f : option_map (λ (x : Row). x.0) (slice_get [] k) ≡ Some cell = ap (λ (ys : List Row). option_map (λ (x : Row). x.0) (slice_get ys k)) (sym e) ∙ h in
+        cc
+
+    by_slot : (p : Option Slot) → slice_get s name ≡ p → RowOf s cell name k
+    by_slot (Some (Head hd)) e =
+        let is : list_at (lists_of s) name ≡ walk s hd.first hd.len = ap rows_or_none (list_at_head s name hd e) in
+        by_row hd e (slice_get (walk s hd.first hd.len) k) refl (ap (λ (ys : List Row). option_map (λ (x : Row). x.0) (slice_get ys k)) (sym is) ∙ h)
+    by_slot None e = absurd (nothing (ap rows_or_none (find-lists_of s name ∙ ap (found s) e)))
+    by_slot (Some (Free n)) e = absurd (nothing (ap rows_or_none (find-lists_of s name ∙ ap (found s) e)))
+    by_slot (Some (Cell c)) e = absurd (nothing (ap rows_or_none (find-lists_of s name ∙ ap (found s) e)))
+
 -- the slot of a cell that stands at a position
 pub record CellLies (s : List Slot) (cell name k : ℕ) : Type 0 where
   pub value : ℕ
@@ -44,45 +72,27 @@ pub record CellLies (s : List Slot) (cell name k : ℕ) : Type 0 where
   pub not_last : next ≢ END → cell_at (lists_of s) name (k + 1) ≡ Some next
 
 pub cell_lies : (s : List Slot) (cell name k : ℕ) → AreLists s → length s ≤ END → cell_at (lists_of s) name k ≡ Some cell → CellLies s cell name k
-cell_lies s cell name k ls few h = by_slot (slice_get s name) refl
+cell_lies s cell name k ls few h =
+    let r = row_of s cell name k h in
+    let w = walk s r.head.first r.head.len in
+    let p = Linked-at s name r.head.first w k (cell, r.value) few (ls name r.head r.is).linked r.here in
+    let is : list_at (lists_of s) name ≡ w = ap rows_or_none (list_at_head s name r.head r.is) in
+    record {
+      value = r.value;
+      next = p.0;
+      lies = p.1;
+      has_value = ap (λ (ys : List Row). option_map (λ (y : Row). y.1) (slice_get ys k)) is ∙ ap (option_map (λ (y : Row). y.1)) r.here;
+      last = λ q. ap (λ (ys : List Row). option_map (λ (y : Row). y.0) (slice_get ys (k + 1))) is ∙ rw add-one (none (slice_get w (suc k)) p.2 q);
+      not_last = λ q. ap (λ (ys : List Row). option_map (λ (y : Row). y.0) (slice_get ys (k + 1))) is ∙ rw add-one (some (slice_get w (suc k)) p.2 q);
+    }
   where
-    by_row : (hd : HeadRow) → slice_get s name ≡ Some (Head hd) → (o : Option Row) → slice_get (walk s hd.first hd.len) k ≡ o → option_map (λ (x : Row). x.0) o ≡ Some cell → CellLies s cell name k
-    by_row hd e None r f = absurd cc
-    by_row hd e (Some x) r f =
-        let w = walk s hd.first hd.len in
-        let at : Linked s name hd.first w = (ls name hd e).linked in
-        let p = Linked-at s name hd.first w k x few at r in
-        let is : list_at (lists_of s) name ≡ w = ap rows_or_none (list_at_head s name hd e) in
-        let same : x.0 ≡ cell = same_Some _ _ f in
-        record {
-          value = x.1;
-          next = p.0;
-          lies = ap (slice_get s) (sym same) ∙ p.1;
-          has_value = ap (λ (ys : List Row). option_map (λ (y : Row). y.1) (slice_get ys k)) is ∙ ap (option_map (λ (y : Row). y.1)) r;
-          last = λ q. ap (λ (ys : List Row). option_map (λ (y : Row). y.0) (slice_get ys (k + 1))) is ∙ rw add-one (none (slice_get w (suc k)) p.2 q);
-          not_last = λ q. ap (λ (ys : List Row). option_map (λ (y : Row). y.0) (slice_get ys (k + 1))) is ∙ rw add-one (some (slice_get w (suc k)) p.2 q);
-        }
-      where
-        none : {n : ℕ} (o : Option Row) → FollowedBy n o → n ≡ END → option_map (λ (y : Row). y.0) o ≡ None
-        none None p q = refl
-        none (Some y) p q = absurd (omega arith)
+    none : {n : ℕ} (o : Option Row) → FollowedBy n o → n ≡ END → option_map (λ (y : Row). y.0) o ≡ None
+    none None p q = refl
+    none (Some y) p q = absurd (omega arith)
 
-        some : {n : ℕ} (o : Option Row) → FollowedBy n o → n ≢ END → option_map (λ (y : Row). y.0) o ≡ Some n
-        some None p q = absurd (q p)
-        some (Some y) p q = ap Some (sym p.0)
-
-    nothing : list_at (lists_of s) name ≡ [] → ⊥
-    nothing e =
-        let f : option_map (λ (x : Row). x.0) (slice_get [] k) ≡ Some cell = ap (λ (ys : List Row). option_map (λ (x : Row). x.0) (slice_get ys k)) (sym e) ∙ h in
-        cc
-
-    by_slot : (p : Option Slot) → slice_get s name ≡ p → CellLies s cell name k
-    by_slot (Some (Head hd)) e =
-        let is : list_at (lists_of s) name ≡ walk s hd.first hd.len = ap rows_or_none (list_at_head s name hd e) in
-        by_row hd e (slice_get (walk s hd.first hd.len) k) refl (ap (λ (ys : List Row). option_map (λ (x : Row). x.0) (slice_get ys k)) (sym is) ∙ h)
-    by_slot None e = absurd (nothing (ap rows_or_none (find-lists_of s name ∙ ap (found s) e)))
-    by_slot (Some (Free n)) e = absurd (nothing (ap rows_or_none (find-lists_of s name ∙ ap (found s) e)))
-    by_slot (Some (Cell c)) e = absurd (nothing (ap rows_or_none (find-lists_of s name ∙ ap (found s) e)))
+    some : {n : ℕ} (o : Option Row) → FollowedBy n o → n ≢ END → option_map (λ (y : Row). y.0) o ≡ Some n
+    some None p q = absurd (q p)
+    some (Some y) p q = ap Some (sym p.0)
 
 pub next_row : (a b : CellRow) → Some (Cell a) ≡ Some (Cell b) → b.next ≡ a.next
 next_row a b e = sym (ap next_in e)
@@ -185,13 +195,6 @@ push_more s t l at v h c few ls e ne k r =
       (record { first = h.first; last = at; len = h.len + 1 }, here, Linked-push s u l h.first h.last lc.0 at v w few is.linked is.ends (omega arith) lc.1 last new others, EndsAt-push w at v, length_push w (at, v) ∙ ap (λ (m : ℕ). m + 1) n),
       keeps_head s t1 at l (Head h) _ (keeps_cell s t at h.last c.value at c (keeps_takes s t at _ k) r) t1l,
     )
-  where
-    list_in_cell : Option Slot → ℕ
-    list_in_cell (Some (Cell d)) = d.list
-    list_in_cell _ = 0
-
-    head_not_cell : (a : HeadRow) (b : CellRow) → Some (Head a) ≡ Some (Cell b) → ⊥
-    head_not_cell a b q = cc
 
 pub no_first_cell : (s : List Slot) (i : ℕ) (h : HeadRow) → slice_get s i ≡ Some (Head h) → h.len ≡ 0 → cell_at (lists_of s) i 0 ≡ None
 no_first_cell s i h e z =

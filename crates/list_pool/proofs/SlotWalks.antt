@@ -5,12 +5,21 @@ use Rattle.list_pool.proofs.SlotReads.{slice_get-set_same, slice_get-set_other}
 use Rattle.list_pool.specs.declared.store.Slot.{Slot}
 use Rattle.list_pool.specs.declared.store.Slot.TheVariants.{Free, Head, Cell}
 use Rattle.list_pool.specs.declared.store.Head.{Head as HeadRow}
+use Rattle.list_pool.specs.declared.store.Cell.{Cell as CellRow}
 use Rattle.list_pool.specs.declared.store.TheConstants.{END}
 use Rattle.list_pool.specs.Pool.{Row, find_list}
 use Rattle.list_pool.specs.Store.{walk, list_in, lists_of, value_in, next_in, Linked, FreeFrom, IsUsed, IsUsedAt, Takes}
 
 abbrev pub cell_of : ℕ → ℕ → ℕ → Slot
 cell_of list value next = Cell (record { list = list; value = value; next = next })
+
+-- the list that a cell names
+abbrev pub list_in_cell : Option Slot → ℕ
+list_in_cell (Some (Cell c)) = c.list
+list_in_cell _ = 0
+
+pub head_not_cell : (a : HeadRow) (b : CellRow) → Some (Head a) ≡ Some (Cell b) → ⊥
+head_not_cell a b q = cc
 
 -- a walk over linked cells gives them
 pub walk_linked : (s : List Slot) (l at : ℕ) (xs : List Row) → Linked s l at xs → walk s at (length xs) ≡ xs

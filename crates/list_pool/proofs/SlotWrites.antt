@@ -13,40 +13,12 @@ use Rattle.list_pool.specs.declared.store.Store.{Store}
 use Rattle.list_pool.specs.declared.store.TheConstants.{END}
 use Rattle.list_pool.specs.Pool.{Row, Updates, find_list, list_at, rows_or_none, cell_at, cell_with, without_first, without_at, last_cell_of, Writes, TakesOut, ValueIs, has_value, IsOn}
 use Rattle.list_pool.specs.Store.{walk, lists_of, next_in, Linked, EndsAt, AreLists, IsList, IsStore, IsPool, KeepsCells, Rewrites, ListIs, find_in, is_cell_in}
-use Rattle.list_pool.proofs.SlotWalks.{found, find-lists_of, length-walk, cell_of, list_at_head, Linked-one_length, Linked-kept}
+use Rattle.list_pool.proofs.SlotWalks.{length-walk, cell_of, head_not_cell, list_at_head, list_in_cell, Linked-one_length, Linked-kept}
 use Rattle.list_pool.proofs.SlotChanges.{Rewrites-set, lists_updated, IsPool-changed}
-use Rattle.list_pool.proofs.SlotCells.{Linked-at, slots_of_head, cell_lies}
+use Rattle.list_pool.proofs.SlotCells.{Linked-at, RowOf, row_of, slots_of_head, cell_lies}
 use Rattle.list_pool.proofs.SlotsPlaced.{keeps_same, keeps_at, stands_kept}
 use Rattle.list_pool.proofs.SlotsApart.{Linked-drop}
 use Rattle.list_pool.proofs.SlotRemoves.{prefix_value, on_true}
-
--- ---- the row of a cell
-
-pub record RowOf (s : List Slot) (cell name k : ℕ) : Type 0 where
-  pub head : HeadRow
-  pub is : slice_get s name ≡ Some (Head head)
-  pub value : ℕ
-  pub here : slice_get (walk s head.first head.len) k ≡ Some (cell, value)
-
-pub row_of : (s : List Slot) (cell name k : ℕ) → cell_at (lists_of s) name k ≡ Some cell → RowOf s cell name k
-row_of s cell name k h = by_slot (slice_get s name) refl
-  where
-    by_row : (hd : HeadRow) → slice_get s name ≡ Some (Head hd) → (o : Option Row) → slice_get (walk s hd.first hd.len) k ≡ o → option_map (λ (x : Row). x.0) o ≡ Some cell → RowOf s cell name k
-    by_row hd e None r f = absurd cc
-    by_row hd e (Some x) r f = record { head = hd; is = e; value = x.1; here = r ∙ ap (λ (c : ℕ). Some (c, x.1)) (same_Some x.0 cell f) }
-
-    nothing : list_at (lists_of s) name ≡ [] → ⊥
-    nothing e =
-        let f : option_map (λ (x : Row). x.0) (slice_get [] k) ≡ Some cell = ap (λ (ys : List Row). option_map (λ (x : Row). x.0) (slice_get ys k)) (sym e) ∙ h in
-        cc
-
-    by_slot : (p : Option Slot) → slice_get s name ≡ p → RowOf s cell name k
-    by_slot (Some (Head hd)) e =
-        let is : list_at (lists_of s) name ≡ walk s hd.first hd.len = ap rows_or_none (list_at_head s name hd e) in
-        by_row hd e (slice_get (walk s hd.first hd.len) k) refl (ap (λ (ys : List Row). option_map (λ (x : Row). x.0) (slice_get ys k)) (sym is) ∙ h)
-    by_slot None e = absurd (nothing (ap rows_or_none (find-lists_of s name ∙ ap (found s) e)))
-    by_slot (Some (Free n)) e = absurd (nothing (ap rows_or_none (find-lists_of s name ∙ ap (found s) e)))
-    by_slot (Some (Cell c)) e = absurd (nothing (ap rows_or_none (find-lists_of s name ∙ ap (found s) e)))
 
 -- ---- a cell gets another value
 
@@ -84,7 +56,7 @@ written s cell name k v c few ls r sa =
     let w = walk s h.first h.len in
     let is = ls name h r.is in
     let at = Linked-at s name h.first w k (cell, r.value) few is.linked r.here in
-    let cl : c.list ≡ name = ap list_in (sym sa ∙ at.1) in
+    let cl : c.list ≡ name = ap list_in_cell (sym sa ∙ at.1) in
     let x : Slot = cell_of c.list v c.next in
     let t = set s cell x in
     let now : slice_get t cell ≡ Some (cell_of name v c.next) = slice_get-set_same s cell x (slice_get_within s cell _ sa) ∙ ap (λ (m : ℕ). Some (cell_of m v c.next)) cl in
@@ -95,13 +67,6 @@ written s cell name k v c few ls r sa =
       list = (h, slice_get-set_other s cell name x cn ∙ r.is, Linked-written s t name cell v c.next few now (λ i ne. slice_get-set_other s cell i x ne) h.first k r.value w is.linked r.here was, EndsAt-written h.last cell v r.value k w r.here is.ends, length-set {A = Row} w k (cell, v) ∙ length-walk s h.first h.len);
       kept = keeps_at s s cell x (keeps_same s cell);
     }
-  where
-    list_in : Option Slot → ℕ
-    list_in (Some (Cell d)) = d.list
-    list_in _ = 0
-
-    head_not_cell : (a : HeadRow) (b : CellRow) → Some (Head a) ≡ Some (Cell b) → ⊥
-    head_not_cell a b q = cc
 
 pub write_pool : (s t : Store) (cell name k v : ℕ) (c : CellRow) → IsPool s → IsStore t → (r : RowOf s.items.items cell name k) → slice_get s.items.items cell ≡ Some (Cell c) → t.items.items ≡ set s.items.items cell (cell_of c.list v c.next) → t.free_len ≡ s.free_len → IsPool t
 write_pool s t cell name k v c p st r sa is n =

@@ -8,9 +8,8 @@
 //! A walk goes from [`Pool::first`] by [`Pool::next`], and reads each cell by [`Pool::value`]; it copies nothing.
 #![tactic(auto)]
 
-mod memory;
 mod pool;
 mod store;
 
-pub use memory::Memory;
+pub use out_of_memory::Memory;
 pub use pool::{CellName, ListName, MOST_SLOTS, Pool};

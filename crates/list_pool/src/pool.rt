@@ -4,8 +4,8 @@ ghost use Rattle.std.specs.Option.{option_map};
 ghost use Rattle.std.specs.Bool.{OnTrue, OnFalse};
 ghost use Rattle.list_pool.specs.Pool.{list_at, IsLive, pool_size, live_count, Updates, Pushes, find_list, cell_at, IsCell, AreApart, NextIs, ValueIs, IsOn, Writes, TakesOut, last_cell_of, cell_with, value_at, has_value, without_first};
 
-use crate::memory::Memory;
 use crate::store::{Cell, END, Head, Slot, Store};
+use out_of_memory::Memory;
 use std::alloc::Global;
 use std::marker::Model;
 

@@ -10,7 +10,7 @@ use Rattle.product_orders.specs.Listed.{Listed, product_at, Removes}
 use Rattle.name_index.specs.declared.table.Row.{Row}
 use Rattle.name_index.specs.Rows.{row_with, row_at, number_at, name_at, AreRows, Grows, freed_rows, names_with, count_at, AreCounted, IsGiven}
 use Rattle.name_index.proofs.Freed.{Lived}
-use Rattle.name_index.proofs.TableChanges.{read_same, read_other, not_less, prepared, same_rows}
+use Rattle.name_index.proofs.TableChanges.{read_same, read_other, not_less, prepared, rows_beside, same_rows}
 
 -- ---- how many names have a product number
 
@@ -147,20 +147,7 @@ module _ (names : List Values) (rows : List Row) (numbers : List ℕ) (old new :
     | inl some ↦ subst (AreRows names rows numbers) (sym (stays some)) a
     | inr none ↦
         let z : count_at counts product ≡ 0 = omega (arith, none) in
-        record {
-          paired = a.paired;
-          few = a.few;
-          within = a.within;
-          numbered = a.numbered;
-          placed = a.placed;
-          there = a.there;
-          back = a.back;
-          live = a.live;
-          small = a.small;
-          different = a.different;
-          lower = a.lower;
-          product = λ n l inside. (goes z).others (row_at rows n).product (gone_none z n l inside) ∙ a.product n l inside;
-        }
+        rows_beside names rows numbers old new a (λ n l inside. (goes z).others (row_at rows n).product (gone_none z n l inside) ∙ a.product n l inside)
   ]
 
   pub settled_counts : AreCounted rows new counts

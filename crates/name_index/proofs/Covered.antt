@@ -4,6 +4,7 @@ use Rattle.std.specs.Prelude.{nat_eq, IsSome}
 use Rattle.std.specs.List.{list_all, sum_by, filter, AllByRecursion, slice_index_or}
 use Rattle.std.specs.List.Sorted.{IsPermutation, IsNonDecreasingBy, IsStrictlyIncreasing}
 use Rattle.std.proofs.lemmas.Bool.{cases_Bool, both_ways, and_parts, false≢true}
+use Rattle.std.proofs.lemmas.List.{append-nil}
 use Rattle.std.proofs.lemmas.List.Sums.{sum_by-cons, sum_by-le-sum_by, length-filter}
 use Rattle.std.proofs.lemmas.List.Sorted.{sum_by-IsPermutation}
 use Rattle.std.proofs.lemmas.List.Elements.{recursion_from_All, All-weaker}
@@ -18,7 +19,7 @@ use Rattle.cpe_relation.proofs.NearLaws.{above_near}
 use Rattle.product_orders.specs.declared.products.Side.TheVariants as side
 use Rattle.product_orders.specs.Elements.{SameElements}
 use Rattle.product_orders.specs.Near.{covers_product}
-use Rattle.product_orders.proofs.Sums.{if_passes, sum_filter}
+use Rattle.product_orders.proofs.Sums.{if_passes, sum_filter, sum_passing}
 use Rattle.name_index.specs.declared.table.NameId.{NameId}
 use Rattle.name_index.specs.Table.{Names, Kept, find_kept, kept_at, IsLive}
 use Rattle.name_index.specs.Index.{ids, name_id, Fits, is_near, is_product_covered, times_held}
@@ -73,6 +74,10 @@ found_more q found all rest xs x b e t h =
     go : (c : Bool) → found ++ cond c (x ∷ filter q rest) (filter q rest) ≡ all → cond c (found ++ x ∷ []) found ++ filter q rest ≡ all
     go true k = append_assoc found (x ∷ []) (filter q rest) ∙ k
     go false k = k
+
+-- once nothing is left, all was looked at
+pub found_all : (q : NameId → Bool) (found left all : List NameId) → left ≡ [] → found ++ filter q left ≡ filter q all → found ≡ filter q all
+found_all q found left all ends h = sym (append-nil found) ∙ ap (λ (xs : List NameId). found ++ filter q xs) (sym ends) ∙ h
 
 -- ---- how many are near, and the covered ones among them
 
@@ -157,12 +162,4 @@ rises xs up once k lt = strict xs k (λ d i j le l. up i j d le l) once lt
         rw add-one (let z = strict (y ∷ ys) k (λ d i j le l. up d (suc i) (suc j) (omega (arith, le)) (omega (arith, l))) (λ n. omega (arith, once n, sum_by-cons (is_number n) x (y ∷ ys))) (omega (arith, lt)) in rw add-one at z)
 
 pub once_filtered : (held : List (ℕ × ℕ)) (q : NameId → Bool) (n : ℕ) → ((id : ℕ) → times_held held id ≤ 1) → sum_by (is_number n) (filter q (ids held)) ≤ 1
-once_filtered held q n once = omega (arith, once n, sum_map (is_number n) (λ (x : ℕ × ℕ). name_id x.0) held, fewer (is_number n) q (ids held))
-  where
-    fewer : (f : NameId → ℕ) (q : NameId → Bool) (xs : List NameId) → sum_by f (filter q xs) ≤ sum_by f xs
-    fewer f q [] = omega arith
-    fewer f q (x ∷ xs) = by (q x) (fewer f q xs)
-      where
-        by : (b : Bool) → sum_by f (filter q xs) ≤ sum_by f xs → sum_by f (cond b (x ∷ filter q xs) (filter q xs)) ≤ sum_by f (x ∷ xs)
-        by true h = omega (arith, h, sum_by-cons f x xs, sum_by-cons f x (filter q xs))
-        by false h = omega (arith, h, sum_by-cons f x xs)
+once_filtered held q n once = omega (arith, once n, sum_map (is_number n) (λ (x : ℕ × ℕ). name_id x.0) held, sum_passing (is_number n) q (ids held))

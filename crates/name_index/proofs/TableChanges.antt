@@ -322,23 +322,29 @@ module _ (names : List Values) (rows : List Row) (numbers : List ℕ) (products 
 
 -- ---- what leaves the table as it is
 
+-- the same names, beside products among which theirs stand
+pub rows_beside : (names : List Values) (rows : List Row) (numbers : List ℕ) (products new_products : Listed) → AreRows names rows numbers products
+    → ((n : ℕ) → n < length rows → (row_at rows n).place < length names → product_at new_products (row_at rows n).product ≡ Some (name_at names (row_at rows n).place).product) → AreRows names rows numbers new_products
+rows_beside names rows numbers products new_products a there = record {
+  paired = a.paired;
+  few = a.few;
+  within = a.within;
+  numbered = a.numbered;
+  placed = a.placed;
+  there = a.there;
+  back = a.back;
+  live = a.live;
+  small = a.small;
+  different = a.different;
+  lower = a.lower;
+  product = there;
+}
+
 pub same_rows : (names new_names : List Values) (rows new_rows : List Row) (numbers new_numbers : List ℕ) (products new_products : Listed) → new_names ≡ names → new_rows ≡ rows → new_numbers ≡ numbers
     → ((n : ℕ) (v : Value) → product_at products n ≡ Some v → product_at new_products n ≡ Some v) → AreRows names rows numbers products → AreRows new_names new_rows new_numbers new_products
 same_rows names new_names rows new_rows numbers new_numbers products new_products e f g more a =
-    subst (λ (ws : List Values). AreRows ws new_rows new_numbers new_products) (sym e) (subst (λ (rs : List Row). AreRows names rs new_numbers new_products) (sym f) (subst (λ (ns : List ℕ). AreRows names rows ns new_products) (sym g) (record {
-      paired = a.paired;
-      few = a.few;
-      within = a.within;
-      numbered = a.numbered;
-      placed = a.placed;
-      there = a.there;
-      back = a.back;
-      live = a.live;
-      small = a.small;
-      different = a.different;
-      lower = a.lower;
-      product = λ n l inside. more (row_at rows n).product (name_at names (row_at rows n).place).product (a.product n l inside);
-    })))
+    subst (λ (ws : List Values). AreRows ws new_rows new_numbers new_products) (sym e) (subst (λ (rs : List Row). AreRows names rs new_numbers new_products) (sym f) (subst (λ (ns : List ℕ). AreRows names rows ns new_products) (sym g)
+    (rows_beside names rows numbers products new_products a (λ n l inside. more (row_at rows n).product (name_at names (row_at rows n).place).product (a.product n l inside)))))
 
 pub same_view : (names new_names : List Values) (rows new_rows : List Row) (view : Names) → new_names ≡ names → new_rows ≡ rows → names_of names rows ≡ view → names_of new_names new_rows ≡ view
 same_view names new_names rows new_rows view e f h = ap (λ (ws : List Values). names_of ws new_rows) e ∙ ap (names_of names) f ∙ h

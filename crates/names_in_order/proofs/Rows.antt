@@ -16,6 +16,10 @@ after_one i = omega arith
 pub item_first : {A : Type 0} (xs : List A) (i : ℕ) (d : A) → i < length xs → drop i xs ≡ get_or xs i d ∷ drop (i + 1) xs
 item_first xs i d lt = drop-cons xs i d lt ∙ ap (λ (k : ℕ). get_or xs i d ∷ drop k xs) (after_one i)
 
+-- and so it does with what is equal to it
+pub this_first : {A : Type 0} (xs : List A) (i : ℕ) (x : A) → i < length xs → x ≡ get_or xs i x → drop i xs ≡ x ∷ drop (i + 1) xs
+this_first xs i x lt is = item_first xs i x lt ∙ ap (λ y. y ∷ drop (i + 1) xs) (sym is)
+
 module _ {A : Type 0} where
   -- those that pass stand at the places that pass
   pub rows_from : (p : ℕ → Bool) (q : A → Bool) (all rest : List A) (a : ℕ) → ((k : ℕ) (x : A) → slice_get all k ≡ Some x → p k ≡ q x) → ((k : ℕ) → slice_get all (a + k) ≡ slice_get rest k)
@@ -42,14 +46,25 @@ module _ {A : Type 0} where
 
   -- what is read one place after the other
   module _ {B : Type 0} (of : A → List B) (join : List A → List B) (each : (x : A) (xs : List A) → join (x ∷ xs) ≡ of x ++ join xs) where
-    pub next_there : (rows : List A) (done all : List B) (k : ℕ) (ks : List ℕ) (x : A) → slice_get rows k ≡ Some x → done ++ join (rows_at rows (k ∷ ks)) ≡ all → (done ++ of x) ++ join (rows_at rows ks) ≡ all
-    next_there rows done all k ks x at h =
+    there : (rows : List A) (done : List B) (k : ℕ) (ks : List ℕ) (x : A) → slice_get rows k ≡ Some x → (done ++ of x) ++ join (rows_at rows ks) ≡ done ++ join (rows_at rows (k ∷ ks))
+    there rows done k ks x at =
         append_assoc done (of x) (join (rows_at rows ks))
         ∙ ap (λ (xs : List B). done ++ xs) (sym (each x (rows_at rows ks)) ∙ ap (λ (o : Option A). join (cons_option o (rows_at rows ks))) (sym at))
-        ∙ h
 
-    pub next_missing : (rows : List A) (done all : List B) (k : ℕ) (ks : List ℕ) → slice_get rows k ≡ None → done ++ join (rows_at rows (k ∷ ks)) ≡ all → done ++ join (rows_at rows ks) ≡ all
-    next_missing rows done all k ks at h = ap (λ (o : Option A). done ++ join (cons_option o (rows_at rows ks))) (sym at) ∙ h
+    -- what was done, and what the rest gives, are all: so they stay where the next place has a row
+    pub next_there : (rows : List A) (ks : List ℕ) (i : ℕ) (x : A) (done now all : List B) → i < length ks → slice_get rows (get_or ks i 0) ≡ Some x → now ≡ done ++ of x
+        → done ++ join (rows_at rows (drop i ks)) ≡ all → now ++ join (rows_at rows (drop (i + 1) ks)) ≡ all
+    next_there rows ks i x done now all lt at is before =
+        let rest = drop (i + 1) ks in
+        ap (λ (ys : List B). ys ++ join (rows_at rows rest)) is ∙ there rows done (get_or ks i 0) rest x at ∙ ap (λ (ns : List ℕ). done ++ join (rows_at rows ns)) (sym (item_first ks i 0 lt)) ∙ before
+
+    -- and where it has none
+    pub next_missing : (rows : List A) (ks : List ℕ) (i : ℕ) (done now all : List B) → i < length ks → slice_get rows (get_or ks i 0) ≡ None → now ≡ done
+        → done ++ join (rows_at rows (drop i ks)) ≡ all → now ++ join (rows_at rows (drop (i + 1) ks)) ≡ all
+    next_missing rows ks i done now all lt at is before =
+        let rest = drop (i + 1) ks in
+        ap (λ (ys : List B). ys ++ join (rows_at rows rest)) is ∙ ap (λ (o : Option A). done ++ join (cons_option o (rows_at rows rest))) (sym at)
+        ∙ ap (λ (ns : List ℕ). done ++ join (rows_at rows ns)) (sym (item_first ks i 0 lt)) ∙ before
 
 -- of a list of names
 pub covered_names : (name : Values) (ns : List Values) → rows_at ns (places_covered name ns) ≡ filter (covers name) ns

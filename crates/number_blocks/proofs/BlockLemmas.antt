@@ -3,7 +3,7 @@ use Rattle.std.proofs.Common.{◌≡◌, ◌⊎◌, ℕ, zero, suc, ◌+◌, ◌
 use Rattle.std.specs.Prelude.{nat_eq, nat_lt, nat_le}
 use Rattle.std.specs.List.{AllWithin, slice_index_or, slice_set, insert, filter}
 use Rattle.std.proofs.lemmas.Bool.{cases_Bool, both_ways, false_from_ne_true, lt-ltb, le-leb}
-use Rattle.std.proofs.lemmas.List.{length-take-le}
+use Rattle.std.proofs.lemmas.List.{append_cancel_right, length-take-le}
 use Rattle.std.proofs.lemmas.List.Elements.{All-from_recursion}
 use Rattle.number_blocks.specs.Blocks.{AllAre, IsParted}
 use Rattle.number_blocks.specs.Places.{Block, flat, IsBlock, AreBlocks, AreFilled, block_at, before, behind, last_passes, stands_before}
@@ -26,6 +26,17 @@ at_most (b ∷ bs) (suc i) h = at_most bs i h.1
 
 pub there : (bs : List Block) (i : ℕ) (d : Block) → AreBlocks bs → i < length bs → IsBlock (slice_index_or bs i d)
 there bs i d h lt = All-from_recursion IsBlock bs h i d lt
+
+-- what is so of the block that a write at an index borrows
+pub record Lent (bs : List Block) (i : ℕ) (b : Block) : Type 0 where
+  pub items : b.items ≡ block_at bs i
+  pub block : IsBlock b
+
+pub lent : (bs : List Block) (i : ℕ) (b : Block) → AreBlocks bs → i < length bs → b ≡ slice_index_or bs i b → Lent bs i b
+lent bs i b h lt value = record {
+  items = ap (λ (u : Block). u.items) value ∙ at_is bs i b lt;
+  block = subst IsBlock (sym value) (there bs i b h lt);
+}
 
 -- where a block is left, so is a number
 pub some_left : (here : List ℕ) (bs : List Block) (last : List ℕ) → AreFilled bs → nat_eq (length bs) 0 ≡ false → nat_eq (length (here ++ (flat bs ++ last))) 0 ≡ false
@@ -153,19 +164,6 @@ front_is (b ∷ bs) (suc j) at lt = ap (λ (u : List ℕ). b.items ++ u) (front_
 abbrev pub over : List Block → ℕ → ℕ → ℕ → ℕ → ℕ → ℕ → List ℕ
 over bs i from k n j to = drop from (block_at bs i) ++ (flat (take n (drop k bs)) ++ take to (block_at bs j))
 
-pub over_front : (bs : List Block) (i k n j from to : ℕ) → k ≡ i + 1 → j ≡ k + n → j < length bs → before bs j to ≡ before bs i from ++ over bs i from k n j to
-over_front [] i k n j from to e f lt = absurd (omega (arith, lt))
-over_front (b ∷ bs) i zero n j from to e f lt = absurd (omega (arith, e))
-over_front (b ∷ bs) i (suc k) n zero from to e f lt = absurd (omega (arith, f))
-over_front (b ∷ bs) zero (suc (suc k)) n (suc j) from to e f lt = absurd (omega (arith, e))
-over_front (b ∷ bs) zero (suc zero) n (suc j) from to e f lt =
-    let same : j ≡ n = omega (arith, f) in
-    let rest = flat (take n bs) ++ take to (block_at bs j) in
-    ap (λ (u : List ℕ). b.items ++ u) (front_is bs j to (omega (arith, lt)) ∙ ap (λ (m : ℕ). flat (take m bs) ++ take to (block_at bs j)) same)
-    ∙ ap (λ (u : List ℕ). u ++ rest) (sym (take-append-drop from b.items)) ∙ append_assoc (take from b.items) (drop from b.items) rest
-over_front (b ∷ bs) (suc i) (suc k) n (suc j) from to e f lt =
-    ap (λ (u : List ℕ). b.items ++ u) (over_front bs i k n j from to (omega (arith, e)) (omega (arith, f)) (omega (arith, lt))) ∙ sym (append_assoc b.items (before bs i from) (over bs i from k n j to))
-
 pub over_back : (bs : List Block) (i k n j from to : ℕ) → k ≡ i + 1 → j ≡ k + n → j < length bs → behind bs i from ≡ over bs i from k n j to ++ behind bs j to
 over_back [] i k n j from to e f lt = absurd (omega (arith, lt))
 over_back (b ∷ bs) i zero n j from to e f lt = absurd (omega (arith, e))
@@ -178,6 +176,12 @@ over_back (b ∷ bs) zero (suc zero) n (suc j) from to e f lt =
     ap (λ (u : List ℕ). drop from b.items ++ u) (whole bs j to (omega (arith, lt)) ∙ ap (λ (u : List ℕ). u ++ behind bs j to) front)
     ∙ sym (append_assoc (drop from b.items) rest (behind bs j to))
 over_back (b ∷ bs) (suc i) (suc k) n (suc j) from to e f lt = over_back bs i k n j from to (omega (arith, e)) (omega (arith, f)) (omega (arith, lt))
+
+pub over_front : (bs : List Block) (i k n j from to : ℕ) → k ≡ i + 1 → j ≡ k + n → j < length bs → before bs j to ≡ before bs i from ++ over bs i from k n j to
+over_front bs i k n j from to e f lt =
+    append_cancel_right (before bs j to) (before bs i from ++ over bs i from k n j to) (behind bs j to)
+    (sym (whole bs j to lt) ∙ whole bs i from (omega (arith, e, f, lt)) ∙ ap (λ (u : List ℕ). before bs i from ++ u) (over_back bs i k n j from to e f lt)
+    ∙ sym (append_assoc (before bs i from) (over bs i from k n j to) (behind bs j to)))
 
 -- ---- between two tests
 

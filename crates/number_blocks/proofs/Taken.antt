@@ -1,7 +1,7 @@
 -- A number that is taken out of its block.
-use Rattle.std.proofs.Common.{◌≡◌, ℕ, zero, suc, ◌+◌, ◌<◌, ◌≤◌, Bool, true, false, not, ◌||◌, cond, List, [], ◌∷◌, ◌++◌, length, take, drop, Some, None, refl, sym, ap, ◌∙◌, inl, inr, append_assoc, arith, eqb-true, length-append, length-drop, get_or, vec_capacity}
+use Rattle.std.proofs.Common.{◌≡◌, ℕ, zero, suc, ◌+◌, ◌<◌, ◌≤◌, Bool, true, false, not, ◌||◌, cond, List, [], ◌∷◌, ◌++◌, length, take, drop, Some, None, refl, sym, ap, subst, ◌∙◌, inl, inr, append_assoc, arith, eqb-true, length-append, length-drop, get_or, vec_capacity}
 use Rattle.std.specs.Prelude.{nat_eq}
-use Rattle.std.specs.List.{Contains, list_any, position, position_or_len, slice_set, remove}
+use Rattle.std.specs.List.{Contains, list_any, position, position_or_len, slice_index_or, slice_set, remove}
 use Rattle.std.proofs.lemmas.Bool.{cases_Bool, cases_lt, lt-ltb, eq-eqb}
 use Rattle.std.proofs.lemmas.Option.{none-some}
 use Rattle.std.proofs.lemmas.List.{length-take-le}
@@ -10,6 +10,7 @@ use Rattle.std.proofs.lemmas.List.Quantifiers.{position-Some}
 use Rattle.number_blocks.specs.Blocks.{AllAre}
 use Rattle.number_blocks.specs.Places.{Block, flat, IsBlock, AreBlocks, block_at, before, behind}
 use Rattle.number_blocks.proofs.PartedLists.{all_append}
+use Rattle.number_blocks.proofs.BlockLemmas.{at_is, lent}
 
 -- ---- where it stands
 
@@ -157,6 +158,25 @@ pub one_fewer : (bs : List Block) (k : ℕ) → k < length bs → length (remove
 one_fewer [] k lt = absurd (omega (arith, lt))
 one_fewer (b ∷ bs) zero lt = omega arith
 one_fewer (b ∷ bs) (suc k) lt = omega (arith, one_fewer bs k (omega (arith, lt)))
+
+-- two blocks that are to become one: the first, which a write borrows from what is left, and the numbers of the next, which was taken out
+pub record Joining (bs left : List Block) (i : ℕ) (b : Block) (more : List ℕ) : Type 0 where
+  pub first : b.items ≡ block_at bs i
+  pub second : more ≡ block_at bs (i + 1)
+  pub blocks : AreBlocks left
+  pub block : IsBlock b
+
+pub joining : (bs left : List Block) (i : ℕ) (b next : Block) (more : List ℕ) → AreBlocks bs → i + 1 < length bs → left ≡ remove bs (i + 1) → b ≡ slice_index_or left i b → next ≡ slice_index_or bs (i + 1) next → more ≡ next.items
+    → Joining bs left i b more
+joining bs left i b next more h lt is value taken items =
+    let are : AreBlocks left = subst AreBlocks (sym is) (blocks_left bs (i + 1) h) in
+    let l = lent left i b are (omega (arith, lt, ap length is, one_fewer bs (i + 1) lt)) value in
+    record {
+      first = l.items ∙ ap (λ (u : List Block). block_at u i) is ∙ front_kept bs i (i + 1) (omega arith);
+      second = items ∙ ap (λ (u : Block). u.items) taken ∙ at_is bs (i + 1) next lt;
+      blocks = are;
+      block = l.block;
+    }
 
 pub some_there : (bs : List Block) (i : ℕ) → AreBlocks bs → i < length bs → 0 < length (block_at bs i)
 some_there [] i h lt = absurd (omega (arith, lt))

@@ -100,6 +100,17 @@ longer_undoes len xs ys lx ly u i lt = elim (cases_lt i len) [
       (omega (arith, x), ap (number_at (ys ++ len ∷ [])) x ∙ get_or_push ys len 0 len ly ∙ sym is)
 ]
 
+-- a list in which two places are written, one after the other
+module _ (zs : List ℕ) (a b c d : ℕ) where
+  at_last : c < length zs → number_at (set (set zs a b) c d) c ≡ d
+  at_last lt = get_or-set_same (set zs a b) c d 0 (omega (arith, lt, length-set zs a b))
+
+  at_first : a < length zs → a ≢ c → number_at (set (set zs a b) c d) a ≡ b
+  at_first lt ne = get_or-set_other (set zs a b) c a d 0 ne ∙ get_or-set_same zs a b 0 lt
+
+  at_other : (i : ℕ) → i ≢ c → i ≢ a → number_at (set (set zs a b) c d) i ≡ number_at zs i
+  at_other i nc na = get_or-set_other (set zs a b) c i d 0 nc ∙ get_or-set_other zs a i b 0 na
+
 -- where two pairs exchange their partners
 module _ (len : ℕ) (xs ys : List ℕ) (a b c d : ℕ) (lx : length xs ≡ len) (ly : length ys ≡ len) (la : a < len) (lb : b < len) (lc : c < len) (ld : d < len) (xa : number_at xs a ≡ d) (xc : number_at xs c ≡ b) (yb : number_at ys b ≡ c) (yd : number_at ys d ≡ a) where
   abbrev pub new_xs : List ℕ
@@ -108,38 +119,22 @@ module _ (len : ℕ) (xs ys : List ℕ) (a b c d : ℕ) (lx : length xs ≡ len)
   abbrev pub new_ys : List ℕ
   new_ys = set (set ys b a) d c
 
-  at_c : number_at new_xs c ≡ d
-  at_c = get_or-set_same (set xs a b) c d 0 (omega (arith, lc, lx, length-set xs a b))
-
-  at_a : a ≢ c → number_at new_xs a ≡ b
-  at_a ne = get_or-set_other (set xs a b) c a d 0 ne ∙ get_or-set_same xs a b 0 (omega (arith, la, lx))
-
-  at_other : (i : ℕ) → i ≢ c → i ≢ a → number_at new_xs i ≡ number_at xs i
-  at_other i nc na = get_or-set_other (set xs a b) c i d 0 nc ∙ get_or-set_other xs a i b 0 na
-
-  from_d : number_at new_ys d ≡ c
-  from_d = get_or-set_same (set ys b a) d c 0 (omega (arith, ld, ly, length-set ys b a))
-
-  from_b : b ≢ d → number_at new_ys b ≡ a
-  from_b ne = get_or-set_other (set ys b a) d b c 0 ne ∙ get_or-set_same ys b a 0 (omega (arith, lb, ly))
-
-  from_other : (j : ℕ) → j ≢ d → j ≢ b → number_at new_ys j ≡ number_at ys j
-  from_other j nd nb = get_or-set_other (set ys b a) d j c 0 nd ∙ get_or-set_other ys b j a 0 nb
-
   pub exchanged : Undoes len xs ys → Undoes len new_xs new_ys
   exchanged u i lt = elim (cases_eq i c) [
-    | inl is ↦ let x = ap (number_at new_xs) is ∙ at_c in (omega (arith, x, ld), ap (number_at new_ys) x ∙ from_d ∙ sym is)
+    | inl is ↦
+        let x = ap (number_at new_xs) is ∙ at_last xs a b c d (omega (arith, lc, lx)) in
+        (omega (arith, x, ld), ap (number_at new_ys) x ∙ at_last ys b a d c (omega (arith, ld, ly)) ∙ sym is)
     | inr nc ↦ elim (cases_eq i a) [
       | inl is ↦
           let ac : a ≢ c = λ e. nc (is ∙ e) in
           let bd : b ≢ d = λ e. ac (sym yd ∙ sym (ap (number_at ys) e) ∙ yb) in
-          let x = ap (number_at new_xs) is ∙ at_a ac in
-          (omega (arith, x, lb), ap (number_at new_ys) x ∙ from_b bd ∙ sym is)
+          let x = ap (number_at new_xs) is ∙ at_first xs a b c d (omega (arith, la, lx)) ac in
+          (omega (arith, x, lb), ap (number_at new_ys) x ∙ at_first ys b a d c (omega (arith, lb, ly)) bd ∙ sym is)
       | inr na ↦
-          let x = at_other i nc na in
+          let x = at_other xs a b c d i nc na in
           let nd : number_at xs i ≢ d = λ e. na (sym (u i lt).1 ∙ ap (number_at ys) e ∙ yd) in
           let nb : number_at xs i ≢ b = λ e. nc (sym (u i lt).1 ∙ ap (number_at ys) e ∙ yb) in
-          (omega (arith, x, (u i lt).0), ap (number_at new_ys) x ∙ from_other (number_at xs i) nd nb ∙ (u i lt).1)
+          (omega (arith, x, (u i lt).0), ap (number_at new_ys) x ∙ at_other ys b a d c (number_at xs i) nd nb ∙ (u i lt).1)
     ]
   ]
 

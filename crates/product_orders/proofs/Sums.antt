@@ -4,6 +4,10 @@ use Rattle.std.specs.List.{filter, sum_by}
 use Rattle.std.proofs.lemmas.List.Sums.{sum_by-cons, sum_by-le-sum_by}
 use Rattle.product_orders.specs.Elements.{SameElements}
 
+pub one_at_most : (b : Bool) → cond b 1 0 ≤ 1
+one_at_most true = omega arith
+one_at_most false = omega arith
+
 module _ {X : Type 0} where
   -- what an element adds where it passes
   abbrev pub if_passes : (X → Bool) → (X → ℕ) → X → ℕ
@@ -38,6 +42,14 @@ module _ {X : Type 0} where
       by true true n g = omega arith
       by true false n g = absurd (true≢false (sym (g refl)))
       by false b n g = omega arith
+
+  -- what passes a test weighs no more than all
+  pub sum_passing : (f : X → ℕ) (q : X → Bool) (xs : List X) → sum_by f (filter q xs) ≤ sum_by f xs
+  sum_passing f q xs = omega (arith, sum_filter f q xs, sum_by-le-sum_by (if_passes q f) f xs (λ x. by (q x) (f x)))
+    where
+      by : (a : Bool) (n : ℕ) → cond a n 0 ≤ n
+      by true n = omega arith
+      by false n = omega arith
 
   -- the same elements pass the same test
   pub filter_same : (q : X → Bool) (xs ys : List X) → SameElements xs ys → SameElements (filter q xs) (filter q ys)

@@ -10,6 +10,7 @@ use Rattle.std.proofs.lemmas.List.Sums.{sum_by-cons, sum_by-append, sum_by-swap_
 use Rattle.std.proofs.lemmas.List.Elements.{recursion_from_All, All-contains}
 use Rattle.std.proofs.lemmas.Iterator.Adapters.{position_from-zero}
 use Rattle.product_orders.specs.Elements.{SameElements}
+use Rattle.product_orders.proofs.Sums.{one_at_most}
 use Rattle.name_index.specs.Table.{Names, Kept, find_kept, kept_at, kept_or, IsLive}
 use Rattle.name_index.specs.Index.{Fits, times_held}
 use Rattle.name_index.proofs.Postings.{sum_map}
@@ -53,12 +54,8 @@ once_more x a b same fresh once id = by (cases_eq id x.0)
     more : times_held b id ≡ cond (nat_eq id x.0) 1 0 + times_held a id
     more = count_more (λ y. nat_eq id y.0) x a b same
 
-    at_most_one : (b : Bool) → cond b 1 0 ≤ 1
-    at_most_one true = omega arith
-    at_most_one false = omega arith
-
     by : (id ≡ x.0) ⊎ (id ≢ x.0) → times_held b id ≤ 1
-    by (inl e) = omega (arith, more, at_most_one (nat_eq id x.0), ap (times_held a) e, fresh)
+    by (inl e) = omega (arith, more, one_at_most (nat_eq id x.0), ap (times_held a) e, fresh)
     by (inr ne) = omega (arith, more, once id, ap {B = ℕ} (λ (b : Bool). cond b 1 0) (ne_eqb id x.0 ne))
 
 pub once_less : (x : ℕ × ℕ) (a b : List (ℕ × ℕ)) → SameElements a (x ∷ b) → ((id : ℕ) → times_held a id ≤ 1) → (id : ℕ) → times_held b id ≤ 1

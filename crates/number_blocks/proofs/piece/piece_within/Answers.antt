@@ -3,16 +3,12 @@ use Rattle.number_blocks.specs.Places.{block_at, before, behind}
 use Rattle.number_blocks.proofs.BlockLemmas.{within_front, within_back}
 use Rattle.number_blocks.proofs.piece.piece_within.Goals as goal
 
-pub returns-clause-front : goal.returns-clause-front
-returns-clause-front c =
+pub returns : goal.returns
+returns c =
     let bs = c.args.blocks.now in
     let same : take (c.args.to - c.args.from) (drop c.args.from (block_at bs c.args.block)) ≡ c.part_of.result.now ++ [] =
     sym (append-nil c.part_of.result.now ∙ c.part_of.ensures ∙ ap (λ (u : List ℕ). take (c.args.to - c.args.from) (drop c.args.from u)) c.block_of.ensures) in
-    within_front bs c.args.block c.args.from c.args.to c.requires.inside c.requires.from ∙ ap (λ (u : List ℕ). before bs c.args.block c.args.from ++ u) same
-
-pub returns-clause-back : goal.returns-clause-back
-returns-clause-back c =
-    let bs = c.args.blocks.now in
-    let same : take (c.args.to - c.args.from) (drop c.args.from (block_at bs c.args.block)) ≡ c.part_of.result.now ++ [] =
-    sym (append-nil c.part_of.result.now ∙ c.part_of.ensures ∙ ap (λ (u : List ℕ). take (c.args.to - c.args.from) (drop c.args.from u)) c.block_of.ensures) in
-    within_back bs c.args.block c.args.from c.args.to c.requires.inside c.requires.from ∙ ap (λ (u : List ℕ). u ++ behind bs c.args.block c.args.to) same
+    record {
+      front = within_front bs c.args.block c.args.from c.args.to c.requires.inside c.requires.from ∙ ap (λ (u : List ℕ). before bs c.args.block c.args.from ++ u) same;
+      back = within_back bs c.args.block c.args.from c.args.to c.requires.inside c.requires.from ∙ ap (λ (u : List ℕ). u ++ behind bs c.args.block c.args.to) same;
+    }

@@ -1,7 +1,7 @@
 use Rattle.std.proofs.Common.{◌≡◌, ◌<◌, List, ℕ, length, sym, ap, subst, ◌∙◌, arith}
 use Rattle.std.specs.List.{remove}
-use Rattle.number_blocks.specs.Places.{Block, flat, IsBlock, AreBlocks, block_at}
-use Rattle.number_blocks.proofs.BlockLemmas.{at_is, there, put_blocks}
+use Rattle.number_blocks.specs.Places.{Block, flat, AreBlocks, block_at}
+use Rattle.number_blocks.proofs.BlockLemmas.{lent, put_blocks}
 use Rattle.number_blocks.proofs.Taken.{block_taken, blocks_left, number_taken, less}
 use Rattle.number_blocks.proofs.take.take_at.Goals as goal
 
@@ -17,28 +17,18 @@ returns-then-block_of-eq1-clause-blocks c = subst AreBlocks (sym c.take_block.en
 
 pub take_in_block-requires : goal.take_in_block-requires
 take_in_block-requires c =
-    let bs = c.args.blocks.now.items in
-    let i = c.args.place.block in
-    let b = c.index_mut.result.now in
-    let is : b.items ≡ block_at bs i = ap (λ (u : Block). u.items) c.index_mut.ensures.value ∙ at_is bs i b c.requires.inside in
-    omega (arith, ap length is, c.requires.within)
+    let b = lent c.args.blocks.now.items c.args.place.block c.index_mut.result.now c.requires.blocks c.requires.inside c.index_mut.ensures.value in
+    omega (arith, ap length b.items, c.requires.within)
 
 pub returns-clause-blocks : goal.returns-clause-blocks
 returns-clause-blocks c =
-    let bs = c.args.blocks.now.items in
-    let i = c.args.place.block in
-    let b = c.index_mut.result.now in
-    let is : b.items ≡ block_at bs i = ap (λ (u : Block). u.items) c.index_mut.ensures.value ∙ at_is bs i b c.requires.inside in
-    let is_b : IsBlock b = subst IsBlock (sym c.index_mut.ensures.value) (there bs i b c.requires.blocks c.requires.inside) in
-    let here : length (block_at bs i) ≡ length c.block_of.result.now = ap length (sym (c.block_of.ensures ∙ ap (λ (u : List Block). block_at u i) c.deref.ensures.value)) in
-    let more : 1 < length b.items = omega (arith, ap length is, here, c.requires.within, c.if-block_of-eq1.false) in
-    put_blocks c.take_in_block.new.block bs i c.requires.blocks
-    (less b c.take_in_block.new.block c.args.place.at is_b (omega (arith, ap length is, c.requires.within)) more c.take_in_block.ensures.items c.take_in_block.ensures.capacity)
+    let l = lent c.args.blocks.now.items c.args.place.block c.index_mut.result.now c.requires.blocks c.requires.inside c.index_mut.ensures.value in
+    let here : length (block_at c.args.blocks.now.items c.args.place.block) ≡ length c.block_of.result.now = ap length (sym (c.block_of.ensures ∙ ap (λ (u : List Block). block_at u c.args.place.block) c.deref.ensures.value)) in
+    let more : 1 < length c.index_mut.result.now.items = omega (arith, ap length l.items, here, c.requires.within, c.if-block_of-eq1.false) in
+    put_blocks c.take_in_block.new.block c.args.blocks.now.items c.args.place.block c.requires.blocks
+    (less c.index_mut.result.now c.take_in_block.new.block c.args.place.at l.block (omega (arith, ap length l.items, c.requires.within)) more c.take_in_block.ensures.items c.take_in_block.ensures.capacity)
 
 pub returns-clause-taken : goal.returns-clause-taken
 returns-clause-taken c =
-    let bs = c.args.blocks.now.items in
-    let i = c.args.place.block in
-    let b = c.index_mut.result.now in
-    let is : b.items ≡ block_at bs i = ap (λ (u : Block). u.items) c.index_mut.ensures.value ∙ at_is bs i b c.requires.inside in
-    number_taken c.take_in_block.new.block bs i c.args.place.at c.requires.inside (c.take_in_block.ensures.items ∙ ap (λ (u : List ℕ). remove u c.args.place.at) is)
+    let b = lent c.args.blocks.now.items c.args.place.block c.index_mut.result.now c.requires.blocks c.requires.inside c.index_mut.ensures.value in
+    number_taken c.take_in_block.new.block c.args.blocks.now.items c.args.place.block c.args.place.at c.requires.inside (c.take_in_block.ensures.items ∙ ap (λ (u : List ℕ). remove u c.args.place.at) b.items)

@@ -1,12 +1,11 @@
-use Rattle.std.proofs.Common.{◌≡◌, ◌++◌, List, [], length, sym, ap, subst, ◌∙◌, refl, arith}
+use Rattle.std.proofs.Common.{◌++◌, List, length, sym, ap, subst, ◌∙◌, refl, arith}
 use Rattle.std.specs.List.{filter}
 use Rattle.std.proofs.lemmas.Bool.{or_right}
-use Rattle.std.proofs.lemmas.List.{append-nil}
 use Rattle.product_orders.specs.Elements.{SameElements}
 use Rattle.name_index.specs.declared.table.NameId.{NameId}
 use Rattle.name_index.specs.Table.{kept_at}
 use Rattle.name_index.specs.Index.{ids, is_product_covered, is_covered}
-use Rattle.name_index.proofs.Covered.{walk_live, tail_live, found_more, walk_length, product_covered, fewer_covered}
+use Rattle.name_index.proofs.Covered.{walk_live, tail_live, found_all, found_more, walk_length, product_covered, fewer_covered}
 use Rattle.target_index.specs.Targets.{is_loose, is_maybe}
 use Rattle.target_index.proofs.Meetings.{maybe_product, walk_found}
 use Rattle.target_index.proofs.meeting.meet_plain.Goals as goal
@@ -45,19 +44,17 @@ pub returns-clause-covered : goal.returns-clause-covered
 returns-clause-covered g c =
     let q = is_covered c.args.table.now c.args.name.now in
     let p = is_product_covered c.args.table.now c.args.name.now.product in
-    let ends : c.loop-target.target-iterator ≡ [] = c.in-None.ensures.steps.0 in
-    let all : c.loop-target.covered.items ≡ filter q c.into_iter-target-iterator.result = sym (append-nil c.loop-target.covered.items) ∙ ap (λ (xs : List NameId). c.loop-target.covered.items ++ filter q xs) (sym ends) ∙ c.loop-target.invariant.covered in
     walk_found p q (λ x. is_loose c.args.table.now x.0) (λ x h. or_right (is_loose c.args.table.now x.0) (p x) (product_covered c.args.name.now (kept_at c.args.table.now x.0).name h)) c.args.index.now.held c.into_iter-target-iterator.result c.loop-target.covered.items c.requires.plain
-    (subst (SameElements (filter p (ids c.args.index.now.held))) (sym c.into_iter-target-iterator.ensures.into_iter_gives) c.with_covered_product-target-items.ensures) all
+    (subst (SameElements (filter p (ids c.args.index.now.held))) (sym c.into_iter-target-iterator.ensures.into_iter_gives) c.with_covered_product-target-items.ensures)
+    (found_all q c.loop-target.covered.items c.loop-target.target-iterator c.into_iter-target-iterator.result c.in-None.ensures.steps.0 c.loop-target.invariant.covered)
 
 pub returns-clause-maybe : goal.returns-clause-maybe
 returns-clause-maybe g c =
     let q = is_maybe c.args.table.now c.args.name.now in
     let p = is_product_covered c.args.table.now c.args.name.now.product in
-    let ends : c.loop-target.target-iterator ≡ [] = c.in-None.ensures.steps.0 in
-    let all : c.loop-target.maybes.items ≡ filter q c.into_iter-target-iterator.result = sym (append-nil c.loop-target.maybes.items) ∙ ap (λ (xs : List NameId). c.loop-target.maybes.items ++ filter q xs) (sym ends) ∙ c.loop-target.invariant.maybe in
     walk_found p q (λ x. is_loose c.args.table.now x.0) (λ x h. maybe_product c.relation_laws.ensures.undefined c.args.name.now (kept_at c.args.table.now x.0).name h) c.args.index.now.held c.into_iter-target-iterator.result c.loop-target.maybes.items c.requires.plain
-    (subst (SameElements (filter p (ids c.args.index.now.held))) (sym c.into_iter-target-iterator.ensures.into_iter_gives) c.with_covered_product-target-items.ensures) all
+    (subst (SameElements (filter p (ids c.args.index.now.held))) (sym c.into_iter-target-iterator.ensures.into_iter_gives) c.with_covered_product-target-items.ensures)
+    (found_all q c.loop-target.maybes.items c.loop-target.target-iterator c.into_iter-target-iterator.result c.in-None.ensures.steps.0 c.loop-target.invariant.maybe)
 
 pub returns-clause-steps : goal.returns-clause-steps
 returns-clause-steps g c = (

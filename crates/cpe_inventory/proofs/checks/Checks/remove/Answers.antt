@@ -1,11 +1,13 @@
-use Rattle.std.proofs.Common.{ap, is_some, subst, sym, ◌∙◌, List, map}
+use Rattle.std.proofs.Common.{◌≡◌, ap, is_some, subst, sym, ◌∙◌, List, map}
 use Rattle.std.specs.List.{list_any}
-use Rattle.cpe_rows.specs.Rows.{has_key}
+use Rattle.std.specs.Map.{lookup}
+use Rattle.cpe_rows.specs.Rows.{has_key, same_key}
 use Rattle.cpe_rows.specs.After.{without_first}
 use Rattle.cpe_inventory.specs.Results.{AreKept, seen}
 use Rattle.cpe_inventory.specs.declared.kept.KeptResult.{KeptResult}
 use Rattle.cpe_inventory.proofs.ResultLemmas.{AreKept-left, has_by_key, left_by_ticket, left_whole}
 use Rattle.cpe_inventory.proofs.checks.Checks.remove.Goals as goal
+use Rattle.cpe_inventory.proofs.checks.Checks.remove.Goals.{After-forget}
 
 pub invariant_of-self : goal.invariant_of-self
 invariant_of-self c =
@@ -15,12 +17,13 @@ invariant_of-self c =
     subst (λ (rs : List KeptResult). AreKept rs entries s.next) (sym c.take_out.ensures.results)
     (AreKept-left key s.results.items s.by_key.entries entries s.next c.self.invariant c.forget.ensures.left c.in-Some.ticket c.take_out.ensures.rising (sym c.in-Some.ensures.ticket))
 
+-- a ticket is kept for the key exactly where a result is
+is_kept : (c : After-forget) → is_some (lookup (same_key c.args.key.now) c.self.inside.by_key.entries) ≡ list_any (has_key c.args.key.now) c.args.self.now
+is_kept c =
+    has_by_key c.self.inside.results.items c.self.inside.by_key.entries c.self.inside.next c.self.invariant c.args.key.now ∙ ap (list_any (has_key c.args.key.now)) c.self.view_is
+
 pub returns-in-Some-clause-found : goal.returns-in-Some-clause-found
-returns-in-Some-clause-found c =
-    let s = c.self.inside in
-    let key = c.args.key.now in
-    ap is_some c.in-Some.ensures.ticket
-    ∙ (has_by_key s.results.items s.by_key.entries s.next c.self.invariant key ∙ ap (list_any (has_key key)) c.self.view_is)
+returns-in-Some-clause-found c = ap is_some c.in-Some.ensures.ticket ∙ is_kept (goal.at.returns-in-Some-clause-found c).After-forget
 
 pub returns-in-Some-clause-results : goal.returns-in-Some-clause-results
 returns-in-Some-clause-results c =
@@ -31,11 +34,7 @@ returns-in-Some-clause-results c =
     ∙ ap (without_first (has_key key)) c.self.view_is)
 
 pub returns-in-None-clause-found : goal.returns-in-None-clause-found
-returns-in-None-clause-found c =
-    let s = c.self.inside in
-    let key = c.args.key.now in
-    ap is_some c.in-None.ensures.ticket
-    ∙ (has_by_key s.results.items s.by_key.entries s.next c.self.invariant key ∙ ap (list_any (has_key key)) c.self.view_is)
+returns-in-None-clause-found c = ap is_some c.in-None.ensures.ticket ∙ is_kept (goal.at.returns-in-None-clause-found c).After-forget
 
 pub returns-in-None-clause-results : goal.returns-in-None-clause-results
 returns-in-None-clause-results c =

@@ -2,10 +2,11 @@ use Rattle.std.proofs.Common.{◌++◌, ◌∷◌, sym, ap, subst, ◌∙◌}
 use Rattle.std.specs.Prelude.{IfOk}
 use Rattle.name_index.specs.declared.table.NameId.{NameId}
 use Rattle.name_index.specs.Table.{Holds, Names}
+use Rattle.name_index.proofs.Fitting.{held_live, held_name}
 use Rattle.names_in_order.specs.InOrder.{names_numbered}
 use Rattle.cpe_dictionary.specs.Kept.{entries_in, names_of}
 use Rattle.cpe_registry.specs.Registered.{AreHeld, Registered, registered}
-use Rattle.cpe_registry.proofs.FitLemmas.{Stays, held_live, held_name, if_ok, ok_if, on_err, shows_still, stays_held}
+use Rattle.cpe_registry.proofs.FitLemmas.{Stays, if_ok, ok_if, on_err, shows_still, stays_held}
 use Rattle.cpe_registry.proofs.registry.Registry.hold_moved.Goals as goal
 use Rattle.cpe_registry.proofs.registry.Registry.hold_moved.Goals.{After-hold_moved}
 

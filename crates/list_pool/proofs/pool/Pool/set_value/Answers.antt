@@ -1,7 +1,7 @@
 use Rattle.std.proofs.Common.{arith}
 use Rattle.list_pool.specs.declared.store.Slot.TheVariants.{Cell}
-use Rattle.list_pool.proofs.SlotCells.{cell_lies}
-use Rattle.list_pool.proofs.SlotWrites.{row_of, write_pool, write_lists}
+use Rattle.list_pool.proofs.SlotCells.{cell_lies, row_of}
+use Rattle.list_pool.proofs.SlotWrites.{write_pool, write_lists}
 use Rattle.list_pool.proofs.pool.Pool.set_value.Goals as goal
 
 pub cell-row-requires : goal.cell-row-requires

@@ -1,14 +1,13 @@
-use Rattle.std.proofs.Common.{rules, ◌≡◌, ◌++◌, ◌≤◌, ℕ, List, [], length, false, sym, ap, subst, ◌∙◌, refl, arith}
+use Rattle.std.proofs.Common.{rules, ◌++◌, ◌≤◌, ℕ, List, length, false, sym, ap, subst, ◌∙◌, refl, arith}
 use Rattle.std.specs.List.{filter}
 use Rattle.std.specs.List.Sorted.{IsPermutation}
-use Rattle.std.proofs.lemmas.List.{append-nil}
 use Rattle.std.proofs.lemmas.List.Sorted.{IsNonDecreasingBy-from_sort_by_key}
 use Rattle.cpe_relation.specs.NameRelation.{covers}
 use Rattle.product_orders.specs.Elements.{SameElements}
 use Rattle.name_index.specs.declared.table.NameId.{NameId}
 use Rattle.name_index.specs.Table.{kept_at}
 use Rattle.name_index.specs.Index.{ids, is_product_covered, is_covered}
-use Rattle.name_index.proofs.Covered.{walk_live, tail_live, found_more, walk_length, covered_same, product_covered, fewer_covered, rises, once_filtered}
+use Rattle.name_index.proofs.Covered.{walk_live, tail_live, found_all, found_more, walk_length, covered_same, product_covered, fewer_covered, rises, once_filtered}
 use Rattle.name_index.proofs.index.NameIndex.covered_by.Goals as goal
 
 pub loop-id-init : goal.loop-id-init
@@ -34,8 +33,7 @@ pub returns-clause-covered : goal.returns-clause-covered
 returns-clause-covered g c =
     let q = is_covered c.args.table.now c.args.name.now in
     let p = is_product_covered c.args.table.now c.args.name.now.product in
-    let ends : c.loop-id.id-iterator ≡ [] = c.in-None.ensures.steps.0 in
-    let all : c.loop-id.found.items ≡ filter q c.into_iter-id-iterator.result = sym (append-nil c.loop-id.found.items) ∙ ap (λ (xs : List NameId). c.loop-id.found.items ++ filter q xs) (sym ends) ∙ c.loop-id.invariant.found in
+    let all = found_all q c.loop-id.found.items c.loop-id.id-iterator c.into_iter-id-iterator.result c.in-None.ensures.steps.0 c.loop-id.invariant.found in
     covered_same p q (ids c.args.self.now.held) c.into_iter-id-iterator.result c.sort_by_key.new.self.items (λ id h. product_covered c.args.name.now (kept_at c.args.table.now id.0).name h) (subst (SameElements (filter (is_product_covered c.args.table.now c.args.name.now.product) (ids c.args.self.now.held))) (sym c.into_iter-id-iterator.ensures.into_iter_gives) c.with_covered_product-id-items.ensures)
     (subst (λ (xs : List NameId). IsPermutation xs c.sort_by_key.new.self.items) all c.in_ok-sort_by_key.ensures.permutation)
 

@@ -1,31 +1,35 @@
-use Rattle.std.proofs.Common.{sym, ◌∙◌, true, false}
+use Rattle.std.proofs.Common.{◌≡◌, ℕ, Bool, List, sym, ◌∙◌, true, false}
+use Rattle.std.specs.List.{filter}
+use Rattle.cpe_values.specs.Parts.{Parts}
 use Rattle.cpe_values.specs.declared.value.Value.TheVariants.{Text}
 use Rattle.cpe_relation.specs.Near.{near}
+use Rattle.product_orders.specs.declared.keys.End.{End}
 use Rattle.product_orders.specs.declared.keys.End.TheVariants as end
 use Rattle.product_orders.specs.declared.keys.Shape.TheVariants as shape
+use Rattle.product_orders.specs.Elements.{SameElements}
 use Rattle.product_orders.specs.Keys.{in_run}
-use Rattle.product_orders.specs.Listed.{value_at, live}
+use Rattle.product_orders.specs.Listed.{Listed, value_at, live}
 use Rattle.product_orders.proofs.Sums.{tests_agree}
 use Rattle.product_orders.proofs.Lower.{plain_is, trail_is, lead_is}
 use Rattle.product_orders.proofs.products.Products.near_text.Goals as goal
 
+-- where the products that a text is near are those of a run, it finds them
+near_found : (values : Listed) (text : Parts) (e : End) (whole : Bool) (found : List ℕ) → ((n : ℕ) → near (Text text) (value_at values n) ≡ in_run e shape.Plain text.body whole (value_at values n))
+    → SameElements (filter (λ n. in_run e shape.Plain text.body whole (value_at values n)) (live values)) found → SameElements (filter (λ n. near (Text text) (value_at values n)) (live values)) found
+near_found values text e whole found is run =
+    tests_agree (λ n. near (Text text) (value_at values n)) (λ n. in_run e shape.Plain text.body whole (value_at values n)) is (live values) found run
+
 pub returns-in-Plain : goal.returns-in-Plain
 returns-in-Plain c =
-    let values = c.args.self.now in
-    let found = rw c.requires.is at c.same_text.ensures in
-    tests_agree (λ n. near (Text c.args.text.now) (value_at values n)) (λ n. in_run end.Front shape.Plain c.args.text.now.body true (value_at values n))
-    (λ n. plain_is c.args.text.now c.requires.lower (sym c.text_shape.ensures ∙ c.in-Plain.is) (value_at values n) (c.lawful.ensures.lower n)) (live values) c.same_text.result found
+    near_found c.args.self.now c.args.text.now end.Front true c.same_text.result
+    (λ n. plain_is c.args.text.now c.requires.lower (sym c.text_shape.ensures ∙ c.in-Plain.is) (value_at c.args.self.now n) (c.lawful.ensures.lower n)) (rw c.requires.is at c.same_text.ensures)
 
 pub returns-in-WithTrail : goal.returns-in-WithTrail
 returns-in-WithTrail c =
-    let values = c.args.self.now in
-    let found = rw c.stem.ensures at c.front_run.ensures in
-    tests_agree (λ n. near (Text c.args.text.now) (value_at values n)) (λ n. in_run end.Front shape.Plain c.args.text.now.body false (value_at values n))
-    (λ n. trail_is c.args.text.now c.requires.lower (sym c.text_shape.ensures ∙ c.in-WithTrail.is) (value_at values n) (c.lawful.ensures.lower n)) (live values) c.front_run.result found
+    near_found c.args.self.now c.args.text.now end.Front false c.front_run.result
+    (λ n. trail_is c.args.text.now c.requires.lower (sym c.text_shape.ensures ∙ c.in-WithTrail.is) (value_at c.args.self.now n) (c.lawful.ensures.lower n)) (rw c.stem.ensures at c.front_run.ensures)
 
 pub returns-in-WithLead : goal.returns-in-WithLead
 returns-in-WithLead c =
-    let values = c.args.self.now in
-    let found = rw c.stem-in-WithLead.ensures at c.end_run.ensures in
-    tests_agree (λ n. near (Text c.args.text.now) (value_at values n)) (λ n. in_run end.Back shape.Plain c.args.text.now.body false (value_at values n))
-    (λ n. lead_is c.args.text.now c.requires.lower (sym c.text_shape.ensures ∙ c.in-WithLead.is) (value_at values n) (c.lawful.ensures.lower n)) (live values) c.end_run.result found
+    near_found c.args.self.now c.args.text.now end.Back false c.end_run.result
+    (λ n. lead_is c.args.text.now c.requires.lower (sym c.text_shape.ensures ∙ c.in-WithLead.is) (value_at c.args.self.now n) (c.lawful.ensures.lower n)) (rw c.stem-in-WithLead.ensures at c.end_run.ensures)

@@ -1,26 +1,35 @@
-use Rattle.std.proofs.Common.{◌≡◌, List, [], length, sym, ap, subst, arith}
+use Rattle.std.proofs.Common.{◌≡◌, List, [], false, length, sym, ap, subst, arith}
+use Rattle.std.specs.Prelude.{IfOk, IsTrue, Result}
 use Rattle.std.specs.List.{filter}
 use Rattle.std.proofs.lemmas.List.{length-map}
 use Rattle.std.proofs.lemmas.Result.{IfOk-weaker}
+use Rattle.cpe_name.specs.Eleven.{Values}
+use Rattle.cpe_name.specs.Wildcards.{name_has_specials}
+use Rattle.cpe_relation.specs.NameRelation.{covers}
 use Rattle.product_orders.specs.Elements.{SameElements}
+use Rattle.name_index.specs.Table.{Names}
 use Rattle.name_index.specs.Index.{Fits, ids, is_covered}
 use Rattle.target_index.specs.declared.meeting.Met.{Met}
 use Rattle.target_index.specs.declared.parts.Loose.{Loose}
-use Rattle.target_index.specs.Targets.{held, is_maybe}
+use Rattle.target_index.specs.Targets.{FitsTargets, held, is_maybe, Targets}
 use Rattle.target_index.specs.Parts.{pair_of, pairs_of, targets_of}
 use Rattle.target_index.proofs.Meetings.{covered_all, none_open}
 use Rattle.target_index.proofs.Walks.{met_count}
 use Rattle.target_index.proofs.parts.Parts.met.Goals as goal
 
+-- what is covered has no special, so it is found among those that have none
+all_covered : {E : Type 0} (names : Names) (name : Values) (t : Targets) → FitsTargets t names → ((a b : Values) → IsTrue (covers a b) → name_has_specials b ≡ false) → (r : Result Met E)
+    → IfOk r (λ (m : Met). SameElements (filter (is_covered names name) (ids t.plain)) m.covered.items) → IfOk r (λ (m : Met). SameElements (filter (is_covered names name) (ids (held t))) m.covered.items)
+all_covered names name t fits law r plain =
+    IfOk-weaker r
+    (λ (m : Met). SameElements (filter (is_covered names name) (ids t.plain)) m.covered.items)
+    (λ (m : Met). SameElements (filter (is_covered names name) (ids (held t))) m.covered.items)
+    (λ (m : Met) same. covered_all names name t fits law m.covered.items same)
+    plain
+
 pub returns-then-self-eq0-clause-covered : goal.returns-then-self-eq0-clause-covered
 returns-then-self-eq0-clause-covered g c =
-    let t = targets_of c.args.self.now in
-    let q = is_covered c.args.table.now c.args.name.now in
-    IfOk-weaker c.meet_whole.result
-    (λ (m : Met). SameElements (filter q (ids t.plain)) m.covered.items)
-    (λ (m : Met). SameElements (filter q (ids (held t))) m.covered.items)
-    (λ (m : Met) same. covered_all c.args.table.now c.args.name.now t c.requires.fits c.maybe_laws.ensures.whole m.covered.items same)
-    c.meet_whole.ensures.covered
+    all_covered c.args.table.now c.args.name.now (targets_of c.args.self.now) c.requires.fits c.maybe_laws.ensures.whole c.meet_whole.result c.meet_whole.ensures.covered
 
 pub returns-then-self-eq0-clause-maybe : goal.returns-then-self-eq0-clause-maybe
 returns-then-self-eq0-clause-maybe g c =
@@ -42,13 +51,7 @@ meet_each-requires-clause-loose g c = subst (λ (xs : List Loose). Fits (pairs_o
 
 pub returns-clause-covered : goal.returns-clause-covered
 returns-clause-covered g c =
-    let t = targets_of c.args.self.now in
-    let q = is_covered c.args.table.now c.args.name.now in
-    IfOk-weaker c.meet_each.result
-    (λ (m : Met). SameElements (filter q (ids t.plain)) m.covered.items)
-    (λ (m : Met). SameElements (filter q (ids (held t))) m.covered.items)
-    (λ (m : Met) same. covered_all c.args.table.now c.args.name.now t c.requires.fits c.maybe_laws.ensures.whole m.covered.items same)
-    c.meet_each.ensures.covered
+    all_covered c.args.table.now c.args.name.now (targets_of c.args.self.now) c.requires.fits c.maybe_laws.ensures.whole c.meet_each.result c.meet_each.ensures.covered
 
 pub returns-clause-steps : goal.returns-clause-steps
 returns-clause-steps g c = (
