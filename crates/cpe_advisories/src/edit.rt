@@ -1,4 +1,7 @@
 // Edits of advisories and items, and questions about them.
+ghost use Rattle.std.specs.Prelude.{◌≡◌};
+ghost use Rattle.cpe_advisories.specs.declared.edit.AdviceFault.TheVariants as fault;
+
 use crate::Advisory;
 use cpe_name::Wfn;
 use cpe_rows::{List, Text};
@@ -64,9 +67,6 @@ pub enum AdviceFault {
 }
 
 impl From<Memory> for AdviceFault {
-    ghost use Rattle.std.specs.Prelude.{◌≡◌};
-    ghost use Rattle.cpe_advisories.specs.declared.edit.AdviceFault.TheVariants as fault;
-
     ghost from_gives = { λ _ f. f ≡ fault.Memory };
 
     fn from(_error: Memory) -> AdviceFault {

@@ -1,6 +1,7 @@
 // Members of records, and what may be wrong with them.
 ghost use Rattle.std.specs.Prelude.{◌≡◌};
 ghost use Rattle.cpe_advisories.specs.Reading.{key_of};
+ghost use Rattle.cpe_advisories.specs.declared.member.AdviceReadFault.TheVariants as fault;
 
 use cpe_values::Memory;
 
@@ -54,9 +55,6 @@ impl AdviceMember {
 }
 
 impl From<Memory> for AdviceReadFault {
-    ghost use Rattle.std.specs.Prelude.{◌≡◌};
-    ghost use Rattle.cpe_advisories.specs.declared.member.AdviceReadFault.TheVariants as fault;
-
     ghost from_gives = { λ _ e. e ≡ fault.Memory };
 
     fn from(_error: Memory) -> AdviceReadFault {

@@ -112,6 +112,11 @@ pub(crate) fn tell_each<'i>(
     ensures rest { (t : Truth) → map (truth_in truths.now.entries) result.rest.now ≡ (told (λ key. t) test.now (map (truth_in truths.now.entries) ids.now)).1 }
 {
     match test {
+        Test::Fact(_) => next_each(ids, truths),
+        Test::Check(_) => ToldEach {
+            truths: ByResult::itself(),
+            rest: ids,
+        },
         Test::Logic {
             operator,
             negate,
@@ -129,11 +134,6 @@ pub(crate) fn tell_each<'i>(
                 rest,
             }
         }
-        Test::Fact(_) => next_each(ids, truths),
-        Test::Check(_) => ToldEach {
-            truths: ByResult::itself(),
-            rest: ids,
-        },
     }
 }
 

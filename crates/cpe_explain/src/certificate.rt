@@ -101,6 +101,8 @@ fn why_of<'a, R: ExplainedRows>(
     ensures { IfOk result (λ why. why ≡ why_of (R.rows asked.now.rows.now) asked.now.mode test.now) }
 {
     match test {
+        Test::Fact(name) => fact_why(alloc, asked.rows, asked.mode, name.as_name()),
+        Test::Check(key) => Ok(Why::Plain(asked.rows.result_of(key))),
         Test::Logic {
             operator,
             negate,
@@ -127,8 +129,6 @@ fn why_of<'a, R: ExplainedRows>(
                 }
             }
         }
-        Test::Fact(name) => fact_why(alloc, asked.rows, asked.mode, name.as_name()),
-        Test::Check(key) => Ok(Why::Plain(asked.rows.result_of(key))),
     }
 }
 

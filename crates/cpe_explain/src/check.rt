@@ -156,6 +156,8 @@ fn passes<R: PlainRows>(
         return Ok(true);
     };
     match test {
+        Test::Fact(name) => fact_passes(alloc, rows, mode, name.as_name(), why),
+        Test::Check(key) => Ok(check_passes(rows, key, why)),
         Test::Logic {
             operator,
             negate,
@@ -176,8 +178,6 @@ fn passes<R: PlainRows>(
             }
             Ok(is_settled(*operator, *negate, *truth, given.as_slice()))
         }
-        Test::Fact(name) => fact_passes(alloc, rows, mode, name.as_name(), why),
-        Test::Check(key) => Ok(check_passes(rows, key, why)),
     }
 }
 

@@ -5,7 +5,6 @@ pub mod ValueLemmas
 pub mod Written
 pub mod Said
 pub mod Writing
-pub mod Lent
 pub mod Bounds
 pub mod AnyTail
 pub mod Components

@@ -12,7 +12,7 @@ use Rattle.cpe_values.specs.Values.{IsValue}
 use Rattle.cpe_name.specs.Eleven.{Values, Written}
 use Rattle.cpe_name.specs.declared.attribute.Attribute.{Attribute}
 use Rattle.cpe_name.specs.Names.{attributes, value_of, IsName, named}
-use Rattle.cpe_fs.specs.Grammar.{component, Fs}
+use Rattle.cpe_fs.specs.Grammar.{component}
 use Rattle.cpe_fs.specs.Spans.{is_only, IsSpan, AreComponents}
 use Rattle.cpe_name.specs.Spans.{texts}
 use Rattle.cpe_values.specs.declared.spelling.Style.{Style}
@@ -21,7 +21,7 @@ use Rattle.cpe_values.specs.Unspelling.{body_at, behind_body, parts_at}
 use Rattle.cpe_values.proofs.Unspelled.{parts_back, parts_are}
 use Rattle.cpe_fs.specs.SpanValues.{value_at}
 use Rattle.cpe_name.proofs.Items.{good_of}
-use Rattle.cpe_fs.proofs.Whole.{AllSuit, values_of, named_values, suit_values, components_of}
+use Rattle.cpe_fs.proofs.Whole.{AllSuit, values_of, named_values, suit_values}
 
 -- ---- values
 
@@ -91,8 +91,3 @@ named_back w good = ap named (values_back attributes (values_of w) (suit_values 
 -- the values of the components that were found are those of the name
 pub name_back : (s : List ℕ) (c : Written) (are : AreComponents s c) → named (map value_at (texts c)) ≡ are.name
 name_back s c are = ap (λ (us : List (List ℕ)). named (map value_at us)) are.are ∙ named_back are.name are.fs.0
-
--- a text is that of one name
-pub one_name : (v w : Values) (s : List ℕ) → Fs v s → Fs w s → v ≡ w
-one_name v w s a b =
-    sym (named_back v a.0) ∙ ap (λ (us : List (List ℕ)). named (map value_at us)) (sym (components_of v s a) ∙ components_of w s b) ∙ named_back w b.0

@@ -1,5 +1,5 @@
 -- The whole text: its scanner takes the formatted strings, and stops at the place of what is none.
-use Rattle.std.proofs.Common.{◌≡◌, ℕ, ◌≤◌, eqb, true, false, List, [], ◌∷◌, ◌++◌, length, drop, map, Result, Ok, Err, refl, sym, ap, subst, ◌∙◌, append_assoc, arith, length-append}
+use Rattle.std.proofs.Common.{◌≡◌, ℕ, ◌≤◌, eqb, true, false, List, [], ◌∷◌, ◌++◌, length, drop, map, Result, Ok, Err, refl, sym, ap, ◌∙◌, append_assoc, arith, length-append}
 use Rattle.std.specs.Prelude.{codes}
 use Rattle.std.specs.List.{flat_map}
 use Rattle.std.proofs.lemmas.List.{append-nil, nil_from_length}
@@ -10,13 +10,13 @@ use Rattle.cpe_name.specs.Eleven.{Values, Written}
 use Rattle.cpe_name.specs.declared.attribute.Attribute.{Attribute}
 use Rattle.cpe_name.specs.declared.attribute.Attribute.TheVariants.{Part, Vendor, Product, Version, Update, Edition, Language, SwEdition, TargetSw, TargetHw, Other}
 use Rattle.cpe_name.specs.Names.{attributes, value_of, Suits, IsName, named}
+use Rattle.cpe_grammar.specs.Place.{StopsAt}
 use Rattle.cpe_grammar.specs.Scanners.{◌>>=◌, both, ending, one, literal}
 use Rattle.cpe_grammar.proofs.Scans.{Scans, wider, Empty, nothing_scans, ending_scans, OneOf, one_scans, Joined, both_scans, Only, literal_scans, literal_taken}
-use Rattle.cpe_grammar.proofs.Results.{went_on, ok_is, ok≢err}
-use Rattle.cpe_grammar.proofs.Places.{not_taken, within_text, place_of}
+use Rattle.cpe_grammar.proofs.Places.{no_ending, nothing_left, stops_at}
 use Rattle.cpe_fs.specs.Grammar.{component, fs_text, Fs, IsFs}
 use Rattle.cpe_fs.specs.Scanning.{is_colon, part_end, language_end, text_end, component_end, field_end, fields_end, whole_end}
-use Rattle.cpe_fs.specs.Spans.{IsSpan, AreComponents, LeavesRest, behind_field, between, component_at, components_at}
+use Rattle.cpe_fs.specs.Spans.{IsSpan, AreComponents, behind_field, between, component_at, components_at}
 use Rattle.cpe_name.proofs.Items.{between_is}
 use Rattle.cpe_name.proofs.WholeTexts.{any_suits}
 use Rattle.cpe_name.specs.Spans.{texts, total_length}
@@ -205,19 +205,10 @@ whole_scans =
     (fields_text (map (λ a. value.Any) attributes))
     (record { prefix = fields_text (map (λ a. value.Any) attributes); back = []; is = sym (append-nil (fields_text (map (λ a. value.Any) attributes))); first = any; second = refl }))
 
-ending_empty : (s rest : List ℕ) → ending s ≡ Ok rest → rest ≡ []
-ending_empty [] rest e = sym (ok_is [] rest e)
-ending_empty (c ∷ s) rest e = absurd (ok≢err rest _ (sym e))
-
--- what is scanned whole is a formatted string
-pub whole_name : (s rest : List ℕ) → whole_end s ≡ Ok rest → IsFs s
+-- it leaves nothing
+pub whole_ends : (s rest : List ℕ) → whole_end s ≡ Ok rest → rest ≡ []
 unfolding whole_end
-whole_name s rest e =
-    let fields = went_on (literal prefix s) (both (fields_end attributes) ending) rest e in
-    let end = went_on (fields_end attributes fields.0) ending rest fields.2 in
-    let all = whole_scans.takes s rest e in
-    let text : s ≡ all.taken = all.cut ∙ ap (λ (r : List ℕ). all.taken ++ r) (ending_empty end.0 rest end.2) ∙ append-nil all.taken in
-    subst IsFs (sym text) all.lawful
+whole_ends s rest e = nothing_left (literal prefix s) (fields_end attributes) rest e
 
 -- it takes each of them
 pub whole_taken : (s : List ℕ) → IsFs s → whole_end s ≡ Ok []
@@ -232,14 +223,8 @@ whole_taken s h =
     ∙ ap (λ (x : Result (List ℕ) ℕ). x >>= ending) (fields_taken attributes vs [] (suit_values w h.1.0) tt)
 
 -- where it stops is the place
-pub leaves : (s : List ℕ) (left : ℕ) → whole_end s ≡ Err left → LeavesRest s left
-leaves s left e = record {
-  within = within_text IsFs whole_end whole_scans whole_taken s left e;
-  at = record {
-    refused = not_taken IsFs whole_end whole_scans whole_taken s left e;
-    is_place = place_of IsFs whole_end whole_scans whole_taken s left e;
-  };
-}
+leaves : (s : List ℕ) (left : ℕ) → whole_end s ≡ Err left → StopsAt IsFs s left
+leaves s left e = stops_at IsFs whole_end whole_scans whole_taken s left e
 
 -- ---- what the code finds
 
@@ -278,20 +263,16 @@ components_of w s fs =
 -- ---- where the code stops
 
 -- within the prefix
-pub start_leaves : (s : List ℕ) (left : ℕ) → literal prefix s ≡ Err left → LeavesRest s left
+pub start_leaves : (s : List ℕ) (left : ℕ) → literal prefix s ≡ Err left → StopsAt IsFs s left
 unfolding whole_end
 start_leaves s left e = leaves s left (rw e refl)
 
 -- within the fields
-pub fields_leave : (s fields : List ℕ) (left : ℕ) → literal prefix s ≡ Ok fields → fields_end attributes fields ≡ Err left → LeavesRest s left
+pub fields_leave : (s fields : List ℕ) (left : ℕ) → literal prefix s ≡ Ok fields → fields_end attributes fields ≡ Err left → StopsAt IsFs s left
 unfolding whole_end
 fields_leave s fields left start e = leaves s left (rw start (ap (λ (x : Result (List ℕ) ℕ). x >>= ending) e))
 
-no_ending : (r : List ℕ) → eqb (length r) 0 ≡ false → ending r ≡ Err (length r)
-no_ending [] more = absurd cc
-no_ending (c ∷ r) more = refl
-
 -- after the last field
-pub end_leaves : (s fields rest : List ℕ) → literal prefix s ≡ Ok fields → fields_end attributes fields ≡ Ok rest → eqb (length rest) 0 ≡ false → LeavesRest s (length rest)
+pub end_leaves : (s fields rest : List ℕ) → literal prefix s ≡ Ok fields → fields_end attributes fields ≡ Ok rest → eqb (length rest) 0 ≡ false → StopsAt IsFs s (length rest)
 unfolding whole_end
 end_leaves s fields rest start taken more = leaves s (length rest) (rw start (ap (λ (x : Result (List ℕ) ℕ). x >>= ending) taken ∙ no_ending rest more))

@@ -1,30 +1,27 @@
 -- Where the text of a name was written, all is so that is said of it, and where none was, too.
 use Rattle.std.proofs.Common.{◌≡◌, ℕ, ◌≤◌, List, ◌++◌, length, take, Option, None, Some, Result, Ok, Err, refl, sym, ap, ◌∙◌}
 use Rattle.std.specs.Option.{option_map}
-use Rattle.cpe_grammar.proofs.Results.{left_over, stopped}
+use Rattle.cpe_grammar.proofs.Results.{left_over}
 use Rattle.cpe_name.specs.Eleven.{Values, Written}
 use Rattle.cpe_name.specs.Text.{output_text}
 use Rattle.cpe_name.specs.WfnText.{IsWfnText}
 use Rattle.cpe_name.specs.Spans.{AreWritten}
 use Rattle.cpe_name.specs.Binding.{bound_by}
 use Rattle.cpe_name.proofs.Bindings.{found_written, only_written, said_written, nothing_written}
-use Rattle.cpe_name.proofs.Unbinding.{behind}
+use Rattle.cpe_name.proofs.Unbinding.{Unbinds, behind, one_name, never, says_text, place_said}
 use Rattle.cpe_fs.specs.Writing.{WritesBound, WritesOutput}
 
 -- ---- to the text of a name
 
-module _ (Has : Values → List ℕ → Type 0) (Leaves : List ℕ → ℕ → Type 0) (says : List ℕ → Result (List ℕ) ℕ)
-    (one : (a b : Values) (s : List ℕ) → Has a s → Has b s → a ≡ b) (never : (name : Values) (s : List ℕ) (place : ℕ) → Leaves s place → Has name s → ⊥)
-    (said_is : (s : List ℕ) (name : Values) (old new : List ℕ) → Has name s → new ≡ old ++ output_text name → left_over new ≡ behind old (says s))
-    (unsaid_is : (s old : List ℕ) (place : ℕ) → Leaves s place → stopped place ≡ behind old (says s)) where
+module _ {Has : Values → List ℕ → Type 0} {Leaves : List ℕ → ℕ → Type 0} {read : List ℕ → Result Values ℕ} {says : List ℕ → Result (List ℕ) ℕ} (binding : Unbinds Has Leaves read says) where
   -- the output text of a name that has the text was written
   pub written_output : (s : List ℕ) (at most : ℕ) (old new : List ℕ) (end : ℕ) (name : Values) → Has name s → take end new ≡ take at old ++ output_text name → end ≤ most → length new ≡ length old
       → WritesOutput Has Leaves says s at most old new (Ok end)
   written_output s at most old new end name has written within long = record {
     found = record { name = name; has = has; written = written };
-    only = λ other its. written ∙ ap (λ (w : Values). take at old ++ output_text w) (one name other s has its);
+    only = λ other its. written ∙ ap (λ (w : Values). take at old ++ output_text w) (one_name binding name other s has its);
     refused = tt;
-    said = said_is s name (take at old) (take end new) has written;
+    said = ap left_over written ∙ ap (behind (take at old)) (sym (says_text binding name s has));
     within = within;
     length = long;
     unchanged = tt;
@@ -34,9 +31,9 @@ module _ (Has : Values → List ℕ → Type 0) (Leaves : List ℕ → ℕ → T
   pub refused_output : (s : List ℕ) (at most : ℕ) (old : List ℕ) (place : ℕ) → Leaves s place → WritesOutput Has Leaves says s at most old old (Err place)
   refused_output s at most old place leaves = record {
     found = tt;
-    only = λ name has. never name s place leaves has;
+    only = λ name has. never binding name s place leaves has;
     refused = leaves;
-    said = unsaid_is s (take at old) place leaves;
+    said = ap (behind (take at old)) (sym (place_said binding s place leaves));
     within = tt;
     length = refl;
     unchanged = refl;

@@ -1,5 +1,5 @@
 -- A component with its bare `.` and `-` quoted is the text of its value.
-use Rattle.std.proofs.Common.{◌≡◌, ◌≢◌, ℕ, zero, suc, true, false, ◌||◌, eqb, List, [], ◌∷◌, ◌++◌, replicate, refl, sym, ap, ◌∙◌, inl, inr, arith}
+use Rattle.std.proofs.Common.{◌≡◌, ◌≢◌, ℕ, true, false, ◌||◌, eqb, List, [], ◌∷◌, ◌++◌, refl, sym, ap, ◌∙◌, inl, inr, arith}
 use Rattle.std.specs.List.{flat_map}
 use Rattle.std.proofs.lemmas.List.Concat.{flat_map-append}
 use Rattle.std.proofs.lemmas.Bool.{cases_Bool}
@@ -19,6 +19,7 @@ use Rattle.cpe_name.specs.OutputFrom.{output_from}
 use Rattle.cpe_name.specs.Scanning.{slot}
 use Rattle.cpe_name.proofs.Lists.{slot_by}
 use Rattle.cpe_name.proofs.OutputTexts.{output_from_is}
+use Rattle.cpe_name.proofs.Repeated.{each_made}
 use Rattle.cpe_name.proofs.WholeTexts.{good_value}
 use Rattle.cpe_fs.specs.Grammar.{component}
 use Rattle.cpe_fs.specs.Spans.{is_only, AreComponents}
@@ -59,14 +60,10 @@ body_requoted (c ∷ b) =
     ∙ ap (λ (u : List ℕ). u ++ flat_map requoted (flat_map (character style.Formatted) b)) (character_requoted c)
     ∙ ap (λ (u : List ℕ). character style.Wfn c ++ u) (body_requoted b)
 
-marks_requoted : (n : ℕ) → flat_map requoted (replicate n 63) ≡ replicate n 63
-marks_requoted zero = refl
-marks_requoted (suc n) = ap (λ (u : List ℕ). 63 ∷ u) (marks_requoted n)
-
 edge_requoted : (e : Edge) → flat_map requoted (edge_text e) ≡ edge_text e
 edge_requoted edge.None = refl
 edge_requoted edge.Star = refl
-edge_requoted (edge.Marks n) = marks_requoted n
+edge_requoted (edge.Marks n) = each_made requoted 63 63 n refl
 
 spelling_requoted : (t : Parts) → flat_map requoted (spelling style.Formatted t) ≡ spelling style.Wfn t
 spelling_requoted t =

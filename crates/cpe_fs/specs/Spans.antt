@@ -6,7 +6,7 @@ use Rattle.cpe_values.specs.Values.{IsValue}
 use Rattle.cpe_name.specs.declared.attribute.Attribute.{Attribute}
 use Rattle.cpe_name.specs.Eleven.{Values, Written}
 use Rattle.cpe_name.specs.Names.{attributes, value_of}
-use Rattle.cpe_fs.specs.Grammar.{component, Fs, LeavesAt}
+use Rattle.cpe_fs.specs.Grammar.{component, Fs}
 use Rattle.cpe_fs.specs.Scanning.{component_end, field_end}
 use Rattle.cpe_name.specs.Spans.{texts, total_length}
 
@@ -28,11 +28,6 @@ pub record AreComponents (text : List ℕ) (c : Written) : Type 0 where
   pub fs : Fs name text
   pub are : texts c ≡ map (λ a. component (value_of name a)) attributes
   pub within : total_length (texts c) ≤ length text
-
--- no name has this text, and it leaves the grammar with so many bytes left
-pub record LeavesRest (text : List ℕ) (left : ℕ) : Type 0 where
-  pub within : left ≤ length text
-  pub at : LeavesAt text (length text - left)
 
 -- ---- where they lie
 

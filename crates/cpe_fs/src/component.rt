@@ -4,6 +4,7 @@ ghost use Rattle.cpe_values.specs.declared.value.Value.{Value};
 ghost use Rattle.cpe_values.specs.Values.{IsValue};
 ghost use Rattle.cpe_fs.specs.Grammar.{component};
 ghost use Rattle.cpe_fs.specs.Component.{HasComponent, IsComponent, RefusesComponent, is_component, read_component};
+ghost use Rattle.cpe_fs.specs.declared.component.ComponentFault.TheVariants as fault;
 
 use crate::bind::push_component;
 use crate::scan::scan_text;
@@ -24,9 +25,6 @@ pub enum ComponentFault {
 }
 
 impl From<Memory> for ComponentFault {
-    ghost use Rattle.std.specs.Prelude.{◌≡◌};
-    ghost use Rattle.cpe_fs.specs.declared.component.ComponentFault.TheVariants as fault;
-
     ghost from_gives = { λ _ e. e ≡ fault.Memory };
 
     fn from(_memory: Memory) -> ComponentFault {

@@ -13,6 +13,7 @@ ghost use Rattle.cpe_fs.specs.Grammar.{fs_text, Fs, LeavesAt, Refuses};
 ghost use Rattle.cpe_fs.specs.Bound.{bound, Binds};
 ghost use Rattle.cpe_fs.specs.Unbound.{read_fs, unbound, Says};
 ghost use Rattle.cpe_fs.specs.Writing.{WritesBound, WritesOutput};
+ghost use Rattle.cpe_fs.specs.declared.FsFault.TheVariants as fault;
 
 mod bind;
 mod bound;
@@ -28,7 +29,7 @@ use crate::values::Components;
 use crate::write::FromComponents;
 pub use bind::{append_fs, bind_fs, fs_len};
 pub use component::{ComponentFault, bind_component, read_component_is, unbind_component};
-use cpe_name::{Wfn, put_output, read_values, scan_wfn};
+use cpe_name::{Wfn, put_output, read_name, scan_wfn};
 use cpe_values::Memory;
 pub use lend::lend_fs;
 use std::alloc::Global;
@@ -55,9 +56,6 @@ pub enum FsFault {
 }
 
 impl From<Memory> for FsFault {
-    ghost use Rattle.std.specs.Prelude.{◌≡◌};
-    ghost use Rattle.cpe_fs.specs.declared.FsFault.TheVariants as fault;
-
     ghost from_gives = { λ _ e. e ≡ fault.Memory };
 
     fn from(_memory: Memory) -> FsFault {
@@ -82,10 +80,7 @@ pub fn unbind_fs(alloc: Global, text: &[u8]) -> Result<Wfn, FsFault>
         Ok(components) => components,
         Err(left) => return Err(FsFault::At(text.len() - left)),
     };
-    match Wfn::new(read_values(&mut Components { alloc }, &components)?) {
-        Ok(name) => Ok(name),
-        Err(_) => unreachable!(),
-    }
+    Ok(read_name(&mut Components { alloc }, &components)?)
 }
 
 /// Writes the output text of the name that has this formatted string into `room`, from `at` on, and

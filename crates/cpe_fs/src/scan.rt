@@ -3,11 +3,13 @@
 // Each function takes a prefix of a text. It answers what is left after it, or how many bytes are
 // left where no formatted string goes on.
 ghost use Rattle.std.specs.Prelude.{◌≡◌, ◌==◌, ◌≤◌, ◌-◌, ◌+◌, ◌∷◌, [], true, take, length, Ok, Err, IfOk, IfErr};
+ghost use Rattle.cpe_grammar.specs.Place.{StopsAt};
 ghost use Rattle.cpe_grammar.specs.Scanners.{Scanner, Tells, one};
 ghost use Rattle.cpe_name.specs.Names.{attributes};
 ghost use Rattle.cpe_name.specs.Spans.{texts};
+ghost use Rattle.cpe_fs.specs.Grammar.{IsFs};
 ghost use Rattle.cpe_fs.specs.Scanning.{is_hyphen, led_end, text_end, part_end, language_end, field_end, fields_end, any_tail};
-ghost use Rattle.cpe_fs.specs.Spans.{AreComponents, LeavesRest, behind_field, component_at, components_at, any_components};
+ghost use Rattle.cpe_fs.specs.Spans.{AreComponents, behind_field, component_at, components_at, any_components};
 
 use cpe_grammar::{prefix_of, scan_byte, scan_literal};
 use cpe_name::{Hyphen, Written, scan_language_tag};
@@ -201,7 +203,7 @@ fn scan_fields(bytes: &[u8]) -> Result<(Written, &[u8]), usize>
 #[tactic(auto, using(crate::proofs::Whole::start_leaves, crate::proofs::Whole::fields_leave))]
 pub(crate) fn scan_fs(text: &[u8]) -> Result<Written, usize>
     ensures found { IfOk result (AreComponents text.now) }
-    ensures refused { IfErr result (LeavesRest text.now) }
+    ensures refused { IfErr result (StopsAt IsFs text.now) }
 {
     let rest = scan_literal(b"cpe:2.3", text)?;
     let (components, behind) = scan_fields(rest)?;

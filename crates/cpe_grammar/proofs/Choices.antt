@@ -2,7 +2,7 @@
 use Rattle.std.proofs.Common.{◌≡◌, ◌⊎◌, ℕ, Bool, true, false, List, [], ◌∷◌, ◌++◌, length, Ok, Err, refl, sym, ap, subst, ◌∙◌, inl, inr}
 use Rattle.cpe_grammar.specs.Scanners.{Scanner, choose}
 use Rattle.cpe_grammar.proofs.Results.{left_over, stopped, chosen}
-use Rattle.cpe_grammar.proofs.Scans.{Takes, Stops, Scans, Either, chosen_yes, chosen_no, head_is, choose_scans, HeadFails}
+use Rattle.cpe_grammar.proofs.Scans.{Takes, Stops, Scans, Either, stops_alike, chosen_yes, chosen_no, choose_scans, HeadFails}
 
 -- a text of the language whose first byte, if there is one, fails the test
 pub record Unled (passes : ℕ → Bool) (M : List ℕ → Type 0) (c : List ℕ) : Type 0 where
@@ -49,30 +49,13 @@ module _ (passes : ℕ → Bool) (L M : List ℕ → Type 0) (p q : Scanner) (P 
     nil_rest (x ∷ prefix) rest cut = absurd cc
   unled_stops (c ∷ s) left e =
       elim (chosen (passes c) (p (c ∷ s)) (q (c ∷ s)) (stopped left) e) [
-        | inl h ↦ let a = P.stops (c ∷ s) left h.1 in record {
-          prefix = a.prefix;
-          rest = a.rest;
-          cut = a.cut;
-          left_is = a.left_is;
-          more = a.more;
-          goes_on = inl a.goes_on;
-          refused = λ d r t is.
-              let u = head_is a.prefix a.rest c s d r t a.cut is in
-              ap (choose passes p q) u.1 ∙ chosen_yes passes p q c u.0 h.0 ∙ ap p (sym u.1) ∙ a.refused d r t is;
-        }
+        | inl h ↦
+            let a = P.stops (c ∷ s) left h.1 in
+            stops_alike p (Either L (Unled passes M)) (choose passes p q) c s (λ u. chosen_yes passes p q c u h.0) a a.more (inl a.goes_on)
         | inr h ↦
             let a = Q.stops (c ∷ s) left h.1 in
-            let on = goes_on a.prefix a.rest a.more s c a.cut h.0 a.goes_on in record {
-              prefix = a.prefix;
-              rest = a.rest;
-              cut = a.cut;
-              left_is = a.left_is;
-              more = on.more;
-              goes_on = inr on.there;
-              refused = λ d r t is.
-                  let u = head_is a.prefix a.rest c s d r t a.cut is in
-                  ap (choose passes p q) u.1 ∙ chosen_no passes p q c u.0 h.0 ∙ ap q (sym u.1) ∙ a.refused d r t is;
-            }
+            let on = goes_on a.prefix a.rest a.more s c a.cut h.0 a.goes_on in
+            stops_alike q (Either L (Unled passes M)) (choose passes p q) c s (λ u. chosen_no passes p q c u h.0) a on.more (inr on.there)
       ]
 
   -- a text of the one scanner, or one of the other that doesn't begin so

@@ -1,10 +1,33 @@
--- Where a scanner of whole texts stops is the place.
-use Rattle.std.proofs.Common.{◌≡◌, ◌⊎◌, ℕ, zero, suc, ◌-◌, ◌<◌, ◌≤◌, List, [], ◌∷◌, ◌++◌, length, take, Ok, Err, inl, inr, refl, sym, ap, subst, ◌∙◌, append_assoc, arith, length-append}
-use Rattle.std.proofs.lemmas.List.{take_at}
-use Rattle.cpe_grammar.specs.Place.{IsPlace}
-use Rattle.cpe_grammar.specs.Scanners.{Scanner}
-use Rattle.cpe_grammar.proofs.Results.{ok≢err}
+-- What a scanner of whole texts takes is a text of the language, and where it stops is the place.
+use Rattle.std.proofs.Common.{◌≡◌, ◌⊎◌, ℕ, zero, suc, ◌-◌, ◌<◌, ◌≤◌, eqb, false, List, [], ◌∷◌, ◌++◌, length, take, Result, Ok, Err, inl, inr, refl, sym, ap, subst, ◌∙◌, append_assoc, arith, length-append}
+use Rattle.std.proofs.lemmas.List.{append-nil, take_at}
+use Rattle.cpe_grammar.specs.Place.{IsPlace, StopsAt}
+use Rattle.cpe_grammar.specs.Scanners.{Scanner, ◌>>=◌, both, ending}
+use Rattle.cpe_grammar.proofs.Results.{went_on, ok_is, ok≢err}
 use Rattle.cpe_grammar.proofs.Scans.{Scans}
+
+ending_empty : (s rest : List ℕ) → ending s ≡ Ok rest → rest ≡ []
+ending_empty [] rest e = sym (ok_is [] rest e)
+ending_empty (c ∷ s) rest e = absurd (ok≢err rest _ (sym e))
+
+-- where something is left there is no end
+pub no_ending : (r : List ℕ) → eqb (length r) 0 ≡ false → ending r ≡ Err (length r)
+no_ending [] more = absurd cc
+no_ending (c ∷ r) more = refl
+
+-- nothing is left after the end
+pub nothing_left : (r : Result (List ℕ) ℕ) (next : Scanner) (rest : List ℕ) → (r >>= both next ending) ≡ Ok rest → rest ≡ []
+nothing_left r next rest e =
+    let start = went_on r (both next ending) rest e in
+    let end = went_on (next start.0) ending rest start.2 in
+    ending_empty end.0 rest end.2
+
+-- what is taken with nothing left is a text of the language
+pub taken_whole : (L : List ℕ → Type 0) (p : Scanner) → Scans L p → (s rest : List ℕ) → p s ≡ Ok rest → rest ≡ [] → L s
+taken_whole L p P s rest e none =
+    let all = P.takes s rest e in
+    let text : s ≡ all.taken = all.cut ∙ ap (λ (r : List ℕ). all.taken ++ r) none ∙ append-nil all.taken in
+    subst L (sym text) all.lawful
 
 -- a longer prefix goes over the byte after this one
 longer : (prefix rest : List ℕ) (n : ℕ) → length prefix < n → n ≤ length (prefix ++ rest) → (d : ℕ) × (r : List ℕ) × (u : List ℕ) × (rest ≡ d ∷ r) × (take n (prefix ++ rest) ≡ prefix ++ d ∷ u)
@@ -42,13 +65,13 @@ one_place L s p q a b =
 
 -- a scanner that takes each text of the language whole
 module _ (L : List ℕ → Type 0) (p : Scanner) (P : Scans L p) (whole : (s : List ℕ) → L s → p s ≡ Ok []) where
-  pub not_taken : (s : List ℕ) (left : ℕ) → p s ≡ Err left → L s → ⊥
+  not_taken : (s : List ℕ) (left : ℕ) → p s ≡ Err left → L s → ⊥
   not_taken s left e h = ok≢err [] left (sym (whole s h) ∙ e)
 
-  pub within_text : (s : List ℕ) (left : ℕ) → p s ≡ Err left → left ≤ length s
+  within_text : (s : List ℕ) (left : ℕ) → p s ≡ Err left → left ≤ length s
   within_text s left e = let a = P.stops s left e in omega (arith, a.left_is, ap length a.cut, length-append a.prefix a.rest)
 
-  pub place_of : (s : List ℕ) (left : ℕ) → p s ≡ Err left → IsPlace L s (length s - left)
+  place_of : (s : List ℕ) (left : ℕ) → p s ≡ Err left → IsPlace L s (length s - left)
   place_of s left e =
       let a = P.stops s left e in
       let place : length s - left ≡ length a.prefix = omega (arith, a.left_is, ap length a.cut, length-append a.prefix a.rest) in
@@ -62,3 +85,7 @@ module _ (L : List ℕ → Type 0) (p : Scanner) (P : Scans L p) (whole : (s : L
             ok≢err [] _ (sym (whole (take n s ++ begins.0) begins.1) ∙ ap p text ∙ a.refused next.0 next.1 (next.2 ++ begins.0) next.3);
       } in
       subst (λ (k : ℕ). IsPlace L s k) (sym place) is
+
+  -- where it stops is the place
+  pub stops_at : (s : List ℕ) (left : ℕ) → p s ≡ Err left → StopsAt L s left
+  stops_at s left e = record { within = within_text s left e; at = record { refused = not_taken s left e; is_place = place_of s left e } }

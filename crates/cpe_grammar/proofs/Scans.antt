@@ -13,21 +13,18 @@ pub looks_no_further : (p : Scanner) → ((c : List ℕ) (d : ℕ) (r t : List �
 looks_no_further p looks c [] d r t e = looks c d r t e
 looks_no_further p looks c (x ∷ prefix) d r t e = looks c x (prefix ++ d ∷ r) (prefix ++ d ∷ t) e
 
+-- where one scanner stops another does, of any language that goes on there, if it refuses what the one refuses
+pub stops_as : {L : List ℕ → Type 0} {p : Scanner} {s : List ℕ} {left : ℕ} (M : List ℕ → Type 0) (q : Scanner) (a : Stops L p s left) (more : List ℕ) → M (a.prefix ++ more)
+    → ((d : ℕ) (r t : List ℕ) → a.rest ≡ d ∷ r → q (a.prefix ++ d ∷ t) ≡ Err (suc (length t))) → Stops M q s left
+stops_as M q a more on refuses = record { prefix = a.prefix; rest = a.rest; cut = a.cut; left_is = a.left_is; more = more; goes_on = on; refused = refuses }
+
 -- ---- a wider language, and the same scanner by another name
 
 -- a scanner of a language is one of a wider language
 pub wider : (L M : List ℕ → Type 0) (p : Scanner) → ((c : List ℕ) → L c → M c) → Scans L p → Scans M p
 wider L M p widen P = record {
   takes = λ s r e. let a = P.takes s r e in record { taken = a.taken; cut = a.cut; lawful = widen a.taken a.lawful };
-  stops = λ s left e. let a = P.stops s left e in record {
-    prefix = a.prefix;
-    rest = a.rest;
-    cut = a.cut;
-    left_is = a.left_is;
-    more = a.more;
-    goes_on = widen (a.prefix ++ a.more) a.goes_on;
-    refused = a.refused;
-  };
+  stops = λ s left e. let a = P.stops s left e in stops_as M p a a.more (widen (a.prefix ++ a.more) a.goes_on) a.refused;
   looks_at_one = P.looks_at_one;
 }
 
@@ -35,15 +32,9 @@ wider L M p widen P = record {
 pub renamed : (L : List ℕ → Type 0) (p q : Scanner) → ((s : List ℕ) → q s ≡ p s) → Scans L p → Scans L q
 renamed L p q same P = record {
   takes = λ s r e. P.takes s r (sym (same s) ∙ e);
-  stops = λ s left e. let a = P.stops s left (sym (same s) ∙ e) in record {
-    prefix = a.prefix;
-    rest = a.rest;
-    cut = a.cut;
-    left_is = a.left_is;
-    more = a.more;
-    goes_on = a.goes_on;
-    refused = λ d r t is. same (a.prefix ++ d ∷ t) ∙ a.refused d r t is;
-  };
+  stops = λ s left e.
+      let a = P.stops s left (sym (same s) ∙ e) in
+      stops_as L q a a.more a.goes_on (λ d r t is. same (a.prefix ++ d ∷ t) ∙ a.refused d r t is);
   looks_at_one = λ c d r t e. same (c ++ d ∷ t) ∙ P.looks_at_one c d r t (sym (same (c ++ d ∷ r)) ∙ e);
 }
 
@@ -155,15 +146,10 @@ module _ (L M : List ℕ → Type 0) (p q : Scanner) (P : Scans L p) (Q : Scans 
   both_stops : (s : List ℕ) (left : ℕ) → both p q s ≡ Err left → Stops (Joined L M) (both p q) s left
   both_stops s left e =
       elim (stopped_at (p s) q left e) [
-        | inl h ↦ let a = P.stops s left h in record {
-          prefix = a.prefix;
-          rest = a.rest;
-          cut = a.cut;
-          left_is = a.left_is;
-          more = a.more ++ sample;
-          goes_on = record { prefix = a.prefix ++ a.more; back = sample; is = sym (append_assoc a.prefix a.more sample); first = a.goes_on; second = good };
-          refused = λ d r t is. rw (a.refused d r t is) refl;
-        }
+        | inl h ↦
+            let a = P.stops s left h in
+            stops_as (Joined L M) (both p q) a (a.more ++ sample) (record { prefix = a.prefix ++ a.more; back = sample; is = sym (append_assoc a.prefix a.more sample); first = a.goes_on; second = good })
+            (λ d r t is. rw (a.refused d r t is) refl)
         | inr h ↦ let u = P.takes s h.0 h.1 in let a = Q.stops h.0 left h.2 in record {
           prefix = u.taken ++ a.prefix;
           rest = a.rest;
@@ -208,6 +194,12 @@ pub head_is : (prefix rest : List ℕ) (c : ℕ) (s : List ℕ) (d : ℕ) (r t :
 head_is [] rest c s d r t cut is = let same : c ∷ s ≡ d ∷ r = cut ∙ is in let d-is : d ≡ c = cc in (t, ap (λ (z : ℕ). z ∷ t) d-is)
 head_is (e ∷ prefix) rest c s d r t cut is = let e-is : e ≡ c = cc in (prefix ++ d ∷ t, ap (λ (z : ℕ). z ∷ (prefix ++ d ∷ t)) e-is)
 
+-- where one scanner stops a text that begins with this byte, another does that scans all such texts as the one
+pub stops_alike : {L : List ℕ → Type 0} {left : ℕ} (p : Scanner) (M : List ℕ → Type 0) (q : Scanner) (c : ℕ) (s : List ℕ) → ((u : List ℕ) → q (c ∷ u) ≡ p (c ∷ u)) → (a : Stops L p (c ∷ s) left)
+    → (more : List ℕ) → M (a.prefix ++ more) → Stops M q (c ∷ s) left
+stops_alike p M q c s same a more on =
+    stops_as M q a more on (λ d r t is. let u = head_is a.prefix a.rest c s d r t a.cut is in ap q u.1 ∙ same u.0 ∙ ap p (sym u.1) ∙ a.refused d r t is)
+
 module _ (passes : ℕ → Bool) (L M : List ℕ → Type 0) (p q : Scanner) (P : Scans L p) (Q : Scans M q) where
   choose_takes : (s r : List ℕ) → choose passes p q s ≡ Ok r → Takes (Either L M) s r
   choose_takes [] r e = let a = Q.takes [] r e in record { taken = a.taken; cut = a.cut; lawful = inr a.lawful }
@@ -218,42 +210,14 @@ module _ (passes : ℕ → Bool) (L M : List ℕ → Type 0) (p q : Scanner) (P 
       ]
 
   choose_stops : (s : List ℕ) (left : ℕ) → choose passes p q s ≡ Err left → Stops (Either L M) (choose passes p q) s left
-  choose_stops [] left e = let a = Q.stops [] left e in record {
-    prefix = a.prefix;
-    rest = a.rest;
-    cut = a.cut;
-    left_is = a.left_is;
-    more = a.more;
-    goes_on = inr a.goes_on;
-    refused = λ d r t is. absurd (nil_is_not a.prefix a.rest d r a.cut is);
-  } where
+  choose_stops [] left e = let a = Q.stops [] left e in stops_as (Either L M) (choose passes p q) a a.more (inr a.goes_on) (λ d r t is. absurd (nil_is_not a.prefix a.rest d r a.cut is)) where
     nil_is_not : (prefix rest : List ℕ) (d : ℕ) (r : List ℕ) → [] ≡ prefix ++ rest → rest ≡ d ∷ r → ⊥
     nil_is_not [] rest d r cut is = cc
     nil_is_not (e ∷ prefix) rest d r cut is = cc
   choose_stops (c ∷ s) left e =
       elim (chosen (passes c) (p (c ∷ s)) (q (c ∷ s)) (stopped left) e) [
-        | inl h ↦ let a = P.stops (c ∷ s) left h.1 in record {
-          prefix = a.prefix;
-          rest = a.rest;
-          cut = a.cut;
-          left_is = a.left_is;
-          more = a.more;
-          goes_on = inl a.goes_on;
-          refused = λ d r t is.
-              let u = head_is a.prefix a.rest c s d r t a.cut is in
-              ap (choose passes p q) u.1 ∙ chosen_yes passes p q c u.0 h.0 ∙ ap p (sym u.1) ∙ a.refused d r t is;
-        }
-        | inr h ↦ let a = Q.stops (c ∷ s) left h.1 in record {
-          prefix = a.prefix;
-          rest = a.rest;
-          cut = a.cut;
-          left_is = a.left_is;
-          more = a.more;
-          goes_on = inr a.goes_on;
-          refused = λ d r t is.
-              let u = head_is a.prefix a.rest c s d r t a.cut is in
-              ap (choose passes p q) u.1 ∙ chosen_no passes p q c u.0 h.0 ∙ ap q (sym u.1) ∙ a.refused d r t is;
-        }
+        | inl h ↦ let a = P.stops (c ∷ s) left h.1 in stops_alike p (Either L M) (choose passes p q) c s (λ u. chosen_yes passes p q c u h.0) a a.more (inl a.goes_on)
+        | inr h ↦ let a = Q.stops (c ∷ s) left h.1 in stops_alike q (Either L M) (choose passes p q) c s (λ u. chosen_no passes p q c u h.0) a a.more (inr a.goes_on)
       ]
 
   choose_looks : (c : List ℕ) (d : ℕ) (r t : List ℕ) → choose passes p q (c ++ d ∷ r) ≡ Ok (d ∷ r) → choose passes p q (c ++ d ∷ t) ≡ Ok (d ∷ t)

@@ -4,7 +4,7 @@ use Rattle.std.proofs.lemmas.List.{append_cancel_right}
 use Rattle.std.proofs.lemmas.Bool.{cases_Bool}
 use Rattle.cpe_grammar.specs.Scanners.{Scanner, both, choose, nothing}
 use Rattle.cpe_grammar.proofs.Results.{went_on, stopped_at, ok_is, ok≢err}
-use Rattle.cpe_grammar.proofs.Scans.{Takes, Stops, Scans, looks_no_further, chosen_yes, chosen_no, cut_twice, before_rest, head_is}
+use Rattle.cpe_grammar.proofs.Scans.{Takes, Stops, Scans, stops_as, looks_no_further, chosen_yes, chosen_no, cut_twice, before_rest, head_is}
 
 -- what is left after some bytes is shorter
 shorter : (s u m : List ℕ) (n : ℕ) → s ≡ u ++ m → u ≢ [] → length s ≤ suc n → length m ≤ n
@@ -43,17 +43,11 @@ module _ (L M : List ℕ → Type 0) (none : M []) (more : (u v : List ℕ) → 
       elim (cases_Bool (passes c)) [
         | inl h ↦
             elim (stopped_at (p (c ∷ s)) several left (sym (several_yes c s h) ∙ e)) [
-              | inl k ↦ let a = P.stops (c ∷ s) left k in record {
-                prefix = a.prefix;
-                rest = a.rest;
-                cut = a.cut;
-                left_is = a.left_is;
-                more = a.more ++ [];
-                goes_on = rw (← append_assoc) (more (a.prefix ++ a.more) [] a.goes_on none);
-                refused = λ d r t there.
-                    let u = head_is a.prefix a.rest c s d r t a.cut there in
-                    ap several u.1 ∙ several_yes c u.0 h ∙ ap (both p several) (sym u.1) ∙ rw (a.refused d r t there) refl;
-              }
+              | inl k ↦
+                  let a = P.stops (c ∷ s) left k in
+                  stops_as M several a (a.more ++ []) (rw (← append_assoc) (more (a.prefix ++ a.more) [] a.goes_on none)) (λ d r t there.
+                  let u = head_is a.prefix a.rest c s d r t a.cut there in
+                  ap several u.1 ∙ several_yes c u.0 h ∙ ap (both p several) (sym u.1) ∙ rw (a.refused d r t there) refl)
               | inr k ↦
                   let u = P.takes (c ∷ s) k.0 k.1 in
                   let a = several_stops n k.0 left (shorter (c ∷ s) u.taken k.0 n u.cut (some u.taken u.lawful) le) k.2 in record {

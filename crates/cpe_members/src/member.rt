@@ -1,6 +1,7 @@
 // Members of records, and what may be wrong with them.
 ghost use Rattle.std.specs.Prelude.{◌≡◌};
 ghost use Rattle.cpe_members.specs.Keys.{key_of};
+ghost use Rattle.cpe_members.specs.declared.member.RecordFault.TheVariants as fault;
 
 use cpe_name::Attribute;
 use cpe_values::Memory;
@@ -106,8 +107,6 @@ impl Member {
 }
 
 impl From<Memory> for RecordFault {
-    ghost use Rattle.cpe_members.specs.declared.member.RecordFault.TheVariants as fault;
-
     ghost from_gives = { λ _ e. e ≡ fault.Memory };
 
     fn from(_error: Memory) -> RecordFault {

@@ -145,23 +145,18 @@ a_value u t h =
       ]
     ]
 
-part_slot : (v : Value) (u : List ℕ) → IsValue v → u ≡ value_text v → is_part_text u ≡ true → IsSlot Part u
-part_slot value.Any u good is h = record { value = value.Any; suits = (tt, refl); is = is }
-part_slot value.Na u good is h = record { value = value.Na; suits = (tt, refl); is = is }
-part_slot (value.Text t) u good is h =
-    let p = part_from _ (ap is_part_text (sym is) ∙ h) in
-    record { value = p.0; suits = p.1; is = is ∙ p.2 }
-
-language_slot : (v : Value) (u : List ℕ) → IsValue v → u ≡ value_text v → is_language_text u ≡ true → IsSlot Language u
-language_slot value.Any u good is h = record { value = value.Any; suits = (tt, refl); is = is }
-language_slot value.Na u good is h = record { value = value.Na; suits = (tt, refl); is = is }
-language_slot (value.Text t) u good is h =
-    let p = language_from _ (ap is_language_text (sym is) ∙ h) in
+-- of an attribute whose texts have a shape
+shaped_slot : (a : Attribute) (shape : List ℕ → Bool) → Suits a value.Any → Suits a value.Na → ((u : List ℕ) → shape (34 ∷ u) ≡ true → (v : Value) × Suits a v × (34 ∷ u ≡ value_text v))
+    → (v : Value) (u : List ℕ) → u ≡ value_text v → shape u ≡ true → IsSlot a u
+shaped_slot a shape any na from value.Any u is h = record { value = value.Any; suits = any; is = is }
+shaped_slot a shape any na from value.Na u is h = record { value = value.Na; suits = na; is = is }
+shaped_slot a shape any na from (value.Text t) u is h =
+    let p = from _ (ap shape (sym is) ∙ h) in
     record { value = p.0; suits = p.1; is = is ∙ p.2 }
 
 shaped : (a : Attribute) (u : List ℕ) (g : IsGood u) → has_shape a u ≡ true → IsSlot a u
-shaped Part u g h = part_slot g.value u g.good g.is h
-shaped Language u g h = language_slot g.value u g.good g.is h
+shaped Part u g h = shaped_slot Part is_part_text (tt, refl) (tt, refl) part_from g.value u g.is h
+shaped Language u g h = shaped_slot Language is_language_text (tt, refl) (tt, refl) language_from g.value u g.is h
 shaped Vendor u g h = record { value = g.value; suits = g.good; is = g.is }
 shaped Product u g h = record { value = g.value; suits = g.good; is = g.is }
 shaped Version u g h = record { value = g.value; suits = g.good; is = g.is }

@@ -10,6 +10,6 @@ pub mod LowerNames
 pub mod Bindings
 pub mod Slots
 pub mod PutLemmas
-pub mod ReadValues
 pub mod Unbinding
+pub mod Repeated
 pub mod AnyTail

@@ -1,5 +1,5 @@
 -- A name in lower case is a name.
-use Rattle.std.proofs.Common.{◌≡◌, ℕ, true, ◌&&◌, ◌||◌, eqb, List, [], ◌∷◌, map, refl, inl, inr, arith}
+use Rattle.std.proofs.Common.{◌≡◌, ℕ, Bool, true, ◌&&◌, ◌||◌, eqb, List, [], ◌∷◌, map, refl, inl, inr, arith}
 use Rattle.std.specs.List.{AllByRecursion}
 use Rattle.std.specs.Char.{to_ascii_lowercase}
 use Rattle.std.proofs.lemmas.Bool.{eqb-true, and_parts, and_from, or_cases, or_left, or_right}
@@ -17,7 +17,7 @@ use Rattle.cpe_name.specs.declared.attribute.Attribute.TheVariants.{Part, Vendor
 use Rattle.cpe_name.specs.Names.{attributes, value_of, Suits, IsName}
 use Rattle.cpe_name.specs.Lower.{lower_name}
 use Rattle.cpe_name.proofs.WholeTexts.{value_named}
-use Rattle.cpe_name.specs.Shapes.{is_part_letter, is_part_body, is_part, is_region, is_language_body, is_language}
+use Rattle.cpe_name.specs.Shapes.{is_plain_of, is_part_letter, is_part_body, is_region, is_language_body}
 
 -- ---- bytes
 
@@ -79,24 +79,18 @@ lower_lawful_value value.Any is = is
 lower_lawful_value value.Na is = is
 lower_lawful_value (value.Text t) is = lower_text t is
 
-lower_part : (v : Value) → is_part v ≡ true → is_part (lower_value v) ≡ true
-lower_part value.Any h = refl
-lower_part value.Na h = refl
-lower_part (value.Text t) h =
-    let p = and_parts (is_nothing t.lead && is_nothing t.trail) (is_part_body t.body) h in
-    and_from _ _ p.0 (lower_part_body t.body p.1)
-
-lower_language : (v : Value) → is_language v ≡ true → is_language (lower_value v) ≡ true
-lower_language value.Any h = refl
-lower_language value.Na h = refl
-lower_language (value.Text t) h =
-    let p = and_parts (is_nothing t.lead && is_nothing t.trail) (is_language_body t.body) h in
-    and_from _ _ p.0 (lower_language_body t.body p.1)
+-- a value that is plain, with a body of a shape, is so in lower case
+lower_plain : (shape : List ℕ → Bool) → ((b : List ℕ) → shape b ≡ true → shape (map to_ascii_lowercase b) ≡ true) → (v : Value) → is_plain_of shape v ≡ true → is_plain_of shape (lower_value v) ≡ true
+lower_plain shape lowers value.Any h = refl
+lower_plain shape lowers value.Na h = refl
+lower_plain shape lowers (value.Text t) h =
+    let p = and_parts (is_nothing t.lead && is_nothing t.trail) (shape t.body) h in
+    and_from _ _ p.0 (lowers t.body p.1)
 
 -- a value that suits an attribute suits it in lower case
 pub lower_suits : (a : Attribute) (v : Value) → Suits a v → Suits a (lower_value v)
-lower_suits Part v is = (lower_lawful_value v is.0, lower_part v is.1)
-lower_suits Language v is = (lower_lawful_value v is.0, lower_language v is.1)
+lower_suits Part v is = (lower_lawful_value v is.0, lower_plain is_part_body lower_part_body v is.1)
+lower_suits Language v is = (lower_lawful_value v is.0, lower_plain is_language_body lower_language_body v is.1)
 lower_suits Vendor v is = lower_lawful_value v is
 lower_suits Product v is = lower_lawful_value v is
 lower_suits Version v is = lower_lawful_value v is

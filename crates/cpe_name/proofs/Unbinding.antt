@@ -1,11 +1,13 @@
 -- What a text says under a binding whose texts a scanner takes whole.
-use Rattle.std.proofs.Common.{◌≡◌, ℕ, ◌-◌, List, ◌++◌, length, Result, Ok, Err, refl, sym, ap, subst, ◌∙◌}
+use Rattle.std.proofs.Common.{◌≡◌, ℕ, ◌-◌, List, [], ◌++◌, length, Option, Some, None, IfSome, Result, Ok, Err, refl, sym, ap, subst, ◌∙◌}
 use Rattle.std.specs.Result.{result_map_both}
 use Rattle.cpe_grammar.specs.Place.{Leaves}
+use Rattle.cpe_grammar.specs.Scanned.{Scans}
 use Rattle.cpe_grammar.specs.Scanners.{Scanner}
-use Rattle.cpe_grammar.proofs.Places.{one_place}
-use Rattle.cpe_grammar.proofs.Results.{left_over, stopped, ok_is, err_is, ok≢err}
-use Rattle.cpe_name.specs.Eleven.{Values}
+use Rattle.cpe_grammar.proofs.Places.{one_place, taken_whole, stops_at}
+use Rattle.cpe_grammar.proofs.Results.{ok_is, err_is, ok≢err}
+use Rattle.cpe_name.specs.Eleven.{NameRef, Values}
+use Rattle.cpe_name.specs.Borrowed.{name_lent}
 use Rattle.cpe_name.specs.Text.{output_text}
 use Rattle.cpe_name.specs.Binding.{SaysBy, IsHad, read_by}
 
@@ -24,6 +26,10 @@ one_read v w e = cc
 pub one_left : (m n : ℕ) → no_name m ≡ no_name n → m ≡ n
 one_left m n e = cc
 
+-- nothing is both read and refused
+pub named≢no : (w : Values) (n : ℕ) → named_by w ≡ no_name n → ⊥
+named≢no w n e = cc
+
 -- the output text of what is read
 abbrev pub text_of : Result Values ℕ → Result (List ℕ) ℕ
 text_of r = result_map_both output_text (λ (place : ℕ). place) r
@@ -32,15 +38,85 @@ text_of r = result_map_both output_text (λ (place : ℕ). place) r
 abbrev pub behind : List ℕ → Result (List ℕ) ℕ → Result (List ℕ) ℕ
 behind old r = result_map_both (λ said. old ++ said) (λ (place : ℕ). place) r
 
-module _ (Has : Values → List ℕ → Type 0) (whole : Scanner) (names : List ℕ → Values) (whole_name : (s rest : List ℕ) → whole s ≡ Ok rest → IsHad Has s)
-    (whole_taken : (name : Values) (s : List ℕ) → Has name s → (rest : List ℕ) × (whole s ≡ Ok rest)) (name_back : (name : Values) (s : List ℕ) → Has name s → names s ≡ name)
-    (leaves : (s : List ℕ) (left : ℕ) → whole s ≡ Err left → Leaves (IsHad Has) s (length s - left)) where
-  -- ---- the name that is read
-
+-- A text that a name `Has` is read as that name, and any other text as the place where it `LeavesAt` the grammar; what it says is the
+-- output text of what is read.
+pub record Unbinds (Has : Values → List ℕ → Type 0) (LeavesAt : List ℕ → ℕ → Type 0) (read : List ℕ → Result Values ℕ) (says : List ℕ → Result (List ℕ) ℕ) : Type 0 where
   -- a text is read as its name
-  pub read_name : (name : Values) (s : List ℕ) → Has name s → read_by whole names s ≡ Ok name
+  pub read_name : (name : Values) (s : List ℕ) → Has name s → read s ≡ Ok name
+  -- a name that is read has the text
+  pub name_has : (name : Values) (s : List ℕ) → read s ≡ Ok name → Has name s
+  -- where a place is read no name has the text, and it is its place
+  pub place_is : (s : List ℕ) (place : ℕ) → read s ≡ Err place → LeavesAt s place
+  -- the place of a text that no name has is read
+  pub read_place : (s : List ℕ) (place : ℕ) → LeavesAt s place → read s ≡ Err place
+  -- its output text is said
+  pub says_read : (s : List ℕ) → says s ≡ text_of (read s)
+
+-- ---- one name, and one text of it
+
+module _ {Has : Values → List ℕ → Type 0} {LeavesAt : List ℕ → ℕ → Type 0} {read : List ℕ → Result Values ℕ} {says : List ℕ → Result (List ℕ) ℕ} (binding : Unbinds Has LeavesAt read says) where
+  -- no text is that of two names
+  pub one_name : (v w : Values) (s : List ℕ) → Has v s → Has w s → v ≡ w
+  one_name v w s a b = one_read v w (sym (binding.read_name v s a) ∙ binding.read_name w s b)
+
+  -- a text that a name has doesn't leave the grammar
+  pub never : (name : Values) (s : List ℕ) (place : ℕ) → LeavesAt s place → Has name s → ⊥
+  never name s place leaves has = named≢no name place (sym (binding.read_name name s has) ∙ binding.read_place s place leaves)
+
+  said : (s : List ℕ) (r : Result Values ℕ) → read s ≡ r → says s ≡ text_of r
+  said s r e = binding.says_read s ∙ ap text_of e
+
+  -- a text says the output text of its name
+  pub says_text : (name : Values) (s : List ℕ) → Has name s → says s ≡ Ok (output_text name)
+  says_text name s has = said s (Ok name) (binding.read_name name s has)
+
+  -- the place of a text that no name has is said
+  pub place_said : (s : List ℕ) (place : ℕ) → LeavesAt s place → says s ≡ Err place
+  place_said s place at = said s (Err place) (binding.read_place s place at)
+
+  -- what is said is the output text of a name that has the text
+  pub says_name : (s text : List ℕ) → says s ≡ Ok text → SaysBy Has output_text s text
+  says_name s text is = go (read s) refl where
+    go : (r : Result Values ℕ) → read s ≡ r → SaysBy Has output_text s text
+    go (Ok name) e = record { name = name; has = binding.name_has name s e; is = ok_is text (output_text name) (sym is ∙ said s (Ok name) e) }
+    go (Err place) e = absurd (ok≢err text place (sym is ∙ said s (Err place) e))
+
+  -- where a place is said no name has the text, and it is its place
+  pub says_place : (s : List ℕ) (place : ℕ) → says s ≡ Err place → LeavesAt s place
+  says_place s place is = go (read s) refl where
+    go : (r : Result Values ℕ) → read s ≡ r → LeavesAt s place
+    go (Ok name) e = absurd (ok≢err (output_text name) place (sym (said s (Ok name) e) ∙ is))
+    go (Err other) e = subst (LeavesAt s) (err_is other place (sym (said s (Err other) e) ∙ is)) (binding.place_is s other e)
+
+  -- ---- what is found for the name of a text
+
+  module _ (s : List ℕ) {name found : Values} (is : found ≡ name) (has : Has name s) where
+    -- what equals it has the text
+    pub found_has : {w : Values} → w ≡ found → Has w s
+    found_has e = subst (λ (v : Values). Has v s) (sym (e ∙ is)) has
+
+    -- and is each name that has it
+    pub found_is : {w : Values} → w ≡ found → (other : Values) → Has other s → w ≡ other
+    found_is e other its = e ∙ is ∙ one_name name other s has its
+
+    -- what is lent of it has the text
+    pub lent_has : (lent : Option NameRef) → IfSome lent (λ w. name_lent w ≡ found) → IfSome lent (λ w. Has (name_lent w) s)
+    lent_has None e = tt
+    lent_has (Some w) e = found_has e
+
+    -- and is what is read of it
+    pub lent_read : (lent : Option NameRef) → IfSome lent (λ w. name_lent w ≡ found) → IfSome lent (λ w. read s ≡ Ok (name_lent w))
+    lent_read None e = tt
+    lent_read (Some w) e = binding.read_name (name_lent w) s (found_has e)
+
+-- ---- what makes a binding
+
+-- a scanner that takes the texts that names have and nothing else whole, and a way from such a text to its name
+module _ (Has : Values → List ℕ → Type 0) (whole : Scanner) (names : List ℕ → Values) (scans : Scans (IsHad Has) whole) (taken : (s : List ℕ) → IsHad Has s → whole s ≡ Ok [])
+    (ends : (s rest : List ℕ) → whole s ≡ Ok rest → rest ≡ []) (name_back : (name : Values) (s : List ℕ) → Has name s → names s ≡ name) where
+  reads_name : (name : Values) (s : List ℕ) → Has name s → read_by whole names s ≡ Ok name
   unfolding read_by
-  read_name name s has = let taken = whole_taken name s has in rw taken.1 (ap named_by (name_back name s has))
+  reads_name name s has = rw (taken s (name, has)) (ap named_by (name_back name s has))
 
   stops : (s : List ℕ) (left : ℕ) → whole s ≡ Err left → read_by whole names s ≡ Err (length s - left)
   unfolding read_by
@@ -55,58 +131,26 @@ module _ (Has : Values → List ℕ → Type 0) (whole : Scanner) (names : List 
   reads s = go (whole s) refl where
     go : (r : Result (List ℕ) ℕ) → whole s ≡ r → NameRead s (read_by whole names s)
     go (Ok rest) e =
-        let had = whole_name s rest e in
-        let is = read_name had.0 s had.1 in
+        let had = taken_whole (IsHad Has) whole scans s rest e (ends s rest e) in
+        let is = reads_name had.0 s had.1 in
         record { name = λ w h. subst (λ (v : Values). Has v s) (one_read had.0 w (sym is ∙ h)) had.1; place = λ n h. absurd cc }
     go (Err left) e =
         let is = stops s left e in
-        record { name = λ w h. absurd cc; place = λ n h. subst (Leaves (IsHad Has) s) (one_left _ n (sym is ∙ h)) (leaves s left e) }
+        record { name = λ w h. absurd cc; place = λ n h. subst (Leaves (IsHad Has) s) (one_left _ n (sym is ∙ h)) (stops_at (IsHad Has) whole scans taken s left e).at }
 
-  -- a name that is read has the text
-  pub name_has : (name : Values) (s : List ℕ) → read_by whole names s ≡ Ok name → Has name s
-  name_has name s is = (reads s).name name is
-
-  -- where a place is read no name has the text, and it is its place
-  pub place_is : (s : List ℕ) (place : ℕ) → read_by whole names s ≡ Err place → Leaves (IsHad Has) s place
-  place_is s place is = (reads s).place place is
-
-  -- the place of a text that no name has is read
-  pub read_place : (s : List ℕ) (place : ℕ) → Leaves (IsHad Has) s place → read_by whole names s ≡ Err place
-  read_place s place at = go (read_by whole names s) refl where
+  reads_place : (s : List ℕ) (place : ℕ) → Leaves (IsHad Has) s place → read_by whole names s ≡ Err place
+  reads_place s place at = go (read_by whole names s) refl where
     go : (r : Result Values ℕ) → read_by whole names s ≡ r → read_by whole names s ≡ Err place
-    go (Ok name) e = absurd (at.refused (name, name_has name s e))
-    go (Err other) e = e ∙ ap no_name (one_place (IsHad Has) s other place (place_is s other e).is_place at.is_place)
+    go (Ok name) e = absurd (at.refused (name, (reads s).name name e))
+    go (Err other) e = e ∙ ap no_name (one_place (IsHad Has) s other place ((reads s).place other e).is_place at.is_place)
 
-  -- ---- its output text
-
-  -- a text says the output text of its name
-  pub says_text : (name : Values) (s : List ℕ) → Has name s → text_of (read_by whole names s) ≡ Ok (output_text name)
-  says_text name s has = ap text_of (read_name name s has)
-
-  -- the place of a text that no name has is said
-  pub place_said : (s : List ℕ) (place : ℕ) → Leaves (IsHad Has) s place → text_of (read_by whole names s) ≡ Err place
-  place_said s place at = ap text_of (read_place s place at)
-
-  -- what is said is the output text of a name that has the text
-  pub says_name : (s text : List ℕ) → text_of (read_by whole names s) ≡ Ok text → SaysBy Has output_text s text
-  says_name s text is = go (read_by whole names s) refl where
-    go : (r : Result Values ℕ) → read_by whole names s ≡ r → SaysBy Has output_text s text
-    go (Ok name) e = record { name = name; has = name_has name s e; is = ok_is text (output_text name) (sym is ∙ ap text_of e) }
-    go (Err place) e = absurd (ok≢err text place (sym is ∙ ap text_of e))
-
-  -- where a place is said no name has the text, and it is its place
-  pub says_place : (s : List ℕ) (place : ℕ) → text_of (read_by whole names s) ≡ Err place → Leaves (IsHad Has) s place
-  says_place s place is = go (read_by whole names s) refl where
-    go : (r : Result Values ℕ) → read_by whole names s ≡ r → Leaves (IsHad Has) s place
-    go (Ok name) e = absurd (ok≢err (output_text name) place (sym (ap text_of e) ∙ is))
-    go (Err other) e = subst (Leaves (IsHad Has) s) (err_is other place (sym (ap text_of e) ∙ is)) (place_is s other e)
-
-  -- ---- after what stood before
-
-  -- what was written is what is said
-  pub said_is : (s : List ℕ) (name : Values) (old new : List ℕ) → Has name s → new ≡ old ++ output_text name → left_over new ≡ behind old (text_of (read_by whole names s))
-  said_is s name old new has is = ap left_over is ∙ ap (behind old) (sym (says_text name s has))
-
-  -- where no name has the text its place is said
-  pub unsaid_is : (s old : List ℕ) (place : ℕ) → Leaves (IsHad Has) s place → stopped place ≡ behind old (text_of (read_by whole names s))
-  unsaid_is s old place at = ap (behind old) (sym (place_said s place at))
+  -- they do
+  pub unbinds : (read : List ℕ → Result Values ℕ) (says : List ℕ → Result (List ℕ) ℕ) → ((s : List ℕ) → read s ≡ read_by whole names s) → ((s : List ℕ) → says s ≡ text_of (read s))
+      → Unbinds Has (Leaves (IsHad Has)) read says
+  unbinds read says is says_it = record {
+    read_name = λ name s has. is s ∙ reads_name name s has;
+    name_has = λ name s e. (reads s).name name (sym (is s) ∙ e);
+    place_is = λ s place e. (reads s).place place (sym (is s) ∙ e);
+    read_place = λ s place at. is s ∙ reads_place s place at;
+    says_read = says_it;
+  }

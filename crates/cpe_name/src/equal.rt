@@ -1,15 +1,13 @@
 // When two names are equal, and what they feed a hasher. Equal is equal as contracts see it, letter case too.
-ghost use Rattle.std.specs.Prelude.{◌≡◌};
-ghost use Rattle.cpe_name.specs.Equal.{same_name};
+ghost use Rattle.std.specs.Prelude.{◌≡◌, ◌↔◌, IsTrue};
+ghost use Rattle.std.specs.Cmp.{partial_equiv_from_equiv, decided};
+ghost use Rattle.std.specs.Hash.{same_Alike};
+ghost use Rattle.cpe_name.specs.Equal.{same_name, name_input, same_name-Decides};
 
 use crate::{ATTRIBUTES, Attribute, Wfn};
 use std::hash::{Hash, Hasher};
 
 impl PartialEq for Wfn {
-    ghost use Rattle.std.specs.Prelude.{◌≡◌, ◌↔◌, IsTrue};
-    ghost use Rattle.std.specs.Cmp.{partial_equiv_from_equiv, decided};
-    ghost use Rattle.cpe_name.specs.Equal.{same_name, same_name-Decides};
-
     ghost eq = { same_name };
 
     ghost laws = { partial_equiv_from_equiv (decided same_name same_name-Decides) };
@@ -31,16 +29,10 @@ fn is_same(a: &Wfn, b: &Wfn) -> bool
 }
 
 impl Eq for Wfn {
-    ghost use Rattle.std.specs.Cmp.{decided};
-    ghost use Rattle.cpe_name.specs.Equal.{same_name, same_name-Decides};
-
     ghost laws = { decided same_name same_name-Decides };
 }
 
 impl Hash for Wfn {
-    ghost use Rattle.std.specs.Hash.{same_Alike};
-    ghost use Rattle.cpe_name.specs.Equal.{name_input, same_name-Decides};
-
     ghost hash_input = { name_input };
 
     ghost respects_eq = { (same_Alike name_input same_name-Decides).fed };

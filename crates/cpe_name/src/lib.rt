@@ -27,4 +27,4 @@ pub use read::{WfnFault, read_wfn, wfn_texts};
 pub use scan::scan_wfn;
 pub use tag::{Hyphen, language_tags, scan_language_tag};
 pub use write::write_wfn;
-pub use written::{ReadValue, Written, read_values};
+pub use written::{ReadValue, Written, read_name};

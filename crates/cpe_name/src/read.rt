@@ -8,9 +8,10 @@ ghost use Rattle.cpe_name.specs.Text.{output_text};
 ghost use Rattle.cpe_name.specs.WfnText.{WfnText, Refuses};
 ghost use Rattle.cpe_name.specs.Spans.{texts};
 ghost use Rattle.cpe_name.specs.Unwriting.{IsAnyText, inner, value_from};
+ghost use Rattle.cpe_name.specs.declared.read.WfnFault.TheVariants as fault;
 
 use crate::scan::scan_wfn;
-use crate::{ReadValue, Wfn, read_values};
+use crate::{ReadValue, Wfn, read_name};
 use cpe_values::{Memory, Pattern, Value, read_spelling};
 use std::alloc::Global;
 use thiserror::Error;
@@ -27,9 +28,6 @@ pub enum WfnFault {
 }
 
 impl From<Memory> for WfnFault {
-    ghost use Rattle.std.specs.Prelude.{◌≡◌};
-    ghost use Rattle.cpe_name.specs.declared.read.WfnFault.TheVariants as fault;
-
     ghost from_gives = { λ _ e. e ≡ fault.Memory };
 
     fn from(_memory: Memory) -> WfnFault {
@@ -97,10 +95,7 @@ pub fn read_wfn(alloc: Global, text: &[u8]) -> Result<Wfn, WfnFault>
     let Some(written) = scan_wfn(text) else {
         return Err(WfnFault::NotWfn);
     };
-    match Wfn::new(read_values(&mut Quoted { alloc }, &written)?) {
-        Ok(name) => Ok(name),
-        Err(_) => unreachable!(),
-    }
+    Ok(read_name(&mut Quoted { alloc }, &written)?)
 }
 
 /// The output text of a name is one of its texts, and no text is that of two names. It does nothing.

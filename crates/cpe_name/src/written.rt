@@ -2,12 +2,12 @@
 ghost use Rattle.std.specs.Prelude.{◌≡◌, ℕ, List, map, IfOk};
 ghost use Rattle.std.specs.List.{AllByRecursion};
 ghost use Rattle.cpe_values.specs.declared.value.Value.{Value as AnyValue};
-ghost use Rattle.cpe_name.specs.Names.{named};
+ghost use Rattle.cpe_name.specs.Names.{named, IsName};
 ghost use Rattle.cpe_name.specs.Scanning.{slot, put_text, none_given};
 ghost use Rattle.cpe_name.specs.Spans.{texts};
 
 use crate::name::any_of_each;
-use crate::{Attribute, Eleven, Values};
+use crate::{Attribute, Eleven, Values, Wfn};
 use cpe_values::{Memory, Value};
 
 /// The eleven values of a name as they stand in a text, spelled as that text's binding spells them: in the text of a well-formed name
@@ -64,11 +64,7 @@ pub trait ReadValue {
         ensures { IfOk result (λ found. found ≡ value text.now) };
 }
 
-/// The values for which these stand.
-///
-/// # Errors
-/// Only that memory ran out.
-pub fn read_values<R: ReadValue>(reader: &mut R, written: &Written) -> Result<Values, Memory>
+fn read_values<R: ReadValue>(reader: &mut R, written: &Written) -> Result<Values, Memory>
     requires { AllByRecursion R.may_stand (texts written.now) }
     ensures { IfOk result (λ values. values ≡ named (map R.value (texts written.now))) }
 {
@@ -85,4 +81,17 @@ pub fn read_values<R: ReadValue>(reader: &mut R, written: &Written) -> Result<Va
     values.target_hw = reader.read(written.target_hw)?;
     values.other = reader.read(written.other)?;
     Ok(values)
+}
+
+/// The name of the values for which these stand, where these are those of a name.
+///
+/// # Errors
+/// Only that memory ran out.
+pub fn read_name<R: ReadValue>(reader: &mut R, written: &Written) -> Result<Wfn, Memory>
+    requires stand { AllByRecursion R.may_stand (texts written.now) }
+    requires lawful { IsName (named (map R.value (texts written.now))) }
+    ensures { IfOk result (λ name. name ≡ named (map R.value (texts written.now))) }
+{
+    let values = read_values(reader, written)?;
+    Ok(Wfn { values })
 }

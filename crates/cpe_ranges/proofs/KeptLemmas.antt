@@ -103,12 +103,3 @@ module _ (n : Values) where
       go : (q : Bool) → map (λ (x : Advisory). x.id) (cond q (a ∷ []) []) ≡ cond q (a.id ∷ []) []
       go true = refl
       go false = refl
-
--- what passes both tests, one after the other
-pub both_pass : (p q : Values → Bool) (ns : List Values) → filter q (filter p ns) ≡ filter (λ n. p n && q n) ns
-both_pass p q [] = refl
-both_pass p q (n ∷ ns) = by (p n) (both_pass p q ns)
-  where
-    by : (b : Bool) → filter q (filter p ns) ≡ filter (λ x. p x && q x) ns → filter q (cond b (n ∷ filter p ns) (filter p ns)) ≡ cond (b && q n) (n ∷ filter (λ x. p x && q x) ns) (filter (λ x. p x && q x) ns)
-    by true h = ap (λ (xs : List Values). cond (q n) (n ∷ xs) xs) h
-    by false h = h

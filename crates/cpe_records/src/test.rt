@@ -52,6 +52,8 @@ pub(crate) fn put_test(alloc: Global, writer: &mut Writer, test: &Test) -> Resul
     ensures { Puts result writer.old writer.new (json_tokens (test_json test.now)) }
 {
     match test {
+        Test::Fact(name) => put_fact(alloc, writer, name),
+        Test::Check(key) => put_check(writer, key),
         Test::Logic {
             operator,
             negate,
@@ -81,7 +83,5 @@ pub(crate) fn put_test(alloc: Global, writer: &mut Writer, test: &Test) -> Resul
             )?;
             Ok(())
         }
-        Test::Fact(name) => put_fact(alloc, writer, name),
-        Test::Check(key) => put_check(writer, key),
     }
 }

@@ -1,5 +1,5 @@
 -- Laws of what a name may cover.
-use Rattle.std.proofs.Common.{◌≡◌, ◌⊎◌, Bool, true, false, ◌&&◌, ◌||◌, List, [], ◌∷◌, map, refl, sym, ap, ◌∙◌, inl, inr}
+use Rattle.std.proofs.Common.{◌≡◌, ◌⊎◌, Bool, true, false, ◌&&◌, ◌||◌, List, [], ◌∷◌, refl, sym, ap, ◌∙◌, inl, inr}
 use Rattle.std.specs.List.{list_all, list_any}
 use Rattle.std.proofs.lemmas.Bool.{false≢true, and_parts, and_from, or_from, or_left, or_right}
 use Rattle.cpe_values.specs.declared.value.Value.{Value}
@@ -19,7 +19,7 @@ use Rattle.cpe_relation.specs.Near.{near}
 use Rattle.cpe_relation.specs.Maybe.{is_undefined, may_be_above, maybe, meets}
 use Rattle.cpe_relation.proofs.NearLaws.{above_near}
 use Rattle.cpe_relation.proofs.ValueLaws.{undefined_is, above_through}
-use Rattle.cpe_relation.proofs.NameLaws.{covers_near, relations_lower}
+use Rattle.cpe_relation.proofs.NameLaws.{covers_near, relations_lower, between, through}
 
 -- ---- one attribute
 
@@ -62,9 +62,6 @@ may_through a b c h k =
     ]
 
 -- ---- attribute by attribute
-
-abbrev between : Values → Values → List Attribute → List Relation
-between a b ws = map (λ w. relation (value_of a w) (value_of b w)) ws
 
 undefined_some : (a b : Values) (ws : List Attribute) → list_any is_undefined (between a b ws) ≡ list_any (λ w. has_specials (value_of b w)) ws
 undefined_some a b [] = refl
@@ -142,15 +139,8 @@ pub maybe_lower : (a b : Values) → maybe (lower_name a) (lower_name b) ≡ may
 unfolding maybe
 maybe_lower a b = ap (λ (rs : List Relation). list_all may_be_above rs && list_any is_undefined rs) (relations_lower a b)
 
-through : (a b c : Values) (ws : List Attribute) → list_all is_above (between a b ws) ≡ true → list_all may_be_above (between b c ws) ≡ true → list_all may_be_above (between a c ws) ≡ true
-through a b c [] h k = refl
-through a b c (w ∷ ws) h k =
-    let p = and_parts (is_above (relation (value_of a w) (value_of b w))) (list_all is_above (between a b ws)) h in
-    let q = and_parts (may_be_above (relation (value_of b w) (value_of c w))) (list_all may_be_above (between b c ws)) k in
-    and_from (may_be_above (relation (value_of a w) (value_of c w))) (list_all may_be_above (between a c ws)) (may_through (value_of a w) (value_of b w) (value_of c w) p.0 q.0) (through a b c ws p.1 q.1)
-
 pub maybe_through : (a b c : Values) → covers a b ≡ true → maybe b c ≡ true → maybe a c ≡ true
 unfolding covers
 maybe_through a b c h k =
     let p = maybe_parts b c k in
-    maybe_from a c (through a b c attributes h p.0) p.1
+    maybe_from a c (through may_be_above may_through a b c attributes h p.0) p.1

@@ -89,19 +89,21 @@ relation_covers a b h = from_above (list_any is_disjoint (relations a b)) (list_
 
 -- ---- attribute by attribute
 
-abbrev between : Values → Values → List Attribute → List Relation
+abbrev pub between : Values → Values → List Attribute → List Relation
 between a b ws = map (λ w. relation (value_of a w) (value_of b w)) ws
 
-through : (a b c : Values) (ws : List Attribute) → list_all is_above (between a b ws) ≡ true → list_all is_above (between b c ws) ≡ true → list_all is_above (between a c ws) ≡ true
-through a b c [] h k = refl
-through a b c (w ∷ ws) h k =
-    let p = and_parts (is_above (relation (value_of a w) (value_of b w))) (list_all is_above (between a b ws)) h in
-    let q = and_parts (is_above (relation (value_of b w) (value_of c w))) (list_all is_above (between b c ws)) k in
-    and_from (is_above (relation (value_of a w) (value_of c w))) (list_all is_above (between a c ws)) (above_through (value_of a w) (value_of b w) (value_of c w) p.0 q.0) (through a b c ws p.1 q.1)
+-- what passes a test by way of a value that it is above does so in each attribute
+module _ (test : Relation → Bool) (at_one : (u v w : Value) → is_above (relation u v) ≡ true → test (relation v w) ≡ true → test (relation u w) ≡ true) where
+  pub through : (a b c : Values) (ws : List Attribute) → list_all is_above (between a b ws) ≡ true → list_all test (between b c ws) ≡ true → list_all test (between a c ws) ≡ true
+  through a b c [] h k = refl
+  through a b c (w ∷ ws) h k =
+      let p = and_parts (is_above (relation (value_of a w) (value_of b w))) (list_all is_above (between a b ws)) h in
+      let q = and_parts (test (relation (value_of b w) (value_of c w))) (list_all test (between b c ws)) k in
+      and_from (test (relation (value_of a w) (value_of c w))) (list_all test (between a c ws)) (at_one (value_of a w) (value_of b w) (value_of c w) p.0 q.0) (through a b c ws p.1 q.1)
 
 pub covers_through : (a b c : Values) → covers a b ≡ true → covers b c ≡ true → covers a c ≡ true
 unfolding covers
-covers_through a b c h k = through a b c attributes h k
+covers_through a b c h k = through is_above above_through a b c attributes h k
 
 lowered_same : (a b : Values) (ws : List Attribute) → list_all is_above (between a b ws) ≡ true → list_all is_above (between b a ws) ≡ true → map (λ w. lower_value (value_of a w)) ws ≡ map (λ w. lower_value (value_of b w)) ws
 lowered_same a b [] h k = refl

@@ -5,24 +5,15 @@ use Rattle.cpe_values.specs.declared.value.Value.{Value}
 use Rattle.cpe_values.specs.Lower.{has_specials}
 use Rattle.cpe_name.specs.Eleven.{Values}
 use Rattle.cpe_relation.specs.declared.relation.Relation.{Relation}
-use Rattle.cpe_relation.specs.declared.relation.Relation.TheVariants.{Disjoint, Equal, Subset, Superset, Undefined}
-use Rattle.cpe_relation.specs.NameRelation.{relations}
+use Rattle.cpe_relation.specs.NameRelation.{in_row, relations}
 use Rattle.cpe_relation.specs.Near.{near}
 
 abbrev pub is_undefined : Relation → Bool
-is_undefined Disjoint = false
-is_undefined Equal = false
-is_undefined Subset = false
-is_undefined Superset = false
-is_undefined Undefined = true
+is_undefined r = in_row false false false false true r
 
 -- SUPERSET, EQUAL or UNDEFINED
 abbrev pub may_be_above : Relation → Bool
-may_be_above Disjoint = false
-may_be_above Equal = true
-may_be_above Subset = false
-may_be_above Superset = true
-may_be_above Undefined = true
+may_be_above r = in_row false true false true true r
 
 -- each attribute is SUPERSET, EQUAL or UNDEFINED, and one at least is UNDEFINED
 unfoldable pub maybe : Values → Values → Bool

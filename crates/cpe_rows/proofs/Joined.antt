@@ -1,6 +1,7 @@
 -- The tables on a list are the fold of the tables on two.
-use Rattle.std.proofs.Common.{◌≡◌, List, [], ◌∷◌, ◌++◌, Bool, true, false, if◌then◌else◌, ◌||◌, refl}
+use Rattle.std.proofs.Common.{◌≡◌, ℕ, ◌<◌, ◌+◌, List, [], ◌∷◌, ◌++◌, Bool, true, false, if◌then◌else◌, ◌||◌, length, take, get_or, map, refl, ap, ◌∙◌}
 use Rattle.std.specs.List.{list_any}
+use Rattle.std.proofs.lemmas.List.{map_more}
 use Rattle.std.proofs.lemmas.List.Folds.{list_any-append}
 use Rattle.cpe_rows.specs.Truth.{same_truth, and_of, or_of}
 use Rattle.cpe_rows.specs.Evaluation.{joined}
@@ -48,3 +49,8 @@ joined-snoc And ts t =
     simp list_any-append (and-pick (list_any (same_truth False) ts) (list_any (same_truth Error) ts) (list_any (same_truth Unknown) ts) t)
 joined-snoc Or ts t =
     simp list_any-append (or-pick (list_any (same_truth True) ts) (list_any (same_truth Error) ts) (list_any (same_truth Unknown) ts) t)
+
+-- the truths of one child more
+pub joined_more : {A : Type 0} (operator : Operator) (truth : A → Truth) (of : List A) (i : ℕ) (d : A) → i < length of
+    → joined operator (map truth (take (i + 1) of)) ≡ joined operator (joined operator (map truth (take i of)) ∷ (truth (get_or of i d) ∷ []))
+joined_more operator truth of i d below = ap (joined operator) (map_more truth of i d below) ∙ joined-snoc operator (map truth (take i of)) (truth (get_or of i d))

@@ -1,7 +1,11 @@
 -- Tests over the elements of a list, and over a list with one element more.
 use Rattle.std.proofs.Common.{◌≡◌, ◌||◌, ◌&&◌, List, [], ◌∷◌, ◌++◌, Bool, true, false, cond, not, Some, None, refl, ap, sym, ◌∙◌, inl, inr}
-use Rattle.std.specs.Prelude.{find, option_map, filter}
-use Rattle.std.specs.List.{list_any, list_all}
+use Rattle.std.specs.Prelude.{ℕ, ◌<◌, ◌+◌, find, option_map, filter, is_some, length, position, slice_index_or, take}
+use Rattle.std.specs.List.{All, flat_map, list_any, list_all, position_from}
+use Rattle.std.proofs.lemmas.Iterator.Adapters.{position_from-zero}
+use Rattle.std.proofs.lemmas.List.{append-nil, take_more}
+use Rattle.std.proofs.lemmas.List.Concat.{flat_map-append}
+use Rattle.std.proofs.lemmas.List.Elements.{All-append, All-same}
 use Rattle.std.proofs.lemmas.Bool.{or_from, or_parts, and_from, and_parts}
 use Rattle.cpe_rows.specs.Reach.{Among}
 use Rattle.cpe_rows.specs.Lawful.{are_different}
@@ -55,3 +59,34 @@ module _ {A : Type 0} where
     go : (b : Bool) → option_map f (cond b (Some x) (find p xs)) ≡ None → (option_map f (find p xs) ≡ None → list_any p xs ≡ false) → (b || list_any p xs) ≡ false
     go true e later = let wrong : ⊥ = cc in absurd wrong
     go false e later = later e
+
+  -- what passes both tests, one after the other
+  pub both_pass : (p q : A → Bool) (xs : List A) → filter q (filter p xs) ≡ filter (λ x. p x && q x) xs
+  both_pass p q [] = refl
+  both_pass p q (x ∷ xs) = by (p x) (both_pass p q xs)
+    where
+      by : (b : Bool) → filter q (filter p xs) ≡ filter (λ y. p y && q y) xs → filter q (cond b (x ∷ filter p xs) (filter p xs)) ≡ cond (b && q x) (x ∷ filter (λ y. p y && q y) xs) (filter (λ y. p y && q y) xs)
+      by true rest = ap (λ (ys : List A). cond (q x) (x ∷ ys) ys) rest
+      by false rest = rest
+
+  -- there is a place from a number on where an element passes, and only there
+  pub from_place : (p : A → Bool) (i : ℕ) (xs : List A) → is_some (position_from p i xs) ≡ list_any p xs
+  from_place p i [] = refl
+  from_place p i (x ∷ xs) = by (p x) (from_place p (i + 1) xs)
+    where
+      by : (b : Bool) → is_some (position_from p (i + 1) xs) ≡ list_any p xs → is_some (cond b (Some i) (position_from p (i + 1) xs)) ≡ (b || list_any p xs)
+      by true rest = refl
+      by false rest = rest
+
+  pub has_place : (p : A → Bool) (xs : List A) → is_some (position p xs) ≡ list_any p xs
+  has_place p xs = ap is_some (position_from-zero p xs) ∙ from_place p 0 xs
+
+  -- what holds of all that the first elements give, and of all that the next one gives, holds of all of both
+  pub all_with_next : {B : Type 0} (P : B → Type 0) (f : A → List B) (xs : List A) (i : ℕ) (d : A) → i < length xs → All P (flat_map f (take i xs)) → All P (f (slice_index_or xs i d))
+      → All P (flat_map f (take (i + 1) xs))
+  all_with_next P f xs i d lt all one =
+      let so_far = flat_map f (take i xs) in
+      let next = slice_index_or xs i d in
+      All-same P (flat_map f (take (i + 1) xs)) (so_far ++ f next)
+      (ap (flat_map f) (take_more xs i d lt) ∙ flat_map-append f (take i xs) (next ∷ []) ∙ ap (λ ys. so_far ++ ys) (append-nil (f next)))
+      (All-append P so_far (f next) all one)

@@ -31,6 +31,8 @@ pub fn evaluate<F: Facts>(test: &Test, facts: &F) -> Truth
     ensures { result ≡ test_truth (F.fact_truth facts.now) (F.check_truth facts.now) test.now }
 {
     match test {
+        Test::Fact(name) => facts.fact(name.as_name()),
+        Test::Check(key) => facts.check(key),
         Test::Logic {
             operator,
             negate,
@@ -42,8 +44,6 @@ pub fn evaluate<F: Facts>(test: &Test, facts: &F) -> Truth
             }
             if *negate { not_of(truth) } else { truth }
         }
-        Test::Fact(name) => facts.fact(name.as_name()),
-        Test::Check(key) => facts.check(key),
     }
 }
 
@@ -73,6 +73,8 @@ pub fn find_truth<F: FindFacts>(alloc: Global, test: &Test, facts: &F) -> Result
     ensures { IfOk result (λ truth. truth ≡ test_truth (F.fact_truth facts.now) (F.check_truth facts.now) test.now) }
 {
     match test {
+        Test::Fact(name) => facts.find_fact(alloc, name.as_name()),
+        Test::Check(key) => Ok(facts.find_check(key)),
         Test::Logic {
             operator,
             negate,
@@ -84,8 +86,6 @@ pub fn find_truth<F: FindFacts>(alloc: Global, test: &Test, facts: &F) -> Result
             }
             Ok(if *negate { not_of(truth) } else { truth })
         }
-        Test::Fact(name) => facts.find_fact(alloc, name.as_name()),
-        Test::Check(key) => Ok(facts.find_check(key)),
     }
 }
 

@@ -216,6 +216,8 @@ fn push_test(bytes: Vec<u8>, test: &Test) -> Result<Vec<u8>, Memory>
     ensures { IfOk result (λ b. b.items ≡ bytes.items ++ test_part test.now) }
 {
     match test {
+        Test::Fact(name) => push_name(push_byte(bytes, 1)?, name.as_name()),
+        Test::Check(key) => push_key(push_byte(bytes, 2)?, key),
         Test::Logic {
             operator,
             negate,
@@ -227,8 +229,6 @@ fn push_test(bytes: Vec<u8>, test: &Test) -> Result<Vec<u8>, Memory>
             }
             Ok(out)
         }
-        Test::Fact(name) => push_name(push_byte(bytes, 1)?, name.as_name()),
-        Test::Check(key) => push_key(push_byte(bytes, 2)?, key),
     }
 }
 

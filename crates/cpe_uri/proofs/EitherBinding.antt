@@ -8,19 +8,17 @@ use Rattle.std.specs.Str.{str_to_ascii_lowercase}
 use Rattle.std.proofs.lemmas.Bool.{cases_Bool, MatchBool-at_true, MatchBool-at_false}
 use Rattle.std.proofs.lemmas.List.{take_at}
 use Rattle.std.proofs.lemmas.Slice.Eq.{bytes_eq-Decides}
-use Rattle.cpe_grammar.proofs.Results.{ok_is, err_is, ok≢err}
 use Rattle.cpe_name.specs.Eleven.{Values}
-use Rattle.cpe_name.specs.Text.{output_text}
 use Rattle.cpe_fs.specs.Grammar.{Fs, LeavesAt}
 use Rattle.cpe_fs.specs.Unbound.{read_fs, unbound}
-use Rattle.cpe_fs.proofs.Said as fs
-use Rattle.cpe_name.proofs.Unbinding.{behind, text_of}
+use Rattle.cpe_fs.proofs.Said.{said as fs}
+use Rattle.cpe_name.proofs.Unbinding.{Unbinds, behind, text_of}
 use Rattle.cpe_fs.specs.Writing.{WritesOutput}
 use Rattle.cpe_uri.specs.Grammar.{Uri, LeavesUri}
 use Rattle.cpe_uri.specs.Unbound.{read_uri, unbound_uri}
-use Rattle.cpe_uri.specs.EitherBinding.{begins_as_uri, UriOrFs, LeavesUriOrFs, RefusesUriOrFs, SaysFault, SaysAny, read_any, unbound_any}
+use Rattle.cpe_uri.specs.EitherBinding.{begins_as_uri, UriOrFs, LeavesUriOrFs, RefusesUriOrFs, SaysFault, read_any, unbound_any}
 use Rattle.cpe_uri.proofs.Pieces.{prefix_length}
-use Rattle.cpe_uri.proofs.Said as uri
+use Rattle.cpe_uri.proofs.Said.{said as uri}
 use Rattle.cpe_uri.specs.declared.UriFault.{UriFault}
 use Rattle.cpe_uri.specs.declared.UriFault.TheVariants as fault
 
@@ -63,7 +61,7 @@ unfolding read_any
 any_fs s b = rw b refl
 
 -- a text of a name is read as the name
-pub any_read : (name : Values) (s : List ℕ) → UriOrFs name s → read_any s ≡ Ok name
+any_read : (name : Values) (s : List ℕ) → UriOrFs name s → read_any s ≡ Ok name
 any_read name s h =
     elim (cases_Bool (begins_as_uri s)) [
       | inl b ↦ any_uri s b ∙ uri.read_name name s (MatchBool-at_true (Uri name s) (Fs name s) b h)
@@ -71,7 +69,7 @@ any_read name s h =
     ]
 
 -- a name that is read has the text
-pub any_has : (name : Values) (s : List ℕ) → read_any s ≡ Ok name → UriOrFs name s
+any_has : (name : Values) (s : List ℕ) → read_any s ≡ Ok name → UriOrFs name s
 any_has name s is =
     elim (cases_Bool (begins_as_uri s)) [
       | inl b ↦ uri_is_either name s (uri.name_has name s (sym (any_uri s b) ∙ is))
@@ -79,7 +77,7 @@ any_has name s is =
     ]
 
 -- where a place is read no name has the text, and it is its place
-pub any_left : (s : List ℕ) (place : ℕ) → read_any s ≡ Err place → LeavesUriOrFs s place
+any_left : (s : List ℕ) (place : ℕ) → read_any s ≡ Err place → LeavesUriOrFs s place
 any_left s place is =
     elim (cases_Bool (begins_as_uri s)) [
       | inl b ↦ at_true (begins_as_uri s) (LeavesUri s place) (LeavesAt s place) b (uri.place_is s place (sym (any_uri s b) ∙ is))
@@ -87,7 +85,7 @@ any_left s place is =
     ]
 
 -- the place of a text that no name has is read
-pub any_left_read : (s : List ℕ) (place : ℕ) → LeavesUriOrFs s place → read_any s ≡ Err place
+any_left_read : (s : List ℕ) (place : ℕ) → LeavesUriOrFs s place → read_any s ≡ Err place
 any_left_read s place at =
     elim (cases_Bool (begins_as_uri s)) [
       | inl b ↦ any_uri s b ∙ uri.read_place s place (MatchBool-at_true (LeavesUri s place) (LeavesAt s place) b at)
@@ -103,37 +101,18 @@ any_reads (Err fault.Memory) s has refused = tt
 
 -- ---- its output text
 
-says : (s : List ℕ) (r : Result Values ℕ) → read_any s ≡ r → unbound_any s ≡ text_of r
+-- texts in either binding are read and say so
+pub either : Unbinds UriOrFs LeavesUriOrFs read_any unbound_any
 unfolding unbound_any
-says s r e = ap text_of e
+either = record { read_name = any_read; name_has = any_has; place_is = any_left; read_place = any_left_read; says_read = λ s. refl }
 
 -- what begins as a URI says what it says as one
-pub any_says_uri : (s : List ℕ) → begins_as_uri s ≡ true → unbound_any s ≡ unbound_uri s
-unfolding unbound_uri
-any_says_uri s b = says s (read_uri s) (any_uri s b)
+any_says_uri : (s : List ℕ) → begins_as_uri s ≡ true → unbound_any s ≡ unbound_uri s
+any_says_uri s b = either.says_read s ∙ ap text_of (any_uri s b) ∙ sym (uri.says_read s)
 
 -- what doesn't, says what it says as a formatted string
-pub any_says_fs : (s : List ℕ) → begins_as_uri s ≡ false → unbound_any s ≡ unbound s
-unfolding unbound
-any_says_fs s b = says s (read_fs s) (any_fs s b)
-
--- a text of a name says the output text of the name
-pub any_text : (name : Values) (s : List ℕ) → UriOrFs name s → unbound_any s ≡ Ok (output_text name)
-any_text name s h = says s (Ok name) (any_read name s h)
-
--- what is said is the output text of a name that has the text
-pub any_name : (s text : List ℕ) → unbound_any s ≡ Ok text → SaysAny s text
-any_name s text is = go (read_any s) refl where
-  go : (r : Result Values ℕ) → read_any s ≡ r → SaysAny s text
-  go (Ok name) e = record { name = name; has = any_has name s e; is = ok_is _ _ (sym is ∙ says s (Ok name) e) }
-  go (Err place) e = absurd (ok≢err text place (sym is ∙ says s (Err place) e))
-
--- where a place is said no name has the text, and it is its place
-pub any_place : (s : List ℕ) (place : ℕ) → unbound_any s ≡ Err place → LeavesUriOrFs s place
-any_place s place is = go (read_any s) refl where
-  go : (r : Result Values ℕ) → read_any s ≡ r → LeavesUriOrFs s place
-  go (Ok name) e = absurd (ok≢err (output_text name) place (sym (says s (Ok name) e) ∙ is))
-  go (Err other) e = subst (LeavesUriOrFs s) (err_is other place (sym (says s (Err other) e) ∙ is)) (any_left s other e)
+any_says_fs : (s : List ℕ) → begins_as_uri s ≡ false → unbound_any s ≡ unbound s
+any_says_fs s b = either.says_read s ∙ ap text_of (any_fs s b) ∙ sym (fs.says_read s)
 
 -- ---- after what stood before
 

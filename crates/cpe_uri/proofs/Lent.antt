@@ -1,5 +1,5 @@
 -- The value that stands in a piece of a URI whose bytes spell themselves is the text that has the piece as its body.
-use Rattle.std.proofs.Common.{◌≡◌, ℕ, true, false, eqb, List, [], ◌∷◌, length, refl, sym, ap, subst, ◌∙◌, arith, map, Option, Some, None, Ok, IfSome}
+use Rattle.std.proofs.Common.{◌≡◌, ℕ, true, false, eqb, List, [], ◌∷◌, length, refl, sym, ap, subst, ◌∙◌, arith}
 use Rattle.std.specs.List.{list_all, AllByRecursion}
 use Rattle.std.proofs.lemmas.List.{append-nil}
 use Rattle.std.proofs.lemmas.Bool.{and_parts, both_ways}
@@ -7,19 +7,11 @@ use Rattle.std.proofs.lemmas.Bool.Decides.{nat_tests}
 use Rattle.cpe_values.specs.declared.value.Edge.TheVariants as edge
 use Rattle.cpe_values.specs.declared.value.Value.TheVariants as value
 use Rattle.cpe_values.specs.Parts.{Parts, parts, is_character, IsText}
-use Rattle.cpe_name.specs.Eleven.{NameRef, Values, Written}
-use Rattle.cpe_name.specs.Borrowed.{name_lent}
-use Rattle.cpe_name.specs.Names.{named}
-use Rattle.cpe_name.specs.Spans.{texts}
-use Rattle.cpe_uri.specs.Grammar.{Uri}
-use Rattle.cpe_uri.specs.Spans.{AreComponents}
 use Rattle.cpe_uri.specs.Spelling.{Spelled, Stands}
-use Rattle.cpe_uri.specs.Unbound.{read_uri}
 use Rattle.cpe_uri.specs.Rewriting.{is_hyphen}
 use Rattle.cpe_uri.specs.SpanValues.{value_at}
 use Rattle.cpe_uri.specs.Lending.{spells_itself, spell_themselves, all_spell_themselves}
-use Rattle.cpe_uri.proofs.ValueLemmas.{value_back, name_back}
-use Rattle.cpe_uri.proofs.Said.{read_name}
+use Rattle.cpe_uri.proofs.ValueLemmas.{value_back}
 
 -- the text that has nothing but this body
 abbrev pub text_alone : List ℕ → Parts
@@ -61,15 +53,3 @@ each_themselves [] h = tt
 each_themselves (u ∷ us) h =
     let p = and_parts (spell_themselves u) (all_spell_themselves us) h in
     (p.0, each_themselves us p.1)
-
--- a name whose values stand in the pieces of a URI has the URI
-pub pieces_lent : (s : List ℕ) (c : Written) → AreComponents s c → (r : Option NameRef)
-    → IfSome r (λ n. name_lent n ≡ named (map value_at (texts c))) → IfSome r (λ n. Uri (name_lent n) s)
-pieces_lent s c are None h = tt
-pieces_lent s c are (Some n) h = subst (λ (w : Values). Uri w s) (sym (h ∙ name_back s c are)) are.uri
-
--- it is what the URI is read as
-pub pieces_read : (s : List ℕ) (c : Written) → AreComponents s c → (r : Option NameRef)
-    → IfSome r (λ n. name_lent n ≡ named (map value_at (texts c))) → IfSome r (λ n. read_uri s ≡ Ok (name_lent n))
-pieces_read s c are None h = tt
-pieces_read s c are (Some n) h = read_name (name_lent n) s (pieces_lent s c are (Some n) h)

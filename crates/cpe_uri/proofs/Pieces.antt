@@ -1,4 +1,4 @@
--- The values of a name stand in the pieces of its URI, and no text is the URI of two names.
+-- The values of a name stand in the pieces of its URI.
 use Rattle.std.proofs.Common.{◌≡◌, ℕ, ◌+◌, ◌≤◌, List, [], ◌∷◌, ◌++◌, length, map, get_or, refl, sym, ap, subst, ◌∙◌, arith, length-append}
 use Rattle.std.specs.Prelude.{codes}
 use Rattle.std.specs.List.{join_with_byte}
@@ -17,7 +17,7 @@ use Rattle.cpe_uri.specs.SpanValues.{value_at}
 use Rattle.cpe_uri.proofs.Languages.{part_taken}
 use Rattle.cpe_uri.proofs.Editions.{piece_taken, EditionLies, edition_lies}
 use Rattle.cpe_uri.proofs.Whole.{first_of, behind_first, tail_of, components_joined, StandsAs, AllStand, tail_ends, good_five, slot_taken, uri_stand, prefix_taken}
-use Rattle.cpe_uri.proofs.ValueLemmas.{StandIn, named_back, one_name}
+use Rattle.cpe_uri.proofs.ValueLemmas.{StandIn, named_back}
 
 -- a prefix has five bytes
 pub prefix_length : (prefix : List ℕ) → str_to_ascii_lowercase prefix ≡ codes "cpe:/" → length prefix ≡ 5
@@ -127,10 +127,6 @@ pub pieces_within : (w : Values) (s : List ℕ) → Uri w s → total_length (pi
 pieces_within w s uri = (lie w s uri).within
 
 -- ---- the name of a URI
-
--- no text is the URI of two names
-pub one_uri : (v w : Values) (s : List ℕ) → Uri v s → Uri w s → v ≡ w
-one_uri v w s a b = one_name v w (pieces s) a.name b.name (pieces_stand v s a) (pieces_stand w s b)
 
 -- the name is read from the pieces of its URI
 pub name_of_pieces : (w : Values) (s : List ℕ) → Uri w s → named (map value_at (pieces s)) ≡ w

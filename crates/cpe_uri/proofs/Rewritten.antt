@@ -1,6 +1,6 @@
 -- What stands in a URI, rewritten, is the spelling of its text in a well-formed name.
 use Rattle.std.specs.Prelude.{if◌then◌else◌, ◌==◌}
-use Rattle.std.proofs.Common.{◌≡◌, ℕ, zero, suc, ◌+◌, ◌-◌, ◌*◌, ◌<◌, ◌≤◌, ◌%◌, true, false, not, ◌&&◌, ◌||◌, eqb, List, [], ◌∷◌, ◌++◌, length, take, drop, get_or, slice_index, replicate, refl, sym, ap, subst, ◌∙◌, inl, inr, append_assoc, arith}
+use Rattle.std.proofs.Common.{◌≡◌, ℕ, ◌+◌, ◌-◌, ◌*◌, ◌<◌, ◌≤◌, ◌%◌, true, false, not, ◌&&◌, ◌||◌, eqb, List, [], ◌∷◌, ◌++◌, length, take, drop, get_or, slice_index, refl, sym, ap, subst, ◌∙◌, inl, inr, append_assoc, arith}
 use Rattle.std.specs.Char.{to_ascii_lowercase}
 use Rattle.std.specs.List.{flat_map, list_all}
 use Rattle.std.proofs.lemmas.List.{append-nil, take_all}
@@ -14,6 +14,7 @@ use Rattle.cpe_values.specs.Parts.{Parts, is_character, IsText}
 use Rattle.cpe_values.specs.Spelling.{is_word, is_lower_word, is_bare, character, edge_text, spelling}
 use Rattle.cpe_values.specs.Skipping.{skip_while}
 use Rattle.cpe_values.proofs.SkippingLemmas.{skipped_copied}
+use Rattle.cpe_name.proofs.Repeated.{each_made}
 use Rattle.cpe_uri.specs.Spelling.{edge_codes, text_codes, is_hex, hex_value, has_percent_form, spells, Spelled}
 use Rattle.cpe_uri.specs.Rewriting.{code_of, code_text, is_requoted, bare_text, rewritten}
 
@@ -162,14 +163,10 @@ codes_rewritten (c ∷ cs) s h =
     ∙ code_rewritten c h.0 h.1 h.3
     ∙ ap (λ (w : List ℕ). named_code c ++ w) (codes_rewritten cs h.1 h.4)
 
-named_marks : (n : ℕ) → flat_map named_code (replicate n 1) ≡ replicate n 63
-named_marks zero = refl
-named_marks (suc n) = ap (λ (u : List ℕ). 63 ∷ u) (named_marks n)
-
 named_edge : (e : Edge) → flat_map named_code (edge_codes e) ≡ edge_text e
 named_edge edge.None = refl
 named_edge edge.Star = refl
-named_edge (edge.Marks n) = named_marks n
+named_edge (edge.Marks n) = each_made named_code 1 63 n refl
 
 named_character : (c : ℕ) → is_character c ≡ true → named_code c ≡ character style.Wfn c
 named_character c h =

@@ -1,17 +1,19 @@
 -- What the code finds of a URI are its pieces, and where it stops is the place.
-use Rattle.std.proofs.Common.{◌≡◌, ℕ, ◌≤◌, false, eqb, List, [], ◌∷◌, length, Result, Ok, Err, refl, sym, ap, subst, ◌∙◌}
+use Rattle.std.proofs.Common.{◌≡◌, ℕ, ◌≤◌, false, eqb, List, [], length, Result, Ok, Err, refl, sym, ap, subst, ◌∙◌}
 use Rattle.std.specs.Prelude.{codes}
-use Rattle.cpe_grammar.specs.Scanners.{ending}
+use Rattle.cpe_grammar.specs.Place.{StopsAt}
+use Rattle.cpe_grammar.proofs.Places.{no_ending, taken_whole}
 use Rattle.cpe_grammar.proofs.Results.{left_over}
 use Rattle.cpe_name.specs.Eleven.{Written}
 use Rattle.cpe_name.specs.Names.{attributes}
 use Rattle.cpe_name.specs.Spans.{texts, total_length}
-use Rattle.cpe_uri.specs.Spans.{AreComponents, LeavesWith}
+use Rattle.cpe_uri.specs.Spans.{AreComponents}
+use Rattle.cpe_uri.specs.Grammar.{IsUri}
 use Rattle.cpe_uri.specs.Scanning.{prefix_end, all_end, whole_end}
 use Rattle.cpe_uri.specs.Pieces.{rest_of, all_pieces, pieces}
 use Rattle.cpe_uri.proofs.ValueLemmas.{StandIn}
 use Rattle.cpe_uri.proofs.Pieces.{pieces_stand, pieces_within}
-use Rattle.cpe_uri.proofs.Whole.{whole_name, leaves}
+use Rattle.cpe_uri.proofs.Whole.{whole_scans, leaves}
 
 -- ---- the pieces
 
@@ -26,7 +28,7 @@ pieces_from text s start = ap (λ (x : Result (List ℕ) ℕ). all_pieces (rest_
 -- what was found are the components of a name that has the text
 pub found : (text s r : List ℕ) (w : Written) → prefix_end (codes "cpe:/") text ≡ Ok s → r ≡ [] → all_end s ≡ Ok r → texts w ≡ all_pieces s → AreComponents text w
 found text s r w start over told is =
-    let uri = whole_name text [] (whole_is text s start (told ∙ ap left_over over)) in
+    let uri = taken_whole IsUri whole_end whole_scans text [] (whole_is text s start (told ∙ ap left_over over)) refl in
     let same : pieces text ≡ texts w = pieces_from text s start ∙ sym is in
     record {
       name = uri.0;
@@ -37,18 +39,14 @@ found text s r w start over told is =
 
 -- ---- where the code stops
 
-pub start_leaves : (text : List ℕ) (left : ℕ) → prefix_end (codes "cpe:/") text ≡ Err left → LeavesWith text left
+pub start_leaves : (text : List ℕ) (left : ℕ) → prefix_end (codes "cpe:/") text ≡ Err left → StopsAt IsUri text left
 unfolding whole_end
 start_leaves text left e = leaves text left (rw e refl)
 
-pub pieces_leave : (text s : List ℕ) (left : ℕ) → prefix_end (codes "cpe:/") text ≡ Ok s → all_end s ≡ Err left → LeavesWith text left
+pub pieces_leave : (text s : List ℕ) (left : ℕ) → prefix_end (codes "cpe:/") text ≡ Ok s → all_end s ≡ Err left → StopsAt IsUri text left
 unfolding whole_end
 pieces_leave text s left start e = leaves text left (rw (start, e) refl)
 
-no_ending : (r : List ℕ) → eqb (length r) 0 ≡ false → ending r ≡ Err (length r)
-no_ending [] more = absurd cc
-no_ending (c ∷ r) more = refl
-
-pub end_leaves : (text s r : List ℕ) → prefix_end (codes "cpe:/") text ≡ Ok s → all_end s ≡ Ok r → eqb (length r) 0 ≡ false → LeavesWith text (length r)
+pub end_leaves : (text s r : List ℕ) → prefix_end (codes "cpe:/") text ≡ Ok s → all_end s ≡ Ok r → eqb (length r) 0 ≡ false → StopsAt IsUri text (length r)
 unfolding whole_end
 end_leaves text s r start taken more = leaves text (length r) (rw (start, taken) (no_ending r more))

@@ -114,10 +114,6 @@ named_back w us good h = ap named (values_same w us attributes good h)
 pub name_back : (s : List ℕ) (c : Written) (are : AreComponents s c) → named (map value_at (texts c)) ≡ are.name
 name_back s c are = named_back are.name (texts c) are.uri.name are.are
 
--- no two names have their values in the same pieces
-pub one_name : (v w : Values) (us : List (List ℕ)) → IsName v → IsName w → StandIn v us attributes → StandIn w us attributes → v ≡ w
-one_name v w us good right a b = sym (named_back v us good a) ∙ named_back w us right b
-
 spans_stand : (w : Values) (us : List (List ℕ)) (which : List Attribute) → AllByRecursion (λ a. Suits a (value_of w a)) which → StandIn w us which → AreSpans (map (slot us) which)
 spans_stand w us [] good h = tt
 spans_stand w us (a ∷ which) good h =

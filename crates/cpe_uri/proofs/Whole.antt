@@ -5,9 +5,9 @@ use Rattle.std.specs.Char.{to_ascii_lowercase}
 use Rattle.std.specs.List.{flat_map, join_with_byte, list_all}
 use Rattle.std.proofs.lemmas.List.{append-nil}
 use Rattle.std.proofs.lemmas.Bool.{eqb-true, eq-eqb}
+use Rattle.cpe_grammar.specs.Place.{StopsAt}
 use Rattle.cpe_grammar.specs.Scanners.{Scanner, ◌>>=◌, both, choose, nothing, ending, one}
-use Rattle.cpe_grammar.proofs.Places.{not_taken, within_text, place_of}
-use Rattle.cpe_grammar.proofs.Results.{went_on, ok_is, ok≢err}
+use Rattle.cpe_grammar.proofs.Places.{nothing_left, stops_at}
 use Rattle.cpe_grammar.proofs.Scans.{Scans, wider, renamed, Empty, nothing_scans, ending_scans, OneOf, one_scans, Joined, both_scans, Either, choose_scans}
 use Rattle.cpe_values.specs.declared.value.Value.{Value}
 use Rattle.cpe_values.specs.declared.value.Value.TheVariants as value
@@ -18,7 +18,7 @@ use Rattle.cpe_name.specs.Names.{IsName}
 use Rattle.cpe_name.specs.Lower.{IsLower}
 use Rattle.cpe_uri.specs.Spelling.{Stands}
 use Rattle.cpe_uri.specs.Grammar.{is_colon, EditionStands, Uri, IsUri}
-use Rattle.cpe_uri.specs.Spans.{IsComponent, IsTextComponent, IsEdition, LeavesWith}
+use Rattle.cpe_uri.specs.Spans.{IsComponent, IsTextComponent, IsEdition}
 use Rattle.cpe_uri.specs.Languages.{part_end}
 use Rattle.cpe_uri.specs.Scanning.{component_end, later, later_end, components_end, prefix_end, all_end, whole_end}
 use Rattle.cpe_uri.proofs.Ends.{Ends}
@@ -342,19 +342,10 @@ whole_scans =
     (both_scans All Empty all_end ending all_scans ending_scans [] refl)
     [] (record { prefix = []; back = []; is = refl; first = record { prefix = []; back = []; is = refl; first = empty_slot Part; second = ([], refl) }; second = refl }))
 
-ending_empty : (s rest : List ℕ) → ending s ≡ Ok rest → rest ≡ []
-ending_empty [] rest e = sym (ok_is [] rest e)
-ending_empty (c ∷ s) rest e = absurd (ok≢err rest _ (sym e))
-
--- what is scanned whole is a URI
-pub whole_name : (s rest : List ℕ) → whole_end s ≡ Ok rest → IsUri s
+-- it leaves nothing
+pub whole_ends : (s rest : List ℕ) → whole_end s ≡ Ok rest → rest ≡ []
 unfolding whole_end
-whole_name s rest e =
-    let prefix = went_on (prefix_end (codes "cpe:/") s) (both all_end ending) rest e in
-    let end = went_on (all_end prefix.0) ending rest prefix.2 in
-    let all = whole_scans.takes s rest e in
-    let text : s ≡ all.taken = all.cut ∙ ap (λ (r : List ℕ). all.taken ++ r) (ending_empty end.0 rest end.2) ∙ append-nil all.taken in
-    subst IsUri (sym text) all.lawful
+whole_ends s rest e = nothing_left (prefix_end (codes "cpe:/") s) all_end rest e
 
 -- ---- each is taken
 
@@ -425,11 +416,5 @@ whole_taken s h = go h.1.components refl where
       ∙ ap (λ (x : Result (List ℕ) ℕ). x >>= ending) (at_once later (tail_of cs) ∙ rest_taken w later cs uri.name (uri_stand w s part cs uri is) few)
 
 -- where it stops is the place
-pub leaves : (s : List ℕ) (left : ℕ) → whole_end s ≡ Err left → LeavesWith s left
-leaves s left e = record {
-  within = within_text IsUri whole_end whole_scans whole_taken s left e;
-  at = record {
-    refused = not_taken IsUri whole_end whole_scans whole_taken s left e;
-    is_place = place_of IsUri whole_end whole_scans whole_taken s left e;
-  };
-}
+pub leaves : (s : List ℕ) (left : ℕ) → whole_end s ≡ Err left → StopsAt IsUri s left
+leaves s left e = stops_at IsUri whole_end whole_scans whole_taken s left e

@@ -1,5 +1,5 @@
 -- Where the values of a name lie in its URI, as the code finds them. No public clause rests on it.
-use Rattle.std.specs.Prelude.{◌≡◌, ℕ, ◌-◌, ◌≤◌, Bool, true, not, ◌==◌, List, length}
+use Rattle.std.specs.Prelude.{◌≡◌, ℕ, ◌≤◌, Bool, true, not, ◌==◌, List, length}
 use Rattle.std.specs.List.{AllByRecursion, list_all}
 use Rattle.cpe_values.specs.declared.value.Value.{Value}
 use Rattle.cpe_values.specs.Lower.{lower_value}
@@ -11,7 +11,7 @@ use Rattle.cpe_name.specs.Names.{attributes, value_of, Suits, IsName}
 use Rattle.cpe_name.specs.Spans.{texts, total_length}
 use Rattle.cpe_name.specs.Scanning.{slot}
 use Rattle.cpe_uri.specs.Spelling.{Stands}
-use Rattle.cpe_uri.specs.Grammar.{EditionStands, Uri, LeavesUri}
+use Rattle.cpe_uri.specs.Grammar.{EditionStands, Uri}
 
 -- some value that suits the attribute, in lower case, may stand so
 pub record IsComponent (a : Attribute) (s : List ℕ) : Type 0 where
@@ -41,8 +41,3 @@ pub record AreComponents (s : List ℕ) (c : Written) : Type 0 where
   pub uri : Uri name s
   pub are : AllByRecursion (λ a. Stands (value_of name a) (slot (texts c) a)) attributes
   pub within : total_length (texts c) ≤ length s
-
--- no name has this text, and it leaves the grammar with so many bytes left
-pub record LeavesWith (s : List ℕ) (left : ℕ) : Type 0 where
-  pub within : left ≤ length s
-  pub at : LeavesUri s (length s - left)

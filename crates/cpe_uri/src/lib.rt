@@ -36,6 +36,7 @@ ghost use Rattle.cpe_name.specs.Names.{IsName};
 ghost use Rattle.cpe_uri.specs.Grammar.{Uri};
 ghost use Rattle.cpe_uri.specs.Unbound.{read_uri};
 ghost use Rattle.cpe_uri.specs.Bound.{bound_uri, BindsUri};
+ghost use Rattle.cpe_uri.specs.declared.UriFault.TheVariants as fault;
 
 mod bind;
 mod bound;
@@ -78,9 +79,6 @@ pub enum UriFault {
 }
 
 impl From<Memory> for UriFault {
-    ghost use Rattle.std.specs.Prelude.{◌≡◌};
-    ghost use Rattle.cpe_uri.specs.declared.UriFault.TheVariants as fault;
-
     ghost from_gives = { λ _ e. e ≡ fault.Memory };
 
     fn from(_memory: Memory) -> UriFault {

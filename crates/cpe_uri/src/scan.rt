@@ -1,14 +1,15 @@
 // Where the values of a name lie in its URI (NIST IR 7695, 6.1). Nothing here takes memory.
 ghost use Rattle.std.specs.Prelude.{◌≡◌, ◌-◌, ◌==◌, List, ℕ, false, true, length, take, drop, [], ◌∷◌, codes, Ok, Err, IfOk, IfErr};
 ghost use Rattle.std.specs.Char.{to_ascii_lowercase};
+ghost use Rattle.cpe_grammar.specs.Place.{StopsAt};
 ghost use Rattle.cpe_grammar.specs.Scanners.{Tells, one};
 ghost use Rattle.cpe_name.specs.Spans.{texts};
-ghost use Rattle.cpe_uri.specs.Grammar.{begins_with_tilde};
+ghost use Rattle.cpe_uri.specs.Grammar.{begins_with_tilde, IsUri};
 ghost use Rattle.cpe_uri.specs.Languages.{part_end, language_end};
 ghost use Rattle.cpe_uri.specs.TextMachine.{text_end};
 ghost use Rattle.cpe_uri.specs.Editions.{edition_texts};
 ghost use Rattle.cpe_uri.specs.Scanning.{field_end, packed_end, edition_end, later_end, prefix_end, all_end, whole_end};
-ghost use Rattle.cpe_uri.specs.Spans.{AreComponents, LeavesWith};
+ghost use Rattle.cpe_uri.specs.Spans.{AreComponents};
 ghost use Rattle.cpe_uri.specs.Pieces.{prefix_before, piece, begins_with_colon, behind_colon, field_pieces, edition_pieces, all_pieces};
 
 use crate::language::{scan_language, scan_part};
@@ -214,7 +215,7 @@ fn scan_prefix<'a>(expected: &[u8], bytes: &'a [u8]) -> Result<&'a [u8], usize>
 #[tactic(auto, using(crate::proofs::Scanned::start_leaves, crate::proofs::Scanned::pieces_leave))]
 pub(crate) fn scan_uri(text: &[u8]) -> Result<Written, usize>
     ensures found { IfOk result (AreComponents text.now) }
-    ensures refused { IfErr result (LeavesWith text.now) }
+    ensures refused { IfErr result (StopsAt IsUri text.now) }
 {
     let rest = scan_prefix(b"cpe:/", text)?;
     let (written, behind) = all_pieces(rest)?;

@@ -8,7 +8,7 @@ ghost use Rattle.cpe_uri.specs.Unbound.{read_uri, unbound_uri, SaysUri};
 ghost use Rattle.cpe_uri.specs.EitherBinding.{begins_as_uri, UriOrFs, LeavesUriOrFs, RefusesUriOrFs, SaysFault, read_any, unbound_any, SaysAny};
 
 use crate::scan::scan_uri;
-use crate::values::values_of;
+use crate::values::name_at;
 use crate::write::FromPieces;
 use crate::{UNBOUND_FRAME, UriFault};
 use cpe_fs::{FsFault, unbind_fs, write_unbound};
@@ -32,10 +32,7 @@ pub fn unbind_uri(alloc: Global, text: &[u8]) -> Result<Wfn, UriFault>
         Ok(spans) => spans,
         Err(left) => return Err(UriFault::At(text.len() - left)),
     };
-    match Wfn::new(values_of(alloc, &spans)?) {
-        Ok(name) => Ok(name),
-        Err(_) => unreachable!(),
-    }
+    Ok(name_at(alloc, &spans)?)
 }
 
 /// Writes the output text of the name that has this URI into `room`, from `at` on, and makes no name. It answers the

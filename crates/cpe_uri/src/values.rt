@@ -2,13 +2,13 @@
 ghost use Rattle.std.specs.Prelude.{◌≡◌, ◌≤◌, length, take, map, IfOk};
 ghost use Rattle.cpe_values.specs.Spelled.{IsSpelling};
 ghost use Rattle.cpe_values.specs.Unspelling.{parts_at};
-ghost use Rattle.cpe_name.specs.Names.{named};
+ghost use Rattle.cpe_name.specs.Names.{named, IsName};
 ghost use Rattle.cpe_name.specs.Spans.{texts};
 ghost use Rattle.cpe_uri.specs.Rewriting.{rewritten, is_hyphen};
 ghost use Rattle.cpe_uri.specs.SpanValues.{value_at, IsSpan, AreSpans};
 
 use crate::write::put_rewritten;
-use cpe_name::{ReadValue, Values, Written, read_values};
+use cpe_name::{ReadValue, Wfn, Written, read_name};
 use cpe_values::{Memory, Pattern, Value, read_spelling};
 use std::alloc::Global;
 
@@ -68,10 +68,12 @@ impl ReadValue for Pieces {
     }
 }
 
-pub(crate) fn values_of(alloc: Global, spans: &Written) -> Result<Values, Memory>
-    requires { AreSpans (texts spans.now) }
-    ensures { IfOk result (λ values. values ≡ named (map value_at (texts spans.now))) }
+// The name whose values stand there.
+pub(crate) fn name_at(alloc: Global, spans: &Written) -> Result<Wfn, Memory>
+    requires stand { AreSpans (texts spans.now) }
+    requires lawful { IsName (named (map value_at (texts spans.now))) }
+    ensures { IfOk result (λ name. name ≡ named (map value_at (texts spans.now))) }
 {
     let scratch = Vec::new(alloc);
-    read_values(&mut Pieces { alloc, scratch }, spans)
+    read_name(&mut Pieces { alloc, scratch }, spans)
 }

@@ -1,16 +1,15 @@
 // When two texts or two values are equal, and what they feed a hasher. Equal is equal as contracts see it, letter case too. What is
 // equal feeds equally; little is fed, since names are hashed at each look-up: a text feeds its body alone, and ANY nothing.
-ghost use Rattle.std.specs.Prelude.{◌≡◌};
+ghost use Rattle.std.specs.Prelude.{◌≡◌, ◌↔◌, IsTrue};
+ghost use Rattle.std.specs.Cmp.{partial_equiv_from_equiv, decided};
+ghost use Rattle.std.specs.Hash.{same_Alike};
+ghost use Rattle.cpe_values.specs.Same.{same_parts, same_value, parts_input, value_input};
+ghost use Rattle.cpe_values.specs.Equal.{same_parts-Decides, same_value-Decides};
 
 use crate::{Pattern, Value};
 use std::hash::{Hash, Hasher};
 
 impl PartialEq for Pattern {
-    ghost use Rattle.std.specs.Prelude.{◌≡◌, ◌↔◌, IsTrue};
-    ghost use Rattle.std.specs.Cmp.{partial_equiv_from_equiv, decided};
-    ghost use Rattle.cpe_values.specs.Same.{same_parts};
-    ghost use Rattle.cpe_values.specs.Equal.{same_parts-Decides};
-
     ghost eq = { same_parts };
 
     ghost laws = { partial_equiv_from_equiv (decided same_parts same_parts-Decides) };
@@ -24,18 +23,10 @@ impl PartialEq for Pattern {
 }
 
 impl Eq for Pattern {
-    ghost use Rattle.std.specs.Cmp.{decided};
-    ghost use Rattle.cpe_values.specs.Same.{same_parts};
-    ghost use Rattle.cpe_values.specs.Equal.{same_parts-Decides};
-
     ghost laws = { decided same_parts same_parts-Decides };
 }
 
 impl Hash for Pattern {
-    ghost use Rattle.std.specs.Hash.{same_Alike};
-    ghost use Rattle.cpe_values.specs.Same.{parts_input};
-    ghost use Rattle.cpe_values.specs.Equal.{same_parts-Decides};
-
     ghost hash_input = { parts_input };
 
     ghost respects_eq = { (same_Alike parts_input same_parts-Decides).fed };
@@ -46,11 +37,6 @@ impl Hash for Pattern {
 }
 
 impl PartialEq for Value {
-    ghost use Rattle.std.specs.Prelude.{◌≡◌, ◌↔◌, IsTrue};
-    ghost use Rattle.std.specs.Cmp.{partial_equiv_from_equiv, decided};
-    ghost use Rattle.cpe_values.specs.Same.{same_value};
-    ghost use Rattle.cpe_values.specs.Equal.{same_value-Decides};
-
     ghost eq = { same_value };
 
     ghost laws = { partial_equiv_from_equiv (decided same_value same_value-Decides) };
@@ -69,18 +55,10 @@ impl PartialEq for Value {
 }
 
 impl Eq for Value {
-    ghost use Rattle.std.specs.Cmp.{decided};
-    ghost use Rattle.cpe_values.specs.Same.{same_value};
-    ghost use Rattle.cpe_values.specs.Equal.{same_value-Decides};
-
     ghost laws = { decided same_value same_value-Decides };
 }
 
 impl Hash for Value {
-    ghost use Rattle.std.specs.Hash.{same_Alike};
-    ghost use Rattle.cpe_values.specs.Same.{value_input};
-    ghost use Rattle.cpe_values.specs.Equal.{same_value-Decides};
-
     ghost hash_input = { value_input };
 
     ghost respects_eq = { (same_Alike value_input same_value-Decides).fed };

@@ -9,7 +9,6 @@ mod bare;
 mod borrowed;
 mod case;
 mod equal;
-mod memory;
 mod short;
 mod spelling;
 mod unspell;
@@ -17,7 +16,7 @@ mod value;
 
 pub use bare::{skip_bare, skip_lower_word, skip_word};
 pub use borrowed::{TextRef, ValueRef};
-pub use memory::Memory;
+pub use out_of_memory::Memory;
 pub use spelling::{
     Style, is_bare_byte, is_digit_byte, is_letter_byte, is_printable_byte, push_spelling,
 };

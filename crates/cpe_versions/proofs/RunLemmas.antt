@@ -74,25 +74,24 @@ begins_with : (p : ℕ → Bool) (s : List ℕ) (n : ℕ) → begins p s ≡ beg
 begins_with p [] n = refl
 begins_with p (b ∷ bs) n = refl
 
+-- what the bytes of one kind make that come first, and whether they are digits
+first_made : (p : ℕ → Bool) → ((b : ℕ) → p b ≡ true → AreKind p b) → (s : List ℕ) → begins p s ≡ true → (digits : Bool) → begins is_ascii_digit s ≡ digits
+    → pieces s ≡ cond digits (Number (without_zeros (take (prefix_len p s) s))) (Word (str_to_ascii_lowercase (take (prefix_len p s) s))) ∷ pieces (drop (prefix_len p s) s)
+first_made p kind s h digits are =
+    let n = prefix_len p s in
+    let run = take n s in
+    let some = some_pass p kind s h in
+    let first : begins is_ascii_digit run ≡ digits = ap (λ k. begins is_ascii_digit (take k s)) some.1 ∙ sym (begins_with is_ascii_digit s some.0) ∙ are in
+    ap (λ rs. map piece_of rs ++ End ∷ []) (first_run_of p kind s h)
+    ∙ ap (λ q. made (cond q (Number (without_zeros run)) (Word (str_to_ascii_lowercase run))) (runs (drop n s))) first
+
 pub number_first : (s : List ℕ) → begins is_ascii_digit s ≡ true
     → pieces s ≡ Number (without_zeros (take (prefix_len is_ascii_digit s) s)) ∷ pieces (drop (prefix_len is_ascii_digit s) s)
-number_first s h =
-    let n = prefix_len is_ascii_digit s in
-    let run = take n s in
-    let some = some_pass is_ascii_digit digits_are s h in
-    let first : begins is_ascii_digit run ≡ true = ap (λ k. begins is_ascii_digit (take k s)) some.1 ∙ sym (begins_with is_ascii_digit s some.0) ∙ h in
-    ap (λ rs. map piece_of rs ++ End ∷ []) (first_run_of is_ascii_digit digits_are s h)
-    ∙ ap (λ q. made (cond q (Number (without_zeros run)) (Word (str_to_ascii_lowercase run))) (runs (drop n s))) first
+number_first s h = first_made is_ascii_digit digits_are s h true h
 
 pub word_first : (s : List ℕ) → begins is_ascii_digit s ≡ false → begins is_ascii_alphabetic s ≡ true
     → pieces s ≡ Word (str_to_ascii_lowercase (take (prefix_len is_ascii_alphabetic s) s)) ∷ pieces (drop (prefix_len is_ascii_alphabetic s) s)
-word_first s no_digit h =
-    let n = prefix_len is_ascii_alphabetic s in
-    let run = take n s in
-    let some = some_pass is_ascii_alphabetic letters_are s h in
-    let first : begins is_ascii_digit run ≡ false = ap (λ k. begins is_ascii_digit (take k s)) some.1 ∙ sym (begins_with is_ascii_digit s some.0) ∙ no_digit in
-    ap (λ rs. map piece_of rs ++ End ∷ []) (first_run_of is_ascii_alphabetic letters_are s h)
-    ∙ ap (λ q. made (cond q (Number (without_zeros run)) (Word (str_to_ascii_lowercase run))) (runs (drop n s))) first
+word_first s no_digit h = first_made is_ascii_alphabetic letters_are s h false no_digit
 
 -- a byte that is neither goes on to what stands after it
 pub passed_over : (b : ℕ) (bs : List ℕ) → is_ascii_digit b ≡ false → is_ascii_alphabetic b ≡ false → pieces bs ≡ pieces (b ∷ bs)

@@ -1,11 +1,9 @@
 -- The names of certificates.
-use Rattle.std.proofs.Common.{◌≡◌, ◌<◌, ◌+◌, ℕ, List, [], ◌∷◌, ◌++◌, Option, Some, None, option_map, map, length, take, refl, ap, sym, ◌∙◌}
-use Rattle.std.proofs.lemmas.List.{append-nil, take_more}
-use Rattle.std.proofs.lemmas.List.Concat.{flat_map-append}
-use Rattle.std.proofs.lemmas.List.Elements.{All-append, All-same, All-nil, All-cons, All-head, All-tail}
+use Rattle.std.proofs.Common.{◌≡◌, List, [], ◌∷◌, ◌++◌, Option, Some, None, option_map, map, refl, ap, sym, ◌∙◌}
+use Rattle.std.proofs.lemmas.List.Elements.{All-nil, All-cons, All-head, All-tail}
 use Rattle.std.specs.List.{flat_map, All}
 use Rattle.std.specs.Option.{option_map_or}
-use Rattle.std.specs.Prelude.{slice_index_or, unwrap_or}
+use Rattle.std.specs.Prelude.{unwrap_or}
 use Rattle.cpe_name.specs.Eleven.{Values}
 use Rattle.cpe_rows.specs.declared.truth.Truth.{Truth}
 use Rattle.cpe_explain.specs.declared.proof.Why.{Why, Logic, Pair, Plain}
@@ -35,16 +33,6 @@ names-pair truth fact item = ap names (sym (rolls-Pair truth fact item)) ∙ fol
 
 pub names-plain : (truth : Truth) → names (Plain truth) ≡ []
 names-plain truth = ap names (sym (rolls-Plain truth)) ∙ fold-roll-Why (List Values) names_step (Why-F.Plain truth)
-
--- what holds of the names of the first that are given, and of those of the next, holds of all these
-pub all_with_next : (P : Values → Type 0) (of : List (Option Why)) (i : ℕ) (d : Option Why) → i < length of → All P (flat_map names_at (take i of))
-    → All P (names_at (slice_index_or of i d)) → All P (flat_map names_at (take (i + 1) of))
-all_with_next P of i d lt all one =
-    let so_far = flat_map names_at (take i of) in
-    let next = slice_index_or of i d in
-    All-same P (flat_map names_at (take (i + 1) of)) (so_far ++ names_at next)
-    (ap (flat_map names_at) (take_more of i d lt) ∙ flat_map-append names_at (take i of) (next ∷ []) ∙ ap (λ ns. so_far ++ ns) (append-nil (names_at next)))
-    (All-append P so_far (names_at next) all one)
 
 pub all_parts : {A : Type 0} (P : A → Type 0) (xs ys : List A) → All P (xs ++ ys) → All P xs × All P ys
 all_parts P [] ys h = (All-nil P, h)

@@ -1,4 +1,7 @@
 // Why a line is no certificate.
+ghost use Rattle.std.specs.Prelude.{◌≡◌};
+ghost use Rattle.proof_lines.specs.declared.fault.ProofFault.TheVariants as fault;
+
 use cpe_values::Memory;
 
 /// Why a line that speaks of a certificate is not of its form: the first cause.
@@ -13,9 +16,6 @@ pub enum ProofFault {
 }
 
 impl From<Memory> for ProofFault {
-    ghost use Rattle.std.specs.Prelude.{◌≡◌};
-    ghost use Rattle.proof_lines.specs.declared.fault.ProofFault.TheVariants as fault;
-
     ghost from_gives = { λ _ e. e ≡ fault.Memory };
 
     fn from(_error: Memory) -> ProofFault {

@@ -1,25 +1,21 @@
-use Rattle.std.proofs.Common.{sym, subst, ◌∙◌}
-use Rattle.cpe_name.specs.Eleven.{Values}
-use Rattle.cpe_name.specs.Names.{IsFault}
-use Rattle.cpe_fs.specs.Grammar.{Fs}
-use Rattle.cpe_name.proofs.WholeTexts.{no_fault}
-use Rattle.cpe_fs.proofs.ValueLemmas.{name_back, spans_are, one_name}
+use Rattle.std.proofs.Common.{sym, subst}
+use Rattle.cpe_name.specs.Names.{IsName}
+use Rattle.cpe_name.proofs.Unbinding.{found_has, found_is}
+use Rattle.cpe_fs.proofs.Said.{said}
+use Rattle.cpe_fs.proofs.ValueLemmas.{name_back, spans_are}
 use Rattle.cpe_fs.proofs.unbind_fs.Goals as goal
 
-pub unreachable-requires : goal.unreachable-requires
-unreachable-requires c =
+pub read_name-requires : goal.read_name-requires
+read_name-requires c =
     let are = c.in-Ok.ensures.found in
-    no_fault c.in-Err-new.field-0 are.name are.fs.0 (subst (IsFault c.in-Err-new.field-0) (c.in_ok-read_values.ensures ∙ name_back c.args.text.now c.in-Ok.components are) c.in-Err-new.ensures.fault)
+    record { stand = spans_are c.args.text.now c.in-Ok.components are; lawful = subst IsName (sym (name_back c.args.text.now c.in-Ok.components are)) are.fs.0 }
 
 pub returns-clause-found : goal.returns-clause-found
 returns-clause-found c =
     let are = c.in-Ok.ensures.found in
-    subst (λ (w : Values). Fs w c.args.text.now) (sym (c.in-Ok-new.ensures.name ∙ c.in_ok-read_values.ensures ∙ name_back c.args.text.now c.in-Ok.components are)) are.fs
+    found_has said c.args.text.now (name_back c.args.text.now c.in-Ok.components are) are.fs c.in_ok-read_name.ensures
 
 pub returns-clause-only : goal.returns-clause-only
-returns-clause-only c = λ name fs.
+returns-clause-only c =
     let are = c.in-Ok.ensures.found in
-    c.in-Ok-new.ensures.name ∙ c.in_ok-read_values.ensures ∙ name_back c.args.text.now c.in-Ok.components are ∙ one_name are.name name c.args.text.now are.fs fs
-
-pub read_values-requires : goal.read_values-requires
-read_values-requires c = spans_are c.args.text.now c.in-Ok.components c.in-Ok.ensures.found
+    found_is said c.args.text.now (name_back c.args.text.now c.in-Ok.components are) are.fs c.in_ok-read_name.ensures

@@ -1,11 +1,6 @@
-use Rattle.cpe_fs.proofs.Said.{says_text, says_name, says_place}
+use Rattle.cpe_name.proofs.Unbinding.{says_text, says_name, says_place}
+use Rattle.cpe_fs.proofs.Said.{said}
 use Rattle.cpe_fs.proofs.unbound_is.Goals as goal
 
-pub returns-clause-named : goal.returns-clause-named
-returns-clause-named c = says_text
-
-pub returns-clause-found : goal.returns-clause-found
-returns-clause-found c = says_name
-
-pub returns-clause-refused : goal.returns-clause-refused
-returns-clause-refused c = says_place
+pub returns : goal.returns
+returns c = record { named = says_text said; found = says_name said; refused = says_place said }

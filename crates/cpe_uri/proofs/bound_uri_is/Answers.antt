@@ -3,14 +3,6 @@ use Rattle.cpe_uri.specs.Canon.{canon}
 use Rattle.cpe_uri.specs.Bound.{bound_uri}
 use Rattle.cpe_uri.proofs.bound_uri_is.Goals as goal
 
-pub returns-clause-named : goal.returns-clause-named
+pub returns : goal.returns
 unfolding bound_uri
-returns-clause-named c = says_text canon
-
-pub returns-clause-found : goal.returns-clause-found
-unfolding bound_uri
-returns-clause-found c = says_name canon
-
-pub returns-clause-none : goal.returns-clause-none
-unfolding bound_uri
-returns-clause-none c = says_nothing canon
+returns c = record { named = says_text canon; found = says_name canon; none = says_nothing canon }

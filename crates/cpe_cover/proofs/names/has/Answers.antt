@@ -2,7 +2,7 @@ use Rattle.std.proofs.Common.{List, position, ap, ◌∙◌}
 use Rattle.std.specs.Option.{is_some}
 use Rattle.cpe_name.specs.Eleven.{Values}
 use Rattle.cpe_name.specs.Equal.{same_name}
-use Rattle.cpe_cover.proofs.PlaceLemmas.{has_place}
+use Rattle.cpe_rows.proofs.Lists.{has_place}
 use Rattle.cpe_cover.proofs.names.has.Goals as goal
 
 pub returns : goal.returns

@@ -1,7 +1,7 @@
 use Rattle.std.proofs.Common.{ap, ◌∙◌}
 use Rattle.std.specs.Option.{is_some}
 use Rattle.cpe_name.specs.Equal.{same_name}
-use Rattle.cpe_cover.proofs.PlaceLemmas.{has_place}
+use Rattle.cpe_rows.proofs.Lists.{has_place}
 use Rattle.cpe_cover.proofs.shapes.has.Goals as goal
 
 pub returns : goal.returns

@@ -2,12 +2,13 @@ use Rattle.std.proofs.Common.{All, ap, subst, sym, ◌∙◌, take_all}
 use Rattle.std.specs.List.{flat_map}
 use Rattle.cpe_name.specs.Names.{IsName}
 use Rattle.cpe_rows.specs.FactNames.{fact_names}
-use Rattle.cpe_rows.proofs.TestNames.{all_with_next, names-logic}
+use Rattle.cpe_rows.proofs.Lists.{all_with_next}
+use Rattle.cpe_rows.proofs.TestNames.{names-logic}
 use Rattle.cpe_rows.proofs.formed.+are_facts.Goals as goal
 
 pub loop-child-preserved : goal.loop-child-preserved
 loop-child-preserved t c =
-    all_with_next IsName c.as_slice-child-items.result.now c.loop-child.child-index c.child-item.result c.loop-child-test.true c.loop-child.invariant
+    all_with_next IsName fact_names c.as_slice-child-items.result.now c.loop-child.child-index c.child-item.result c.loop-child-test.true c.loop-child.invariant
     (subst (λ x. All IsName (fact_names x)) c.child-item.is c.are_facts.ensures)
 
 pub returns-after-loop-child : goal.returns-after-loop-child

@@ -1,11 +1,5 @@
-use Rattle.cpe_uri.proofs.Said.{read_name, name_has, place_is}
+use Rattle.cpe_uri.proofs.Said.{said}
 use Rattle.cpe_uri.proofs.unbind.read_uri_is.Goals as goal
 
-pub returns-clause-named : goal.returns-clause-named
-returns-clause-named c = read_name
-
-pub returns-clause-found : goal.returns-clause-found
-returns-clause-found c = name_has
-
-pub returns-clause-refused : goal.returns-clause-refused
-returns-clause-refused c = place_is
+pub returns : goal.returns
+returns c = record { named = said.read_name; found = said.name_has; refused = said.place_is }

@@ -1,18 +1,15 @@
 use Rattle.std.proofs.Common.{ℕ, List, ◌++◌, take, ap, ◌∙◌, arith}
 use Rattle.cpe_fs.proofs.Writing.{refused_output, written_output}
-use Rattle.cpe_uri.specs.Grammar.{Uri, LeavesUri}
-use Rattle.cpe_uri.specs.Unbound.{unbound_uri}
-use Rattle.cpe_uri.proofs.Pieces.{one_uri}
 use Rattle.cpe_uri.proofs.Written.{spans_say}
-use Rattle.cpe_uri.proofs.Said.{said_is, unsaid_is, never}
+use Rattle.cpe_uri.proofs.Said.{said}
 use Rattle.cpe_uri.proofs.unbind.write_unbound_uri.Goals as goal
 
 pub returns-in-Ok : goal.returns-in-Ok
 returns-in-Ok c =
     let are = c.in-Ok.ensures.found in
-    written_output Uri LeavesUri unbound_uri one_uri never said_is unsaid_is c.args.text.now c.args.at _ c.args.room.now c.put_output.new.room c.put_output.result are.name are.uri
+    written_output said c.args.text.now c.args.at _ c.args.room.now c.put_output.new.room c.put_output.result are.name are.uri
     (c.put_output.ensures.written ∙ ap (λ (u : List ℕ). take c.args.at c.args.room.now ++ u) (spans_say c.args.text.now c.in-Ok.spans are))
     (omega (arith, c.put_output.ensures.at, are.within)) c.put_output.ensures.room
 
 pub returns-in-Err : goal.returns-in-Err
-returns-in-Err c = refused_output Uri LeavesUri unbound_uri one_uri never said_is unsaid_is c.args.text.now c.args.at _ c.args.room.now _ c.in-Err.ensures.refused.at
+returns-in-Err c = refused_output said c.args.text.now c.args.at _ c.args.room.now _ c.in-Err.ensures.refused.at

@@ -3,12 +3,13 @@ use Rattle.std.specs.List.{flat_map}
 use Rattle.std.proofs.lemmas.List.Elements.{All-append}
 use Rattle.cpe_name.specs.Names.{IsName}
 use Rattle.proof_lines.specs.Whole.{names}
-use Rattle.proof_lines.proofs.Names.{names_at, names-logic, names-pair, all_with_next}
+use Rattle.cpe_rows.proofs.Lists.{all_with_next}
+use Rattle.proof_lines.proofs.Names.{names_at, names-logic, names-pair}
 use Rattle.proof_lines.proofs.formed.+formed.Goals as goal
 
 pub loop-given-preserved : goal.loop-given-preserved
 loop-given-preserved t c =
-    all_with_next IsName c.as_slice-given-items.result.now c.loop-given.given-index c.given-item.result c.loop-given-test.true c.loop-given.invariant
+    all_with_next IsName names_at c.as_slice-given-items.result.now c.loop-given.given-index c.given-item.result c.loop-given-test.true c.loop-given.invariant
     (subst (λ o. All IsName (names_at o)) c.given-item.is (subst (λ o. All IsName (names_at o)) (sym c.in-Some.is) c.formed.ensures))
 
 pub returns-after-loop-given : goal.returns-after-loop-given
