@@ -1,16 +1,8 @@
 // Laws of what edits touch. These functions do nothing: their clauses are the laws.
 ghost use Rattle.std.specs.Prelude.{◌≡◌, [], List, Bool, Some, false};
 ghost use Rattle.std.specs.List.{list_any};
-ghost use Rattle.cpe_name.specs.Eleven.{Values};
-ghost use Rattle.cpe_relation.specs.NameRelation.{covers};
-ghost use Rattle.cpe_relation.specs.Maybe.{maybe};
-ghost use Rattle.cpe_rows.specs.Rows.{Rows, same_key};
-ghost use Rattle.cpe_rows.specs.Chains.{leads_to, ends};
-ghost use Rattle.cpe_rows.specs.After.{after};
+ghost use Rattle.cpe_rows.specs.Prelude.{after, changes, check_truth, covers, ends, fact_truth, IsAccepted, leads_to, maybe, Rows, same_key, truth, Values, verdict};
 ghost use Rattle.cpe_rows.specs.Evaluation.{test_truth};
-ghost use Rattle.cpe_rows.specs.Verdict.{truth, fact_truth, check_truth, verdict};
-ghost use Rattle.cpe_rows.specs.Changes.{changes};
-ghost use Rattle.cpe_rows.specs.Accepted.{IsAccepted};
 ghost use Rattle.cpe_rows.specs.declared.truth.Truth.{Truth};
 ghost use Rattle.cpe_rows.specs.declared.test.CheckKey.{CheckKey};
 ghost use Rattle.cpe_rows.specs.declared.test.Test.{Test};

@@ -1,15 +1,12 @@
 -- The component of one value: the scanner of texts takes it whole, and takes nothing else whole.
-use Rattle.std.proofs.Common.{◌≡◌, ℕ, true, false, List, [], ◌∷◌, Option, Some, None, Result, Ok, Err, IfErr, refl, sym, ap, subst, ◌∙◌, inl, inr}
-use Rattle.std.specs.Result.{IsErrAnd}
+use Rattle.std.proofs.Common.{◌≡◌, ℕ, true, false, List, [], ◌∷◌, Option, Some, None, Result, Ok, Err, refl, sym, ap, subst, ◌∙◌, inl, inr}
 use Rattle.std.proofs.lemmas.List.{append-nil}
 use Rattle.std.proofs.lemmas.Bool.{cases_Bool, both_ways}
 use Rattle.cpe_values.specs.declared.value.Value.{Value}
-use Rattle.cpe_fs.specs.declared.component.ComponentFault.{ComponentFault}
-use Rattle.cpe_fs.specs.declared.component.ComponentFault.TheVariants as fault
 use Rattle.cpe_fs.specs.Scanning.{text_end}
 use Rattle.cpe_fs.specs.Spans.{IsSpan}
 use Rattle.cpe_fs.specs.SpanValues.{value_at}
-use Rattle.cpe_fs.specs.Component.{HasComponent, IsComponent, RefusesComponent, is_taken, is_component, read_component}
+use Rattle.cpe_fs.specs.Component.{HasComponent, IsComponent, is_taken, is_component, read_component}
 use Rattle.cpe_fs.proofs.Texts.{text_scans, text_taken}
 use Rattle.cpe_fs.proofs.ValueLemmas.{value_back}
 
@@ -44,10 +41,9 @@ one_value v s has = ap value_at has.1 ∙ value_back v has.0
 pub not_component : (s : List ℕ) → is_component s ≡ false → ¬ (IsComponent s)
 not_component s h = λ has. both_ways (is_component s) h (component_taken has.0 s has.1)
 
--- that memory ran out says that some value has it
-pub memory_refuses : (r : Result Value ComponentFault) (s : List ℕ) → is_component s ≡ true → IsErrAnd r (λ e. e ≡ fault.Memory) → IfErr r (λ e. RefusesComponent e s)
-memory_refuses (Ok v) s h is = tt
-memory_refuses (Err e) s h is = subst (λ (k : ComponentFault). RefusesComponent k s) (sym is) (value_at s, value_has s h)
+-- what is one is that of some value
+pub is_of_some : (s : List ℕ) → is_component s ≡ true → IsComponent s
+is_of_some s h = (value_at s, value_has s h)
 
 pub reads_value : (s : List ℕ) → is_component s ≡ true → read_component s ≡ Some (value_at s)
 unfolding read_component

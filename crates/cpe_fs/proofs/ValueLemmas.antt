@@ -60,9 +60,10 @@ spells_text s is any na = go is.value is.good is.spells where
   go (value.Text t) good spells = record { spelled_in = style.Formatted; text = t; good = good; spells = spells }
 
 -- what is read of it is its value
-pub text_read : (s : List ℕ) (read : Parts) (is : IsSpelling s) → is_only 42 s ≡ false → is_only 45 s ≡ false
+pub text_read : (s : List ℕ) (read : Parts) → IsSpan s → is_only 42 s ≡ false → is_only 45 s ≡ false
     → ((sty : Style) (t : Parts) → IsText t → spelling sty t ≡ s → read ≡ t) → value.Text read ≡ value_at s
-text_read s read is any na told =
+text_read s read span any na told =
+    let is : IsSpelling s = spells_text s span any na in
     let there : read ≡ parts_at s = told is.spelled_in is.text is.good is.spells ∙ sym (parts_are is.spelled_in is.text s is.good is.spells) in
     ap value.Text there ∙ rw (any, na) refl
 

@@ -4,7 +4,7 @@ use Rattle.std.specs.Prelude.{ℕ, List, [], ◌∷◌, codes, Bool, ◌||◌, �
 use Rattle.cpe_values.specs.declared.spelling.Style.TheVariants as style
 use Rattle.cpe_spelling.specs.Scanning.{is_star, starts_body, edge_end, stem_end}
 use Rattle.cpe_name.specs.declared.attribute.Attribute.{Attribute}
-use Rattle.cpe_name.specs.declared.attribute.Attribute.TheVariants.{Part, Vendor, Product, Version, Update, Edition, Language, SwEdition, TargetSw, TargetHw, Other}
+use Rattle.cpe_name.specs.declared.attribute.Attribute.TheVariants.{Part, Language}
 use Rattle.cpe_name.specs.Names.{attributes}
 use Rattle.cpe_name.specs.Shapes.{is_part_letter}
 use Rattle.cpe_name.specs.Tags.{tag_end}
@@ -52,15 +52,7 @@ language_end s = choose is_lone_byte (one is_lone_byte) (tag_end is_hyphen (one 
 abbrev pub component_end : Attribute → Scanner
 component_end Part = part_end
 component_end Language = language_end
-component_end Vendor = text_end
-component_end Product = text_end
-component_end Version = text_end
-component_end Update = text_end
-component_end Edition = text_end
-component_end SwEdition = text_end
-component_end TargetSw = text_end
-component_end TargetHw = text_end
-component_end Other = text_end
+component_end _ = text_end
 
 -- a colon and a component
 unfoldable pub field_end : Scanner → Scanner

@@ -1,6 +1,5 @@
 // From names to formatted strings (NIST IR 7695, 6.2.2).
-ghost use Rattle.std.specs.Prelude.{◌≡◌, ◌++◌, ◌∷◌, ◌+◌, ◌*◌, ◌^◌, ◌<◌, ◌≤◌, drop, length, true, IfOk, OnOk};
-ghost use Rattle.std.specs.List.{flat_map};
+ghost use Rattle.std.specs.Prelude.{◌≡◌, ◌++◌, ◌∷◌, ◌+◌, ◌*◌, ◌^◌, ◌<◌, ◌≤◌, drop, length, true, IfOk, OnOk, flat_map};
 ghost use Rattle.cpe_values.specs.Spelling.{edge_text, character};
 ghost use Rattle.cpe_values.specs.declared.spelling.Style.TheVariants as style;
 ghost use Rattle.cpe_values.specs.declared.value.Value.TheVariants.{Any};
@@ -34,24 +33,6 @@ fn push_fields(out: &mut Vec<u8>, name: &Wfn, which: &[Attribute]) -> Result<(),
     Ok(())
 }
 
-// What comes up to the version, and what after it.
-const START: [Attribute; 4] = [
-    Attribute::Part,
-    Attribute::Vendor,
-    Attribute::Product,
-    Attribute::Version,
-];
-
-const TAIL: [Attribute; 7] = [
-    Attribute::Update,
-    Attribute::Edition,
-    Attribute::Language,
-    Attribute::SwEdition,
-    Attribute::TargetSw,
-    Attribute::TargetHw,
-    Attribute::Other,
-];
-
 fn is_any(value: &Value) -> bool
     ensures { result ≡ true → value.now ≡ Any }
 {
@@ -80,7 +61,7 @@ fn push_tail(out: &mut Vec<u8>, name: &Wfn) -> Result<(), Memory>
         out.extend_from_slice(b":*:*:*:*:*:*:*")?;
         return Ok(());
     }
-    push_fields(out, name, &TAIL)
+    push_fields(out, name, &ATTRIBUTES[4..])
 }
 
 /// The formatted string of a name (NIST IR 7695, 6.2.2). Each name has exactly one, and letter case is kept.
@@ -102,7 +83,7 @@ pub fn append_fs(buffer: Vec<u8>, name: &Wfn) -> Result<Vec<u8>, Memory>
 {
     let mut out = buffer;
     out.extend_from_slice(b"cpe:2.3")?;
-    push_fields(&mut out, name, &START)?;
+    push_fields(&mut out, name, &ATTRIBUTES[..4])?;
     push_tail(&mut out, name)?;
     Ok(out)
 }

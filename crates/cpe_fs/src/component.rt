@@ -4,7 +4,6 @@ ghost use Rattle.cpe_values.specs.declared.value.Value.{Value};
 ghost use Rattle.cpe_values.specs.Values.{IsValue};
 ghost use Rattle.cpe_fs.specs.Grammar.{component};
 ghost use Rattle.cpe_fs.specs.Component.{HasComponent, IsComponent, RefusesComponent, is_component, read_component};
-ghost use Rattle.cpe_fs.specs.declared.component.ComponentFault.TheVariants as fault;
 
 use crate::bind::push_component;
 use crate::scan::scan_text;
@@ -22,14 +21,6 @@ pub enum ComponentFault {
     /// Memory ran out.
     #[error("out of memory")]
     Memory,
-}
-
-impl From<Memory> for ComponentFault {
-    ghost from_gives = { λ _ e. e ≡ fault.Memory };
-
-    fn from(_memory: Memory) -> ComponentFault {
-        ComponentFault::Memory
-    }
 }
 
 #[tactic(auto, unfolding(crate::specs::Component::is_component))]
@@ -57,7 +48,10 @@ pub fn unbind_component(alloc: Global, text: &[u8]) -> Result<Value, ComponentFa
     if !is_component(text) {
         return Err(ComponentFault::NotComponent);
     }
-    Ok(value_of(alloc, text)?)
+    match value_of(alloc, text) {
+        Ok(value) => Ok(value),
+        Err(_) => Err(ComponentFault::Memory),
+    }
 }
 
 /// The component of a value in a formatted string (NIST IR 7695, 6.2). Each value has exactly one, and letter case is kept.

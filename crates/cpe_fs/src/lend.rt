@@ -2,9 +2,7 @@
 ghost use Rattle.std.specs.Prelude.{◌≡◌, Ok, Err, map, IfOk, IfErr, IfSome, OnOk, MatchResult};
 ghost use Rattle.std.specs.List.{AllByRecursion};
 ghost use Rattle.cpe_values.specs.Borrowed.{value_lent};
-ghost use Rattle.cpe_name.specs.Borrowed.{name_lent};
-ghost use Rattle.cpe_name.specs.Names.{named};
-ghost use Rattle.cpe_name.specs.Spans.{texts};
+ghost use Rattle.cpe_name.specs.Prelude.{name_lent, named, texts};
 ghost use Rattle.cpe_fs.specs.Grammar.{Fs, IsFs, LeavesAt};
 ghost use Rattle.cpe_fs.specs.Spans.{IsSpan};
 ghost use Rattle.cpe_fs.specs.SpanValues.{value_at};

@@ -5,15 +5,12 @@
 #![tactic(auto)]
 
 ghost use Rattle.std.specs.Prelude.{◌≡◌, ℕ, List, ◌+◌, ◌*◌, ◌≤◌, length, Ok, Err, Some, None, IfOk, IfErr, MatchResult};
-ghost use Rattle.cpe_name.specs.Eleven.{Values};
+ghost use Rattle.cpe_name.specs.Prelude.{IsName, IsWfnText, Values, WfnText};
 ghost use Rattle.cpe_name.specs.Text.{output_text};
-ghost use Rattle.cpe_name.specs.Names.{IsName};
-ghost use Rattle.cpe_name.specs.WfnText.{WfnText, IsWfnText};
 ghost use Rattle.cpe_fs.specs.Grammar.{fs_text, Fs, LeavesAt, Refuses};
 ghost use Rattle.cpe_fs.specs.Bound.{bound, Binds};
 ghost use Rattle.cpe_fs.specs.Unbound.{read_fs, unbound, Says};
 ghost use Rattle.cpe_fs.specs.Writing.{WritesBound, WritesOutput};
-ghost use Rattle.cpe_fs.specs.declared.FsFault.TheVariants as fault;
 
 mod bind;
 mod bound;
@@ -30,7 +27,6 @@ use crate::write::FromComponents;
 pub use bind::{append_fs, bind_fs, fs_len};
 pub use component::{ComponentFault, bind_component, read_component_is, unbind_component};
 use cpe_name::{Wfn, put_output, read_name, scan_wfn};
-use cpe_values::Memory;
 pub use lend::lend_fs;
 use std::alloc::Global;
 use thiserror::Error;
@@ -55,14 +51,6 @@ pub enum FsFault {
     Memory,
 }
 
-impl From<Memory> for FsFault {
-    ghost from_gives = { λ _ e. e ≡ fault.Memory };
-
-    fn from(_memory: Memory) -> FsFault {
-        FsFault::Memory
-    }
-}
-
 /// The name that has this formatted string (NIST IR 7695, 6.2.3). Letter case is kept.
 ///
 /// # Errors
@@ -80,7 +68,10 @@ pub fn unbind_fs(alloc: Global, text: &[u8]) -> Result<Wfn, FsFault>
         Ok(components) => components,
         Err(left) => return Err(FsFault::At(text.len() - left)),
     };
-    Ok(read_name(&mut Components { alloc }, &components)?)
+    match read_name(&mut Components { alloc }, &components) {
+        Ok(name) => Ok(name),
+        Err(_) => Err(FsFault::Memory),
+    }
 }
 
 /// Writes the output text of the name that has this formatted string into `room`, from `at` on, and

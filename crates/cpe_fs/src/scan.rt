@@ -5,8 +5,7 @@
 ghost use Rattle.std.specs.Prelude.{◌≡◌, ◌==◌, ◌≤◌, ◌-◌, ◌+◌, ◌∷◌, [], true, take, length, Ok, Err, IfOk, IfErr};
 ghost use Rattle.cpe_grammar.specs.Place.{StopsAt};
 ghost use Rattle.cpe_grammar.specs.Scanners.{Scanner, Tells, one};
-ghost use Rattle.cpe_name.specs.Names.{attributes};
-ghost use Rattle.cpe_name.specs.Spans.{texts};
+ghost use Rattle.cpe_name.specs.Prelude.{attributes, texts};
 ghost use Rattle.cpe_fs.specs.Grammar.{IsFs};
 ghost use Rattle.cpe_fs.specs.Scanning.{is_hyphen, led_end, text_end, part_end, language_end, field_end, fields_end, any_tail};
 ghost use Rattle.cpe_fs.specs.Spans.{AreComponents, behind_field, component_at, components_at, any_components};
@@ -40,16 +39,6 @@ pub(crate) fn scan_text(bytes: &[u8]) -> Result<&[u8], usize>
     }
 }
 
-#[tactic(auto, unfolding(crate::specs::Scanning::part_end))]
-fn scan_part(bytes: &[u8]) -> Result<&[u8], usize>
-    ensures { Tells (λ rest. rest.now) result (part_end bytes.now) }
-{
-    match bytes {
-        [b'*' | b'-' | b'a' | b'h' | b'o', rest @ ..] => Ok(rest),
-        _ => Err(bytes.len()),
-    }
-}
-
 // A hyphen stands bare in a formatted string.
 struct BareHyphen;
 
@@ -69,16 +58,6 @@ impl Hyphen for BareHyphen {
     }
 }
 
-#[tactic(auto, unfolding(crate::specs::Scanning::language_end))]
-fn scan_language(bytes: &[u8]) -> Result<&[u8], usize>
-    ensures { Tells (λ rest. rest.now) result (language_end bytes.now) }
-{
-    match bytes {
-        [b'*' | b'-', rest @ ..] => Ok(rest),
-        _ => scan_language_tag::<BareHyphen>(bytes),
-    }
-}
-
 // What a component may be.
 trait Component {
     ghost end: { Scanner };
@@ -93,8 +72,12 @@ impl Component for Part {
     ghost end = { part_end };
 
     #[inline(always)]
+    #[tactic(auto, unfolding(crate::specs::Scanning::part_end))]
     fn scan(bytes: &[u8]) -> Result<&[u8], usize> {
-        scan_part(bytes)
+        match bytes {
+            [b'*' | b'-' | b'a' | b'h' | b'o', rest @ ..] => Ok(rest),
+            _ => Err(bytes.len()),
+        }
     }
 }
 
@@ -114,9 +97,12 @@ struct Language;
 impl Component for Language {
     ghost end = { language_end };
 
-    #[inline(always)]
+    #[tactic(auto, unfolding(crate::specs::Scanning::language_end))]
     fn scan(bytes: &[u8]) -> Result<&[u8], usize> {
-        scan_language(bytes)
+        match bytes {
+            [b'*' | b'-', rest @ ..] => Ok(rest),
+            _ => scan_language_tag::<BareHyphen>(bytes),
+        }
     }
 }
 
@@ -205,8 +191,7 @@ pub(crate) fn scan_fs(text: &[u8]) -> Result<Written, usize>
     ensures found { IfOk result (AreComponents text.now) }
     ensures refused { IfErr result (StopsAt IsFs text.now) }
 {
-    let rest = scan_literal(b"cpe:2.3", text)?;
-    let (components, behind) = scan_fields(rest)?;
+    let (components, behind) = scan_fields(scan_literal(b"cpe:2.3", text)?)?;
     if !behind.is_empty() {
         return Err(behind.len());
     }

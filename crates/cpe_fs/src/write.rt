@@ -1,7 +1,6 @@
 // The text of a well-formed name, written from where the components of its formatted string lie
 // (NIST IR 7695, 6.2.3). The room is the caller's: nothing here takes memory.
-ghost use Rattle.std.specs.Prelude.{◌≡◌, ◌≤◌, ◌+◌, ◌*◌, ◌++◌, ◌∷◌, [], length, take, codes, ◌||◌, ◌==◌};
-ghost use Rattle.std.specs.List.{flat_map};
+ghost use Rattle.std.specs.Prelude.{◌≡◌, ◌≤◌, ◌+◌, ◌*◌, ◌++◌, ◌∷◌, [], length, take, codes, ◌||◌, ◌==◌, flat_map};
 ghost use Rattle.cpe_fs.specs.Rewriting.{requoted, in_quotes, span_text};
 
 use cpe_name::PutValue;

@@ -157,15 +157,7 @@ shaped_slot a shape any na from (value.Text t) u is h =
 shaped : (a : Attribute) (u : List ℕ) (g : IsGood u) → has_shape a u ≡ true → IsSlot a u
 shaped Part u g h = shaped_slot Part is_part_text (tt, refl) (tt, refl) part_from g.value u g.is h
 shaped Language u g h = shaped_slot Language is_language_text (tt, refl) (tt, refl) language_from g.value u g.is h
-shaped Vendor u g h = record { value = g.value; suits = g.good; is = g.is }
-shaped Product u g h = record { value = g.value; suits = g.good; is = g.is }
-shaped Version u g h = record { value = g.value; suits = g.good; is = g.is }
-shaped Update u g h = record { value = g.value; suits = g.good; is = g.is }
-shaped Edition u g h = record { value = g.value; suits = g.good; is = g.is }
-shaped SwEdition u g h = record { value = g.value; suits = g.good; is = g.is }
-shaped TargetSw u g h = record { value = g.value; suits = g.good; is = g.is }
-shaped TargetHw u g h = record { value = g.value; suits = g.good; is = g.is }
-shaped Other u g h = record { value = g.value; suits = g.good; is = g.is }
+shaped _ u g h = record { value = g.value; suits = g.good; is = g.is }
 
 a_slot : (a : Attribute) (u : List ℕ) → IsValueText u → may_have a u ≡ true → IsSlot a u
 a_slot a u t h = let p = and_parts _ _ h in shaped a u (a_value u t (not-true _ p.0)) p.1
@@ -173,29 +165,13 @@ a_slot a u t h = let p = and_parts _ _ h in shaped a u (a_value u t (not-true _ 
 has : (a : Attribute) (v : Value) → Suits a v → has_shape a (value_text v) ≡ true
 has Part v h = part_passes v h.1
 has Language v h = language_passes v h.1
-has Vendor v h = refl
-has Product v h = refl
-has Version v h = refl
-has Update v h = refl
-has Edition v h = refl
-has SwEdition v h = refl
-has TargetSw v h = refl
-has TargetHw v h = refl
-has Other v h = refl
+has _ v h = refl
 
 -- what suits an attribute is a value
 pub good_of : (a : Attribute) (v : Value) → Suits a v → IsValue v
 good_of Part v h = h.0
 good_of Language v h = h.0
-good_of Vendor v h = h
-good_of Product v h = h
-good_of Version v h = h
-good_of Update v h = h
-good_of Edition v h = h
-good_of SwEdition v h = h
-good_of TargetSw v h = h
-good_of TargetHw v h = h
-good_of Other v h = h
+good_of _ v h = h
 
 -- ---- a hyphen that stands alone
 
@@ -306,16 +282,7 @@ skip_again (suc k) s = skip_again k s
 skip_name : (a : Attribute) (s : List ℕ) → skip (attribute_name a ++ s) ≡ attribute_name a ++ s
 unfolding skip
 skip_name Part s = refl
-skip_name Vendor s = refl
-skip_name Product s = refl
-skip_name Version s = refl
-skip_name Update s = refl
-skip_name Edition s = refl
-skip_name Language s = refl
-skip_name SwEdition s = refl
-skip_name TargetSw s = refl
-skip_name TargetHw s = refl
-skip_name Other s = refl
+skip_name _ s = refl
 
 abbrev pub NextRead : List ℕ → Option (List ℕ) → Type 0
 NextRead s None = s ≡ 93 ∷ []

@@ -1,8 +1,8 @@
 -- A name in lower case is a name.
-use Rattle.std.proofs.Common.{◌≡◌, ℕ, Bool, true, ◌&&◌, ◌||◌, eqb, List, [], ◌∷◌, map, refl, inl, inr, arith}
+use Rattle.std.proofs.Common.{◌≡◌, ℕ, Bool, true, ◌&&◌, List, [], ◌∷◌, map, refl, arith}
 use Rattle.std.specs.List.{AllByRecursion}
 use Rattle.std.specs.Char.{to_ascii_lowercase}
-use Rattle.std.proofs.lemmas.Bool.{eqb-true, and_parts, and_from, or_cases, or_left, or_right}
+use Rattle.std.proofs.lemmas.Bool.{and_parts, and_from}
 use Rattle.std.proofs.lemmas.Bool.Decides.{nat_tests}
 use Rattle.cpe_values.specs.declared.value.Value.{Value}
 use Rattle.cpe_values.specs.declared.value.Value.TheVariants as value
@@ -16,8 +16,9 @@ use Rattle.cpe_name.specs.declared.attribute.Attribute.{Attribute}
 use Rattle.cpe_name.specs.declared.attribute.Attribute.TheVariants.{Part, Vendor, Product, Version, Update, Edition, Language, SwEdition, TargetSw, TargetHw, Other}
 use Rattle.cpe_name.specs.Names.{attributes, value_of, Suits, IsName}
 use Rattle.cpe_name.specs.Lower.{lower_name}
+use Rattle.cpe_name.proofs.Tags.{CodeCase, letters, digits, RegionCase, none, behind, TagCase, two, three, tag_case, tag_lawful}
 use Rattle.cpe_name.proofs.WholeTexts.{value_named}
-use Rattle.cpe_name.specs.Shapes.{is_plain_of, is_part_letter, is_part_body, is_region, is_language_body}
+use Rattle.cpe_name.specs.Shapes.{is_plain_of, is_part_letter, is_part_body, is_language_body}
 
 -- ---- bytes
 
@@ -30,9 +31,6 @@ lower_letter c h = grind (arith, nat_tests)
 lower_digit : (c : ℕ) → is_digit c ≡ true → is_digit (to_ascii_lowercase c) ≡ true
 lower_digit c h = grind (arith, nat_tests)
 
-lower_hyphen : (c : ℕ) → eqb c 45 ≡ true → eqb (to_ascii_lowercase c) 45 ≡ true
-lower_hyphen c h = rw (eqb-true c 45 h) refl
-
 -- ---- bodies
 
 lower_part_body : (b : List ℕ) → is_part_body b ≡ true → is_part_body (map to_ascii_lowercase b) ≡ true
@@ -40,37 +38,22 @@ lower_part_body [] h = absurd cc
 lower_part_body (c ∷ []) h = lower_part_letter c h
 lower_part_body (c ∷ d ∷ b) h = absurd cc
 
-lower_region : (b : List ℕ) → is_region b ≡ true → is_region (map to_ascii_lowercase b) ≡ true
-lower_region [] h = refl
-lower_region (h ∷ []) e = absurd cc
-lower_region (h ∷ a ∷ []) e = absurd cc
-lower_region (h ∷ a ∷ b ∷ []) e =
-    let p = and_parts (eqb h 45 && is_letter a) (is_letter b) e in
-    let q = and_parts (eqb h 45) (is_letter a) p.0 in
-    and_from _ _ (and_from _ _ (lower_hyphen h q.0) (lower_letter a q.1)) (lower_letter b p.1)
-lower_region (h ∷ a ∷ b ∷ c ∷ []) e =
-    let p = and_parts (eqb h 45 && is_digit a && is_digit b) (is_digit c) e in
-    let q = and_parts (eqb h 45 && is_digit a) (is_digit b) p.0 in
-    let r = and_parts (eqb h 45) (is_digit a) q.0 in
-    and_from _ _ (and_from _ _ (and_from _ _ (lower_hyphen h r.0) (lower_digit a r.1)) (lower_digit b q.1)) (lower_digit c p.1)
-lower_region (h ∷ a ∷ b ∷ c ∷ d ∷ u) e = absurd cc
+lower_code : (u : List ℕ) → CodeCase u → CodeCase (map to_ascii_lowercase u)
+lower_code _ (letters x y hx hy) = letters (to_ascii_lowercase x) (to_ascii_lowercase y) (lower_letter x hx) (lower_letter y hy)
+lower_code _ (digits x y z hx hy hz) = digits (to_ascii_lowercase x) (to_ascii_lowercase y) (to_ascii_lowercase z) (lower_digit x hx) (lower_digit y hy) (lower_digit z hz)
+
+lower_region : (v : List ℕ) → RegionCase v → RegionCase (map to_ascii_lowercase v)
+lower_region _ none = none
+lower_region _ (behind u code) = behind (map to_ascii_lowercase u) (lower_code u code)
+
+-- a tag in lower case is a tag
+pub lower_tag : (t : List ℕ) → TagCase t → TagCase (map to_ascii_lowercase t)
+lower_tag _ (two a b v ha hb region) = two (to_ascii_lowercase a) (to_ascii_lowercase b) (map to_ascii_lowercase v) (lower_letter a ha) (lower_letter b hb) (lower_region v region)
+lower_tag _ (three a b c v ha hb hc region) =
+    three (to_ascii_lowercase a) (to_ascii_lowercase b) (to_ascii_lowercase c) (map to_ascii_lowercase v) (lower_letter a ha) (lower_letter b hb) (lower_letter c hc) (lower_region v region)
 
 lower_language_body : (b : List ℕ) → is_language_body b ≡ true → is_language_body (map to_ascii_lowercase b) ≡ true
-lower_language_body [] h = absurd cc
-lower_language_body (a ∷ []) h = absurd cc
-lower_language_body (a ∷ b ∷ []) h =
-    let p = and_parts (is_letter a) (is_letter b) h in
-    and_from _ _ (lower_letter a p.0) (lower_letter b p.1)
-lower_language_body (a ∷ b ∷ c ∷ r) h =
-    let p = and_parts (is_letter a && is_letter b) (is_region (c ∷ r) || is_letter c && is_region r) h in
-    let q = and_parts (is_letter a) (is_letter b) p.0 in
-    let letters : is_letter (to_ascii_lowercase a) && is_letter (to_ascii_lowercase b) ≡ true = and_from _ _ (lower_letter a q.0) (lower_letter b q.1) in
-    elim (or_cases (is_region (c ∷ r)) (is_letter c && is_region r) p.1) [
-      | inl k ↦ and_from _ _ letters (or_left _ _ (lower_region (c ∷ r) k))
-      | inr k ↦
-          let m = and_parts (is_letter c) (is_region r) k in
-          and_from _ _ letters (or_right _ _ (and_from _ _ (lower_letter c m.0) (lower_region r m.1)))
-    ]
+lower_language_body b h = tag_lawful (map to_ascii_lowercase b) (lower_tag b (tag_case b h))
 
 -- ---- values
 

@@ -17,6 +17,7 @@ use Rattle.cpe_name.specs.Text.{value_text}
 use Rattle.cpe_name.specs.Scanning.{is_part_in_quotes, is_part_text, is_region_behind, is_language_in_quotes, is_language_text}
 use Rattle.cpe_spelling.proofs.Bytes.{bare_character}
 use Rattle.cpe_name.proofs.QuotedTexts.{body_text}
+use Rattle.cpe_name.proofs.Tags.{CodeCase, letters, digits, RegionCase, none, behind, region_case}
 
 -- ---- texts without specials
 
@@ -33,10 +34,10 @@ record Plain (passes : List ℕ → Bool) (u : List ℕ) : Type 0 where
 
 -- a body that a test passes, which neither nothing nor one hyphen pass
 pub plain_text : (passes : List ℕ → Bool) (b : List ℕ) → passes [] ≡ false → passes (45 ∷ []) ≡ false → list_all is_character b ≡ true → passes b ≡ true → IsText (parts edge.None b edge.None)
-plain_text passes b none hyphen characters h = record {
+plain_text passes b empty hyphen characters h = record {
   lead = tt;
   characters = characters;
-  some = λ e. both_ways _ (ap passes e ∙ none) h;
+  some = λ e. both_ways _ (ap passes e ∙ empty) h;
   no_hyphen = λ e. both_ways _ (ap (λ (t : Parts). passes t.body) e ∙ hyphen) h;
   trail = tt;
 }
@@ -132,20 +133,13 @@ region_behind (s ∷ h ∷ a ∷ b ∷ c ∷ q ∷ []) e =
     }
 region_behind (s ∷ h ∷ a ∷ b ∷ c ∷ q ∷ d ∷ u) e = absurd cc
 
-region_passes : (b : List ℕ) → is_region b ≡ true → is_region_behind (body_text b ++ 34 ∷ []) ≡ true
-region_passes [] h = refl
-region_passes (h ∷ []) e = absurd cc
-region_passes (h ∷ a ∷ []) e = absurd cc
-region_passes (h ∷ a ∷ b ∷ []) e =
-    let r = and_parts (eqb h 45 && is_letter a) (is_letter b) e in
-    let t = and_parts (eqb h 45) (is_letter a) r.0 in
-    rw (eqb-true h 45 t.0, letter_bare a t.1, letter_bare b r.1, t.1, r.1) refl
-region_passes (h ∷ a ∷ b ∷ c ∷ []) e =
-    let w = and_parts (eqb h 45 && is_digit a && is_digit b) (is_digit c) e in
-    let r = and_parts (eqb h 45 && is_digit a) (is_digit b) w.0 in
-    let t = and_parts (eqb h 45) (is_digit a) r.0 in
-    rw (eqb-true h 45 t.0, digit_bare a t.1, digit_bare b r.1, digit_bare c w.1, t.1, r.1, w.1) refl
-region_passes (h ∷ a ∷ b ∷ c ∷ d ∷ u) e = absurd cc
+code_passes : (u : List ℕ) → CodeCase u → is_region_behind (body_text (45 ∷ u) ++ 34 ∷ []) ≡ true
+code_passes _ (letters a b la lb) = rw (letter_bare a la, letter_bare b lb, la, lb) refl
+code_passes _ (digits a b c da db dc) = rw (digit_bare a da, digit_bare b db, digit_bare c dc, da, db, dc) refl
+
+region_passes : (b : List ℕ) → RegionCase b → is_region_behind (body_text b ++ 34 ∷ []) ≡ true
+region_passes _ none = refl
+region_passes _ (behind u code) = code_passes u code
 
 two_letters : (a b : ℕ) (r : List ℕ) → is_letter a ≡ true → is_letter b ≡ true → is_region r ≡ true → is_language_body (a ∷ b ∷ r) ≡ true
 two_letters a b [] la lb h = and_from _ _ la lb
@@ -201,10 +195,10 @@ language_body_passes (a ∷ b ∷ c ∷ r) h =
     let p = and_parts (is_letter a && is_letter b) (is_region (c ∷ r) || is_letter c && is_region r) h in
     let q = and_parts (is_letter a) (is_letter b) p.0 in
     elim (or_cases (is_region (c ∷ r)) (is_letter c && is_region r) p.1) [
-      | inl k ↦ rw (letter_bare a q.0, letter_bare b q.1) (two_pass a b (body_text (c ∷ r)) q.0 q.1 (region_passes (c ∷ r) k))
+      | inl k ↦ rw (letter_bare a q.0, letter_bare b q.1) (two_pass a b (body_text (c ∷ r)) q.0 q.1 (region_passes (c ∷ r) (region_case (c ∷ r) k)))
       | inr k ↦
           let m = and_parts (is_letter c) (is_region r) k in
-          rw (letter_bare a q.0, letter_bare b q.1, letter_bare c m.0) (and_from _ _ (and_from _ _ q.0 q.1) (or_right _ _ (and_from _ _ m.0 (region_passes r m.1))))
+          rw (letter_bare a q.0, letter_bare b q.1, letter_bare c m.0) (and_from _ _ (and_from _ _ q.0 q.1) (or_right _ _ (and_from _ _ m.0 (region_passes r (region_case r m.1)))))
     ]
 
 -- the text of each language passes

@@ -50,7 +50,8 @@ pub data TagCase : List ℕ → Type 0 where
   two : (a b : ℕ) (v : List ℕ) → is_letter a ≡ true → is_letter b ≡ true → RegionCase v → TagCase (a ∷ b ∷ v)
   three : (a b c : ℕ) (v : List ℕ) → is_letter a ≡ true → is_letter b ≡ true → is_letter c ≡ true → RegionCase v → TagCase (a ∷ b ∷ c ∷ v)
 
-region_case : (v : List ℕ) → is_region v ≡ true → RegionCase v
+-- what is a region is one of them
+pub region_case : (v : List ℕ) → is_region v ≡ true → RegionCase v
 region_case [] h = none
 region_case (h ∷ []) e = absurd cc
 region_case (h ∷ x ∷ []) e = absurd cc

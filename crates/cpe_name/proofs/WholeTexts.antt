@@ -34,16 +34,7 @@ values_by f = named (map f attributes)
 value_by : (f : Attribute → Value) (a : Attribute) → value_of (values_by f) a ≡ f a
 unfolding values_by
 value_by f Part = refl
-value_by f Vendor = refl
-value_by f Product = refl
-value_by f Version = refl
-value_by f Update = refl
-value_by f Edition = refl
-value_by f Language = refl
-value_by f SwEdition = refl
-value_by f TargetSw = refl
-value_by f TargetHw = refl
-value_by f Other = refl
+value_by f _ = refl
 
 -- the value of each attribute is the one that was named for it
 pub value_named : (f : Attribute → Value) (a : Attribute) → value_of (named (map f attributes)) a ≡ f a

@@ -13,3 +13,4 @@ pub mod Unwriting
 pub mod Binding
 pub mod Borrowed
 pub mod OutputFrom
+pub mod Prelude

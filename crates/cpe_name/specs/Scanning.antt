@@ -6,7 +6,7 @@ use Rattle.cpe_values.specs.declared.spelling.Style.TheVariants as style
 use Rattle.cpe_values.specs.Spelling.{is_letter, is_digit}
 use Rattle.cpe_spelling.specs.Scanning.{edge_end, stem_end}
 use Rattle.cpe_name.specs.declared.attribute.Attribute.{Attribute}
-use Rattle.cpe_name.specs.declared.attribute.Attribute.TheVariants.{Part, Vendor, Product, Version, Update, Edition, Language, SwEdition, TargetSw, TargetHw, Other}
+use Rattle.cpe_name.specs.declared.attribute.Attribute.TheVariants.{Part, Language}
 use Rattle.cpe_name.specs.Names.{attributes}
 use Rattle.cpe_name.specs.Shapes.{is_part_letter}
 use Rattle.cpe_name.specs.Text.{attribute_name}
@@ -90,15 +90,7 @@ is_language_text (c ∷ s) = if c == 34 then is_language_in_quotes s else true
 abbrev pub has_shape : Attribute → List ℕ → Bool
 has_shape Part u = is_part_text u
 has_shape Language u = is_language_text u
-has_shape Vendor u = true
-has_shape Product u = true
-has_shape Version u = true
-has_shape Update u = true
-has_shape Edition u = true
-has_shape SwEdition u = true
-has_shape TargetSw u = true
-has_shape TargetHw u = true
-has_shape Other u = true
+has_shape _ u = true
 
 -- the attribute may have the value of this text
 abbrev pub may_have : Attribute → List ℕ → Bool

@@ -1,7 +1,7 @@
 // The text of a well-formed name, put into a room from where its values stand in another text. Nothing here takes memory.
 ghost use Rattle.std.specs.Prelude.{◌≡◌, ◌≤◌, ◌+◌, ◌*◌, ◌++◌, ◌∷◌, [], ℕ, List, true, length, take, drop, codes};
 ghost use Rattle.cpe_name.specs.Spans.{texts, total_length};
-ghost use Rattle.cpe_name.specs.OutputFrom.{keyed, output_from, start_from, tail_from, any_tail};
+ghost use Rattle.cpe_name.specs.OutputFrom.{keyed, output_from, tail_from, any_tail};
 
 use crate::Written;
 use cpe_room::{put, put_byte};
@@ -37,20 +37,6 @@ fn put_keyed<P: PutValue>(room: &mut [u8], at: usize, key: &[u8], span: &[u8]) -
     P::put_value(room, at, span)
 }
 
-// What comes up to the version.
-#[inline(always)]
-fn put_start<P: PutValue>(room: &mut [u8], at: usize, written: &Written) -> usize
-    requires { at + 2 * total_length (take 4 (texts written.now)) + (36 + 4 * P.spare) ≤ length room.old }
-    ensures at { result ≤ at + 2 * total_length (take 4 (texts written.now)) + (36 + 4 * P.spare) }
-    ensures room { length room.new ≡ length room.old }
-    ensures written { take result room.new ≡ take at room.old ++ start_from P.text written.now }
-{
-    let at = put_keyed::<P>(room, at, b"wfn:[part=", written.part);
-    let at = put_keyed::<P>(room, at, b",vendor=", written.vendor);
-    let at = put_keyed::<P>(room, at, b",product=", written.product);
-    put_keyed::<P>(room, at, b",version=", written.version)
-}
-
 // Whether each value after the version is known to be ANY, as in most names.
 #[inline(always)]
 #[tactic(auto, using(crate::proofs::AnyTail::any_tail_is))]
@@ -65,23 +51,6 @@ fn is_any_tail<P: PutValue>(written: &Written) -> bool
         && P::is_any(written.target_sw)
         && P::is_any(written.target_hw)
         && P::is_any(written.other)
-}
-
-#[inline(always)]
-fn put_tail_by_keys<P: PutValue>(room: &mut [u8], at: usize, written: &Written) -> usize
-    requires { at + 2 * total_length (drop 4 (texts written.now)) + (69 + 7 * P.spare) ≤ length room.old }
-    ensures at { result ≤ at + 2 * total_length (drop 4 (texts written.now)) + (69 + 7 * P.spare) }
-    ensures room { length room.new ≡ length room.old }
-    ensures written { take result room.new ≡ take at room.old ++ tail_from P.text written.now }
-{
-    let at = put_keyed::<P>(room, at, b",update=", written.update);
-    let at = put_keyed::<P>(room, at, b",edition=", written.edition);
-    let at = put_keyed::<P>(room, at, b",language=", written.language);
-    let at = put_keyed::<P>(room, at, b",sw_edition=", written.sw_edition);
-    let at = put_keyed::<P>(room, at, b",target_sw=", written.target_sw);
-    let at = put_keyed::<P>(room, at, b",target_hw=", written.target_hw);
-    let at = put_keyed::<P>(room, at, b",other=", written.other);
-    put_byte(room, at, b']')
 }
 
 // What comes after the version. Seven times ANY is put at once.
@@ -99,7 +68,14 @@ fn put_tail<P: PutValue>(room: &mut [u8], at: usize, written: &Written) -> usize
             b",update=ANY,edition=ANY,language=ANY,sw_edition=ANY,target_sw=ANY,target_hw=ANY,other=ANY]",
         );
     }
-    put_tail_by_keys::<P>(room, at, written)
+    let at = put_keyed::<P>(room, at, b",update=", written.update);
+    let at = put_keyed::<P>(room, at, b",edition=", written.edition);
+    let at = put_keyed::<P>(room, at, b",language=", written.language);
+    let at = put_keyed::<P>(room, at, b",sw_edition=", written.sw_edition);
+    let at = put_keyed::<P>(room, at, b",target_sw=", written.target_sw);
+    let at = put_keyed::<P>(room, at, b",target_hw=", written.target_hw);
+    let at = put_keyed::<P>(room, at, b",other=", written.other);
+    put_byte(room, at, b']')
 }
 
 /// Puts the output text of the name whose values stand there at a place, and tells the place after it. The names of the attributes,
@@ -110,6 +86,9 @@ pub fn put_output<P: PutValue>(room: &mut [u8], at: usize, written: &Written) ->
     ensures room { length room.new ≡ length room.old }
     ensures written { take result room.new ≡ take at room.old ++ output_from P.text written.now }
 {
-    let at = put_start::<P>(room, at, written);
+    let at = put_keyed::<P>(room, at, b"wfn:[part=", written.part);
+    let at = put_keyed::<P>(room, at, b",vendor=", written.vendor);
+    let at = put_keyed::<P>(room, at, b",product=", written.product);
+    let at = put_keyed::<P>(room, at, b",version=", written.version);
     put_tail::<P>(room, at, written)
 }

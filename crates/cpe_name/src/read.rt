@@ -8,7 +8,6 @@ ghost use Rattle.cpe_name.specs.Text.{output_text};
 ghost use Rattle.cpe_name.specs.WfnText.{WfnText, Refuses};
 ghost use Rattle.cpe_name.specs.Spans.{texts};
 ghost use Rattle.cpe_name.specs.Unwriting.{IsAnyText, inner, value_from};
-ghost use Rattle.cpe_name.specs.declared.read.WfnFault.TheVariants as fault;
 
 use crate::scan::scan_wfn;
 use crate::{ReadValue, Wfn, read_name};
@@ -25,14 +24,6 @@ pub enum WfnFault {
     /// Memory ran out.
     #[error("out of memory")]
     Memory,
-}
-
-impl From<Memory> for WfnFault {
-    ghost from_gives = { λ _ e. e ≡ fault.Memory };
-
-    fn from(_memory: Memory) -> WfnFault {
-        WfnFault::Memory
-    }
 }
 
 // What is between the quotes.
@@ -95,7 +86,10 @@ pub fn read_wfn(alloc: Global, text: &[u8]) -> Result<Wfn, WfnFault>
     let Some(written) = scan_wfn(text) else {
         return Err(WfnFault::NotWfn);
     };
-    Ok(read_name(&mut Quoted { alloc }, &written)?)
+    match read_name(&mut Quoted { alloc }, &written) {
+        Ok(name) => Ok(name),
+        Err(_) => Err(WfnFault::Memory),
+    }
 }
 
 /// The output text of a name is one of its texts, and no text is that of two names. It does nothing.

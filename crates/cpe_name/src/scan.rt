@@ -1,6 +1,5 @@
 // Where the values of a name lie in one of its texts. Nothing here takes memory.
-ghost use Rattle.std.specs.Prelude.{◌≡◌, ◌-◌, ◌==◌, ◌≤◌, ◌∷◌, ℕ, List, [], take, length, Some, None, IfSome, MatchOption};
-ghost use Rattle.std.specs.Option.{option_map};
+ghost use Rattle.std.specs.Prelude.{◌≡◌, ◌-◌, ◌==◌, ◌≤◌, ◌∷◌, ℕ, List, [], take, length, Some, None, IfSome, MatchOption, option_map};
 ghost use Rattle.cpe_name.specs.Names.{attributes};
 ghost use Rattle.cpe_name.specs.WfnText.{rank, IsWfnText};
 ghost use Rattle.cpe_name.specs.Scanning.{Finds, left_behind, value_end, value_at, is_lone, is_part_in_quotes, is_part_text, is_region_behind, is_language_in_quotes, is_language_text, has_shape, may_have, after_at, key_text, name_at, item_at, skip, next_at, slot, put_text, none_given, is_some_text, step_at, list_at, is_end, list_or_end, all_at};

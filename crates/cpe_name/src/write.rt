@@ -1,6 +1,5 @@
 // The text of a well-formed name.
-ghost use Rattle.std.specs.Prelude.{◌≡◌, ◌++◌, ◌∷◌, IfOk, OnOk};
-ghost use Rattle.std.specs.List.{flat_map};
+ghost use Rattle.std.specs.Prelude.{◌≡◌, ◌++◌, ◌∷◌, IfOk, OnOk, flat_map};
 ghost use Rattle.cpe_name.specs.Text.{value_text, attribute_text, output_text};
 
 use crate::attribute::text_of;

@@ -126,16 +126,11 @@ same_lower_lower a b = ap (λ (x : List ℕ). pointwise nat_eq x (lower (lower b
 
 pub relation_lower : (a b : Value) → relation (lower_value a) (lower_value b) ≡ relation a b
 relation_lower value.Any value.Any = refl
-relation_lower value.Any value.Na = refl
-relation_lower value.Any (value.Text t) = refl
 relation_lower value.Na value.Any = refl
-relation_lower value.Na value.Na = refl
-relation_lower value.Na (value.Text t) = refl
-relation_lower (value.Text s) value.Any = refl
-relation_lower (value.Text s) value.Na = refl
 relation_lower (value.Text s) (value.Text t) =
     ap (λ (x : Bool). cond (has_special t) Undefined (cond (has_special s) (cond x Superset Disjoint) (cond (same_lower (lower s.body) (lower t.body)) Equal Disjoint))) (matches_lower s t.body)
     ∙ ap (λ (x : Bool). cond (has_special t) Undefined (cond (has_special s) (cond (matches s t.body) Superset Disjoint) (cond x Equal Disjoint))) (same_lower_lower s.body t.body)
+relation_lower _ _ = refl
 
 -- ---- the other way round
 

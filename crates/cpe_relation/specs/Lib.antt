@@ -8,3 +8,4 @@ pub mod Attributes
 pub mod Order
 pub mod Near
 pub mod Maybe
+pub mod Prelude

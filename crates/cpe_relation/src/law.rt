@@ -3,8 +3,7 @@ ghost use Rattle.std.specs.Prelude.{◌≡◌, ◌↔◌, ◌⊎◌, ℕ, List, 
 ghost use Rattle.cpe_values.specs.declared.value.Value.{Value};
 ghost use Rattle.cpe_values.specs.Parts.{Parts};
 ghost use Rattle.cpe_values.specs.Lower.{has_specials};
-ghost use Rattle.cpe_name.specs.Eleven.{Values};
-ghost use Rattle.cpe_name.specs.Lower.{lower_name};
+ghost use Rattle.cpe_name.specs.Prelude.{lower_name, Values};
 ghost use Rattle.cpe_name.specs.Wildcards.{name_has_specials};
 ghost use Rattle.cpe_relation.specs.Matching.{Matches};
 ghost use Rattle.cpe_relation.specs.MatchTests.{matches};

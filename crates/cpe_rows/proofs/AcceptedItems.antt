@@ -24,8 +24,8 @@ module _ (rows next : Rows) (n : Values) (h : IsAccepted rows (edit.Item n) next
   result : IsUnrefused rows (edit.Item n) × (left ≡ next)
   result = unrefused h
 
-  stays : IsLawful left
-  stays = record {
+  pub lawful_with : IsLawful next
+  lawful_with = subst IsLawful result.1 record {
     formed = stay_formed rows (edit.Item n) h.lawful.formed h.formed;
     dictionary = h.lawful.dictionary;
     item_names = all_with_last is_lower rows.items n h.valid ∙ h.lawful.item_names;
@@ -35,9 +35,6 @@ module _ (rows next : Rows) (n : Values) (h : IsAccepted rows (edit.Item n) next
     keys_differ = h.lawful.keys_differ;
     within = not_found fault.Full (exceeds left) limited result.0.1.0;
   }
-
-  pub lawful_with : IsLawful next
-  lawful_with = subst IsLawful result.1 stays
 
 module _ {A : Type 0} (p : A → Bool) where
   pub all_but_first : (q : A → Bool) (xs : List A) → list_all q xs ≡ true → list_all q (without_first p xs) ≡ true
@@ -69,8 +66,8 @@ module _ (rows next : Rows) (n : Values) (h : IsAccepted rows (edit.DropItem n) 
   abbrev without : Rows
   without = after rows (edit.DropItem n)
 
-  still_lawful : IsLawful without
-  still_lawful = record {
+  pub lawful_without : IsLawful next
+  lawful_without = subst IsLawful (unrefused h).1 record {
     formed = stay_formed rows (edit.DropItem n) h.lawful.formed h.formed;
     dictionary = h.lawful.dictionary;
     item_names = all_but_first (is_same n) is_lower rows.items h.lawful.item_names;
@@ -80,6 +77,3 @@ module _ (rows next : Rows) (n : Values) (h : IsAccepted rows (edit.DropItem n) 
     keys_differ = h.lawful.keys_differ;
     within = still_within rows without (item_less rows n) h.lawful.within;
   }
-
-  pub lawful_without : IsLawful next
-  lawful_without = subst IsLawful (unrefused h).1 still_lawful

@@ -1,5 +1,5 @@
 -- Accepted edits of deprecations leave lawful rows.
-use Rattle.std.proofs.Common.{◌≡◌, ℕ, List, [], ◌∷◌, Bool, true, false, not, length, Option, Some, None, refl, ap, ◌∙◌, subst}
+use Rattle.std.proofs.Common.{◌≡◌, ℕ, List, [], ◌∷◌, ◌++◌, Bool, true, false, not, length, Option, Some, None, refl, ap, ◌∙◌, subst}
 use Rattle.std.specs.Option.{option_map_or}
 use Rattle.std.specs.List.{list_any, list_all, AllByRecursion}
 use Rattle.std.proofs.lemmas.Bool.{not-false}
@@ -100,23 +100,23 @@ module _ (rows : Rows) (n : Values) (d : Deprecation) where
   }
 
 module _ (rows next : Rows) (n : Values) (d : Deprecation) (date comment : List ℕ) where
+  -- the change that is not refused, whatever the note tells of
+  noted_lawful : (kind : NoteKind) → let left : Rows = record rows { entries = changed (deprecated (Some d) kind date comment) n rows.entries } in
+      IsLawful rows → AreFormed left → AllByRecursion (λ o. o ≡ None) (successor_faults rows n d ++ too_wide left ∷ full left ∷ []) → IsLawful left
+  noted_lawful kind ok formed none =
+      let left : Rows = record rows { entries = changed (deprecated (Some d) kind date comment) n rows.entries } in
+      let parts = both_none (successor_faults rows n d) (too_wide left ∷ full left ∷ []) none in
+      stays rows n (Some d) kind date comment ok (not_refused rows n d parts.0) formed parts.1.0 parts.1.1.0
+
   pub deprecated_lawful : IsAccepted rows (edit.Deprecate n d date comment) next → IsLawful next
   deprecated_lawful h =
-      let left = after rows (edit.Deprecate n d date comment) in
       let result = unrefused h in
-      let parts = both_none (successor_faults rows n d) (too_wide left ∷ full left ∷ []) result.0.1.1 in
-      subst IsLawful result.1
-      (stays rows n (Some d) note.Deprecation date comment h.lawful (not_refused rows n d parts.0)
-      (stay_formed rows (edit.Deprecate n d date comment) h.lawful.formed h.formed) parts.1.0 parts.1.1.0)
+      subst IsLawful result.1 (noted_lawful note.Deprecation h.lawful (stay_formed rows (edit.Deprecate n d date comment) h.lawful.formed h.formed) result.0.1.1)
 
   pub amended_lawful : IsAccepted rows (edit.Amend n d date comment) next → IsLawful next
   amended_lawful h =
-      let left = after rows (edit.Amend n d date comment) in
       let result = unrefused h in
-      let parts = both_none (successor_faults rows n d) (too_wide left ∷ full left ∷ []) result.0.1.1 in
-      subst IsLawful result.1
-      (stays rows n (Some d) note.DeprecationModification date comment h.lawful (not_refused rows n d parts.0)
-      (stay_formed rows (edit.Amend n d date comment) h.lawful.formed h.formed) parts.1.0 parts.1.1.0)
+      subst IsLawful result.1 (noted_lawful note.DeprecationModification h.lawful (stay_formed rows (edit.Amend n d date comment) h.lawful.formed h.formed) result.0.1.1)
 
 module _ (rows next : Rows) (n : Values) (date comment : List ℕ) where
   pub restored_lawful : IsAccepted rows (edit.Restore n date comment) next → IsLawful next

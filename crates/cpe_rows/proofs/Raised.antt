@@ -96,6 +96,14 @@ module _ (next : Rows) where
       (past limit.Statements (limit.Facts ∷ limit.Checks ∷ limit.Weight ∷ []) (number limit.Checks ∷ heavy next ∷ []) s
       (past limit.Facts (limit.Checks ∷ limit.Weight ∷ []) (number limit.Checks ∷ heavy next ∷ []) f refl)))
 
+-- where one more is put last, the number of these alone may be too large
+with_last : {A : Type 0} (prefix : List (Option EditFault)) (next : Rows) (which : Which) (xs : List A) (x : A)
+    → first_some (full next ∷ []) ≡ first_some (when (nat_lt (most which) (length (xs ++ x ∷ []))) (fault.Full which) ∷ heavy next ∷ [])
+    → first_some (prefix ++ full next ∷ []) ≡ first_some (prefix ++ when (nat_lt (most which) (length xs + 1)) (fault.Full which) ∷ heavy next ∷ [])
+with_last prefix next which xs x raised =
+    first_same prefix (full next ∷ []) (when (nat_lt (most which) (length xs + 1)) (fault.Full which) ∷ heavy next ∷ [])
+    (raised ∙ (λ i. first_some (when (nat_lt (most which) (length-last xs x i)) (fault.Full which) ∷ heavy next ∷ [])))
+
 module _ (rows : Rows) (h : AreWithin rows) where
   abbrev AreCauses : Edit → Type 0
   AreCauses e = first_some (faults rows e) ≡ first_some (causes rows e ++ heavy (after rows e) ∷ [])
@@ -113,18 +121,14 @@ module _ (rows : Rows) (h : AreWithin rows) where
   of_entry : (e : Entry) → AreCauses (edit.Entry e)
   of_entry e =
       let next = after rows (edit.Entry e) in
-      let prefix = when (not (is_identifier e.name)) fault.NotIdentifier ∷ when (has_wildcards e.name) fault.Wildcards ∷ when (is_entry rows e.name) fault.Exists ∷ [] in
-      first_same prefix (full next ∷ []) (when (nat_lt (most limit.Entries) (length rows.entries + 1)) (fault.Full limit.Entries) ∷ heavy next ∷ [])
-      (raised_entries next (within limit.Items) (within limit.Statements) (within limit.Facts) (within limit.Checks)
-      ∙ (λ i. first_some (when (nat_lt (most limit.Entries) (length-last rows.entries e i)) (fault.Full limit.Entries) ∷ heavy next ∷ [])))
+      with_last (when (not (is_identifier e.name)) fault.NotIdentifier ∷ when (has_wildcards e.name) fault.Wildcards ∷ when (is_entry rows e.name) fault.Exists ∷ []) next limit.Entries rows.entries e
+      (raised_entries next (within limit.Items) (within limit.Statements) (within limit.Facts) (within limit.Checks))
 
   of_item : (n : Values) → AreCauses (edit.Item n)
   of_item n =
       let next = after rows (edit.Item n) in
-      let prefix = when (is_item rows n) fault.Exists ∷ [] in
-      first_same prefix (full next ∷ []) (when (nat_lt (most limit.Items) (length rows.items + 1)) (fault.Full limit.Items) ∷ heavy next ∷ [])
-      (raised_items next (within limit.Entries) (within limit.Statements) (within limit.Facts) (within limit.Checks)
-      ∙ (λ i. first_some (when (nat_lt (most limit.Items) (length-last rows.items n i)) (fault.Full limit.Items) ∷ heavy next ∷ [])))
+      with_last (when (is_item rows n) fault.Exists ∷ []) next limit.Items rows.items n
+      (raised_items next (within limit.Entries) (within limit.Statements) (within limit.Facts) (within limit.Checks))
 
   of_statement : (s : Statement) → AreCauses (edit.PutStatement s)
   of_statement s =

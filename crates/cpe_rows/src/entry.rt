@@ -118,10 +118,11 @@ impl Provenance {
     pub fn copy(&self, alloc: Global) -> Result<Provenance, Memory>
         ensures { IfOk result (λ p. p ≡ self.now) }
     {
+        let notes = copy_of_notes(alloc, self.notes.as_slice())?;
         Ok(Provenance {
             submitter: self.submitter.copy(alloc)?,
             authority: self.authority.copy(alloc)?,
-            notes: copy_of_notes(alloc, self.notes.as_slice())?,
+            notes,
         })
     }
 }
@@ -160,11 +161,12 @@ impl Entry {
     pub fn copy(&self, alloc: Global) -> Result<Entry, Memory>
         ensures { IfOk result (λ e. e ≡ self.now) }
     {
+        let deprecation = copy_of_deprecation(alloc, &self.deprecation)?;
         Ok(Entry {
             name: self.name.copy(alloc)?,
             title: self.title.copy(alloc)?,
             provenance: self.provenance.copy(alloc)?,
-            deprecation: copy_of_deprecation(alloc, &self.deprecation)?,
+            deprecation,
         })
     }
 }

@@ -1,9 +1,8 @@
 // Laws of the definitions. These functions do nothing: their clauses are the laws.
 ghost use Rattle.std.specs.Prelude.{◌≡◌, ◌↔◌, ◌∷◌, ◌++◌, [], ℕ, List, IsTrue, false, true, Contains, All, map, length, Ok, Some, None, Option, position, find, if◌then◌else◌};
 ghost use Rattle.std.specs.List.{list_any};
-ghost use Rattle.cpe_name.specs.Eleven.{Values};
+ghost use Rattle.cpe_rows.specs.Prelude.{after, check_truth, first_some, has_id, has_key, is_lower, is_named, is_same, IsAccepted, no_rows, Refuses, Rows, same_key, step, Values, verdict};
 ghost use Rattle.cpe_name.specs.Lower.{IsLower, lower_name};
-ghost use Rattle.cpe_rows.specs.Names.{is_same, is_lower};
 ghost use Rattle.cpe_rows.specs.Truth.{and_all, or_all, and_of, or_of, not_of};
 ghost use Rattle.cpe_rows.specs.Negation.{negation_of, HaveSameTruth, HasNegatedTruth};
 ghost use Rattle.cpe_rows.specs.declared.test.Operator.{Operator};
@@ -11,17 +10,11 @@ ghost use Rattle.cpe_rows.specs.declared.test.Operator.TheVariants.{And, Or};
 ghost use Rattle.cpe_rows.specs.declared.test.Test.{Test, Logic};
 ghost use Rattle.cpe_rows.specs.Reach.{IsDecided};
 ghost use Rattle.cpe_rows.specs.Chains.{is_successor, chain, ends};
-ghost use Rattle.cpe_rows.specs.Rows.{Rows, no_rows, is_named, has_id, has_key, same_key};
-ghost use Rattle.cpe_rows.specs.After.{after};
-ghost use Rattle.cpe_rows.specs.Verdict.{check_truth, verdict};
 ghost use Rattle.cpe_rows.specs.Changes.{change, changes, dropped};
 ghost use Rattle.cpe_rows.specs.Limits.{AreWithin};
 ghost use Rattle.cpe_rows.specs.Faults.{faults};
-ghost use Rattle.cpe_rows.specs.Step.{step, first_some};
-ghost use Rattle.cpe_rows.specs.Applied.{Refuses};
 ghost use Rattle.cpe_rows.specs.Causes.{causes, heavy, IsCause};
 ghost use Rattle.cpe_rows.specs.Lawful.{IsLawful, are_different};
-ghost use Rattle.cpe_rows.specs.Accepted.{IsAccepted};
 ghost use Rattle.cpe_rows.specs.declared.truth.Truth.{Truth};
 ghost use Rattle.cpe_rows.specs.declared.truth.Truth.TheVariants.{True, False, Unknown};
 ghost use Rattle.cpe_rows.specs.declared.entry.Entry.{Entry};

@@ -35,11 +35,12 @@ impl Statement {
     pub fn copy(&self, alloc: Global) -> Result<Statement, Memory>
         ensures { IfOk result (λ s. s ≡ self.now) }
     {
+        let test = self.test.copy(alloc)?;
         Ok(Statement {
             id: self.id.copy(alloc)?,
             title: self.title.copy(alloc)?,
             mode: self.mode,
-            test: self.test.copy(alloc)?,
+            test,
         })
     }
 }

@@ -1,6 +1,5 @@
 // The state of a session and what its lines cost, told without the session.
-ghost use Rattle.std.specs.Prelude.{◌≡◌, List, ℕ};
-ghost use Rattle.std.specs.declared.option.Option.{Option};
+ghost use Rattle.std.specs.Prelude.{◌≡◌, List, ℕ, Option};
 ghost use Rattle.cpe_session.specs.Session.{Session, Stage, stage_after, costs};
 ghost use Rattle.cpe_session.specs.Folding.{ChangesBy, CostsBy, folded, summed_by};
 

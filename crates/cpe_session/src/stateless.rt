@@ -51,29 +51,22 @@ impl<T: Stateless> Speaker for Each<T> {
     fn say<L: Ledger>(
         &self,
         alloc: Global,
-        state: &mut (),
+        _state: &mut (),
         page: &mut Page,
         line: &Line<'_>,
-        steps: &mut Steps<L>,
+        _steps: &mut Steps<L>,
     ) -> Result<Option<T::Reason>, AllocError> {
-        let _ = state;
-        let _ = steps;
         self.0.say(alloc, page, line.text)
     }
 
     fn say_end<K: Sink, L: Ledger>(
         &self,
-        alloc: Global,
-        state: &(),
-        page: &mut Page,
-        sink: &mut K,
-        steps: &mut Steps<L>,
+        _alloc: Global,
+        _state: &(),
+        _page: &mut Page,
+        _sink: &mut K,
+        _steps: &mut Steps<L>,
     ) -> Result<(), SinkFault> {
-        let _ = alloc;
-        let _ = state;
-        let _ = page;
-        let _ = sink;
-        let _ = steps;
         Ok(())
     }
 }

@@ -27,12 +27,9 @@
 #![tactic(auto)]
 
 ghost use Rattle.std.specs.Prelude.{◌≡◌, ℕ, List, ◌+◌, ◌*◌, ◌≤◌, length, Ok, Some, None};
-ghost use Rattle.cpe_name.specs.Eleven.{Values};
-ghost use Rattle.cpe_name.specs.WfnText.{WfnText, IsWfnText};
+ghost use Rattle.cpe_name.specs.Prelude.{IsName, IsWfnText, lower_name, Values, WfnText};
 ghost use Rattle.cpe_fs.specs.Writing.{WritesBound};
 ghost use Rattle.cpe_uri.specs.Canon.{canon};
-ghost use Rattle.cpe_name.specs.Lower.{lower_name};
-ghost use Rattle.cpe_name.specs.Names.{IsName};
 ghost use Rattle.cpe_uri.specs.Grammar.{Uri};
 ghost use Rattle.cpe_uri.specs.Unbound.{read_uri};
 ghost use Rattle.cpe_uri.specs.Bound.{bound_uri, BindsUri};

@@ -2,8 +2,7 @@
 ghost use Rattle.std.specs.Prelude.{◌≡◌, ◌≤◌, length, take, map, IfOk};
 ghost use Rattle.cpe_values.specs.Spelled.{IsSpelling};
 ghost use Rattle.cpe_values.specs.Unspelling.{parts_at};
-ghost use Rattle.cpe_name.specs.Names.{named, IsName};
-ghost use Rattle.cpe_name.specs.Spans.{texts};
+ghost use Rattle.cpe_name.specs.Prelude.{IsName, named, texts};
 ghost use Rattle.cpe_uri.specs.Rewriting.{rewritten, is_hyphen};
 ghost use Rattle.cpe_uri.specs.SpanValues.{value_at, IsSpan, AreSpans};
 

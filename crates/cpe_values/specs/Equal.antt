@@ -12,14 +12,9 @@ use Rattle.cpe_values.specs.Same.{same_edge, same_parts, same_value}
 
 same_edge-Decides : (a b : Edge) → Decides (same_edge a b) (a ≡ b)
 same_edge-Decides edge.None edge.None = (λ h. refl, λ h. refl)
-same_edge-Decides edge.None edge.Star = (λ h. absurd cc, λ h. absurd cc)
-same_edge-Decides edge.None (edge.Marks n) = (λ h. absurd cc, λ h. absurd cc)
-same_edge-Decides edge.Star edge.None = (λ h. absurd cc, λ h. absurd cc)
 same_edge-Decides edge.Star edge.Star = (λ h. refl, λ h. refl)
-same_edge-Decides edge.Star (edge.Marks n) = (λ h. absurd cc, λ h. absurd cc)
-same_edge-Decides (edge.Marks m) edge.None = (λ h. absurd cc, λ h. absurd cc)
-same_edge-Decides (edge.Marks m) edge.Star = (λ h. absurd cc, λ h. absurd cc)
 same_edge-Decides (edge.Marks m) (edge.Marks n) = (λ h. ap edge.Marks (eqb-true m n h), λ h. eq-eqb m n cc)
+same_edge-Decides _ _ = (λ h. absurd cc, λ h. absurd cc)
 
 same_body-Decides : (a b : List ℕ) → Decides (pointwise nat_eq a b) (a ≡ b)
 same_body-Decides a b = slice_eq-Decides (λ x y. (eqb-true x y, eq-eqb x y)) a b (pointwise nat_eq a b) refl
@@ -38,11 +33,6 @@ same_parts-Decides a b =
 
 pub same_value-Decides : (a b : Value) → Decides (same_value a b) (a ≡ b)
 same_value-Decides value.Any value.Any = (λ h. refl, λ h. refl)
-same_value-Decides value.Any value.Na = (λ h. absurd cc, λ h. absurd cc)
-same_value-Decides value.Any (value.Text t) = (λ h. absurd cc, λ h. absurd cc)
-same_value-Decides value.Na value.Any = (λ h. absurd cc, λ h. absurd cc)
 same_value-Decides value.Na value.Na = (λ h. refl, λ h. refl)
-same_value-Decides value.Na (value.Text t) = (λ h. absurd cc, λ h. absurd cc)
-same_value-Decides (value.Text s) value.Any = (λ h. absurd cc, λ h. absurd cc)
-same_value-Decides (value.Text s) value.Na = (λ h. absurd cc, λ h. absurd cc)
 same_value-Decides (value.Text s) (value.Text t) = let d = same_parts-Decides s t in (λ h. ap value.Text (d.0 h), λ h. d.1 cc)
+same_value-Decides _ _ = (λ h. absurd cc, λ h. absurd cc)

@@ -10,28 +10,18 @@ use Rattle.cpe_values.specs.Parts.{Parts}
 
 abbrev pub same_edge : Edge → Edge → Bool
 same_edge edge.None edge.None = true
-same_edge edge.None edge.Star = false
-same_edge edge.None (edge.Marks n) = false
-same_edge edge.Star edge.None = false
 same_edge edge.Star edge.Star = true
-same_edge edge.Star (edge.Marks n) = false
-same_edge (edge.Marks m) edge.None = false
-same_edge (edge.Marks m) edge.Star = false
 same_edge (edge.Marks m) (edge.Marks n) = m == n
+same_edge _ _ = false
 
 abbrev pub same_parts : Parts → Parts → Bool
 same_parts a b = same_edge a.lead b.lead && pointwise nat_eq a.body b.body && same_edge a.trail b.trail
 
 abbrev pub same_value : Value → Value → Bool
 same_value value.Any value.Any = true
-same_value value.Any value.Na = false
-same_value value.Any (value.Text t) = false
-same_value value.Na value.Any = false
 same_value value.Na value.Na = true
-same_value value.Na (value.Text t) = false
-same_value (value.Text t) value.Any = false
-same_value (value.Text t) value.Na = false
 same_value (value.Text s) (value.Text t) = same_parts s t
+same_value _ _ = false
 
 abbrev pub parts_input : Parts → List (List ℕ)
 parts_input t = t.body ∷ []

@@ -30,6 +30,22 @@ fn is_lower_body(body: &[u8]) -> bool
 }
 
 impl Pattern {
+    /// The text with every letter in lower case, in the same memory: it takes none.
+    pub fn into_lower(self) -> Pattern
+        ensures { result ≡ lower_parts self }
+    {
+        let Pattern { mut form } = self;
+        make_lower_form(&mut form);
+        Pattern { form }
+    }
+
+    /// Brings every letter of the text into lower case, in its place. It takes no memory.
+    pub fn make_lower(&mut self)
+        ensures { self.new ≡ lower_parts self.old }
+    {
+        make_lower_form(&mut self.form);
+    }
+
     /// The text with every letter in lower case.
     ///
     /// # Errors
@@ -38,15 +54,6 @@ impl Pattern {
         ensures { IfOk result (λ p. p ≡ lower_parts self.now) }
     {
         Ok(self.copy(alloc)?.into_lower())
-    }
-
-    /// The text with every letter in lower case, in the same memory: it takes none.
-    pub fn into_lower(self) -> Pattern
-        ensures { result ≡ lower_parts self }
-    {
-        let Pattern { mut form } = self;
-        make_lower_form(&mut form);
-        Pattern { form }
     }
 
     /// Whether two texts are the same but for the case of letters. It takes no memory.
@@ -63,15 +70,6 @@ impl Pattern {
         ensures { IsTrue result ↔ (lower_parts self.now ≡ self.now) }
     {
         is_lower_body(self.stem())
-    }
-}
-
-impl Pattern {
-    /// Brings every letter of the text into lower case, in its place. It takes no memory.
-    pub fn make_lower(&mut self)
-        ensures { self.new ≡ lower_parts self.old }
-    {
-        make_lower_form(&mut self.form);
     }
 }
 

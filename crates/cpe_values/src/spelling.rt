@@ -1,6 +1,5 @@
 // How texts are spelled, character by character.
-ghost use Rattle.std.specs.Prelude.{◌≡◌, OnOk, replicate, ◌++◌, ◌-◌, take, length};
-ghost use Rattle.std.specs.List.{flat_map};
+ghost use Rattle.std.specs.Prelude.{◌≡◌, OnOk, replicate, ◌++◌, ◌-◌, take, length, flat_map};
 ghost use Rattle.cpe_values.specs.Parts.{is_character};
 ghost use Rattle.cpe_values.specs.Skipping.{skip_while};
 ghost use Rattle.cpe_values.specs.Spelling.{is_bare, character, edge_text, spelling, is_letter, is_digit};

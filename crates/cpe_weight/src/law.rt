@@ -1,10 +1,8 @@
 // Laws of the weight. These functions do nothing: their clauses are the laws.
 ghost use Rattle.std.specs.Prelude.{◌≡◌, ◌+◌, ◌≤◌, ℕ, List, true};
 ghost use Rattle.std.specs.List.{list_any};
-ghost use Rattle.cpe_name.specs.Eleven.{Values};
-ghost use Rattle.cpe_rows.specs.Names.{is_same};
+ghost use Rattle.cpe_rows.specs.Prelude.{after, is_same, Values};
 ghost use Rattle.cpe_rows.specs.Rows.{Rows, is_checked};
-ghost use Rattle.cpe_rows.specs.After.{after};
 ghost use Rattle.cpe_rows.specs.Weight.{weight, name_weight, key_weight};
 ghost use Rattle.cpe_rows.specs.declared.test.CheckKey.{CheckKey};
 ghost use Rattle.cpe_weight.specs.Gain.{gain, loss};

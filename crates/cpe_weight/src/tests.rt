@@ -28,6 +28,12 @@ fn a_product(alloc: Global) -> Result<Wfn, Memory> {
     of_fs(alloc, b"cpe:2.3:a:v:p:1:*:*:*:*:*:*:*")
 }
 
+// Lets go a row, or a part of one, of which this was found.
+fn found<T: Drop>(is_so: bool, row: T) -> bool {
+    drop(row);
+    is_so
+}
+
 // ---- names
 
 fn name_comes_to(name: &Wfn, before: u64, after: u64) -> bool {
@@ -36,11 +42,7 @@ fn name_comes_to(name: &Wfn, before: u64, after: u64) -> bool {
 
 fn part_comes_to(alloc: Global, before: u64, after: u64) -> bool {
     match a_part(alloc) {
-        Ok(name) => {
-            let comes = name_comes_to(&name, before, after);
-            drop(name);
-            comes
-        }
+        Ok(name) => found(name_comes_to(&name, before, after), name),
         Err(_) => false,
     }
 }
@@ -59,25 +61,18 @@ fn a_weight_stops_at_the_largest_number(rt: HostRuntime) {
     assert!(rt; part_comes_to(rt.alloc(), u64::MAX, u64::MAX));
 }
 
-fn marked(alloc: Global, marks: u32) -> Value {
-    match Pattern::new(alloc, Edge::Marks(marks), b"v", Edge::None) {
-        Ok(text) => Value::Text(text),
-        Err(_) => Value::Any,
-    }
-}
-
 // A name that is ANY but for its vendor, whose text is one letter after so many marks.
 fn of_marks(alloc: Global, marks: u32) -> Wfn {
     let mut name = Wfn::any();
-    let _ = name.set(Attribute::Vendor, marked(alloc, marks));
+    if let Ok(text) = Pattern::new(alloc, Edge::Marks(marks), b"v", Edge::None) {
+        let _ = name.set(Attribute::Vendor, Value::Text(text));
+    }
     name
 }
 
 fn marks_come_to(alloc: Global, marks: u32, after: u64) -> bool {
     let name = of_marks(alloc, marks);
-    let comes = name_comes_to(&name, 0, after);
-    drop(name);
-    comes
+    found(name_comes_to(&name, 0, after), name)
 }
 
 #[test]
@@ -134,11 +129,7 @@ fn a_deprecation(alloc: Global) -> Result<Deprecation, Memory> {
 
 fn deprecation_comes_to(deprecation: Result<Deprecation, Memory>, weight: u64) -> bool {
     match deprecation {
-        Ok(deprecation) => {
-            let found = with_deprecation(0, &deprecation);
-            drop(deprecation);
-            found == weight
-        }
+        Ok(deprecation) => found(with_deprecation(0, &deprecation) == weight, deprecation),
         Err(_) => false,
     }
 }
@@ -203,11 +194,7 @@ fn a_full_entry(alloc: Global) -> Result<Entry, Memory> {
 
 fn entry_comes_to(entry: Result<Entry, Memory>, weight: u64) -> bool {
     match entry {
-        Ok(entry) => {
-            let found = with_entry(0, &entry);
-            drop(entry);
-            found == weight
-        }
+        Ok(entry) => found(with_entry(0, &entry) == weight, entry),
         Err(_) => false,
     }
 }
@@ -284,9 +271,7 @@ fn nested(alloc: Global) -> Result<List<Test>, Memory> {
 }
 
 fn test_comes_to(test: Test, weight: u64) -> bool {
-    let found = with_test(0, &test);
-    drop(test);
-    found == weight
+    found(with_test(0, &test) == weight, test)
 }
 
 fn children_come_to(of: Result<List<Test>, Memory>, weight: u64) -> bool {
@@ -314,11 +299,7 @@ fn a_statement(alloc: Global) -> Result<Statement, Memory> {
 
 fn statement_comes_to(alloc: Global, weight: u64) -> bool {
     match a_statement(alloc) {
-        Ok(statement) => {
-            let found = with_statement(0, &statement);
-            drop(statement);
-            found == weight
-        }
+        Ok(statement) => found(with_statement(0, &statement) == weight, statement),
         Err(_) => false,
     }
 }

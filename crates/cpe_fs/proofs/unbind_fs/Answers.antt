@@ -10,12 +10,12 @@ read_name-requires c =
     let are = c.in-Ok.ensures.found in
     record { stand = spans_are c.args.text.now c.in-Ok.components are; lawful = subst IsName (sym (name_back c.args.text.now c.in-Ok.components are)) are.fs.0 }
 
-pub returns-clause-found : goal.returns-clause-found
-returns-clause-found c =
+pub returns-in-Ok-read_name-clause-found : goal.returns-in-Ok-read_name-clause-found
+returns-in-Ok-read_name-clause-found c =
     let are = c.in-Ok.ensures.found in
-    found_has said c.args.text.now (name_back c.args.text.now c.in-Ok.components are) are.fs c.in_ok-read_name.ensures
+    found_has said c.args.text.now (name_back c.args.text.now c.in-Ok.components are) are.fs c.in-Ok-read_name.ensures
 
-pub returns-clause-only : goal.returns-clause-only
-returns-clause-only c =
+pub returns-in-Ok-read_name-clause-only : goal.returns-in-Ok-read_name-clause-only
+returns-in-Ok-read_name-clause-only c =
     let are = c.in-Ok.ensures.found in
-    found_is said c.args.text.now (name_back c.args.text.now c.in-Ok.components are) are.fs c.in_ok-read_name.ensures
+    found_is said c.args.text.now (name_back c.args.text.now c.in-Ok.components are) are.fs c.in-Ok-read_name.ensures

@@ -1,5 +1,4 @@
-use Rattle.std.proofs.Common.{◌≡◌, false, sym, ◌∙◌}
-use Rattle.cpe_fs.specs.Spans.{is_only}
+use Rattle.std.proofs.Common.{sym, ◌∙◌}
 use Rattle.cpe_fs.proofs.ValueLemmas.{spells_text, text_read}
 use Rattle.cpe_fs.proofs.values.value_of.Goals as goal
 
@@ -8,6 +7,4 @@ read_spelling-requires c = spells_text c.args.span.now c.requires (sym c.is_only
 
 pub returns-in_ok-read_spelling : goal.returns-in_ok-read_spelling
 returns-in_ok-read_spelling c =
-    let any : is_only 42 c.args.span.now ≡ false = sym c.is_only.ensures ∙ c.if-is_only.false in
-    let na : is_only 45 c.args.span.now ≡ false = sym c.is_only-else-is_only.ensures ∙ c.if-is_only-2.false in
-    text_read c.args.span.now c.in_ok-read_spelling.field-0 (spells_text c.args.span.now c.requires any na) any na c.in_ok-read_spelling.ensures
+    text_read c.args.span.now c.in_ok-read_spelling.field-0 c.requires (sym c.is_only.ensures ∙ c.if-is_only.false) (sym c.is_only-else-is_only.ensures ∙ c.if-is_only-2.false) c.in_ok-read_spelling.ensures

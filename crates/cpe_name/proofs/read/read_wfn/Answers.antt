@@ -10,12 +10,12 @@ read_name-requires c =
     let are = c.in-Some.ensures.found in
     record { stand = texts_are c.args.text.now c.in-Some.written are; lawful = subst IsName (sym (values_are c.args.text.now c.in-Some.written are)) are.has.name }
 
-pub returns-clause-found : goal.returns-clause-found
-returns-clause-found c =
+pub returns-in-Ok-clause-found : goal.returns-in-Ok-clause-found
+returns-in-Ok-clause-found c =
     let are = c.in-Some.ensures.found in
-    subst (λ (w : Values). WfnText w c.args.text.now) (sym (c.in_ok-read_name.ensures ∙ values_are c.args.text.now c.in-Some.written are)) are.has
+    subst (λ (w : Values). WfnText w c.args.text.now) (sym (c.in-Ok.ensures ∙ values_are c.args.text.now c.in-Some.written are)) are.has
 
-pub returns-clause-only : goal.returns-clause-only
-returns-clause-only c = λ name has.
+pub returns-in-Ok-clause-only : goal.returns-in-Ok-clause-only
+returns-in-Ok-clause-only c = λ name has.
     let are = c.in-Some.ensures.found in
-    c.in_ok-read_name.ensures ∙ values_are c.args.text.now c.in-Some.written are ∙ one_name are.name name c.args.text.now are.has has
+    c.in-Ok.ensures ∙ values_are c.args.text.now c.in-Some.written are ∙ one_name are.name name c.args.text.now are.has has
