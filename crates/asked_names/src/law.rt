@@ -1,14 +1,8 @@
 // What is asked and what is there, and what edits make of both. The functions do nothing: their clauses are the laws.
 ghost use Rattle.std.specs.Prelude.{◌≡◌, ◌⊎◌, ◌≤◌, ◌∷◌, ◌++◌, length, Bool, List, ℕ, Some, true, cond, filter, find, replicate};
 ghost use Rattle.std.specs.List.{flat_map, list_any, sum_by};
-ghost use Rattle.cpe_name.specs.Eleven.{Values};
-ghost use Rattle.cpe_relation.specs.Maybe.{maybe};
-ghost use Rattle.cpe_relation.specs.NameRelation.{covers};
-ghost use Rattle.cpe_rows.specs.Prelude.{after, ends, fact_names, has_id, IsAccepted, leads_to, Rows};
+ghost use Rattle.cpe_rows.specs.Prelude.{after, covers, ends, fact_names, fact_truth, has_id, is_named, is_same, IsAccepted, leads_to, maybe, Rows, truth, Values};
 ghost use Rattle.cpe_rows.specs.Lawful.{are_different, IsLawful};
-ghost use Rattle.cpe_rows.specs.Names.{is_same};
-ghost use Rattle.cpe_rows.specs.Rows.{is_named};
-ghost use Rattle.cpe_rows.specs.Verdict.{fact_truth, truth};
 ghost use Rattle.cpe_rows.specs.declared.entry.Entry.{Entry};
 ghost use Rattle.cpe_rows.specs.declared.statement.Mode.{Mode};
 ghost use Rattle.cpe_rows.specs.declared.statement.Mode.TheVariants.{Plain};

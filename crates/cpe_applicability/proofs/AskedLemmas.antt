@@ -1,5 +1,5 @@
 -- A ticket that is entered for the checks of a test, one after the other, and taken out again.
-use Rattle.std.proofs.Common.{◌≡◌, ℕ, zero, suc, ◌+◌, ◌<◌, ◌≤◌, ◌||◌, ◌&&◌, Bool, true, false, cond, List, [], ◌∷◌, ◌++◌, length, map, take, get_or, refl, sym, ap, subst, ◌∙◌, arith, Vec, Global}
+use Rattle.std.proofs.Common.{◌≡◌, ℕ, zero, suc, ◌+◌, ◌<◌, ◌≤◌, ◌||◌, ◌&&◌, Bool, true, false, cond, List, [], ◌∷◌, ◌++◌, length, map, take, take_all, get_or, refl, sym, ap, subst, ◌∙◌, arith, Vec, Global}
 use Rattle.std.specs.Prelude.{slice_get, Some, None}
 use Rattle.std.specs.List.{flat_map, list_all}
 use Rattle.std.specs.Map.{lookup}
@@ -18,8 +18,13 @@ use Rattle.cpe_applicability.specs.Tickets.{IsBelow, ends_with, with_last}
 use Rattle.cpe_applicability.specs.Told.{check_keys}
 use Rattle.cpe_applicability.specs.Users.{AreAsked, IsAsked, items_or_none}
 use Rattle.cpe_applicability.proofs.EnteringLemmas.{last-again, last-new, without-twice}
+use Rattle.cpe_applicability.proofs.ToldLemmas.{keys-logic}
 use Rattle.cpe_applicability.proofs.UndoLemmas.{not_last}
 use Rattle.cpe_applicability.proofs.VerdictLemmas.{key_same}
+
+-- all children of a test, gone over to the last, ask for the checks for which it asks
+pub all_keys : (o : Operator) (n : Bool) (of items : List Test) (i : ℕ) (test : Test) → items ≡ of → length items ≤ i → test ≡ Logic o n of → flat_map check_keys (take i items) ≡ check_keys test
+all_keys o n of items i test are all is = ap (flat_map check_keys) (take_all i items all ∙ are) ∙ sym (ap check_keys is ∙ keys-logic o n of)
 
 last_twice : (t : ℕ) (xs : List ℕ) → with_last t (with_last t xs) ≡ with_last t xs
 last_twice t xs = go (ends_with t xs) refl where

@@ -60,14 +60,21 @@ retold cause b = anew cause b.plain.truths.entries b.follow.truths.entries b.res
 abbrev pub verdict_told : Cause → Parts → Row → Truth
 verdict_told cause b = verdict_after cause b.plain.truths.entries b.follow.truths.entries b.results
 
--- what the lists of tickets tell, where rows were told anew and no list but that of the changed ones differs
-module _ (cause : Cause) (a b : Parts) (h : IsBoard a) (ts : List ℕ)
-    (rows : b.rows.items ≡ at_tickets ts (retold cause b) a.rows.items)
-    (changed : b.changed.items ≡ tickets is_changed b.rows.items)
-    (capacity : vec_capacity b.changed ≡ vec_capacity a.changed)
-    (by_id : b.by_id ≡ a.by_id) (plain : b.plain.users ≡ a.plain.users) (follow : b.follow.users ≡ a.follow.users) (askers : b.askers ≡ a.askers) (next : b.next ≡ a.next)
-    (plain_kept : (q : ℕ) → is_empty (users_at b.plain.users.entries q) ≡ false → IsSome (lookup (nat_eq q) b.plain.truths.entries))
-    (follow_kept : (q : ℕ) → is_empty (users_at b.follow.users.entries q) ≡ false → IsSome (lookup (nat_eq q) b.follow.truths.entries))
+-- rows were told anew, and no list of tickets differs but that of the changed ones
+pub record IsRetold (cause : Cause) (a b : Parts) (ts : List ℕ) : Type 0 where
+  pub rows : b.rows.items ≡ at_tickets ts (retold cause b) a.rows.items
+  pub changed : b.changed.items ≡ tickets is_changed b.rows.items
+  pub capacity : vec_capacity b.changed ≡ vec_capacity a.changed
+  pub by_id : b.by_id ≡ a.by_id
+  pub plain : b.plain.users ≡ a.plain.users
+  pub follow : b.follow.users ≡ a.follow.users
+  pub askers : b.askers ≡ a.askers
+  pub next : b.next ≡ a.next
+  pub plain_kept : (q : ℕ) → is_empty (users_at b.plain.users.entries q) ≡ false → IsSome (lookup (nat_eq q) b.plain.truths.entries)
+  pub follow_kept : (q : ℕ) → is_empty (users_at b.follow.users.entries q) ≡ false → IsSome (lookup (nat_eq q) b.follow.truths.entries)
+
+-- what the lists then tell
+module _ (cause : Cause) (a b : Parts) (h : IsBoard a) (ts : List ℕ) (so : IsRetold cause a b ts)
     (cover : AllByRecursion (λ r. among ts (ticket_of r) ≡ false → part_verdict a r ≡ part_verdict b r) a.rows.items)
     (told : AllByRecursion (λ r. among ts (ticket_of r) ≡ true → verdict_told cause b r ≡ part_verdict b r) a.rows.items)
     (each : AllByRecursion (TellsEach b) b.rows.items) where
@@ -78,28 +85,28 @@ module _ (cause : Cause) (a b : Parts) (h : IsBoard a) (ts : List ℕ)
   Stays r = (r.verdict ≡ part_verdict a r) × Covered r
 
   same : (p : Row → Bool) → ((r : Row) → p (retold cause b r) ≡ p r) → tickets p a.rows.items ≡ tickets p b.rows.items
-  same p h = sym (tickets-at_all (retold cause b) (λ r. refl) p h ts a.rows.items) ∙ ap (tickets p) (sym rows)
+  same p h = sym (tickets-at_all (retold cause b) (λ r. refl) p h ts a.rows.items) ∙ ap (tickets p) (sym so.rows)
 
   pub IsBoard-refreshed : IsBoard b
   IsBoard-refreshed = record {
-    rising = subst (IsRisingBy ticket_of) (sym rows) (rising-at_all (retold cause b) (λ r. refl) ts a.rows.items h.rising);
-    below = subst (AllByRecursion (λ r. ticket_of r < b.next)) (sym rows)
+    rising = subst (IsRisingBy ticket_of) (sym so.rows) (rising-at_all (retold cause b) (λ r. refl) ts a.rows.items h.rising);
+    below = subst (AllByRecursion (λ r. ticket_of r < b.next)) (sym so.rows)
         (all_at_tickets (retold cause b) (λ r. ticket_of r < a.next) (λ r. ticket_of r < b.next) ts
-        (λ r e lt. subst (λ (n : ℕ). ticket_of r < n) (sym next) lt) (λ r e lt. subst (λ (n : ℕ). ticket_of r < n) (sym next) lt) a.rows.items h.below);
-    ids = λ id. ap (λ m. one_or_none (lookup (bytes_eq id) m.entries)) by_id ∙ (h.ids id ∙ same (has_row_id id) (λ r. refl));
-    plain = λ q. ap (λ m. users_at m.entries q) plain ∙ (h.plain q ∙ same (uses_plain q) (λ r. refl));
-    follow = λ q. ap (λ m. users_at m.entries q) follow ∙ (h.follow q ∙ same (uses_follow q) (λ r. refl));
-    askers = λ k. ap (λ m. askers_at m.entries k) askers ∙ (h.askers k ∙ same (asks k) (λ r. refl));
-    plain_kept = plain_kept;
-    follow_kept = follow_kept;
-    changed = changed;
+        (λ r e lt. subst (λ (n : ℕ). ticket_of r < n) (sym so.next) lt) (λ r e lt. subst (λ (n : ℕ). ticket_of r < n) (sym so.next) lt) a.rows.items h.below);
+    ids = λ id. ap (λ m. one_or_none (lookup (bytes_eq id) m.entries)) so.by_id ∙ (h.ids id ∙ same (has_row_id id) (λ r. refl));
+    plain = λ q. ap (λ m. users_at m.entries q) so.plain ∙ (h.plain q ∙ same (uses_plain q) (λ r. refl));
+    follow = λ q. ap (λ m. users_at m.entries q) so.follow ∙ (h.follow q ∙ same (uses_follow q) (λ r. refl));
+    askers = λ k. ap (λ m. askers_at m.entries k) so.askers ∙ (h.askers k ∙ same (asks k) (λ r. refl));
+    plain_kept = so.plain_kept;
+    follow_kept = so.follow_kept;
+    changed = so.changed;
     room = still_room (length b.rows.items) (length a.rows.items) (vec_capacity a.changed) (vec_capacity b.changed)
-        (ap length rows ∙ length-map (λ (r : Row). cond (among ts r.ticket) (retold cause b r) r) a.rows.items) capacity h.room;
-    judged = subst (AllByRecursion (λ r. r.verdict ≡ part_verdict b r)) (sym rows)
+        (ap length so.rows ∙ length-map (λ (r : Row). cond (among ts r.ticket) (retold cause b r) r) a.rows.items) so.capacity h.room;
+    judged = subst (AllByRecursion (λ r. r.verdict ≡ part_verdict b r)) (sym so.rows)
         (all_at_tickets (retold cause b) Stays (λ r. r.verdict ≡ part_verdict b r) ts (λ r e p. p.1.1 e) (λ r e p. p.0 ∙ p.1.0 e) a.rows.items
         (all_both (λ r. r.verdict ≡ part_verdict a r) Covered a.rows.items h.judged
         (all_both (λ r. among ts (ticket_of r) ≡ false → part_verdict a r ≡ part_verdict b r) (λ r. among ts (ticket_of r) ≡ true → verdict_told cause b r ≡ part_verdict b r) a.rows.items cover told)));
-    alone = subst (AllByRecursion (λ r. r.alone ≡ asks_one (check_keys r.held.value.statement.test))) (sym rows)
+    alone = subst (AllByRecursion (λ r. r.alone ≡ asks_one (check_keys r.held.value.statement.test))) (sym so.rows)
         (all_at_tickets (retold cause b) (λ r. r.alone ≡ asks_one (check_keys r.held.value.statement.test)) (λ r. r.alone ≡ asks_one (check_keys r.held.value.statement.test)) ts (λ r yes_ e. e) (λ r no_ e. e) a.rows.items h.alone);
     each = each;
   }
@@ -139,13 +146,7 @@ outside p rows =
     go r false h no_ = refl
 
 -- the truth of a number changed, and the rows that use it were told anew
-module _ (a b : Parts) (h : IsBoard a) (uses : Row → Bool) (ts : List ℕ) (are : ts ≡ tickets uses a.rows.items)
-    (rows : b.rows.items ≡ at_tickets ts (retold Fact b) a.rows.items)
-    (changed : b.changed.items ≡ tickets is_changed b.rows.items)
-    (capacity : vec_capacity b.changed ≡ vec_capacity a.changed)
-    (by_id : b.by_id ≡ a.by_id) (plain : b.plain.users ≡ a.plain.users) (follow : b.follow.users ≡ a.follow.users) (askers : b.askers ≡ a.askers) (next : b.next ≡ a.next)
-    (plain_kept : (q : ℕ) → is_empty (users_at b.plain.users.entries q) ≡ false → IsSome (lookup (nat_eq q) b.plain.truths.entries))
-    (follow_kept : (q : ℕ) → is_empty (users_at b.follow.users.entries q) ≡ false → IsSome (lookup (nat_eq q) b.follow.truths.entries))
+module _ (a b : Parts) (h : IsBoard a) (uses : Row → Bool) (ts : List ℕ) (are : ts ≡ tickets uses a.rows.items) (so : IsRetold Fact a b ts)
     (verdict : (r : Row) → uses r ≡ false → part_verdict a r ≡ part_verdict b r)
     (by_result : (r : Row) → uses r ≡ false → each_now a r ≡ each_now b r) where
   elsewhere : (P : Row → Type 0) → ((r : Row) → uses r ≡ false → P r) → AllByRecursion (λ r. among ts (ticket_of r) ≡ false → P r) a.rows.items
@@ -159,9 +160,9 @@ module _ (a b : Parts) (h : IsBoard a) (uses : Row → Bool) (ts : List ℕ) (ar
 
   pub IsBoard-fact : IsBoard b
   IsBoard-fact =
-      IsBoard-refreshed Fact a b h ts rows changed capacity by_id plain follow askers next plain_kept follow_kept (elsewhere (λ r. part_verdict a r ≡ part_verdict b r) verdict)
+      IsBoard-refreshed Fact a b h ts so (elsewhere (λ r. part_verdict a r ≡ part_verdict b r) verdict)
       (all_weaker (λ r. among ts (ticket_of r) ≡ false → each_now a r ≡ each_now b r) (λ r. among ts (ticket_of r) ≡ true → verdict_told Fact b r ≡ part_verdict b r) (λ r e used. refl) a.rows.items each_stays)
-      (each_retold a b ts rows h.each each_stays)
+      (each_retold a b ts so.rows h.each each_stays)
 
 -- ---- numbers in use
 

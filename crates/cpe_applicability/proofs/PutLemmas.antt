@@ -17,7 +17,7 @@ use Rattle.cpe_applicability.specs.declared.by_result.ByResult.{ByResult}
 use Rattle.cpe_applicability.specs.declared.facts.Facts.{Facts}
 use Rattle.cpe_applicability.specs.declared.row.Held.{Held}
 use Rattle.cpe_applicability.specs.declared.row.Row.{Row}
-use Rattle.cpe_applicability.specs.Board.{KeepsTruths, TakesTruths, is_of}
+use Rattle.cpe_applicability.specs.Board.{is_used, KeepsTruths, TakesTruths, is_of}
 use Rattle.cpe_applicability.specs.ByResult.{asks_one, each_result}
 use Rattle.cpe_applicability.specs.Entering.{entered, is_asked, is_empty}
 use Rattle.cpe_applicability.specs.Held.{asks, each_verdict, follow_use, has_row_id, is_changed, plain_use, ticket_of, tickets, uses_follow, uses_plain, verdict_by}
@@ -172,13 +172,14 @@ module _ (a b : Parts) (h : IsBoard a) (given : Mode → ℕ → Truth) (r : Row
       let no_use = sym (any_follow q a.rows.items) ∙ none in
       ap truth_or_unknown (follow_fresh q (own_use (uses_follow q) no_use (sym (any_follow q b.rows.items) ∙ some)) (unused (uses_follow q) (users_at a.follow.users.entries q) (h.follow q) no_use))
 
--- truths are kept where they are kept of all that was used
-pub keeps_old : (a b : Parts) → IsBoard a
-    → ((q : ℕ) → is_empty (users_at a.plain.users.entries q) ≡ false → lookup (nat_eq q) b.plain.truths.entries ≡ lookup (nat_eq q) a.plain.truths.entries)
-    → ((q : ℕ) → is_empty (users_at a.follow.users.entries q) ≡ false → lookup (nat_eq q) b.follow.truths.entries ≡ lookup (nat_eq q) a.follow.truths.entries)
+-- truths are kept where they are kept of all that some board uses, be it the old one or the new
+pub keeps_among : (a b some : Parts) → IsBoard some
+    → ((q : ℕ) → is_empty (users_at some.plain.users.entries q) ≡ false → lookup (nat_eq q) b.plain.truths.entries ≡ lookup (nat_eq q) a.plain.truths.entries)
+    → ((q : ℕ) → is_empty (users_at some.follow.users.entries q) ≡ false → lookup (nat_eq q) b.follow.truths.entries ≡ lookup (nat_eq q) a.follow.truths.entries)
+    → ((mode : Mode) (id : ℕ) → is_used (state_in a).rows mode id ≡ true → is_used (state_in b).rows mode id ≡ true → is_used (state_in some).rows mode id ≡ true)
     → KeepsTruths (state_in a) (state_in b)
-keeps_old a b h plain follow Plain id was used = ap truth_or_unknown (plain id (ap is_empty (h.plain id) ∙ used_plain id a.rows.items was))
-keeps_old a b h plain follow Follow id was used = ap truth_or_unknown (follow id (ap is_empty (h.follow id) ∙ used_follow id a.rows.items was))
+keeps_among a b some h plain follow among Plain id was used = ap truth_or_unknown (plain id (ap is_empty (h.plain id) ∙ used_plain id some.rows.items (among Plain id was used)))
+keeps_among a b some h plain follow among Follow id was used = ap truth_or_unknown (follow id (ap is_empty (h.follow id) ∙ used_follow id some.rows.items (among Follow id was used)))
 
 -- the same rows and lists, with more room
 pub IsBoard-same : (a b : Parts) → IsBoard a → b.rows.items ≡ a.rows.items
@@ -259,15 +260,14 @@ module _ (a m b : Parts) (h : IsBoard a) (given : Mode → ℕ → Truth) (held 
   room_is : length a.rows.items + 1 ≤ vec_capacity b.changed
   room_is = let as_long = ap length same.rows in let as_wide = ap (λ v. vec_capacity v) changed in omega (arith, as_long, as_wide, ready.changed_room)
 
-  pub board_after_put : IsBoard b
-  board_after_put =
-      IsBoard-put a b h given (new_row m held) same.next refl verdict_is refl each_is rows_are (new_id held.value.statement.id a.rows.items fresh_id) ids_are plain_are follow_are asked_are
-      plain_truths_are follow_truths_are plain_fresh_are follow_fresh_are (ap (λ v. v.items) changed ∙ same.changed) room_is (results ∙ same.results) (next ∙ ap (λ (n : ℕ). n + 1) same.next)
+  new_is : tickets (has_row_id held.value.statement.id) a.rows.items ≡ []
+  new_is = new_id held.value.statement.id a.rows.items fresh_id
 
-  pub takes_after_put : TakesTruths (state_in a) (state_in b) given
-  takes_after_put =
-      takes_given a b h given (new_row m held) same.next refl verdict_is refl each_is rows_are (new_id held.value.statement.id a.rows.items fresh_id) ids_are plain_are follow_are asked_are
-      plain_truths_are follow_truths_are plain_fresh_are follow_fresh_are (ap (λ v. v.items) changed ∙ same.changed) room_is (results ∙ same.results) (next ∙ ap (λ (n : ℕ). n + 1) same.next)
-
-  pub keeps_after_put : KeepsTruths (state_in a) (state_in b)
-  keeps_after_put = keeps_old a b h plain_truths_are follow_truths_are
+  pub after_put : IsBoard b × KeepsTruths (state_in a) (state_in b) × TakesTruths (state_in a) (state_in b) given
+  after_put = (
+    IsBoard-put a b h given (new_row m held) same.next refl verdict_is refl each_is rows_are new_is ids_are plain_are follow_are asked_are
+        plain_truths_are follow_truths_are plain_fresh_are follow_fresh_are (ap (λ v. v.items) changed ∙ same.changed) room_is (results ∙ same.results) (next ∙ ap (λ (n : ℕ). n + 1) same.next),
+    keeps_among a b a h plain_truths_are follow_truths_are (λ mode id was used. was),
+    takes_given a b h given (new_row m held) same.next refl verdict_is refl each_is rows_are new_is ids_are plain_are follow_are asked_are
+        plain_truths_are follow_truths_are plain_fresh_are follow_fresh_are (ap (λ v. v.items) changed ∙ same.changed) room_is (results ∙ same.results) (next ∙ ap (λ (n : ℕ). n + 1) same.next),
+  )

@@ -13,19 +13,18 @@ use Rattle.cpe_rows.specs.declared.test.CheckKey.{CheckKey}
 use Rattle.cpe_rows.specs.After.{without_first}
 use Rattle.cpe_applicability.specs.declared.parts.Parts.{Parts}
 use Rattle.cpe_applicability.specs.declared.row.Row.{Row}
-use Rattle.cpe_applicability.specs.Board.{KeepsTruths}
 use Rattle.cpe_applicability.specs.Tickets.{first_place}
 use Rattle.cpe_applicability.specs.ByResult.{asks_one}
 use Rattle.cpe_applicability.specs.Entering.{among, is_empty, left_out}
 use Rattle.cpe_applicability.specs.Held.{asks, has_row_id, is_changed, is_plain, ticket_of, tickets, truths_by, uses_follow, uses_plain, verdict_by}
-use Rattle.cpe_applicability.specs.Invariant.{IsBoard, TellsEach, part_verdict, state_in}
+use Rattle.cpe_applicability.specs.Invariant.{IsBoard, TellsEach, part_verdict}
 use Rattle.cpe_inventory.specs.Results.{one_or_none}
 use Rattle.cpe_applicability.specs.Tickets.{without}
 use Rattle.ticket_list.specs.Rising.{IsRisingBy}
 use Rattle.cpe_applicability.specs.Told.{check_keys}
 use Rattle.cpe_applicability.specs.Truths.{truth_in, truth_or_unknown}
 use Rattle.cpe_applicability.specs.Users.{askers_at, users_at}
-use Rattle.cpe_applicability.proofs.BoardLemmas.{all_weaker, used_follow, used_plain}
+use Rattle.cpe_applicability.proofs.BoardLemmas.{all_weaker}
 use Rattle.cpe_applicability.proofs.EnteringLemmas.{nat_decides, used-left, nat_same}
 use Rattle.ticket_list.proofs.RisingLemmas.{all_passing}
 use Rattle.cpe_applicability.proofs.RowLemmas.{all_at, higher_differs, lower_differs, members, no_element, without_lowest}
@@ -260,14 +259,6 @@ module _ {X : Type 0} (p : X → Bool) where
         → ((b || list_any p xs) ≡ false) × (cond b xs (x ∷ without_first p xs) ≡ x ∷ xs)
     go true h more = absurd (cc)
     go false h more = let rest = more (none_suc (first_place p xs) h) in (rest.0, ap (λ u. x ∷ u) rest.1)
-
--- truths are kept where they are kept of all that is used afterwards
-pub keeps_used : (a b : Parts) → IsBoard b
-    → ((q : ℕ) → is_empty (users_at b.plain.users.entries q) ≡ false → lookup (nat_eq q) b.plain.truths.entries ≡ lookup (nat_eq q) a.plain.truths.entries)
-    → ((q : ℕ) → is_empty (users_at b.follow.users.entries q) ≡ false → lookup (nat_eq q) b.follow.truths.entries ≡ lookup (nat_eq q) a.follow.truths.entries)
-    → KeepsTruths (state_in a) (state_in b)
-keeps_used a b h plain follow Plain id was used = ap truth_or_unknown (plain id (ap is_empty (h.plain id) ∙ used_plain id b.rows.items used))
-keeps_used a b h plain follow Follow id was used = ap truth_or_unknown (follow id (ap is_empty (h.follow id) ∙ used_follow id b.rows.items used))
 
 -- ---- the row at a place, by its ticket
 

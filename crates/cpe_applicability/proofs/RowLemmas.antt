@@ -1,5 +1,6 @@
 -- Lists whose keys rise, and of which one element becomes another.
-use Rattle.std.proofs.Common.{◌≡◌, ℕ, zero, suc, ◌+◌, ◌<◌, ◌≤◌, ◌||◌, Bool, true, false, not, cond, List, [], ◌∷◌, ◌++◌, length, map, take, get_or, set, refl, sym, ap, subst, ◌∙◌, arith}
+use Rattle.std.specs.Bool.{Decides}
+use Rattle.std.proofs.Common.{rules, ◌≡◌, ℕ, zero, suc, ◌+◌, ◌<◌, ◌≤◌, ◌||◌, Bool, true, false, not, cond, List, [], ◌∷◌, ◌++◌, length, map, take, get_or, set, refl, sym, ap, subst, ◌∙◌, arith}
 use Rattle.std.specs.Prelude.{find, nat_eq, nat_lt, slice_get, Option, Some, None}
 use Rattle.ticket_list.specs.TicketList.{has_ticket, with_change}
 use Rattle.std.specs.Option.{option_map}
@@ -9,7 +10,6 @@ use Rattle.std.proofs.lemmas.List.Folds.{list_any-append}
 use Rattle.std.proofs.lemmas.List.{take_more}
 use Rattle.cpe_rows.specs.Truth.{same_truth}
 use Rattle.cpe_rows.specs.declared.truth.Truth.{Truth}
-use Rattle.cpe_rows.specs.declared.truth.Truth.TheVariants.{True, False, Error, Unknown}
 use Rattle.cpe_applicability.specs.declared.row.Row.{Row}
 use Rattle.cpe_applicability.specs.Entering.{among}
 use Rattle.cpe_applicability.specs.Tickets.{without}
@@ -292,23 +292,15 @@ pub length-map : {X Y : Type 0} (f : X → Y) (xs : List X) → length (map f xs
 length-map f [] = refl
 length-map f (x ∷ xs) = ap suc (length-map f xs)
 
+same_decides : (a b : Truth) → Decides (same_truth a b) (a ≡ b)
+same_decides a b = search rules
+
 pub unchanged_is : (a b : Truth) → not (same_truth a b) ≡ false → a ≡ b
-unchanged_is True True h = refl
-unchanged_is False False h = refl
-unchanged_is Error Error h = refl
-unchanged_is Unknown Unknown h = refl
-unchanged_is True False h = absurd (cc)
-unchanged_is True Error h = absurd (cc)
-unchanged_is True Unknown h = absurd (cc)
-unchanged_is False True h = absurd (cc)
-unchanged_is False Error h = absurd (cc)
-unchanged_is False Unknown h = absurd (cc)
-unchanged_is Error True h = absurd (cc)
-unchanged_is Error False h = absurd (cc)
-unchanged_is Error Unknown h = absurd (cc)
-unchanged_is Unknown True h = absurd (cc)
-unchanged_is Unknown False h = absurd (cc)
-unchanged_is Unknown Error h = absurd (cc)
+unchanged_is a b h = (same_decides a b).0 (by (same_truth a b) h)
+  where
+    by : (t : Bool) → not t ≡ false → t ≡ true
+    by true none = refl
+    by false none = absurd (cc)
 
 settle_one : (ts : List ℕ) (r : Row) → (is_changed r ≡ true → among ts (ticket_of r) ≡ true) → cond (among ts (ticket_of r)) (settled r) r ≡ settled r
 settle_one ts r h = go (among ts (ticket_of r)) (is_changed r) refl h where

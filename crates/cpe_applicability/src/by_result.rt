@@ -1,6 +1,5 @@
 // What a test tells by the result of the checks that it asks for.
-ghost use Rattle.std.specs.Prelude.{◌≡◌, [], ◌∷◌, map, slice_get};
-ghost use Rattle.std.specs.Option.{option_copied};
+ghost use Rattle.std.specs.Prelude.{◌≡◌, [], ◌∷◌, map, slice_get, option_copied};
 ghost use Rattle.std.specs.List.{list_all};
 ghost use Rattle.cpe_rows.specs.Evaluation.{joined, negated};
 ghost use Rattle.cpe_rows.specs.Rows.{same_key};

@@ -1,7 +1,6 @@
 // The verdicts that differ from the known ones, as changes of rows.
-ghost use Rattle.std.specs.Prelude.{◌≡◌, ◌<◌, ◌≤◌, ◌+◌, ◌++◌, ◌^◌, [], length, map, slice_get};
+ghost use Rattle.std.specs.Prelude.{◌≡◌, ◌<◌, ◌≤◌, ◌+◌, ◌++◌, ◌^◌, [], length, map, slice_get, option_map};
 ghost use Rattle.std.specs.List.{cons_option};
-ghost use Rattle.std.specs.Option.{option_map};
 ghost use Rattle.cpe_rows.specs.Changes.{differing};
 ghost use Rattle.cpe_applicability.specs.Board.{change_at, changed_places, verdict_of};
 

@@ -19,4 +19,4 @@ mod told;
 mod users;
 
 pub use board::Board;
-pub use facts::FactTruth;
+pub use facts::{FactTruth, keep_truth};

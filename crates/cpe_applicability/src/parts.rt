@@ -1,8 +1,6 @@
 // The parts of a board, and its changes.
-ghost use Rattle.std.specs.Prelude.{◌≡◌, ℕ, ◌+◌, ◌<◌, ◌≤◌, List, [], ◌∷◌, ◌++◌, cond, false, true, drop, find, length, map, position, slice_get, take, vec_capacity, None, Some, IfOk, OnOk, OnErr};
+ghost use Rattle.std.specs.Prelude.{◌≡◌, ℕ, ◌+◌, ◌<◌, ◌≤◌, List, [], ◌∷◌, ◌++◌, cond, false, true, drop, find, length, map, position, slice_get, take, vec_capacity, None, Some, IfOk, OnOk, OnErr, bytes_eq, option_copied, option_map};
 ghost use Rattle.std.specs.Map.{lookup};
-ghost use Rattle.std.specs.Str.{bytes_eq};
-ghost use Rattle.std.specs.Option.{option_copied, option_map};
 ghost use Rattle.std.specs.List.{count_by, list_any};
 ghost use Rattle.cpe_rows.specs.Causes.{check_causes};
 ghost use Rattle.cpe_rows.specs.Prelude.{first_some, has_id, has_key, most, number_of_facts, with_check, without_first};

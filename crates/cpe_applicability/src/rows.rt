@@ -1,6 +1,5 @@
 // The rows of a board, and which of them are changed.
-ghost use Rattle.std.specs.Prelude.{◌≡◌, ◌≤◌, ◌<◌, ◌+◌, ◌++◌, [], cond, map, Bool, drop, false, not, length, slice_get, take, vec_capacity};
-ghost use Rattle.std.specs.Option.{option_map};
+ghost use Rattle.std.specs.Prelude.{◌≡◌, ◌≤◌, ◌<◌, ◌+◌, ◌++◌, [], cond, map, Bool, drop, false, not, length, slice_get, take, vec_capacity, option_map};
 ghost use Rattle.cpe_rows.specs.Truth.{same_truth};
 ghost use Rattle.ticket_list.specs.Rising.{IsRising, IsRisingBy};
 ghost use Rattle.cpe_applicability.specs.declared.row.Cause.TheVariants.{Check};

@@ -1,15 +1,12 @@
 // The entries of a dictionary.
-ghost use Rattle.std.specs.Prelude.{◌≡◌, ◌+◌, ◌∷◌, [], ◌<◌, ◌≤◌, IfOk, IfErr, OnOk, None, Some, filter, find, length, map, nat_lt, not, option_and_then, option_map, position, slice_get, true, false};
+ghost use Rattle.std.specs.Prelude.{◌≡◌, ◌+◌, ◌∷◌, [], ◌<◌, ◌≤◌, IfOk, IfErr, OnOk, None, Some, filter, find, length, map, nat_lt, not, option_and_then, option_map, position, slice_get, true, false, option_copied};
 ghost use Rattle.std.specs.List.{list_any};
-ghost use Rattle.std.specs.Option.{option_copied};
 ghost use Rattle.cpe_rows.specs.Prelude.{chain as chain_of, ends, is_active, is_named, IsCause, IsDictionary, most, row_of, rows_found as found, state_of};
 ghost use Rattle.deprecation_graph.specs.Faults.{change_fault};
 ghost use Rattle.deprecation_graph.specs.Graph.{IsChange};
 ghost use Rattle.cpe_dictionary.specs.Numbers.{entries_at, nodes_of_entries};
 ghost use Rattle.cpe_dictionary.specs.Causes.{named_fault};
-ghost use Rattle.cpe_name.specs.Lower.{IsLower};
-ghost use Rattle.cpe_steps.specs.Within.{StepsWithin};
-ghost use Rattle.names_in_order.specs.Places.{near_count};
+ghost use Rattle.names_in_order.specs.Prelude.{IsLower, near_count, StepsWithin};
 ghost use Rattle.cpe_dictionary.specs.Kept.{IsKept, names_of};
 
 use crate::by_number::answers_by_number;

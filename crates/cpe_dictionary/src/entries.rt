@@ -1,11 +1,8 @@
 // Entries in their order: their names, and beside each what its entry has.
-ghost use Rattle.std.specs.Prelude.{◌≡◌, IfOk, filter, find, length, not, option_map, position, slice_get};
+ghost use Rattle.std.specs.Prelude.{◌≡◌, IfOk, filter, find, length, not, option_map, position, slice_get, option_copied};
 ghost use Rattle.std.specs.List.{list_any};
-ghost use Rattle.std.specs.Option.{option_copied};
-ghost use Rattle.cpe_name.specs.Lower.{IsLower};
+ghost use Rattle.names_in_order.specs.Prelude.{IsLower, near_count, places_covered, StepsWithin};
 ghost use Rattle.cpe_rows.specs.Prelude.{is_active, is_named};
-ghost use Rattle.cpe_steps.specs.Within.{StepsWithin};
-ghost use Rattle.names_in_order.specs.Places.{near_count, places_covered};
 ghost use Rattle.cpe_dictionary.specs.Kept.{entries_of, entry_from, names_of};
 
 use crate::kept::Details;

@@ -1,6 +1,5 @@
 // Changes of an entry's deprecation, which are planned before they are made.
-ghost use Rattle.std.specs.Prelude.{◌≡◌, IfOk, IfErr, None, Option, Some, if◌then◌else◌, not, position};
-ghost use Rattle.std.specs.Option.{option_copied};
+ghost use Rattle.std.specs.Prelude.{◌≡◌, IfOk, IfErr, None, Option, Some, if◌then◌else◌, not, position, option_copied};
 ghost use Rattle.cpe_rows.specs.Prelude.{first_some, is_named, IsCause, when};
 ghost use Rattle.cpe_rows.specs.declared.entry.Note.{Note};
 ghost use Rattle.cpe_dictionary.specs.Causes.{change_causes, deprecation_causes, state_causes, width_cause};

@@ -1,6 +1,5 @@
 // The entries from which deprecations lead to an entry.
-ghost use Rattle.std.specs.Prelude.{◌≡◌, ◌↔◌, IfOk, IsTrue, Some, position};
-ghost use Rattle.std.specs.List.{Contains};
+ghost use Rattle.std.specs.Prelude.{◌≡◌, ◌↔◌, IfOk, IsTrue, Some, position, Contains};
 ghost use Rattle.std.specs.List.Sorted.{IsStrictlyIncreasing};
 ghost use Rattle.cpe_rows.specs.Prelude.{is_named, leads_to};
 ghost use Rattle.cpe_dictionary.specs.Sources.{AreSourcesOf};

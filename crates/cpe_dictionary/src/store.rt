@@ -1,9 +1,8 @@
 // A dictionary as it is kept beside a table of names.
 ghost use Rattle.std.specs.Prelude.{◌≡◌, ◌+◌, ◌++◌, ◌∷◌, [], ◌≤◌, IfOk, OnOk, OnErr, length, map, option_map, position, slice_get, false};
 ghost use Rattle.std.specs.List.{cons_option, filter_map, list_any};
-ghost use Rattle.cpe_name.specs.Equal.{same_name};
+ghost use Rattle.name_index.specs.Prelude.{IsLive, kept_at, same_name};
 ghost use Rattle.cpe_rows.specs.Prelude.{chain, is_named, IsDictionary, most};
-ghost use Rattle.name_index.specs.Table.{IsLive, kept_at};
 ghost use Rattle.names_in_order.specs.InOrder.{AreInOrder, names_numbered};
 ghost use Rattle.cpe_rows.specs.declared.fault.Which.TheVariants as Which;
 ghost use Rattle.cpe_dictionary.specs.Kept.{details_written, entries_in, entries_of, entry_from, FitsTable, new_entry, rewritten, written};
@@ -159,10 +158,19 @@ impl KeptDictionary {
         requires live { IsLive table.now id.0 }
         ensures { result ≡ position (is_named (kept_at table.now id.0).name) (entries_in table.now self.now) }
     {
-        match self.names.place_of(table, id) {
+        match self.place_of(table, id) {
             Some(place) => Some(place as u32),
             None => None,
         }
+    }
+
+    // The place of the entry whose name has this number.
+    fn place_of(&self, table: &NameTable, id: NameId) -> Option<usize>
+        requires fits { FitsTable table.now self.now }
+        requires live { IsLive table.now id.0 }
+        ensures { result ≡ position (is_named (kept_at table.now id.0).name) (entries_in table.now self.now) }
+    {
+        self.names.place_of(table, id)
     }
 
     /// The entry at a place from 0, lent. There is none exactly where the place is the number of entries or more.

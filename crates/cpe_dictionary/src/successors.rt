@@ -2,14 +2,13 @@
 ghost use Rattle.std.specs.Prelude.{◌≡◌, ◌∷◌, [], ◌≤◌, IfOk, IfErr, None, Option, Some, length, nat_eq, not, option_map, position};
 ghost use Rattle.std.specs.List.{list_any};
 ghost use Rattle.cpe_rows.specs.Faults.{is_count, place_of, repeated_from, successor_faults};
-ghost use Rattle.cpe_rows.specs.Prelude.{first_some, is_named, IsCause};
+ghost use Rattle.cpe_rows.specs.Prelude.{first_some, is_named, IsCause, Values};
 ghost use Rattle.cpe_rows.specs.declared.limits.TheConstants.{MOST_SUCCESSORS};
 ghost use Rattle.cpe_rows.specs.declared.entry.Note.{Note};
 ghost use Rattle.cpe_rows.specs.declared.fault.EditFault.TheVariants as fault;
 ghost use Rattle.cpe_dictionary.specs.Numbers.{numbers_of};
 ghost use Rattle.cpe_dictionary.specs.Causes.{deprecation_causes};
 ghost use Rattle.cpe_dictionary.specs.Plans.{AreAsked, IsAllowed};
-ghost use Rattle.cpe_name.specs.Eleven.{Values};
 
 use crate::by_number::{edits_are_changes, edits_by_number, faults_by_number};
 use crate::dictionary::Dictionary;

@@ -2,9 +2,7 @@
 ghost use Rattle.std.specs.Prelude.{◌≡◌, List, true};
 ghost use Rattle.std.specs.List.{list_any};
 ghost use Rattle.cpe_name.specs.Equal.{same_name};
-ghost use Rattle.cpe_name.specs.Eleven.{Values};
-ghost use Rattle.cpe_rows.specs.Names.{is_same};
-ghost use Rattle.cpe_rows.specs.Prelude.{without_first};
+ghost use Rattle.cpe_rows.specs.Prelude.{is_same, Values, without_first};
 ghost use Rattle.name_index.specs.Table.{AreNames, Names, kept_at};
 ghost use Rattle.name_index.specs.declared.table.NameId.{NameId};
 ghost use Rattle.names_in_order.specs.InOrder.{AreLive, names_numbered, same_id};

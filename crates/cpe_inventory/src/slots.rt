@@ -1,6 +1,5 @@
 // The items of an inventory, by their slots.
-ghost use Rattle.std.specs.Prelude.{◌≡◌, get_or, length, map, None};
-ghost use Rattle.std.specs.Option.{option_copied};
+ghost use Rattle.std.specs.Prelude.{◌≡◌, get_or, length, map, None, option_copied};
 ghost use Rattle.cpe_inventory.specs.Slots.{slot_name};
 
 use cpe_name::Wfn;

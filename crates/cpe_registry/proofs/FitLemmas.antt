@@ -8,7 +8,10 @@ use Rattle.cpe_name.specs.Eleven.{Values}
 use Rattle.name_index.specs.declared.table.NameId.{NameId}
 use Rattle.name_index.specs.Index.{name_id}
 use Rattle.name_index.specs.Table.{AreNames, find_kept, HasName, Holds, IsLive, Kept, kept_at, kept_or, Names, Releases}
+use Rattle.name_index.proofs.Fitting.{held_live, held_name}
 use Rattle.names_in_order.specs.InOrder.{AreInOrder, IsSafe, names_numbered}
+use Rattle.names_in_order.specs.Laws.{OrdersStay}
+use Rattle.names_in_order.proofs.StayLemmas.{hold_stays, names_stay}
 use Rattle.numbered_names.specs.Shown.{holds_in, Shows, times_named}
 use Rattle.cpe_rows.specs.Names.{is_same}
 use Rattle.cpe_rows.specs.Rows.{is_named}
@@ -16,7 +19,8 @@ use Rattle.cpe_rows.specs.declared.entry.Entry.{Entry}
 use Rattle.cpe_dictionary.specs.Kept.{entries_in, entries_of, FitsTable, IsKept, names_of, Stored}
 use Rattle.cpe_dictionary.proofs.EntryLemmas.{names_are}
 use Rattle.items_in_order.specs.InOrder.{AreItems, ItemRoll}
-use Rattle.cpe_registry.specs.Registered.{AreFitting}
+use Rattle.cpe_registry.specs.Moved.{NameHeld}
+use Rattle.cpe_registry.specs.Registered.{AreFitting, AreHeld, Registered, registered}
 use Rattle.cpe_registry.proofs.HeldLemmas.{second_stands, third_stands}
 
 -- ---- names that stay
@@ -121,12 +125,12 @@ pub stays_same : (old new : Names) (s : Stored) (r : ItemRoll) → AreFitting ol
 stays_same old new s r fit same = subst (λ (t : Names). Stays old t s r) (sym same) (record { fitting = fit; entries = refl; items = refl })
 
 -- a hold leaves all as it was but the table
-pub stays_held : {E : Type 0} (old new : Names) (s : Stored) (r : ItemRoll) (name : Values) (result : Result NameId E) → AreFitting old s r
-    → ((id : ℕ) → Holds old new id name → AreInOrder new s.names.held s.names.numbers) → ((id : ℕ) → Holds old new id name → names_numbered new s.names.numbers ≡ names_numbered old s.names.numbers)
-    → ((id : ℕ) → Holds old new id name → AreItems new r.targets r.numbers) → ((id : ℕ) → Holds old new id name → names_numbered new r.numbers ≡ names_numbered old r.numbers)
-    → IfOk result (λ id. Holds old new id.0 name) → OnErr result (new ≡ old) → Stays old new s r
-stays_held old new s r name result fit order names item_order item_names held same = either_if (λ (id : NameId). Holds old new id.0 name) result
-    (λ id h. stays_by old new s r fit (order id.0 h) (names id.0 h) (item_order id.0 h) (item_names id.0 h)) (λ e. stays_same old new s r fit e) held same
+pub stays_held : {E : Type 0} (old new : Names) (s : Stored) (r : ItemRoll) (name : Values) (result : Result NameId E) → AreFitting old s r → OrdersStay
+    → ((id : ℕ) → Holds old new id name → AreItems old r.targets r.numbers → AreItems new r.targets r.numbers) → IfOk result (λ id. Holds old new id.0 name) → OnErr result (new ≡ old) → Stays old new s r
+stays_held old new s r name result fit orders items held same = either_if (λ (id : NameId). Holds old new id.0 name) result
+    (λ id h. stays_by old new s r fit (orders.held old new id.0 name s.names.held s.names.numbers h fit.entries.order) (orders.held_names old new id.0 name s.names.held s.names.numbers h fit.entries.order)
+    (items id.0 h fit.items) (names_stay old new r.numbers (hold_stays old new id.0 name h) fit.items.live))
+    (λ e. stays_same old new s r fit e) held same
 
 -- the list of what is held, by the names that stay
 pub shows_still : (old new : Names) (s : Stored) (r : ItemRoll) (prefix : List Values) → Stays old new s r → Shows new (holds_in new) (prefix ++ (names_of (entries_in old s) ++ names_numbered old r.numbers))
@@ -134,6 +138,26 @@ pub shows_still : (old new : Names) (s : Stored) (r : ItemRoll) (prefix : List V
 shows_still old new s r prefix stays shows =
     let list : prefix ++ (names_of (entries_in new s) ++ names_numbered new r.numbers) ≡ prefix ++ (names_of (entries_in old s) ++ names_numbered old r.numbers) = λ k. prefix ++ (names_of (stays.entries k) ++ stays.items k) in
     subst (Shows new (holds_in new)) (sym list) shows
+
+-- what a hold answers
+pub name_held : {E : Type 0} {x : Registered} (old new : Names) (s : Stored) (r : ItemRoll) (name : Values) (result : Result NameId E) → registered old s r ≡ x → Stays old new s r
+    → IfOk result (λ id. Holds old new id.0 name) → OnErr result (new ≡ old) → ((id : ℕ) (list : List Values) → Holds old new id name → Shows old (holds_in old) list → Shows new (holds_in new) (name ∷ list))
+    → NameHeld x (registered new s r) name result
+name_held old new s r name result view stay held same more = record {
+  live = if_ok result (λ id h. held_live old new id.0 name h) held;
+  named = if_ok result (λ id h. held_name old new id.0 name h) held;
+  held = subst (λ (y : Registered). IfOk result (λ (id : NameId). Holds y.table new id.0 name)) view held;
+  entries = stay.entries ∙ ap (λ (y : Registered). y.entries) view;
+  items = stay.items ∙ ap (λ (y : Registered). y.items) view;
+  others = λ others was. let shows = subst (λ (y : Registered). AreHeld y others) (sym view) was in
+      ok_if (λ (id : NameId). Holds old new id.0 name) result (λ id h. shows_still old new s r (name ∷ others) stay (more id.0 (others ++ (names_of (entries_in old s) ++ names_numbered old r.numbers)) h shows)) held;
+  err = on_err result (λ e. ap (λ (t : Names). registered t s r) e ∙ view) same;
+}
+
+-- entries that keep their names keep what is held
+pub others_same : {x : Registered} (table : Names) (s next : Stored) (r : ItemRoll) → registered table s r ≡ x → names_of (entries_in table next) ≡ names_of (entries_in table s) → (others : List Values) → AreHeld x others → AreHeld (registered table next r) others
+others_same table s next r view same others was =
+    subst (λ (ns : List Values). Shows table (holds_in table) (others ++ (ns ++ names_numbered table r.numbers))) (sym same) (subst (λ (y : Registered). AreHeld y others) (sym view) was)
 
 -- ---- entries by their names
 

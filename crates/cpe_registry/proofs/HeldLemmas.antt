@@ -4,7 +4,7 @@ use Rattle.std.specs.List.{list_any, sum_by}
 use Rattle.std.specs.Option.{option_map_or}
 use Rattle.std.proofs.lemmas.Option.{none-some, same_Some}
 use Rattle.std.proofs.lemmas.List.{map-append}
-use Rattle.std.proofs.lemmas.List.Sums.{sum_by-cons}
+use Rattle.std.proofs.lemmas.List.Sums.{sum_by-append, sum_by-cons}
 use Rattle.cpe_name.specs.Eleven.{Values}
 use Rattle.cpe_name.specs.Equal.{same_name, same_name-Decides}
 use Rattle.product_orders.specs.Elements.{SameElements}
@@ -19,50 +19,19 @@ use Rattle.cpe_dictionary.specs.Kept.{names_of, rewritten, written}
 -- ---- orders
 
 module _ {A : Type 0} where
-  sum_append : (f : A → ℕ) (xs ys : List A) → sum_by f (xs ++ ys) ≡ sum_by f xs + sum_by f ys
-  sum_append f [] ys = omega (arith)
-  sum_append f (x ∷ xs) ys = omega (arith, sum_by-cons f x (xs ++ ys), sum_by-cons f x xs, sum_append f xs ys)
+  sum_three : (f : A → ℕ) (xs ys zs : List A) → sum_by f (xs ++ (ys ++ zs)) ≡ sum_by f xs + (sum_by f ys + sum_by f zs)
+  sum_three f xs ys zs = omega (arith, sum_by-append f xs (ys ++ zs), sum_by-append f ys zs)
 
   -- the first of all comes last in the second of three lists, or in the third
   pub last_of_second : (x : A) (xs ys zs : List A) → SameElements (x ∷ (xs ++ (ys ++ zs))) (xs ++ ((ys ++ x ∷ []) ++ zs))
-  last_of_second x xs ys zs f =
-      omega (
-        arith,
-        sum_by-cons f x (xs ++ (ys ++ zs)),
-        sum_append f xs (ys ++ zs),
-        sum_append f ys zs,
-        sum_append f xs ((ys ++ x ∷ []) ++ zs),
-        sum_append f (ys ++ x ∷ []) zs,
-        sum_append f ys (x ∷ []),
-        sum_by-cons f x [],
-      )
+  last_of_second x xs ys zs f = omega (arith, sum_by-cons f x (xs ++ (ys ++ zs)), sum_three f xs ys zs, sum_three f xs (ys ++ x ∷ []) zs, sum_by-append f ys (x ∷ []), sum_by-cons f x [])
 
   pub last_of_third : (x : A) (xs ys zs : List A) → SameElements (x ∷ (xs ++ (ys ++ zs))) (xs ++ (ys ++ (zs ++ x ∷ [])))
-  last_of_third x xs ys zs f =
-      omega (
-        arith,
-        sum_by-cons f x (xs ++ (ys ++ zs)),
-        sum_append f xs (ys ++ zs),
-        sum_append f ys zs,
-        sum_append f xs (ys ++ (zs ++ x ∷ [])),
-        sum_append f ys (zs ++ x ∷ []),
-        sum_append f zs (x ∷ []),
-        sum_by-cons f x [],
-      )
+  last_of_third x xs ys zs f = omega (arith, sum_by-cons f x (xs ++ (ys ++ zs)), sum_three f xs ys zs, sum_three f xs ys (zs ++ x ∷ []), sum_by-append f zs (x ∷ []), sum_by-cons f x [])
 
   -- one of the third comes first of all
   third_first : (x : A) (xs ys zs left : List A) → SameElements zs (x ∷ left) → SameElements (xs ++ (ys ++ zs)) (x ∷ (xs ++ (ys ++ left)))
-  third_first x xs ys zs left same f =
-      omega (
-        arith,
-        sum_append f xs (ys ++ zs),
-        sum_append f ys zs,
-        sum_by-cons f x (xs ++ (ys ++ left)),
-        sum_append f xs (ys ++ left),
-        sum_append f ys left,
-        sum_by-cons f x left,
-        same f,
-      )
+  third_first x xs ys zs left same f = omega (arith, sum_three f xs ys zs, sum_by-cons f x (xs ++ (ys ++ left)), sum_three f xs ys left, sum_by-cons f x left, same f)
 
 -- a name that is taken out is one more
 taken_out : (name : Values) (names : List Values) → list_any (is_same name) names ≡ true → SameElements names (name ∷ without_first (is_same name) names)
@@ -86,15 +55,8 @@ dropped_first name xs ys items has = third_first name xs ys items (without_first
 
 -- ---- how often a name stands there
 
-times_append : (n : Values) (xs ys : List Values) → times_named n (xs ++ ys) ≡ times_named n xs + times_named n ys
-times_append n [] ys = omega (arith)
-times_append n (x ∷ xs) ys =
-    omega (
-      arith,
-      sum_by-cons (λ (m : Values). cond (same_name n m) 1 0) x (xs ++ ys),
-      sum_by-cons (λ (m : Values). cond (same_name n m) 1 0) x xs,
-      times_append n xs ys,
-    )
+times_three : (n : Values) (xs ys zs : List Values) → times_named n (xs ++ (ys ++ zs)) ≡ times_named n xs + (times_named n ys + times_named n zs)
+times_three n xs ys zs = sum_three (λ (m : Values). cond (same_name n m) 1 0) xs ys zs
 
 stands_once : (n : Values) (ns : List Values) (k : ℕ) → slice_get ns k ≡ Some n → 1 ≤ times_named n ns
 stands_once n [] k e = absurd (none-some n e)
@@ -103,10 +65,10 @@ stands_once n (m ∷ ns) zero e =
 stands_once n (m ∷ ns) (suc k) e = omega (arith, sum_by-cons (λ (x : Values). cond (same_name n x) 1 0) m ns, stands_once n ns k e)
 
 pub second_stands : (n : Values) (xs ys zs : List Values) (k : ℕ) → slice_get ys k ≡ Some n → 1 ≤ times_named n (xs ++ (ys ++ zs))
-second_stands n xs ys zs k e = omega (arith, times_append n xs (ys ++ zs), times_append n ys zs, stands_once n ys k e)
+second_stands n xs ys zs k e = omega (arith, times_three n xs ys zs, stands_once n ys k e)
 
 pub third_stands : (n : Values) (xs ys zs : List Values) (k : ℕ) → slice_get zs k ≡ Some n → 1 ≤ times_named n (xs ++ (ys ++ zs))
-third_stands n xs ys zs k e = omega (arith, times_append n xs (ys ++ zs), times_append n ys zs, stands_once n zs k e)
+third_stands n xs ys zs k e = omega (arith, times_three n xs ys zs, stands_once n zs k e)
 
 -- ---- the names of entries
 

@@ -1,8 +1,7 @@
 // Where deprecations lead, and whence, by the numbers of names.
 ghost use Rattle.std.specs.Prelude.{◌≡◌, ◌∷◌, [], IfOk, Some, filter, map, position};
 ghost use Rattle.std.specs.List.{list_any};
-ghost use Rattle.cpe_rows.specs.Names.{is_same};
-ghost use Rattle.cpe_rows.specs.Prelude.{ends, is_named, leads_to};
+ghost use Rattle.cpe_rows.specs.Prelude.{ends, is_named, is_same, leads_to};
 ghost use Rattle.cpe_rows.specs.declared.entry.Entry.{Entry};
 ghost use Rattle.name_index.specs.Table.{IsLive};
 ghost use Rattle.numbered_names.specs.Shown.{names_at};

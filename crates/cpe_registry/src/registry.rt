@@ -1,10 +1,7 @@
 // One table of names, and the entries and items that keep numbers of it.
 ghost use Rattle.std.specs.Prelude.{◌≡◌, ◌+◌, ◌++◌, ◌∷◌, [], ◌<◌, ◌≤◌, ℕ, IfOk, IfSome, IsNone, List, None, false, find, length, map, option_copied, option_map, position, slice_get, true};
 ghost use Rattle.std.specs.List.{filter_map, list_any};
-ghost use Rattle.cpe_name.specs.Lower.{IsLower};
-ghost use Rattle.cpe_name.specs.Eleven.{Values};
-ghost use Rattle.cpe_rows.specs.Names.{is_same};
-ghost use Rattle.cpe_rows.specs.Prelude.{chain, is_named, IsDictionary, most, without_first};
+ghost use Rattle.cpe_rows.specs.Prelude.{chain, is_named, is_same, IsDictionary, IsLower, most, Values, without_first};
 ghost use Rattle.cpe_rows.specs.declared.fault.Which.TheVariants as limit;
 ghost use Rattle.name_index.specs.Table.{AreNames, HasName, IsLive, kept_at, Releases};
 ghost use Rattle.cpe_dictionary.specs.Kept.{new_entry, rewritten, written};

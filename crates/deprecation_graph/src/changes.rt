@@ -1,6 +1,5 @@
 // Changes of the nodes as they are kept.
-ghost use Rattle.std.specs.Prelude.{◌≡◌, ◌+◌, ◌≤◌, length, None, OnOk};
-ghost use Rattle.std.specs.Option.{option_copied};
+ghost use Rattle.std.specs.Prelude.{◌≡◌, ◌+◌, ◌≤◌, length, None, OnOk, option_copied};
 ghost use Rattle.deprecation_graph.specs.Graph.{next_in, edge_count, changed_nodes, successors as successors_of, NamesNodes};
 ghost use Rattle.deprecation_graph.specs.Faults.{change_fault};
 ghost use Rattle.deprecation_graph.specs.Kept.{nodes_in, IsKept, Regrows, HasRoom, KeepsRoom};

@@ -1,7 +1,6 @@
 // Ends, sources, and whether a change of one node is allowed.
-ghost use Rattle.std.specs.Prelude.{◌≡◌, ◌==◌, ◌<◌, ◌≤◌, length, slice_index_or, true, false, None, filter, find, IfOk};
+ghost use Rattle.std.specs.Prelude.{◌≡◌, ◌==◌, ◌<◌, ◌≤◌, length, slice_index_or, true, false, None, filter, find, IfOk, option_copied};
 ghost use Rattle.std.specs.List.{All, list_all};
-ghost use Rattle.std.specs.Option.{option_copied};
 ghost use Rattle.deprecation_graph.specs.Paths.{IsClosed};
 ghost use Rattle.deprecation_graph.specs.Chains.{reaches};
 ghost use Rattle.deprecation_graph.specs.Graph.{next_in, chain_in, ends_in, sources_in, successors as successors_of, changed_nodes, NamesNodes, IsChange};

@@ -1,6 +1,5 @@
 // The graph: what is kept, and its public calls.
-ghost use Rattle.std.specs.Prelude.{◌≡◌, ◌↔◌, ◌+◌, ◌++◌, ◌∷◌, [], ◌<◌, ◌≤◌, length, None, IsTrue, OnOk, OnErr, IfOk};
-ghost use Rattle.std.specs.Option.{option_copied};
+ghost use Rattle.std.specs.Prelude.{◌≡◌, ◌↔◌, ◌+◌, ◌++◌, ◌∷◌, [], ◌<◌, ◌≤◌, length, None, IsTrue, OnOk, OnErr, IfOk, option_copied};
 
 use crate::changes::{reserve_kept, set_kept};
 use crate::check::{check_change, find_chain, find_ends, find_sources, is_led_to};

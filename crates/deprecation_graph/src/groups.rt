@@ -1,7 +1,6 @@
 // Groups of nodes that no edge leaves. Groups are joined and never split, so where edges were taken out they may be larger than
 // they need be.
-ghost use Rattle.std.specs.Prelude.{◌≡◌, ◌+◌, ◌<◌, ◌≤◌, ◌∷◌, [], cond, length, slice_get, slice_set, true, Some, IfOk, IfSome, vec_capacity};
-ghost use Rattle.std.specs.List.{All, sum_by};
+ghost use Rattle.std.specs.Prelude.{◌≡◌, ◌+◌, ◌<◌, ◌≤◌, ◌∷◌, [], cond, length, slice_get, slice_set, true, Some, IfOk, IfSome, vec_capacity, All, sum_by};
 ghost use Rattle.deprecation_graph.specs.Groups.{AreGrouped, HasMembers, Recounts, IsNext, IsHead, count_at, IsName, AreNames, AreSmall, KeepsGroups, PutsUnder, Joins};
 
 use crate::few::add;

@@ -1,6 +1,5 @@
 // The nodes as they are kept, and as they would be after a change.
-ghost use Rattle.std.specs.Prelude.{◌≡◌, ◌<◌, length, slice_index_or, false, OnOk};
-ghost use Rattle.std.specs.Option.{option_copied};
+ghost use Rattle.std.specs.Prelude.{◌≡◌, ◌<◌, length, slice_index_or, false, OnOk, option_copied};
 ghost use Rattle.deprecation_graph.specs.Graph.{successors as successors_of_change};
 ghost use Rattle.deprecation_graph.specs.Indexed.{list_of};
 ghost use Rattle.deprecation_graph.specs.Kept.{lists_after, marks_after};

@@ -1,6 +1,5 @@
 // Lists of numbers by index, which lie in a pool.
-ghost use Rattle.std.specs.Prelude.{◌≡◌, ◌+◌, ◌++◌, ◌∷◌, [], ◌<◌, ◌≤◌, length, slice_get, slice_set, OnOk};
-ghost use Rattle.std.specs.List.{Contains};
+ghost use Rattle.std.specs.Prelude.{◌≡◌, ◌+◌, ◌++◌, ◌∷◌, [], ◌<◌, ◌≤◌, length, slice_get, slice_set, OnOk, Contains};
 ghost use Rattle.list_pool.specs.Pool.{IsLive};
 ghost use Rattle.deprecation_graph.specs.Heads.{values};
 

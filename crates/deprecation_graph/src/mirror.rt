@@ -1,6 +1,5 @@
 // Edges that are kept both ways: the successors of each node, and its predecessors.
-ghost use Rattle.std.specs.Prelude.{◌≡◌, ◌+◌, ◌++◌, ◌∷◌, [], ◌<◌, ◌≤◌, length, slice_set};
-ghost use Rattle.std.specs.List.{Contains, All};
+ghost use Rattle.std.specs.Prelude.{◌≡◌, ◌+◌, ◌++◌, ◌∷◌, [], ◌<◌, ◌≤◌, length, slice_set, Contains, All};
 ghost use Rattle.deprecation_graph.specs.Indexed.{list_of, without};
 ghost use Rattle.deprecation_graph.specs.Mirror.{IsMirror};
 

@@ -1,6 +1,5 @@
 // A graph that is being filled, its nodes one after the other, each after its successors.
-ghost use Rattle.std.specs.Prelude.{◌≡◌, ◌+◌, ◌++◌, ◌∷◌, [], ◌<◌, ◌≤◌, length, replicate, slice_index, slice_set, false, IfErr, IfOk, OnOk, None};
-ghost use Rattle.std.specs.Option.{option_copied};
+ghost use Rattle.std.specs.Prelude.{◌≡◌, ◌+◌, ◌++◌, ◌∷◌, [], ◌<◌, ◌≤◌, length, replicate, slice_index, slice_set, false, IfErr, IfOk, OnOk, None, option_copied};
 ghost use Rattle.deprecation_graph.specs.declared.limits.TheConstants.{MOST_EDGES, MOST_NODES};
 ghost use Rattle.deprecation_graph.specs.Graph.{changed_nodes, edge_count, next_in, node_of, successors as successors_in, IsChange, IsLawful};
 ghost use Rattle.deprecation_graph.specs.Faults.{change_fault};

@@ -1,7 +1,6 @@
 // What is asked of the lists before any edge is set.
-ghost use Rattle.std.specs.Prelude.{◌≡◌, ◌↔◌, ◌<◌, IsTrue, length, nat_eq};
+ghost use Rattle.std.specs.Prelude.{◌≡◌, ◌↔◌, ◌<◌, IsTrue, length, nat_eq, option_copied};
 ghost use Rattle.std.specs.List.{All, IsDistinct};
-ghost use Rattle.std.specs.Option.{option_copied};
 ghost use Rattle.deprecation_graph.specs.Graph.{successors as successors_in};
 ghost use Rattle.filled_graph.specs.Filled.{IsBrief};
 ghost use Rattle.filled_graph.specs.Fit.{IsFit, AreFit};

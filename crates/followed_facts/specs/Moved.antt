@@ -1,7 +1,8 @@
 -- What is followed after a fact is put.
-use Rattle.std.specs.Prelude.{◌≡◌, ℕ, List, Some, Result, OnOk, OnErr}
+use Rattle.std.specs.Prelude.{◌≡◌, ℕ, false, nat_eq, List, Some, Result, OnOk, OnErr}
+use Rattle.std.proofs.Common.{Vec, Global}
 use Rattle.name_index.specs.declared.table.NameId.{NameId}
-use Rattle.followed_facts.specs.Followed.{AreLinked, Followed, IsUnder, KeepsLinks, OthersStay, SameOthers, ends_at, facts_at}
+use Rattle.followed_facts.specs.Followed.{AreLinked, Followed, IsUnder, KeepsLinks, NoneIsEmpty, OthersStay, SameOthers, ends_at, facts_at, facts_in, with_one}
 
 -- A fact is followed, and leads to these ends, or memory ran out.
 pub record FactPut {Done Fault : Type 0} (old new : Followed) (fact : ℕ) (its_ends : List NameId) (result : Result Done Fault) : Type 0 where
@@ -19,3 +20,14 @@ pub record FactPut {Done Fault : Type 0} (old new : Followed) (fact : ℕ) (its_
   pub err : OnErr result ((q : ℕ) → ends_at new q ≡ ends_at old q)
   -- each fact that is followed is among the facts of its ends, where that was so
   pub linked : AreLinked old → AreLinked new
+
+-- A fact stands once among those of an end, or memory ran out.
+pub record IsPutUnder {Done Fault : Type 0} (old new : List (ℕ × Vec ℕ Global)) (its_end fact : ℕ) (result : Result Done Fault) : Type 0 where
+  -- it is put last, unless it was there
+  pub here : OnOk result (facts_in new its_end ≡ with_one fact (facts_in old its_end))
+  -- the facts of other ends stay
+  pub others : (other : ℕ) → nat_eq its_end other ≡ false → facts_in new other ≡ facts_in old other
+  -- and without memory those of this one
+  pub err : OnErr result (facts_in new its_end ≡ facts_in old its_end)
+  -- an end without facts isn't kept
+  pub tight : NoneIsEmpty old → NoneIsEmpty new

@@ -1,6 +1,5 @@
 // The ends of facts.
-ghost use Rattle.std.specs.Prelude.{◌≡◌, ℕ, List, false, nat_eq, None, Some, IsSome, OnOk, OnErr};
-ghost use Rattle.std.specs.Option.{option_map};
+ghost use Rattle.std.specs.Prelude.{◌≡◌, ℕ, List, false, nat_eq, None, Some, IsSome, OnOk, OnErr, option_map};
 ghost use Rattle.name_index.specs.declared.table.NameId.{NameId};
 ghost use Rattle.followed_facts.specs.Followed.{ends_in, has_end};
 

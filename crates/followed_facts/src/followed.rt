@@ -1,6 +1,5 @@
 // Facts with their ends, and ends with their facts.
-ghost use Rattle.std.specs.Prelude.{◌≡◌, ℕ, List, [], true, false, None, Some, IsSome, OnOk};
-ghost use Rattle.std.specs.Option.{option_map};
+ghost use Rattle.std.specs.Prelude.{◌≡◌, ℕ, List, [], true, false, None, Some, IsSome, OnOk, option_map};
 ghost use Rattle.name_index.specs.declared.table.NameId.{NameId};
 ghost use Rattle.followed_facts.specs.Followed.{AreLinked, ends_at, facts_at, has_end, IsUnder, KeepsLinks, OthersStay, SameOthers};
 ghost use Rattle.followed_facts.specs.Moved.{FactPut};

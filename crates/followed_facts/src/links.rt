@@ -1,10 +1,10 @@
 // The facts of ends.
-ghost use Rattle.std.specs.Prelude.{◌≡◌, ◌≢◌, ℕ, [], true, false, nat_eq, None, OnOk, OnErr};
+ghost use Rattle.std.specs.Prelude.{◌≡◌, ◌≢◌, ℕ, [], true, false, nat_eq, None, OnOk, OnErr, position};
 ghost use Rattle.std.specs.Bool.{OnTrue};
-ghost use Rattle.std.specs.List.{position};
 ghost use Rattle.std.specs.Map.{lookup};
 ghost use Rattle.followed_facts.specs.Followed.{among, facts_in, IsUnder, KeepsLinks, NoneIsEmpty, SameOthers, with_one};
 ghost use Rattle.followed_facts.specs.Followed.{has_end as is_end};
+ghost use Rattle.followed_facts.specs.Moved.{IsPutUnder};
 
 use crate::ends::has_end;
 use cpe_values::Memory;
@@ -42,10 +42,7 @@ fn put_at(
     end: u32,
     fact: u32,
 ) -> Result<(), Memory>
-    ensures here { OnOk result (facts_in facts.new.entries end ≡ with_one fact (facts_in facts.old.entries end)) }
-    ensures others { (other : ℕ) → nat_eq end other ≡ false → facts_in facts.new.entries other ≡ facts_in facts.old.entries other }
-    ensures err { OnErr result (facts_in facts.new.entries end ≡ facts_in facts.old.entries end) }
-    ensures tight { NoneIsEmpty facts.old.entries → NoneIsEmpty facts.new.entries }
+    ensures { IsPutUnder facts.old.entries facts.new.entries end fact result }
 {
     match facts.get_mut(&end) {
         Some(list) => put_once(list, fact),
@@ -60,10 +57,7 @@ fn put_first(
     fact: u32,
 ) -> Result<(), Memory>
     requires { facts_in facts.old.entries end ≡ [] }
-    ensures here { OnOk result (facts_in facts.new.entries end ≡ with_one fact (facts_in facts.old.entries end)) }
-    ensures others { (other : ℕ) → nat_eq end other ≡ false → facts_in facts.new.entries other ≡ facts_in facts.old.entries other }
-    ensures err { OnErr result (facts_in facts.new.entries end ≡ facts_in facts.old.entries end) }
-    ensures tight { NoneIsEmpty facts.old.entries → NoneIsEmpty facts.new.entries }
+    ensures { IsPutUnder facts.old.entries facts.new.entries end fact result }
 {
     let mut list = Vec::new(alloc);
     put_once(&mut list, fact)?;

@@ -1,12 +1,8 @@
 // The items of an inventory, beside the table of their names.
-ghost use Rattle.std.specs.Prelude.{◌≡◌, IfOk, filter, find, length, slice_get};
+ghost use Rattle.std.specs.Prelude.{◌≡◌, IfOk, filter, find, length, slice_get, option_copied};
 ghost use Rattle.std.specs.List.{list_any};
-ghost use Rattle.std.specs.Option.{option_copied};
 ghost use Rattle.cpe_inventory.specs.Slots.{names_kept};
-ghost use Rattle.cpe_name.specs.Lower.{IsLower};
-ghost use Rattle.cpe_relation.specs.Maybe.{maybe};
-ghost use Rattle.cpe_relation.specs.NameRelation.{covers};
-ghost use Rattle.cpe_rows.specs.Names.{is_same};
+ghost use Rattle.cpe_rows.specs.Prelude.{covers, is_same, IsLower, maybe};
 ghost use Rattle.cpe_steps.specs.Within.{StepsWithin};
 ghost use Rattle.names_in_order.specs.InOrder.{AreLive, names_numbered};
 ghost use Rattle.items_in_order.specs.InOrder.{AreItems, met_count};

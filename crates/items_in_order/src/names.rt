@@ -1,17 +1,11 @@
 // The numbers of items in an order, of which any may go, by product.
 ghost use Rattle.std.specs.Prelude.{◌≡◌, ◌≢◌, ◌≤◌, ◌<◌, ◌+◌, ◌++◌, ◌∷◌, [], ℕ, IfOk, IfSome, OnOk, OnErr, cond, filter, find, is_some, length, slice_get, None, Some, false, true};
 ghost use Rattle.std.specs.List.{IsDistinct, list_any};
-ghost use Rattle.cpe_name.specs.Equal.{same_name};
-ghost use Rattle.cpe_name.specs.Lower.{IsLower};
-ghost use Rattle.cpe_relation.specs.Maybe.{maybe};
-ghost use Rattle.cpe_relation.specs.NameRelation.{covers};
-ghost use Rattle.cpe_steps.specs.Within.{StepsWithin};
-ghost use Rattle.name_index.specs.Index.{is_covered};
-ghost use Rattle.name_index.specs.Table.{HasName, IsLive, Names, kept_at};
+ghost use Rattle.name_index.specs.Prelude.{covers, HasName, is_covered, IsLive, IsLower, kept_at, maybe, Names, same_name, StepsWithin};
 ghost use Rattle.names_in_order.specs.InOrder.{AreLive, names_numbered, same_id};
 ghost use Rattle.names_in_order.specs.Marked.{numbers_in, without_first};
 ghost use Rattle.target_index.specs.Targets.{is_maybe};
-ghost use Rattle.items_in_order.specs.InOrder.{AreFound, AreItems, met_count};
+ghost use Rattle.items_in_order.specs.InOrder.{AreFound, AreItems, ItemRoll, met_count};
 
 use cpe_name::Wfn;
 use cpe_steps::Steps;
@@ -35,8 +29,6 @@ pub struct ItemNames {
 }
 
 impl Model for ItemNames {
-    ghost use Rattle.items_in_order.specs.InOrder.{ItemRoll};
-
     ghost Value = { ItemRoll };
 
     ghost view = { λ n. record { targets = n.targets; numbers = n.numbers } };

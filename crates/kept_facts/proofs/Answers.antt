@@ -9,6 +9,7 @@ use Rattle.cpe_relation.specs.NameRelation.{covers}
 use Rattle.name_index.specs.declared.table.NameId.{NameId}
 use Rattle.name_index.specs.Table.{Names, find_kept, kept_at, Holds, Releases}
 use Rattle.level_board.specs.Rows.{Seen, differs, level_now}
+use Rattle.level_board.proofs.Orders.{same_level}
 use Rattle.level_board.specs.declared.level.Level.{Level}
 use Rattle.level_board.specs.declared.level.Level.TheVariants.{Covered, Maybe, Free}
 use Rattle.level_board.specs.Board.{AreAnswers, AreFlips, Board, FitsBoard, probe_at, probe_times, target_times, times_in as times_of, was_in}
@@ -38,19 +39,8 @@ answer_kept boards Follow numbers answer by names rows fact fits shows is = by n
 
 -- ---- one name
 
-same_if : (a b : Level) → differs a b ≡ false → a ≡ b
-same_if Covered Covered e = refl
-same_if Covered Maybe e = absurd cc
-same_if Covered Free e = absurd cc
-same_if Maybe Covered e = absurd cc
-same_if Maybe Maybe e = refl
-same_if Maybe Free e = absurd cc
-same_if Free Covered e = absurd cc
-same_if Free Maybe e = absurd cc
-same_if Free Free e = refl
-
 -- what is kept of a probe that is on the board
-seen_there : (board : Board) (p : ℕ) → 1 ≤ probe_times board p → (s : Seen) × (probe_at board p ≡ Some s)
+pub seen_there : (board : Board) (p : ℕ) → 1 ≤ probe_times board p → (s : Seen) × (probe_at board p ≡ Some s)
 seen_there board p some = by (probe_at board p) refl
   where
     by : (o : Option Seen) → probe_at board p ≡ o → (s : Seen) × (probe_at board p ≡ Some s)
@@ -61,7 +51,7 @@ seen_there board p some = by (probe_at board p) refl
 known_is : (board : Board) → AreFlips board → (p : ℕ) (s : Seen) → probe_at board p ≡ Some s → (IsOneOf board.flips p → ⊥) → s.was ≡ level_now s
 known_is board flips p s e apart = elim (cases_Bool (differs s.was (level_now s))) [
   | inl t ↦ absurd (apart (flips.whole p (s, e, t)))
-  | inr f ↦ same_if s.was (level_now s) f
+  | inr f ↦ same_level s.was (level_now s) f
 ]
 
 none_flipped : (board : Board) (p : ℕ) → board.flips ≡ [] → IsOneOf board.flips p → ⊥

@@ -1,17 +1,10 @@
 // The boards of both modes, and what edits of the rows make of them.
-ghost use Rattle.std.specs.Prelude.{◌≡◌, ◌+◌, ◌≤◌, ◌||◌, ℕ, IfOk, count_by, filter, length, nat_lt};
+ghost use Rattle.std.specs.Prelude.{◌≡◌, ◌+◌, ◌≤◌, ◌||◌, ℕ, length, nat_lt};
 ghost use Rattle.std.specs.List.{AllByRecursion};
-ghost use Rattle.cpe_name.specs.Eleven.{Values};
-ghost use Rattle.cpe_name.specs.Lower.{IsLower};
-ghost use Rattle.cpe_steps.specs.Within.{StepsWithin};
-ghost use Rattle.product_orders.specs.Elements.{SameElements};
-ghost use Rattle.name_index.specs.Index.{ids, is_covered};
-ghost use Rattle.target_index.specs.Targets.{is_maybe, is_met};
+ghost use Rattle.name_index.specs.Prelude.{IsLive, Names};
 ghost use Rattle.name_index.specs.declared.table.NameId.{NameId};
-ghost use Rattle.name_index.specs.Table.{Names, IsLive};
 ghost use Rattle.level_board.specs.Board.{AreFlips, probe_times, target_ids, target_times};
-ghost use Rattle.cpe_rows.specs.Prelude.{no_rows, Rows};
-ghost use Rattle.cpe_rows.specs.Verdict.{fact_truth};
+ghost use Rattle.cpe_rows.specs.Prelude.{fact_truth, no_rows, Rows, Values};
 ghost use Rattle.cpe_rows.specs.declared.statement.Mode.{Mode};
 ghost use Rattle.cpe_rows.specs.declared.statement.Mode.TheVariants.{Plain, Follow};
 ghost use Rattle.numbered_names.specs.Shown.{names_at, times_in};
@@ -21,7 +14,6 @@ ghost use Rattle.kept_facts.specs.Kept.{AreLive, AreSettled, AreSound, board_of,
 ghost use Rattle.kept_facts.specs.Moved.{EndsLed, FactsAsked, FactsUnasked, ItemComes, ItemGoes, MakesRoom, MayCome, MayLead};
 
 use crate::lists::{arrive, ask, leave, truth_by, unask};
-use cpe_name::Wfn;
 use cpe_rows::{Mode, Truth};
 use cpe_steps::Steps;
 use cpe_values::Memory;
@@ -31,7 +23,7 @@ use std::alloc::Global;
 use std::marker::Model;
 use std::slice::from_ref;
 use std::sync::ledger::Ledger;
-use target_index::Met;
+use target_index::TargetIndex;
 
 /// How many names more are to be asked, and are to be there.
 #[derive(Clone, Copy, Debug)]
@@ -221,25 +213,11 @@ impl KeptFacts {
         }
     }
 
-    /// The ends of items that a name in lower case covers, and those that it may cover, each once and in any order. It looks only at ends
-    /// whose product the name's meets.
-    ///
-    /// # Errors
-    /// Only that memory ran out. The bound on steps holds then, too.
-    pub fn met_ends<L: Ledger>(
-        &self,
-        alloc: Global,
-        table: &NameTable,
-        name: &Wfn,
-        steps: &mut Steps<L>,
-    ) -> Result<Met, Memory>
-        requires fits { FitBoards self.now table.now }
-        requires lower { IsLower name.now }
-        ensures covered { IfOk result (λ m. SameElements (filter (is_covered table.now name.now) (ids (target_ids self.now.follow))) m.covered.items) }
-        ensures maybe { IfOk result (λ m. SameElements (filter (is_maybe table.now name.now) (ids (target_ids self.now.follow))) m.maybe.items) }
-        ensures steps { StepsWithin steps.old steps.new (count_by (is_met table.now name.now.product) (ids (target_ids self.now.follow))) }
+    /// The ends of items, which tell those that a name covers from those that it may cover.
+    pub fn ends(&self) -> &TargetIndex
+        ensures { result.now ≡ self.now.follow.target_index }
     {
-        self.follow.met(alloc, table, name, steps)
+        self.follow.targets()
     }
 
     /// The names asked in a mode whose level differs from the known one, each once.

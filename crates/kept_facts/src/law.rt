@@ -1,19 +1,14 @@
 // What the boards tell of facts. The functions do nothing: their clauses are the laws.
 ghost use Rattle.std.specs.Prelude.{◌≡◌, ◌≤◌, ◌<◌, ℕ, List, [], None, length, true};
 ghost use Rattle.std.specs.List.{AllByRecursion};
-ghost use Rattle.cpe_name.specs.Eleven.{Values};
+ghost use Rattle.cpe_rows.specs.Prelude.{after, fact_truth, IsAccepted, IsLawful, Rows, Values};
 ghost use Rattle.product_orders.specs.declared.products.Side.TheVariants as side;
 ghost use Rattle.name_index.specs.declared.table.NameId.{NameId};
 ghost use Rattle.name_index.specs.Table.{AreNames, Names, find_kept, Holds, Releases};
 ghost use Rattle.level_board.specs.Board.{Board, IsOn, probe_times, target_ids, target_times};
-ghost use Rattle.cpe_rows.specs.After.{after};
-ghost use Rattle.cpe_rows.specs.Accepted.{IsAccepted};
-ghost use Rattle.cpe_rows.specs.Lawful.{IsLawful};
-ghost use Rattle.cpe_rows.specs.Rows.{Rows};
 ghost use Rattle.cpe_rows.specs.declared.entry.Entry.{Entry};
 ghost use Rattle.cpe_rows.specs.declared.test.CheckKey.{CheckKey};
 ghost use Rattle.cpe_rows.specs.declared.truth.Truth.{Truth};
-ghost use Rattle.cpe_rows.specs.Verdict.{fact_truth};
 ghost use Rattle.cpe_rows.specs.declared.statement.Mode.{Mode};
 ghost use Rattle.numbered_names.specs.Shown.{names_at};
 ghost use Rattle.asked_names.specs.Asked.{asked, is_referred, leads, there};

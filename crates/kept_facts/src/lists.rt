@@ -1,14 +1,11 @@
 // What the numbers of a list do to a board, one after the other: they come and go, and are asked or no longer asked.
 ghost use Rattle.std.specs.Prelude.{◌≡◌, ◌+◌, ◌≤◌, ◌<◌, ℕ, List, length};
 ghost use Rattle.std.specs.List.{AllByRecursion, list_any};
-ghost use Rattle.cpe_name.specs.Eleven.{Values};
-ghost use Rattle.cpe_relation.specs.Maybe.{maybe};
-ghost use Rattle.cpe_relation.specs.NameRelation.{covers};
+ghost use Rattle.cpe_rows.specs.Prelude.{covers, maybe, truth, Values};
 ghost use Rattle.product_orders.specs.declared.products.Side.TheVariants as side;
 ghost use Rattle.name_index.specs.declared.table.NameId.{NameId};
 ghost use Rattle.name_index.specs.Table.{Names};
 ghost use Rattle.level_board.specs.Board.{FitsBoard, probe_times, target_ids, target_times};
-ghost use Rattle.cpe_rows.specs.Verdict.{truth};
 ghost use Rattle.numbered_names.specs.Shown.{name_at, names_at, Shows, times_in};
 ghost use Rattle.kept_facts.specs.Kept.{AreLive};
 ghost use Rattle.kept_facts.specs.Lists.{Arrives, Asks, IsWide, Departs, Unasks, looks, truth_of_names};

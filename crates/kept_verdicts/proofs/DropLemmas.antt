@@ -1,6 +1,6 @@
 -- What is asked for the facts of one statement alone, and what stands where it is dropped.
-use Rattle.std.proofs.Common.{◌≡◌, ℕ, Bool, true, false, cond, ◌||◌, List, [], ◌∷◌, Option, Some, None, refl, sym, ap, subst, ◌∙◌, inl, inr}
-use Rattle.std.specs.Prelude.{find, IsSome, option_map}
+use Rattle.std.proofs.Common.{◌≡◌, ℕ, Bool, true, false, cond, ◌||◌, List, [], ◌∷◌, Option, Some, None, refl, sym, ap, subst, ◌∙◌, inl, inr, eq-eqb}
+use Rattle.std.specs.Prelude.{find, IsSome, nat_eq, option_map}
 use Rattle.std.specs.List.{AllByRecursion, flat_map, list_any, sum_by}
 use Rattle.std.proofs.lemmas.Bool.{cases_Bool, or_cases, or_left, or_right, true≢false}
 use Rattle.std.proofs.lemmas.Option.{none-some, same_Some}
@@ -23,9 +23,12 @@ use Rattle.cpe_applicability.specs.Board.{is_of, is_used, Judged, KeepsTruths, s
 use Rattle.cpe_applicability.specs.Entering.{among}
 use Rattle.cpe_applicability.proofs.StatementLemmas.{found_statement, statements-without}
 use Rattle.followed_facts.specs.Followed.{AreLinked, ends_at, Followed, has_end}
-use Rattle.kept_facts.specs.Kept.{AreSettled, AreSound, FitBoards, ShowRows}
-use Rattle.kept_verdicts.specs.Kept.{AreEnds, AreFollowed, IsNamed, Stands, Verdicts}
-use Rattle.kept_verdicts.specs.Putting.{AllFollowed, AreLast, OthersKept, StandsElse}
+use Rattle.numbered_names.specs.Shown.{names_at}
+use Rattle.kept_facts.specs.Kept.{AreLive, AreSettled, AreSound, FitBoards, ShowRows}
+use Rattle.kept_verdicts.specs.Kept.{AreFollowed, IsNamed, Stands, Verdicts}
+use Rattle.kept_verdicts.specs.Leading.{ends_or_none, is_in_use}
+use Rattle.kept_verdicts.specs.Putting.{AreLast, OthersKept, StandsElse}
+use Rattle.kept_verdicts.proofs.Foreseen.{in_use_is, kept_names}
 
 -- ---- what is asked for facts
 
@@ -120,6 +123,10 @@ module _ (names : Names) (old new : Verdicts) (rows : Rows) (id : List ℕ) wher
     settled = settled;
   }
 
+all_in_use : (rows : List Judged) (ids : List NameId) → ((q : ℕ) → has_end ids q ≡ true → is_used rows Follow q ≡ true) → AllByRecursion (λ (x : NameId). is_in_use rows x ≡ true) ids
+all_in_use rows [] used = tt
+all_in_use rows (x ∷ ids) used = (in_use_is rows x ∙ used x.0 (or_left (nat_eq x.0 x.0) (has_end ids x.0) (eq-eqb x.0 x.0 refl)), all_in_use rows ids (λ q at. used q (or_right (nat_eq x.0 q) (has_end ids q) at)))
+
 module _ (names : Names) (rows : List Judged) (id : List ℕ) (entries : List Entry) (old : Followed) (are : AreFollowed names rows entries old) where
   abbrev pub rest : List Judged
   rest = without_first (is_of id) rows
@@ -134,12 +141,11 @@ module _ (names : Names) (rows : List Judged) (id : List ℕ) (entries : List En
   }
 
   module _ (last : List NameId) (alone : AreLast rows id Follow last) where
-    pub last_followed : AllFollowed names old entries last
-    last_followed q at = by (ends_at old q) refl (are.whole q (alone.used q at))
-      where
-        by : (o : Option (List NameId)) → ends_at old q ≡ o → IsSome o → (numbers : List NameId) × (ends_at old q ≡ Some numbers) × AreEnds names entries q numbers
-        by None e some = absurd (true≢false (sym some))
-        by (Some numbers) e some = (numbers, e, are.ends q numbers e)
+    -- they are followed by the ends of their names
+    pub last_ends : (asked : List NameId) → asked ≡ flat_map (λ (x : NameId). ends_or_none (ends_at old x.0)) last → AreLive names asked × (names_at names asked ≡ flat_map (ends entries) (names_at names last))
+    last_ends asked is =
+        let kept = kept_names names rows entries old are last (all_in_use rows last alone.used) in
+        (subst (AreLive names) (sym is) kept.1, ap (names_at names) is ∙ kept.0)
 
     pub drop_follow : (new : Followed) → ((q : ℕ) → has_end last q ≡ true → ends_at new q ≡ None) → OthersKept old new last → (AreLinked old → AreLinked new) → AreFollowed names rest entries new
     drop_follow new none others linked = record {

@@ -37,29 +37,10 @@ use Rattle.kept_verdicts.specs.Putting.{AllFollowed, AreAskedFor, AreUnused, Has
 -- ---- all but what is followed
 
 pub stands_else : (names : Names) (v : Verdicts) (rows : Rows) → Stands names v rows → StandsElse names v rows
-stands_else names v rows s = record {
-  statements = s.statements;
-  checks = s.checks;
-  named = s.named;
-  truths = s.truths;
-  shows = s.shows;
-  fits = s.fits;
-  sound = s.sound;
-  settled = s.settled;
-}
+stands_else names v rows s = record { statements = s.statements; checks = s.checks; named = s.named; truths = s.truths; shows = s.shows; fits = s.fits; sound = s.sound; settled = s.settled }
 
 pub stands_whole : (names : Names) (v : Verdicts) (rows : Rows) → StandsElse names v rows → AreFollowed names v.board.rows rows.entries v.followed → Stands names v rows
-stands_whole names v rows s f = record {
-  statements = s.statements;
-  checks = s.checks;
-  named = s.named;
-  truths = s.truths;
-  shows = s.shows;
-  fits = s.fits;
-  sound = s.sound;
-  settled = s.settled;
-  followed = f;
-}
+stands_whole names v rows s f = record { statements = s.statements; checks = s.checks; named = s.named; truths = s.truths; shows = s.shows; fits = s.fits; sound = s.sound; settled = s.settled; followed = f }
 
 pub shows_of : (names : Names) (boards : Boards) (rows : Rows) (mode : Mode) → ShowRows names boards rows → ShowsRows names (board_of boards mode) rows mode
 shows_of names boards rows Plain s = s.plain
@@ -287,21 +268,6 @@ module _ (names : Names) (b : State) (rows : List Judged) (s : Statement) (ids f
       ]
 
 -- ---- whole verdicts
-
-abbrev pub with_followed : Verdicts → Followed → Verdicts
-with_followed v f = record { board = v.board; facts = v.facts; followed = f }
-
-pub else_with : (names : Names) (v : Verdicts) (rows : Rows) (f : Followed) → StandsElse names v rows → StandsElse names (with_followed v f) rows
-else_with names v rows f s = record {
-  statements = s.statements;
-  checks = s.checks;
-  named = s.named;
-  truths = s.truths;
-  shows = s.shows;
-  fits = s.fits;
-  sound = s.sound;
-  settled = s.settled;
-}
 
 -- facts that were followed in vain are forgotten
 pub unfollowed : (names : Names) (rows : List Judged) (entries : List Entry) (mode : Mode) (ids fresh : List NameId) (old new : Followed) → AreFollowed names rows entries old → mode ≡ Follow → AreUnused rows mode ids fresh

@@ -1,20 +1,25 @@
 -- Verdicts once boards moved, and once tables did.
-use Rattle.std.proofs.Common.{◌≡◌, ◌≤◌, ℕ, Bool, true, List, Option, Some, None, IsSome, refl, sym, ap, subst, ◌∙◌}
+use Rattle.std.proofs.Common.{◌≡◌, ◌≤◌, ◌+◌, ℕ, Bool, true, List, [], ◌∷◌, Option, Some, None, IsSome, refl, sym, ap, subst, ◌∙◌}
 use Rattle.std.proofs.lemmas.Bool.{true≢false}
 use Rattle.std.specs.List.{AllByRecursion}
 use Rattle.name_index.specs.declared.table.NameId.{NameId}
 use Rattle.name_index.specs.Table.{AreNames, Names, kept_at}
 use Rattle.cpe_rows.specs.Rows.{Rows}
 use Rattle.cpe_rows.specs.declared.entry.Entry.{Entry}
-use Rattle.cpe_rows.specs.declared.statement.Mode.TheVariants.{Follow}
+use Rattle.cpe_rows.specs.declared.statement.Mode.TheVariants.{Plain, Follow}
 use Rattle.cpe_rows.specs.declared.statement.Statement.{Statement}
 use Rattle.level_board.specs.Board.{probe_times}
-use Rattle.asked_names.specs.Asked.{is_referred}
-use Rattle.kept_facts.specs.Kept.{AreSound, Boards, FitBoards, KeepKnown, ShowRows}
+use Rattle.numbered_names.specs.Shown.{name_at}
+use Rattle.product_orders.specs.declared.products.Side.TheVariants as side
+use Rattle.asked_names.specs.Asked.{asked, is_referred}
+use Rattle.kept_facts.specs.Kept.{AreSound, Boards, FitBoards, KeepKnown, looks_by, ShowRows}
+use Rattle.kept_facts.specs.Lists.{looks}
+use Rattle.kept_facts.proofs.Looks.{looks_are}
 use Rattle.kept_facts.proofs.AskedOn.{facts_on}
 use Rattle.cpe_applicability.specs.Board.{is_used, statements_of}
 use Rattle.followed_facts.specs.Followed.{ends_at, Followed}
-use Rattle.kept_verdicts.specs.Kept.{AreEnds, AreFollowed, Stands, Verdicts}
+use Rattle.kept_verdicts.specs.Kept.{AreEnds, AreFollowed, AreTruths, Stands, Verdicts}
+use Rattle.kept_verdicts.specs.Looks.{item_looks}
 use Rattle.kept_verdicts.specs.Telling.{AreAnswered, AreRightBut, IsMoved, leads_to_one}
 use Rattle.kept_verdicts.proofs.FlipLemmas.{follow_stays, plain_stays}
 use Rattle.kept_verdicts.proofs.Used.{used_live, used_referred}
@@ -26,6 +31,29 @@ followed_ends f q some = by (ends_at f q) refl some
     by : (o : Option (List NameId)) → ends_at f q ≡ o → IsSome o → (numbers : List NameId) × (ends_at f q ≡ Some numbers)
     by None e h = absurd (true≢false (sym h))
     by (Some numbers) e h = (numbers, e)
+
+-- verdicts stand by rows with the same statements and results, where these say the same of the facts
+pub stands_by : (names : Names) (v : Verdicts) (rows next : Rows) → Stands names v rows → rows.statements ≡ next.statements → rows.checks ≡ next.checks → AreTruths names v.board next → ShowRows names v.facts next
+    → ((id : ℕ) (numbers : List NameId) → ends_at v.followed id ≡ Some numbers → AreEnds names next.entries id numbers) → Stands names v next
+stands_by names v rows next s statements checks truths shows ends_are = record {
+  statements = s.statements ∙ statements;
+  checks = s.checks ∙ checks;
+  named = s.named;
+  truths = truths;
+  shows = shows;
+  fits = s.fits;
+  sound = s.sound;
+  settled = s.settled;
+  followed = record { whole = s.followed.whole; exact = s.followed.exact; ends = ends_are; linked = s.followed.linked };
+}
+
+-- an item that comes or goes looks at what its name and those of its ends meet
+pub item_looked : (names : Names) (boards : Boards) (rows : Rows) (item : NameId) (led : List NameId) → AreNames names → AreSound boards → ShowRows names boards rows → AreEnds names rows.entries item.0 led
+    → looks names side.Target boards.plain.probe_ids (item ∷ []) + looks names side.Target boards.follow.probe_ids led ≡ item_looks rows (name_at names item)
+item_looked names boards rows item led are sound shows ends_are =
+    let plain = looks_are names (probe_times boards.plain) (asked rows Plain) boards.plain.probe_ids side.Target (item ∷ []) are (sound.on Plain).probes shows.plain.asked in
+    let follow = looks_are names (probe_times boards.follow) (asked rows Follow) boards.follow.probe_ids side.Target led are (sound.on Follow).probes shows.follow.asked ∙ ap (looks_by side.Target (asked rows Follow)) ends_are.names in
+    λ i. plain i + follow i
 
 -- the boards moved to rows with the same entries and statements
 module _ (names : Names) (are : AreNames names) (rows next : Rows) (v : Verdicts) (moved : Boards) (stands : Stands names v rows)

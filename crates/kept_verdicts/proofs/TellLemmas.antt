@@ -1,6 +1,6 @@
 -- Facts that are told one after the other.
 use Rattle.std.proofs.Common.{◌≡◌, ◌≢◌, ◌⊎◌, ℕ, suc, ◌<◌, ◌≤◌, Bool, true, false, ◌||◌, nat_eq, List, [], ◌∷◌, length, refl, sym, ap, subst, ◌∙◌, inl, inr, arith}
-use Rattle.std.specs.List.{AllByRecursion}
+use Rattle.std.specs.List.{AllByRecursion, list_any}
 use Rattle.std.proofs.lemmas.Bool.{cases_eq, ne_eqb}
 use Rattle.name_index.specs.declared.table.NameId.{NameId}
 use Rattle.name_index.specs.Table.{Names, kept_at}
@@ -60,6 +60,19 @@ stay_one a b mode id t rows checks changes = record { same = record { rows = row
 pub first_passes : (a b c : Bool) → a || (b || c) ≡ false → (a || b) || c ≡ false
 first_passes true b c e = absurd cc
 first_passes false b c e = e
+
+-- facts that wait to be told, for one of these each: the first is next, and the others wait still
+module _ {A : Type 0} (one : A → ℕ → Bool) (names : Names) (rows : Rows) (mode : Mode) (b : State) (passes : ℕ → Bool) where
+  abbrev pub waits : List A → ℕ → Bool
+  waits xs id = list_any (λ x. one x id) xs || passes id
+
+  pub right_next : (xs rest : List A) (x : A) → xs ≡ x ∷ rest → AreRightBut names b rows mode (waits xs) → AreRightBut names b rows mode (λ id. one x id || waits rest id)
+  right_next xs rest x here =
+      right_same names rows mode b (waits xs) (λ id. one x id || waits rest id)
+      (λ q free. ap {B = Bool} (λ (ys : List A). waits ys q) here ∙ first_passes (one x q) (list_any (λ y. one y q) rest) (passes q) free)
+
+  pub right_end : (xs : List A) → xs ≡ [] → AreRightBut names b rows mode (waits xs) → AreRightBut names b rows mode passes
+  right_end xs none = right_same names rows mode b (waits xs) passes (λ q free. ap {B = Bool} (λ (ys : List A). waits ys q) none ∙ free)
 
 -- all numbers pass where each one does at its place
 pub all_at : (P : ℕ → Type 0) (xs : List NameId) → ((k : ℕ) → k < length xs → P (number_at xs k)) → AllByRecursion (λ (x : NameId). P x.0) xs

@@ -1,5 +1,5 @@
 -- What is put with a statement and what goes with it, and what stands of the verdicts meanwhile.
-use Rattle.std.specs.Prelude.{◌≡◌, ◌≤◌, ◌∷◌, ℕ, true, false, List, [], Option, Some}
+use Rattle.std.specs.Prelude.{◌≡◌, ◌≤◌, ◌∷◌, ℕ, true, false, List, [], map, Option, Some}
 use Rattle.std.specs.List.{AllByRecursion, flat_map}
 use Rattle.product_orders.specs.Elements.{SameElements}
 use Rattle.name_index.specs.declared.table.NameId.{NameId}
@@ -13,21 +13,25 @@ use Rattle.cpe_rows.specs.declared.statement.Mode.TheVariants.{Plain, Follow}
 use Rattle.cpe_rows.specs.declared.statement.Statement.{Statement}
 use Rattle.numbered_names.specs.Shown.{name_at, names_at}
 use Rattle.asked_names.specs.Asked.{fresh_facts, leads}
-use Rattle.cpe_applicability.specs.Board.{Judged, is_of, is_used}
+use Rattle.cpe_applicability.specs.Board.{Judged, State, is_of, is_used}
 use Rattle.followed_facts.specs.Followed.{ends_at, Followed, has_end}
 use Rattle.kept_facts.specs.Kept.{AreLive, AreSettled, AreSound, board_of, Boards, FitBoards, ShowRows}
-use Rattle.kept_verdicts.specs.Kept.{AreEnds, AreTruths, checks_in, IsNamed, statements_in, Verdicts}
+use Rattle.kept_verdicts.specs.Kept.{AreEnds, AreTruths, IsNamed, Verdicts}
+
+-- statements and boards stand, whatever is followed
+pub record StandTogether (names : Names) (board : State) (facts : Boards) (rows : Rows) : Type 0 where
+  pub statements : map (λ j. j.statement) board.rows ≡ rows.statements
+  pub checks : board.checks ≡ rows.checks
+  pub named : AllByRecursion (IsNamed names) board.rows
+  pub truths : AreTruths names board rows
+  pub shows : ShowRows names facts rows
+  pub fits : FitBoards facts names
+  pub sound : AreSound facts
+  pub settled : AreSettled facts
 
 -- all of it stands, but for what is followed
-pub record StandsElse (names : Names) (v : Verdicts) (rows : Rows) : Type 0 where
-  pub statements : statements_in v ≡ rows.statements
-  pub checks : checks_in v ≡ rows.checks
-  pub named : AllByRecursion (IsNamed names) v.board.rows
-  pub truths : AreTruths names v.board rows
-  pub shows : ShowRows names v.facts rows
-  pub fits : FitBoards v.facts names
-  pub sound : AreSound v.facts
-  pub settled : AreSettled v.facts
+abbrev pub StandsElse : Names → Verdicts → Rows → Type 0
+StandsElse names v rows = StandTogether names v.board v.facts rows
 
 -- the numbers of the names to which a fact leads: its own, or the ends by which it is followed
 abbrev pub leads_at : Followed → Mode → NameId → Option (List NameId)

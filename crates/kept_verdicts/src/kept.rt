@@ -1,18 +1,13 @@
 // Statements with kept verdicts: what they tell, and items and results of checks that come and go.
-ghost use Rattle.std.specs.Prelude.{◌≡◌, ◌∷◌, ◌<◌, ◌≤◌, ◌^◌, ℕ, [], List, IfOk, OnErr, OnOk, Some, count_by, find, length, map, position, slice_get, true};
+ghost use Rattle.std.specs.Prelude.{◌≡◌, ◌∷◌, ◌<◌, ◌≤◌, ◌^◌, ℕ, [], List, IfOk, OnErr, OnOk, Some, count_by, find, length, map, position, slice_get, true, option_copied, option_map};
 ghost use Rattle.std.specs.List.{list_any};
-ghost use Rattle.std.specs.Option.{option_copied, option_map};
-ghost use Rattle.cpe_steps.specs.Within.{StepsWithin};
-ghost use Rattle.cpe_rows.specs.Prelude.{after, first_some, has_id, has_key, no_rows, Rows, IsLawful, verdict};
+ghost use Rattle.name_index.specs.Prelude.{IsLive, Names, StepsWithin};
+ghost use Rattle.cpe_rows.specs.Prelude.{after, fact_truth, first_some, has_id, has_key, is_same, IsLawful, no_rows, number_of_facts, Rows, verdict};
 ghost use Rattle.cpe_rows.specs.Causes.{check_causes, statement_causes};
 ghost use Rattle.cpe_rows.specs.Changes.{differing};
-ghost use Rattle.cpe_rows.specs.FactNames.{number_of_facts};
-ghost use Rattle.cpe_rows.specs.Names.{is_same};
-ghost use Rattle.cpe_rows.specs.Verdict.{fact_truth};
 ghost use Rattle.cpe_applicability.specs.Board.{is_used, uses};
 ghost use Rattle.cpe_rows.specs.declared.edit.Edit.TheVariants as edit;
 ghost use Rattle.cpe_rows.specs.declared.truth.Truth.{Truth};
-ghost use Rattle.name_index.specs.Table.{IsLive, Names};
 ghost use Rattle.numbered_names.specs.Shown.{name_at};
 ghost use Rattle.kept_verdicts.specs.Kept.{AreEnds, checks_in, HasRoom, known_in, SameStatements, Stands, statements_in};
 ghost use Rattle.kept_verdicts.specs.Looks.{item_looks};
@@ -236,7 +231,6 @@ impl KeptVerdicts {
         table.lawful();
         kept_facts::law::few_stand();
         asked_names::law::lawful_rows_ask_few();
-        kept_facts::law::looks_are_by_names();
         self.facts.item_comes(table, item, ends, steps);
         self.facts.lawful();
         self.tell();
@@ -261,7 +255,6 @@ impl KeptVerdicts {
         table.lawful();
         asked_names::law::items_arrive();
         numbered_names::law::lists_are_shown();
-        kept_facts::law::looks_are_by_names();
         self.facts.item_goes(table, item, ends, steps);
         self.facts.lawful();
         self.tell();

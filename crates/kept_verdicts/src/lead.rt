@@ -2,9 +2,8 @@
 ghost use Rattle.std.specs.Prelude.{◌≡◌, ◌∷◌, ℕ, [], Bool, List, IfOk, OnOk, Some, filter, length, map, position};
 ghost use Rattle.std.specs.Bool.{OnTrue};
 ghost use Rattle.std.specs.List.{AllByRecursion, flat_map, list_any};
-ghost use Rattle.cpe_steps.specs.Within.{StepsWithin};
-ghost use Rattle.cpe_name.specs.Eleven.{Values};
-ghost use Rattle.cpe_rows.specs.Prelude.{after, ends as ends_in, is_named, Rows, IsLawful};
+ghost use Rattle.kept_facts.specs.Prelude.{names_at, StepsWithin};
+ghost use Rattle.cpe_rows.specs.Prelude.{after, ends as ends_in, is_named, IsLawful, Rows, Values};
 ghost use Rattle.cpe_rows.specs.declared.edit.Edit.{Edit};
 ghost use Rattle.cpe_rows.specs.declared.entry.Entry.{Entry};
 ghost use Rattle.cpe_rows.specs.declared.statement.Mode.TheVariants.{Follow};
@@ -13,7 +12,6 @@ ghost use Rattle.cpe_dictionary.specs.Plans.{AreLeftBy, IsAllowed, ends_by};
 ghost use Rattle.cpe_registry.specs.Registered.{name_in};
 ghost use Rattle.name_index.specs.declared.table.NameId.{NameId};
 ghost use Rattle.name_index.specs.Table.{AreNames, IsLive, Names};
-ghost use Rattle.numbered_names.specs.Shown.{names_at};
 ghost use Rattle.followed_facts.specs.Followed.{ends_at, facts_at, KeepsLinks};
 ghost use Rattle.kept_facts.specs.Kept.{AreLive, AreSound, FitBoards, SameBoards, ShowRows};
 ghost use Rattle.kept_verdicts.specs.Kept.{IsLead, IsNamed, SameStatements, Stands};
@@ -237,7 +235,7 @@ fn kept_ends(followed: &FollowedFacts, fact: NameId) -> &[NameId]
 //
 // # Errors
 // Only that memory ran out.
-fn all_kept_ends(
+pub(crate) fn all_kept_ends(
     alloc: Global,
     followed: &FollowedFacts,
     facts: &[NameId],

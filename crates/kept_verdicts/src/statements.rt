@@ -1,34 +1,29 @@
 // Statements that are put and dropped.
 ghost use Rattle.std.specs.Prelude.{◌≡◌, ◌∷◌, ◌++◌, ◌+◌, ◌≤◌, ℕ, List, [], IfOk, OnErr, OnOk, None, Some, cond, count_by, false, filter, find, map, nat_eq, true};
 ghost use Rattle.std.specs.List.{AllByRecursion, flat_map, list_any};
-ghost use Rattle.std.specs.Map.{lookup};
-ghost use Rattle.cpe_rows.specs.Prelude.{after, first_some, has_id, Rows, IsLawful, without_first};
+ghost use Rattle.cpe_rows.specs.Prelude.{after, ends, fact_names, fact_truth as truth_by, first_some, has_id, IsLawful, Rows, without_first};
 ghost use Rattle.cpe_rows.specs.Causes.{statement_causes};
-ghost use Rattle.cpe_rows.specs.Chains.{ends};
-ghost use Rattle.cpe_rows.specs.FactNames.{fact_names};
-ghost use Rattle.cpe_rows.specs.Verdict.{fact_truth as truth_by};
 ghost use Rattle.cpe_rows.specs.declared.edit.Edit.TheVariants as edit;
 ghost use Rattle.cpe_rows.specs.declared.statement.Mode.TheVariants.{Follow};
 ghost use Rattle.cpe_rows.specs.declared.statement.Statement.{Statement};
 ghost use Rattle.cpe_rows.specs.declared.entry.Entry.{Entry};
-ghost use Rattle.product_orders.specs.Elements.{SameElements};
+ghost use Rattle.kept_facts.specs.Prelude.{IsLive, IsWide, kept_at, Names, SameElements};
 ghost use Rattle.product_orders.specs.declared.products.Side.TheVariants as side;
 ghost use Rattle.name_index.specs.declared.table.NameId.{NameId};
-ghost use Rattle.name_index.specs.Table.{Names, IsLive, kept_at};
 ghost use Rattle.numbered_names.specs.Shown.{name_at, names_at, one_if_some, times_in};
 ghost use Rattle.asked_names.specs.Asked.{fresh_facts, there};
 ghost use Rattle.cpe_applicability.specs.Board.{is_of, is_used, Judged, KeepsTruths, put_row, truth_at, uses};
 ghost use Rattle.cpe_applicability.specs.Truths.{truth_in};
 ghost use Rattle.followed_facts.specs.Followed.{AreLinked, ends_at, has_end, OthersStay};
 ghost use Rattle.kept_facts.specs.Kept.{AreLive, AreSettled, AreSound, board_of, FitBoards, looks_by, SameBoards, ShowRows};
-ghost use Rattle.kept_facts.specs.Lists.{IsWide};
 ghost use Rattle.kept_verdicts.specs.Kept.{AreEnds, Stands, statements_in};
 ghost use Rattle.kept_verdicts.specs.Looks.{statement_looks};
 ghost use Rattle.kept_verdicts.specs.Moved.{StatementDropped, StatementPut};
 ghost use Rattle.kept_verdicts.specs.Putting.{AllFollowed, AreAskedFor, AreLast, AreUnused, HasLeads, IsAsked, OthersKept, StandsElse};
 
 use crate::kept::KeptVerdicts;
-use cpe_applicability::{Board, FactTruth};
+use crate::lead::all_kept_ends;
+use cpe_applicability::{Board, FactTruth, keep_truth};
 use cpe_registry::Registry;
 use cpe_rows::{Mode, Statement, Text, Truth};
 use cpe_steps::Steps;
@@ -399,17 +394,6 @@ impl FactTruth for Told {
     }
 }
 
-// Keeps the truth of a number.
-fn keep_truth(truths: &mut HashMap<u32, Truth>, id: u32, truth: Truth) -> Result<(), Memory>
-    ensures here { OnOk result (lookup (nat_eq id) truths.new.entries ≡ Some truth) }
-    ensures others { (other : ℕ) → nat_eq id other ≡ false → lookup (nat_eq other) truths.new.entries ≡ lookup (nat_eq other) truths.old.entries }
-{
-    match truths.insert(id, truth) {
-        Ok(_) => Ok(()),
-        Err(_) => Err(Memory),
-    }
-}
-
 // The truth of a fact that is asked.
 fn truth_asked(facts: &KeptFacts, followed: &FollowedFacts, mode: Mode, fact: NameId) -> Truth
     ensures { (names : Names) (rows : Rows) → FitBoards facts.now names → ShowRows names facts.now rows → IsAsked names facts.now followed.now rows.entries mode fact → result ≡ truth_by rows mode (name_at names fact) }
@@ -600,7 +584,7 @@ impl KeptVerdicts {
                 Ok(())
             }
             Mode::Follow => {
-                let asked = ends_of_all(alloc, &self.followed, last)?;
+                let asked = all_kept_ends(alloc, &self.followed, last)?;
                 let_go(
                     &mut self.board,
                     &mut self.facts,
@@ -658,35 +642,6 @@ fn numbered(alloc: Global, numbers: &[u32]) -> Result<Vec<NameId>, Memory>
         ids.push(NameId(*number))?;
     }
     Ok(ids)
-}
-
-// The ends of facts that are followed, one after the other.
-//
-// # Errors
-// Only that memory ran out.
-fn ends_of_all(
-    alloc: Global,
-    followed: &FollowedFacts,
-    facts: &[NameId],
-) -> Result<Vec<NameId>, Memory>
-    ensures live { (names : Names) (entries : List Entry) → AllFollowed names followed.now entries facts.now → IfOk result (λ v. AreLive names v.items) }
-    ensures names { (names : Names) (entries : List Entry) → AllFollowed names followed.now entries facts.now → IfOk result (λ v. names_at names v.items ≡ flat_map (ends entries) (names_at names facts.now)) }
-{
-    let mut all = Vec::new(alloc);
-    for fact in facts {
-        add_ends(followed, *fact, &mut all)?;
-    }
-    Ok(all)
-}
-
-// Adds the ends of a fact that is followed.
-fn add_ends(followed: &FollowedFacts, fact: NameId, all: &mut Vec<NameId>) -> Result<(), Memory>
-    ensures { (numbers : List NameId) → ends_at followed.now fact.0 ≡ Some numbers → OnOk result (all.new.items ≡ all.old.items ++ numbers) }
-{
-    match followed.ends_of(fact) {
-        Some(ends) => add_all(all, ends),
-        None => Ok(()),
-    }
 }
 
 fn add_all(all: &mut Vec<NameId>, more: &[NameId]) -> Result<(), Memory>

@@ -2,12 +2,10 @@
 ghost use Rattle.std.specs.Prelude.{◌≡◌, ◌≤◌, ◌||◌, ℕ, Bool, nat_eq};
 ghost use Rattle.std.specs.List.{AllByRecursion};
 ghost use Rattle.name_index.specs.declared.table.NameId.{NameId};
-ghost use Rattle.name_index.specs.Table.{Names};
+ghost use Rattle.kept_facts.specs.Prelude.{FitBoards, Names, probe_times, ShowRows};
 ghost use Rattle.cpe_rows.specs.Prelude.{Rows};
 ghost use Rattle.cpe_rows.specs.declared.statement.Mode.TheVariants.{Plain, Follow};
 ghost use Rattle.followed_facts.specs.Followed.{among, has_end};
-ghost use Rattle.level_board.specs.Board.{probe_times};
-ghost use Rattle.kept_facts.specs.Kept.{FitBoards, ShowRows};
 ghost use Rattle.kept_verdicts.specs.Kept.{AreTruths};
 ghost use Rattle.kept_verdicts.specs.Telling.{AreAnswered, AreRightBut, IsAnswered, leads_to_one, SameRows, Stays};
 

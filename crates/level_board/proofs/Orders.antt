@@ -307,7 +307,7 @@ leaves from flipped last turned e at one = record {
 
 -- ---- known levels
 
-same_level : (a b : Level) → differs a b ≡ false → a ≡ b
+pub same_level : (a b : Level) → differs a b ≡ false → a ≡ b
 same_level Covered Covered e = refl
 same_level Covered Maybe e = absurd cc
 same_level Covered Free e = absurd cc

@@ -75,33 +75,22 @@ module _ (a b : Parts) (names : Names) (id : ℕ) (i : IsBoard a) (f : FitsBoard
   abbrev pub after : ℕ → Option Seen
   after p = seen (find_row b.probes.rows.entries p)
 
-  stays : {Y : Type 0} (g : Option Seen → Y) → ((o : Option Seen) → g (recounted (is_open names id) rise o) ≡ g o) → (p : ℕ) → g (after p) ≡ g (before p)
-  stays g h p = ap g (counted p) ∙ by (tells_at names p id)
+  stays : {Y : Type 0} (g : Option Seen → Y) → ((s : Seen) → g (recounted (is_open names id) rise (Some s)) ≡ g (Some s)) → (p : ℕ) → g (after p) ≡ g (before p)
+  stays g h p = ap g (counted p) ∙ by (tells_at names p id) (before p)
     where
-      by : (c : Bool) → g (cond c (recounted (is_open names id) rise (before p)) (before p)) ≡ g (before p)
-      by true = h (before p)
-      by false = refl
+      by : (c : Bool) (o : Option Seen) → g (cond c (recounted (is_open names id) rise o) o) ≡ g o
+      by true None = refl
+      by true (Some s) = h s
+      by false o = refl
 
   times_stay : (p : ℕ) → times_in (after p) ≡ times_in (before p)
-  times_stay = stays times_in (λ o. by o)
-    where
-      by : (o : Option Seen) → times_in (recounted (is_open names id) rise o) ≡ times_in o
-      by None = refl
-      by (Some s) = refl
+  times_stay = stays times_in (λ s. refl)
 
   was_stays : (p : ℕ) → was_in (after p) ≡ was_in (before p)
-  was_stays = stays was_in (λ o. by o)
-    where
-      by : (o : Option Seen) → was_in (recounted (is_open names id) rise o) ≡ was_in o
-      by None = refl
-      by (Some s) = refl
+  was_stays = stays was_in (λ s. refl)
 
   some_stays : (p : ℕ) → is_some (after p) ≡ is_some (before p)
-  some_stays = stays is_some (λ o. by o)
-    where
-      by : (o : Option Seen) → is_some (recounted (is_open names id) rise o) ≡ is_some o
-      by None = refl
-      by (Some s) = refl
+  some_stays = stays is_some (λ s. refl)
 
   on_stays : (p : ℕ) → times_held b.probe_index.held p ≡ one_if (is_some (find_row b.probes.rows.entries p))
   on_stays p = ap (λ (h : Held). times_held h.held p) same_index ∙ i.probes_on p ∙ ap one_if (sym (seen_some (find_row a.probes.rows.entries p)) ∙ sym (some_stays p) ∙ seen_some (find_row b.probes.rows.entries p))

@@ -15,8 +15,9 @@ use Rattle.cpe_relation.specs.Maybe.{maybe, meets}
 use Rattle.product_orders.specs.declared.products.Side.TheVariants as side
 use Rattle.product_orders.specs.Elements.{SameElements}
 use Rattle.name_index.specs.declared.table.NameId.{NameId}
-use Rattle.name_index.specs.Table.{Names, Kept, find_kept, kept_at, kept_or, IsLive, AreNames}
+use Rattle.name_index.specs.Table.{Names, kept_at, IsLive, AreNames}
 use Rattle.name_index.specs.Index.{ids, name_id, is_near, times_held}
+use Rattle.name_index.proofs.Fitting.{live_is}
 use Rattle.name_index.proofs.Postings.{sum_map}
 use Rattle.target_index.specs.Targets.{is_open}
 use Rattle.product_orders.proofs.Sums.{if_passes, sum_filter}
@@ -25,15 +26,8 @@ use Rattle.level_board.specs.declared.rows.Row.{Row}
 use Rattle.level_board.specs.Rows.{Seen, seen, find_row, recounted, Tells}
 use Rattle.level_board.specs.Board.{covers_at, maybe_at, tells_at, is_meeting}
 
-pub live_kept : (names : Names) (id : ℕ) → IsLive names id → find_kept names id ≡ Some (kept_at names id)
-live_kept names id h = by (find_kept names id) refl h
-  where
-    by : (o : Option Kept) → find_kept names id ≡ o → IsSome o → o ≡ Some (kept_or o)
-    by None e h = absurd cc
-    by (Some k) e h = refl
-
 pub live_lower : (names : Names) (id : ℕ) → AreNames names → IsLive names id → IsLower (kept_at names id).name
-live_lower names id a h = a.lower id (kept_at names id) (live_kept names id h)
+live_lower names id a h = a.lower id (kept_at names id) (live_is names id h)
 
 abbrev pub is_number : ℕ → NameId → ℕ
 is_number p id = cond (nat_eq p id.0) 1 0

@@ -39,14 +39,9 @@ seen (Some r) = Some (seen_row r)
 
 abbrev pub differs : Level → Level → Bool
 differs Covered Covered = false
-differs Covered Maybe = true
-differs Covered Free = true
-differs Maybe Covered = true
 differs Maybe Maybe = false
-differs Maybe Free = true
-differs Free Covered = true
-differs Free Maybe = true
 differs Free Free = false
+differs _ _ = true
 
 -- the level differs from the known one
 abbrev pub is_turned : Row → Bool

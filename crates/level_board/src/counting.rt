@@ -2,12 +2,8 @@
 ghost use Rattle.std.specs.Prelude.{◌≡◌, ℕ, ◌+◌, ◌<◌, ◌≤◌, cond, length, filter, IsSome, count_by, vec_capacity};
 ghost use Rattle.std.specs.HashMap.{spare};
 ghost use Rattle.cpe_values.specs.Lower.{has_specials};
-ghost use Rattle.cpe_name.specs.Lower.{IsLower};
+ghost use Rattle.name_index.specs.Prelude.{covers, IsLive, IsLower, kept_at, maybe, SameElements};
 ghost use Rattle.cpe_name.specs.Names.{any_values};
-ghost use Rattle.cpe_relation.specs.NameRelation.{covers};
-ghost use Rattle.cpe_relation.specs.Maybe.{maybe};
-ghost use Rattle.product_orders.specs.Elements.{SameElements};
-ghost use Rattle.name_index.specs.Table.{IsLive, kept_at};
 ghost use Rattle.name_index.specs.Index.{ids, times_held, Fits};
 ghost use Rattle.target_index.specs.Targets.{FitsTargets, held, is_met, is_open};
 ghost use Rattle.level_board.specs.Rows.{find_row, seen, recounted, IsOrder};
@@ -15,25 +11,10 @@ ghost use Rattle.level_board.specs.Board.{covered_count, is_meeting, maybe_count
 
 use crate::rows::Probes;
 use cpe_name::{Attribute, Wfn};
-use cpe_relation::{covers, maybe};
 use cpe_steps::Steps;
 use name_index::{NameId, NameIndex, NameTable, Near, Side};
 use std::sync::ledger::Ledger;
-use target_index::{Counts, TargetIndex};
-
-// Whether a probe covers a target.
-fn is_covering(probe: &Wfn, target: &Wfn) -> bool
-    ensures { result ≡ covers probe.now target.now }
-{
-    covers(probe, target)
-}
-
-// Whether a probe may cover a target.
-fn may_cover(probe: &Wfn, target: &Wfn) -> bool
-    ensures { result ≡ maybe probe.now target.now }
-{
-    maybe(probe, target)
-}
+use target_index::{Counts, TargetIndex, is_covering, may_cover};
 
 // What a target tells of a probe.
 fn tells(partly: bool, probe: &Wfn, target: &Wfn) -> bool

@@ -6,13 +6,8 @@
 //! be added more than once: only its first addition and its last drop look at names.
 #![tactic(auto)]
 
-ghost use Rattle.std.specs.Prelude.{IfOk, filter, map, ◌≡◌, ◌+◌, ◌-◌, ◌<◌, ◌≤◌, ◌||◌, ◌↔◌, length, nat_lt, IsTrue, count_by, false};
-ghost use Rattle.cpe_name.specs.Lower.{IsLower};
-ghost use Rattle.cpe_steps.specs.Within.{StepsWithin};
-ghost use Rattle.product_orders.specs.Elements.{SameElements};
-ghost use Rattle.name_index.specs.Index.{ids, is_covered};
-ghost use Rattle.name_index.specs.Table.{Names, IsLive, kept_at};
-ghost use Rattle.target_index.specs.Targets.{is_maybe, is_met};
+ghost use Rattle.std.specs.Prelude.{map, ◌≡◌, ◌+◌, ◌-◌, ◌<◌, ◌≤◌, ◌||◌, ◌↔◌, length, nat_lt, IsTrue, false};
+ghost use Rattle.name_index.specs.Prelude.{IsLive, kept_at, Names};
 ghost use Rattle.level_board.specs.Board.{target_times, target_ids, probe_times, FitsBoard, HasLevel, ProbesTo, IsEmptyBoard, IsOn, AreAnswers, AreFlips, Clears};
 ghost use Rattle.level_board.specs.declared.level.Level.TheVariants.{Free};
 ghost use Rattle.level_board.specs.Moved.{MakesRoom, ProbeAdded, TargetAdded, TargetDropped};
@@ -22,7 +17,6 @@ mod level;
 mod parts;
 mod rows;
 
-use cpe_name::Wfn;
 use cpe_steps::Steps;
 use cpe_values::Memory;
 pub use level::Level;
@@ -31,7 +25,7 @@ use parts::Parts;
 use std::alloc::Global;
 use std::marker::Model;
 use std::sync::ledger::Ledger;
-use target_index::Met;
+use target_index::TargetIndex;
 
 /// Probes and targets by name number, each with a multiplicity, and for each probe its level.
 #[derive(Drop)]
@@ -98,25 +92,11 @@ impl LevelBoard {
         self.parts.has(id)
     }
 
-    /// The targets that a name in lower case covers, and those that it may cover, each in any order. It looks at none twice, and only at
-    /// such whose product the name's meets. The name needs to be no probe.
-    ///
-    /// # Errors
-    /// Only that memory ran out. The bound on steps holds then, too.
-    pub fn met<L: Ledger>(
-        &self,
-        alloc: Global,
-        table: &NameTable,
-        name: &Wfn,
-        steps: &mut Steps<L>,
-    ) -> Result<Met, Memory>
-        requires fits { FitsBoard self.now table.now }
-        requires lower { IsLower name.now }
-        ensures covered { IfOk result (λ m. SameElements (filter (is_covered table.now name.now) (ids (target_ids self.now))) m.covered.items) }
-        ensures maybe { IfOk result (λ m. SameElements (filter (is_maybe table.now name.now) (ids (target_ids self.now))) m.maybe.items) }
-        ensures steps { StepsWithin steps.old steps.new (count_by (is_met table.now name.now.product) (ids (target_ids self.now))) }
+    /// The targets, of which a name may be asked that is no probe.
+    pub fn targets(&self) -> &TargetIndex
+        ensures { result.now ≡ self.now.target_index }
     {
-        self.parts.target_index.met(alloc, table, name, steps)
+        &self.parts.target_index
     }
 
     /// The probes whose level differs from the known one, each once.

@@ -17,7 +17,7 @@ use name_index::{NameId, NameIndex, NameTable};
 use std::alloc::Global;
 use std::collections::HashMap;
 use std::sync::ledger::Ledger;
-use target_index::TargetIndex;
+use target_index::{TargetIndex, at_least};
 
 // The probes, the multiplicities of the targets, and the numbers of both by product. The rooms are at most those of all
 // parts.
@@ -124,18 +124,6 @@ fn reserve_targets(
 {
     targets.reserve(more as usize)?;
     index.reserve(table, more)
-}
-
-// The greater of two numbers.
-fn at_least(number: usize, other: usize) -> usize
-    ensures number { number ≤ result }
-    ensures other { other ≤ result }
-    ensures either { (n : ℕ) → number ≤ n → other ≤ n → result ≤ n }
-{
-    if number < other {
-        return other;
-    }
-    number
 }
 
 impl Parts {

@@ -1,6 +1,5 @@
 // The pool, and its public calls.
-ghost use Rattle.std.specs.Prelude.{◌≡◌, ◌+◌, ◌≤◌, ◌↔◌, [], length, IsNone, IsSome, IsTrue, IsOk, OnOk, OnErr, IfSome, None, Some};
-ghost use Rattle.std.specs.Option.{option_map};
+ghost use Rattle.std.specs.Prelude.{◌≡◌, ◌+◌, ◌≤◌, ◌↔◌, [], length, IsNone, IsSome, IsTrue, IsOk, OnOk, OnErr, IfSome, None, Some, option_map};
 ghost use Rattle.std.specs.Bool.{OnTrue, OnFalse};
 ghost use Rattle.list_pool.specs.Pool.{list_at, IsLive, pool_size, live_count, Updates, Pushes, find_list, cell_at, IsCell, AreApart, NextIs, ValueIs, IsOn, Writes, TakesOut, last_cell_of, cell_with, value_at, has_value, without_first};
 

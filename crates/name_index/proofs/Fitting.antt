@@ -95,6 +95,14 @@ release_all old new id (x ∷ held) r none fits = (
 pub released_fits : (old new : Names) (id : ℕ) (held : List (ℕ × ℕ)) → Releases old new id → times_held held id ≡ 0 → Fits held old → Fits held new
 released_fits old new id held r none fits = closed new held (release_all old new id held r none (opened old held fits))
 
+-- what is kept of a live number
+pub live_is : (names : Names) (id : ℕ) → IsLive names id → find_kept names id ≡ Some (kept_at names id)
+live_is names id h = by (find_kept names id) refl h
+  where
+    by : (o : Option Kept) → find_kept names id ≡ o → IsSome o → o ≡ Some (kept_or o)
+    by None e h = absurd cc
+    by (Some k) e h = refl
+
 -- ---- an addition, and a drop
 
 live_fits : (names : Names) (id : ℕ) → IsLive names id → FitsAt names (id, (kept_at names id).product)

@@ -3,3 +3,4 @@ pub mod Rows
 pub mod Index
 pub mod Wanted
 pub mod Laws
+pub mod Prelude

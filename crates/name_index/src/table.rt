@@ -1,13 +1,11 @@
 // Names by number.
-ghost use Rattle.std.specs.Prelude.{◌≡◌, ℕ, ◌+◌, ◌-◌, ◌<◌, ◌≤◌, false, not, [], length, set, cond, nat_lt, option_map, slice_get, None, Some, IsNone, IsSome, IfSome, IfOk, OnOk, OnErr};
+ghost use Rattle.std.specs.Prelude.{◌≡◌, ℕ, ◌+◌, ◌-◌, ◌<◌, ◌≤◌, false, not, [], length, set, cond, nat_lt, option_map, slice_get, None, Some, IsNone, IsSome, IfSome, IfOk, OnOk, OnErr, option_copied};
 ghost use Rattle.std.specs.Prelude.{vec_len, vec_capacity};
 ghost use Rattle.std.specs.List.{IsDistinct, list_any, position_or_len, swap_remove};
-ghost use Rattle.std.specs.Option.{option_copied};
 ghost use Rattle.indexmap.specs.IndexSet.{insert_key};
-ghost use Rattle.cpe_name.specs.Equal.{same_name};
+ghost use Rattle.cpe_name.specs.Prelude.{IsLower, same_name};
 ghost use Rattle.cpe_values.specs.declared.value.Value.{Value};
 ghost use Rattle.cpe_values.specs.Lower.{lower_value};
-ghost use Rattle.cpe_name.specs.Lower.{IsLower};
 ghost use Rattle.name_index.specs.Table.{Kept, find_kept, IsLive, kept_at, HasName, Holds, Releases, AreNames};
 ghost use Rattle.name_index.specs.Index.{WalksProducts};
 ghost use Rattle.name_index.specs.Wanted.{walked};

@@ -3,3 +3,4 @@ pub mod Held
 pub mod InOrder
 pub mod Marked
 pub mod Laws
+pub mod Prelude

@@ -1,8 +1,7 @@
 // A number is put last, in the list of numbers and in the index by product.
 ghost use Rattle.std.specs.Prelude.{◌≡◌, ◌≢◌, ◌++◌, ◌∷◌, [], ℕ, List, OnOk, OnErr, Some, false, slice_get};
 ghost use Rattle.std.specs.List.{list_any};
-ghost use Rattle.cpe_name.specs.Equal.{same_name};
-ghost use Rattle.name_index.specs.Table.{IsLive, kept_at};
+ghost use Rattle.name_index.specs.Prelude.{IsLive, kept_at, same_name};
 ghost use Rattle.name_index.specs.declared.table.NameId.{NameId};
 ghost use Rattle.names_in_order.specs.InOrder.{AreInOrder, names_numbered};
 

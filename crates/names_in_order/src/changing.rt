@@ -1,13 +1,8 @@
 // Names in an order, of which any may go, by product.
 ghost use Rattle.std.specs.Prelude.{◌≡◌, ◌≢◌, ◌≤◌, ◌+◌, ◌++◌, ◌∷◌, [], ℕ, IfOk, IfSome, OnOk, OnErr, cond, filter, is_some, length, slice_get, None, Some, false, true};
 ghost use Rattle.std.specs.List.{IsDistinct, list_any};
-ghost use Rattle.cpe_name.specs.Equal.{same_name};
-ghost use Rattle.cpe_name.specs.Lower.{IsLower};
-ghost use Rattle.cpe_relation.specs.NameRelation.{covers};
-ghost use Rattle.cpe_steps.specs.Within.{StepsWithin};
-ghost use Rattle.name_index.specs.Index.{is_covered};
-ghost use Rattle.name_index.specs.Table.{HasName, IsLive, kept_at};
-ghost use Rattle.names_in_order.specs.InOrder.{AreInOrder, AreLive, names_numbered, same_id};
+ghost use Rattle.name_index.specs.Prelude.{covers, HasName, is_covered, IsLive, IsLower, kept_at, same_name, StepsWithin};
+ghost use Rattle.names_in_order.specs.InOrder.{AreInOrder, AreLive, names_numbered, Roll, same_id};
 ghost use Rattle.names_in_order.specs.Marked.{numbers_in, without_first};
 ghost use Rattle.names_in_order.specs.Places.{looked_count, near_count};
 
@@ -33,8 +28,6 @@ pub struct ChangingNames {
 }
 
 impl Model for ChangingNames {
-    ghost use Rattle.names_in_order.specs.InOrder.{Roll};
-
     ghost Value = { Roll };
 
     ghost view = { λ n. record { held = n.index.held; numbers = n.numbers } };

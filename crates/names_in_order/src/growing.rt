@@ -1,16 +1,9 @@
 // Names in the order in which they came, by product.
-ghost use Rattle.std.specs.Prelude.{◌≡◌, ◌+◌, ◌++◌, ◌∷◌, [], IfOk, OnOk, OnErr, cond, length, position, slice_get, Some, false};
+ghost use Rattle.std.specs.Prelude.{◌≡◌, ◌+◌, ◌++◌, ◌∷◌, [], IfOk, OnOk, OnErr, cond, length, position, slice_get, Some, false, option_copied};
 ghost use Rattle.std.specs.List.{list_any, IsDistinct};
-ghost use Rattle.std.specs.Option.{option_copied};
-ghost use Rattle.cpe_name.specs.Equal.{same_name};
-ghost use Rattle.cpe_name.specs.Lower.{IsLower};
-ghost use Rattle.cpe_relation.specs.Order.{IsOrder};
-ghost use Rattle.cpe_steps.specs.Within.{StepsWithin};
-ghost use Rattle.name_index.specs.Index.{is_covered};
-ghost use Rattle.name_index.specs.Table.{IsLive, kept_at};
-ghost use Rattle.product_orders.specs.Elements.{SameElements};
+ghost use Rattle.name_index.specs.Prelude.{is_covered, IsLive, IsLower, IsOrder, kept_at, same_name, SameElements, StepsWithin};
 ghost use Rattle.names_in_order.specs.Held.{placed};
-ghost use Rattle.names_in_order.specs.InOrder.{AreInOrder, AreLive, names_numbered, same_id};
+ghost use Rattle.names_in_order.specs.InOrder.{AreInOrder, AreLive, names_numbered, Roll, same_id};
 ghost use Rattle.names_in_order.specs.Places.{looked_count, near_count, places_covered};
 
 use crate::added::add_number;
@@ -35,8 +28,6 @@ pub struct GrowingNames {
 }
 
 impl Model for GrowingNames {
-    ghost use Rattle.names_in_order.specs.InOrder.{Roll};
-
     ghost Value = { Roll };
 
     ghost view = { λ n. record { held = n.index.held; numbers = n.numbers } };

@@ -1,6 +1,5 @@
 // The list.
-ghost use Rattle.std.specs.Prelude.{◌≡◌, true, false, not, ◌&&◌, [], IsOk, OnOk, filter};
-ghost use Rattle.std.specs.List.{Contains};
+ghost use Rattle.std.specs.Prelude.{◌≡◌, true, false, not, ◌&&◌, [], IsOk, OnOk, filter, Contains};
 ghost use Rattle.number_blocks.specs.Blocks.{IsParted, IsPut, IsTaken};
 
 use crate::piece::{Piece, all_of, piece_between};

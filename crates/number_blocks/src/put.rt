@@ -1,8 +1,7 @@
 // One more number in its block, which is cut in two where it is full.
-ghost use Rattle.std.specs.Prelude.{◌≡◌, ◌≤◌, ◌<◌, true, [], ◌∷◌, ◌++◌, length, take, drop};
+ghost use Rattle.std.specs.Prelude.{◌≡◌, ◌≤◌, ◌<◌, true, [], ◌∷◌, ◌++◌, length, take, drop, insert};
 ghost use Rattle.std.specs.Prelude.{vec_len, vec_capacity};
 ghost use Rattle.std.specs.Bool.{OnTrue, OnFalse};
-ghost use Rattle.std.specs.List.{insert};
 ghost use Rattle.number_blocks.specs.declared.put.TheConstants.{BLOCK, HALF};
 ghost use Rattle.number_blocks.specs.Places.{flat, AreBlocks, block_at, before, behind, has_room, IsHalved};
 

@@ -1,9 +1,7 @@
 // A name is put last, into the table and into the list that has it for itself.
 ghost use Rattle.std.specs.Prelude.{◌≡◌, ◌++◌, ◌∷◌, [], OnOk, OnErr, false};
 ghost use Rattle.std.specs.List.{list_any};
-ghost use Rattle.cpe_name.specs.Equal.{same_name};
-ghost use Rattle.cpe_name.specs.Lower.{IsLower};
-ghost use Rattle.name_index.specs.Table.{IsLive, kept_at};
+ghost use Rattle.name_index.specs.Prelude.{IsLive, IsLower, kept_at, same_name};
 ghost use Rattle.names_in_order.specs.InOrder.{AreInOrder, Roll, names_numbered};
 ghost use Rattle.owned_names.specs.Owned.{AreOwn, IsNew};
 

@@ -1,7 +1,5 @@
 // Numbers in the order of their products.
-ghost use Rattle.std.specs.Prelude.{◌≡◌, ◌||◌, ◌∷◌, true};
-ghost use Rattle.std.specs.List.{filter, Contains};
-ghost use Rattle.std.specs.List.Sorted.{IsPermutation};
+ghost use Rattle.std.specs.Prelude.{◌≡◌, ◌||◌, ◌∷◌, true, filter, Contains, IsPermutation};
 ghost use Rattle.product_orders.specs.Keys.{shape_of, body_of, in_run, is_below, Rises};
 ghost use Rattle.product_orders.specs.Listed.{value_at};
 ghost use Rattle.product_orders.specs.Elements.{SameElements};

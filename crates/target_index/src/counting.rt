@@ -1,10 +1,7 @@
 // How many targets a name covers, and how many it may cover.
 ghost use Rattle.std.specs.Prelude.{◌≡◌, ℕ, ◌+◌, ◌<◌, ◌≤◌, ◌&&◌, cond, length, count_by, nat_lt};
-ghost use Rattle.cpe_name.specs.Lower.{IsLower};
-ghost use Rattle.cpe_relation.specs.NameRelation.{covers};
-ghost use Rattle.cpe_relation.specs.Maybe.{maybe};
+ghost use Rattle.name_index.specs.Prelude.{covers, IsLower, kept_at, maybe};
 ghost use Rattle.product_orders.specs.declared.products.Side.TheVariants as side;
-ghost use Rattle.name_index.specs.Table.{kept_at};
 ghost use Rattle.name_index.specs.Index.{ids, Fits, is_near};
 ghost use Rattle.target_index.specs.Targets.{is_loose, covered_count, maybe_count};
 ghost use Rattle.target_index.specs.Parts.{pairs_of};
@@ -25,15 +22,15 @@ pub struct Counts {
     pub maybe: u32,
 }
 
-// Whether a name covers a target.
-fn is_covering(name: &Wfn, target: &Wfn) -> bool
+/// Whether a name covers a target.
+pub fn is_covering(name: &Wfn, target: &Wfn) -> bool
     ensures { result ≡ covers name.now target.now }
 {
     covers(name, target)
 }
 
-// Whether a name may cover a target.
-fn may_cover(name: &Wfn, target: &Wfn) -> bool
+/// Whether a name may cover a target.
+pub fn may_cover(name: &Wfn, target: &Wfn) -> bool
     ensures { result ≡ maybe name.now target.now }
 {
     maybe(name, target)
@@ -46,7 +43,7 @@ fn may_cover_where(asked: bool, name: &Wfn, target: &Wfn) -> bool
     asked && may_cover(name, target)
 }
 
-fn one_more(number: u32, counts: bool) -> u32
+pub(crate) fn one_more(number: u32, counts: bool) -> u32
     requires { number < 4294967295 }
     ensures { result ≡ number + cond counts 1 0 }
 {

@@ -8,9 +8,7 @@
 #![tactic(auto)]
 
 ghost use Rattle.std.specs.Prelude.{◌≡◌, ℕ, ◌<◌, ◌≤◌, filter, length, Some, IfOk, OnOk, count_by};
-ghost use Rattle.cpe_name.specs.Lower.{IsLower};
-ghost use Rattle.cpe_steps.specs.Within.{StepsWithin};
-ghost use Rattle.product_orders.specs.Elements.{SameElements};
+ghost use Rattle.name_index.specs.Prelude.{IsLower, SameElements, StepsWithin};
 ghost use Rattle.name_index.specs.Table.{Names, Kept, find_kept, IsLive};
 ghost use Rattle.name_index.specs.Index.{ids, is_covered, times_held};
 ghost use Rattle.target_index.specs.Moved.{Comes, Goes, MayCome};
@@ -21,13 +19,15 @@ pub mod law;
 mod meeting;
 mod parts;
 
-pub use counting::Counts;
+pub use counting::{Counts, is_covering, may_cover};
 use cpe_name::Wfn;
 use cpe_steps::Steps;
 use cpe_values::Memory;
 pub use meeting::Met;
+use meeting::meet;
 use name_index::{NameId, NameTable};
 use parts::Parts;
+pub use parts::at_least;
 use std::alloc::Global;
 use std::marker::Model;
 use std::sync::ledger::Ledger;
@@ -128,6 +128,6 @@ impl TargetIndex {
         ensures maybe { IfOk result (λ m. SameElements (filter (is_maybe table.now name.now) (ids (held self.now))) m.maybe.items) }
         ensures steps { StepsWithin steps.old steps.new (count_by (is_met table.now name.now.product) (ids (held self.now))) }
     {
-        self.parts.met(alloc, table, name, steps)
+        meet(&self.parts, alloc, table, name, steps)
     }
 }

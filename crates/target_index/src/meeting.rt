@@ -1,20 +1,15 @@
 // The targets that a name covers, and those that it may cover.
 ghost use Rattle.std.specs.Prelude.{◌≡◌, ℕ, ◌+◌, ◌++◌, ◌∷◌, [], IfOk, OnOk, cond, count_by, filter, length};
-ghost use Rattle.cpe_name.specs.Lower.{IsLower};
-ghost use Rattle.cpe_relation.specs.NameRelation.{covers};
-ghost use Rattle.cpe_relation.specs.Maybe.{maybe};
-ghost use Rattle.cpe_relation.specs.Order.{IsOrder};
-ghost use Rattle.cpe_steps.specs.Within.{StepsWithin};
+ghost use Rattle.name_index.specs.Prelude.{covers, IsLive, IsLower, IsOrder, maybe, SameElements, StepsWithin};
 ghost use Rattle.product_orders.specs.declared.products.Side.TheVariants as side;
-ghost use Rattle.product_orders.specs.Elements.{SameElements};
-ghost use Rattle.name_index.specs.Table.{IsLive};
 ghost use Rattle.name_index.specs.Index.{Fits, ids, is_covered, is_near};
-ghost use Rattle.target_index.specs.Targets.{is_loose, is_maybe};
-ghost use Rattle.target_index.specs.Parts.{pairs_of};
+ghost use Rattle.target_index.specs.Targets.{FitsTargets, held, is_loose, is_maybe, is_met};
+ghost use Rattle.target_index.specs.Parts.{ArePartsOf, pairs_of, targets_of};
 
-use crate::parts::Loose;
+use crate::counting::may_cover;
+use crate::parts::{Loose, Parts};
 use cpe_name::{Attribute, Wfn};
-use cpe_relation::{covers_in_order, deciding_order, maybe};
+use cpe_relation::{covers_in_order, deciding_order};
 use cpe_steps::Steps;
 use cpe_values::Memory;
 use name_index::{NameId, NameIndex, NameTable};
@@ -36,13 +31,6 @@ fn is_covering(order: &[Attribute], name: &Wfn, target: &Wfn) -> bool
     ensures { result ≡ covers name.now target.now }
 {
     covers_in_order(order, name, target)
-}
-
-// Whether a name may cover a target.
-fn may_cover(name: &Wfn, target: &Wfn) -> bool
-    ensures { result ≡ maybe name.now target.now }
-{
-    maybe(name, target)
 }
 
 // Puts a number last where it passes.
@@ -123,7 +111,7 @@ fn meet_loose<L: Ledger>(
 }
 
 // Where none is open.
-pub(crate) fn meet_whole<L: Ledger>(
+fn meet_whole<L: Ledger>(
     alloc: Global,
     index: &NameIndex,
     table: &NameTable,
@@ -144,7 +132,7 @@ pub(crate) fn meet_whole<L: Ledger>(
 }
 
 // Where some are open.
-pub(crate) fn meet_each<L: Ledger>(
+fn meet_each<L: Ledger>(
     alloc: Global,
     index: &NameIndex,
     loose: &[Loose],
@@ -169,4 +157,26 @@ pub(crate) fn meet_each<L: Ledger>(
         covered,
         maybe: maybes,
     })
+}
+
+// The targets that a name covers, and those that it may cover.
+pub(crate) fn meet<L: Ledger>(
+    parts: &Parts,
+    alloc: Global,
+    table: &NameTable,
+    name: &Wfn,
+    steps: &mut Steps<L>,
+) -> Result<Met, Memory>
+    requires parts { ArePartsOf parts.now }
+    requires fits { FitsTargets (targets_of parts.now) table.now }
+    requires lower { IsLower name.now }
+    ensures covered { IfOk result (λ m. SameElements (filter (is_covered table.now name.now) (ids (held (targets_of parts.now)))) m.covered.items) }
+    ensures maybe { IfOk result (λ m. SameElements (filter (is_maybe table.now name.now) (ids (held (targets_of parts.now)))) m.maybe.items) }
+    ensures steps { StepsWithin steps.old steps.new (count_by (is_met table.now name.now.product) (ids (held (targets_of parts.now)))) }
+{
+    cpe_relation::law::maybe_laws();
+    if parts.opens == 0 {
+        return meet_whole(alloc, &parts.plain, table, name, steps);
+    }
+    meet_each(alloc, &parts.plain, &parts.loose, table, name, steps)
 }

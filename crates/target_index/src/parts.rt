@@ -1,16 +1,12 @@
 // The parts of an index of targets, and its changes.
-ghost use Rattle.std.specs.Prelude.{◌≡◌, ℕ, ◌+◌, ◌-◌, ◌<◌, ◌≤◌, ◌∷◌, [], ◌++◌, cond, filter, length, nat_eq, Some, IfOk, OnOk, count_by, vec_capacity};
-ghost use Rattle.std.specs.List.{Contains, position, swap_remove};
-ghost use Rattle.cpe_name.specs.Lower.{IsLower};
-ghost use Rattle.cpe_steps.specs.Within.{StepsWithin};
-ghost use Rattle.product_orders.specs.Elements.{SameElements};
+ghost use Rattle.std.specs.Prelude.{◌≡◌, ℕ, ◌+◌, ◌-◌, ◌<◌, ◌≤◌, ◌∷◌, [], ◌++◌, cond, length, nat_eq, Some, OnOk, count_by, vec_capacity, Contains, position, swap_remove};
+ghost use Rattle.name_index.specs.Prelude.{IsLower, SameElements, StepsWithin};
 ghost use Rattle.name_index.specs.Table.{Names, Kept, find_kept, IsLive, kept_at};
-ghost use Rattle.name_index.specs.Index.{ids, is_covered, times_held};
-ghost use Rattle.target_index.specs.Targets.{AreNone, FitsTargets, SameTargets, held, is_loose, is_maybe, is_met, is_open, covered_count, maybe_count};
+ghost use Rattle.name_index.specs.Index.{ids, times_held};
+ghost use Rattle.target_index.specs.Targets.{AreNone, FitsTargets, SameTargets, held, is_loose, is_met, is_open, covered_count, maybe_count};
 ghost use Rattle.target_index.specs.Parts.{ArePartsOf, pair_of, pairs_of, targets_of};
 
-use crate::counting::{Counts, count_loose, count_plain};
-use crate::meeting::{Met, meet_each, meet_whole};
+use crate::counting::{Counts, count_loose, count_plain, one_more};
 use cpe_name::{Attribute, Wfn};
 use cpe_steps::Steps;
 use cpe_values::Memory;
@@ -30,7 +26,7 @@ pub(crate) struct Loose {
 pub(crate) struct Parts {
     pub(crate) plain: NameIndex,
     pub(crate) loose: Vec<Loose>,
-    pub(crate) opens: usize,
+    pub(crate) opens: u32,
     pub(crate) room: usize,
 }
 
@@ -48,17 +44,7 @@ fn is_loose(table: &NameTable, id: NameId) -> bool
     table.name(id).get(Attribute::Product).has_wildcards()
 }
 
-fn one_more(number: usize, counts: bool) -> usize
-    requires { number < 4294967295 }
-    ensures { result ≡ number + cond counts 1 0 }
-{
-    if counts {
-        return number + 1;
-    }
-    number
-}
-
-fn one_less(number: usize, counts: bool) -> usize
+fn one_less(number: u32, counts: bool) -> u32
     ensures { result ≡ number - cond counts 1 0 }
 {
     if counts {
@@ -67,8 +53,8 @@ fn one_less(number: usize, counts: bool) -> usize
     number
 }
 
-// The greater of two numbers.
-fn at_least(number: usize, other: usize) -> usize
+/// The greater of two numbers.
+pub fn at_least(number: usize, other: usize) -> usize
     ensures number { number ≤ result }
     ensures other { other ≤ result }
     ensures either { (n : ℕ) → number ≤ n → other ≤ n → result ≤ n }
@@ -194,26 +180,5 @@ impl Parts {
             covered: plain.covered,
             maybe: plain.maybe + loose,
         }
-    }
-
-    // The targets that a name covers, and those that it may cover.
-    pub(crate) fn met<L: Ledger>(
-        &self,
-        alloc: Global,
-        table: &NameTable,
-        name: &Wfn,
-        steps: &mut Steps<L>,
-    ) -> Result<Met, Memory>
-        requires fits { FitsTargets (targets_of self.now) table.now }
-        requires lower { IsLower name.now }
-        ensures covered { IfOk result (λ m. SameElements (filter (is_covered table.now name.now) (ids (held (targets_of self.now)))) m.covered.items) }
-        ensures maybe { IfOk result (λ m. SameElements (filter (is_maybe table.now name.now) (ids (held (targets_of self.now)))) m.maybe.items) }
-        ensures steps { StepsWithin steps.old steps.new (count_by (is_met table.now name.now.product) (ids (held (targets_of self.now)))) }
-    {
-        cpe_relation::law::maybe_laws();
-        if self.opens == 0 {
-            return meet_whole(alloc, &self.plain, table, name, steps);
-        }
-        meet_each(alloc, &self.plain, &self.loose, table, name, steps)
     }
 }

@@ -1,7 +1,6 @@
 // The list.
-ghost use Rattle.std.specs.Prelude.{◌≡◌, ◌≤◌, ◌<◌, ◌+◌, ◌-◌, ◌^◌, ℕ, take, vec_capacity, false, [], ◌∷◌, ◌++◌, true, find, length, position, set, slice_get, OnOk};
+ghost use Rattle.std.specs.Prelude.{◌≡◌, ◌≤◌, ◌<◌, ◌+◌, ◌-◌, ◌^◌, ℕ, take, vec_capacity, false, [], ◌∷◌, ◌++◌, true, find, length, position, set, slice_get, OnOk, option_copied};
 ghost use Rattle.std.specs.List.{AllByRecursion};
-ghost use Rattle.std.specs.Option.{option_copied};
 ghost use Rattle.ticket_list.specs.Rising.{IsRisingBy};
 ghost use Rattle.ticket_list.specs.Slots.{AreSlots, element_at, elements, ends_with_element, marks_from, slot_for, slot_ticket, stands_at};
 ghost use Rattle.ticket_list.specs.declared.slots.Slot.TheVariants.{Mark};

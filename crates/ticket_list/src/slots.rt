@@ -1,7 +1,5 @@
 // Elements in the order of their tickets, with marks where others stood.
-ghost use Rattle.std.specs.Prelude.{◌≡◌, ◌≤◌, ◌<◌, ℕ, cond, length, nat_eq, nat_lt, set, slice_get, vec_capacity, None, Some};
-ghost use Rattle.std.specs.List.{filter};
-ghost use Rattle.std.specs.Option.{option_copied};
+ghost use Rattle.std.specs.Prelude.{◌≡◌, ◌≤◌, ◌<◌, ℕ, cond, length, nat_eq, nat_lt, set, slice_get, vec_capacity, None, Some, filter, option_copied};
 ghost use Rattle.std.specs.Prelude.{false, not, true, IfNone, IfSome};
 ghost use Rattle.ticket_list.specs.Rising.{IsRisingBy, prefix};
 ghost use Rattle.ticket_list.specs.Slots.{changed_slot, element_at, ends_with_element, is_element, slot_for, slot_ticket, stands_at};

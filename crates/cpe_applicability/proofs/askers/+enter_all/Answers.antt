@@ -1,11 +1,11 @@
-use Rattle.std.proofs.Common.{rules, List, ◌||◌, sym, ap, subst, ◌∙◌, take, take_all, true, ◌≡◌}
+use Rattle.std.proofs.Common.{rules, List, ◌||◌, sym, ap, subst, ◌∙◌, take, true, ◌≡◌}
 use Rattle.std.specs.List.{flat_map}
 use Rattle.cpe_rows.specs.declared.test.CheckKey.{CheckKey}
 use Rattle.cpe_rows.specs.declared.test.Test.{Test}
 use Rattle.cpe_applicability.specs.Users.{askers_at}
 use Rattle.cpe_applicability.specs.Entering.{entered_once, is_asked, IsEnteredOnceWhere}
 use Rattle.cpe_applicability.specs.Told.{check_keys}
-use Rattle.cpe_applicability.proofs.AskedLemmas.{asked_still, asked_within, entered_twice, with_child}
+use Rattle.cpe_applicability.proofs.AskedLemmas.{all_keys, asked_still, asked_within, entered_twice, with_child}
 use Rattle.cpe_applicability.proofs.ToldLemmas.{keys-logic}
 use Rattle.cpe_applicability.proofs.askers.+enter_all.Goals as goal
 
@@ -19,10 +19,9 @@ loop-child-preserved t c =
 
 pub returns-after-loop-child-clause-ok : goal.returns-after-loop-child-clause-ok
 returns-after-loop-child-clause-ok t c q =
-    let all = take_all c.loop-child.child-index c.as_slice-child-items.result.now c.loop-child-test.false ∙ c.as_slice-child-items.ensures in
-    let test = ap check_keys c.in-Logic.is ∙ keys-logic c.in-Logic.operator c.in-Logic.negate c.in-Logic.of in
     c.loop-child.invariant.0 q
-    ∙ ap (λ (ks : List CheckKey). entered_once (is_asked ks q) c.args.ticket (askers_at c.args.askers.now.entries q)) (ap (flat_map check_keys) all ∙ sym test)
+    ∙ ap (λ (ks : List CheckKey). entered_once (is_asked ks q) c.args.ticket (askers_at c.args.askers.now.entries q))
+    (all_keys c.in-Logic.operator c.in-Logic.negate c.in-Logic.of c.as_slice-child-items.result.now c.loop-child.child-index c.args.test.now c.as_slice-child-items.ensures c.loop-child-test.false c.in-Logic.is)
 
 pub returns-in_err-enter_all-in-Logic-clause-err : goal.returns-in_err-enter_all-in-Logic-clause-err
 returns-in_err-enter_all-in-Logic-clause-err t c =

@@ -1,4 +1,4 @@
-use Rattle.std.proofs.Common.{rules, List, ◌<◌, sym, ap, subst, ◌∙◌, take, take_all, arith}
+use Rattle.std.proofs.Common.{rules, List, ◌<◌, sym, ap, subst, ◌∙◌, take, arith}
 use Rattle.std.specs.List.{flat_map}
 use Rattle.cpe_rows.specs.declared.test.CheckKey.{CheckKey}
 use Rattle.cpe_rows.specs.Shape.{depth_of}
@@ -7,9 +7,8 @@ use Rattle.ticket_list.specs.Rising.{IsRising}
 use Rattle.cpe_applicability.specs.Users.{askers_at}
 use Rattle.cpe_applicability.specs.Entering.{is_asked, left_out}
 use Rattle.cpe_applicability.specs.Told.{check_keys}
-use Rattle.cpe_applicability.proofs.AskedLemmas.{asked_still, depth_falls, left_twice, with_child}
+use Rattle.cpe_applicability.proofs.AskedLemmas.{all_keys, asked_still, depth_falls, left_twice, with_child}
 use Rattle.cpe_applicability.proofs.EnteringLemmas.{rising-left}
-use Rattle.cpe_applicability.proofs.ToldLemmas.{keys-logic}
 use Rattle.cpe_applicability.proofs.askers.+leave_all.Goals as goal
 
 pub leave_all-requires : goal.leave_all-requires
@@ -33,10 +32,9 @@ loop-child-preserved t c =
 
 pub returns-after-loop-child-clause-tickets : goal.returns-after-loop-child-clause-tickets
 returns-after-loop-child-clause-tickets t c q =
-    let all = take_all c.loop-child.child-index c.as_slice-child-items.result.now c.loop-child-test.false ∙ c.as_slice-child-items.ensures in
-    let test = ap check_keys c.in-Logic.is ∙ keys-logic c.in-Logic.operator c.in-Logic.negate c.in-Logic.of in
     c.loop-child.invariant.0 q
-    ∙ ap (λ (ks : List CheckKey). left_out (is_asked ks q) c.args.ticket (askers_at c.args.askers.now.entries q)) (ap (flat_map check_keys) all ∙ sym test)
+    ∙ ap (λ (ks : List CheckKey). left_out (is_asked ks q) c.args.ticket (askers_at c.args.askers.now.entries q))
+    (all_keys c.in-Logic.operator c.in-Logic.negate c.in-Logic.of c.as_slice-child-items.result.now c.loop-child.child-index c.args.test.now c.as_slice-child-items.ensures c.loop-child-test.false c.in-Logic.is)
 
 pub returns-in-Check-clause-lists : goal.returns-in-Check-clause-lists
 returns-in-Check-clause-lists t c = asked_still c.args.askers.now.entries c.leave.new.askers.entries c.in-Check.key c.leave.ensures.others (λ asked. c.leave.ensures.list)

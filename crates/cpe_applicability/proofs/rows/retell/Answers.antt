@@ -4,20 +4,16 @@ use Rattle.cpe_applicability.specs.declared.row.Held.{Held}
 use Rattle.cpe_applicability.specs.Held.{by_result_after, each_verdict, verdict_after, verdict_by}
 use Rattle.cpe_applicability.proofs.rows.retell.Goals as goal
 
-pub returns-in-Fact-clause-verdict : goal.returns-in-Fact-clause-verdict
-returns-in-Fact-clause-verdict c =
-    let plain = c.args.plain.now.entries in
-    let follow = c.args.follow.now.entries in
-    let results = c.args.results.now in
-    c.verdict_of.ensures
-    ∙ (ap (λ (h : Held). verdict_by plain follow results h.statement h.ids.items) c.deref.ensures
-    ∙ ap (λ (x : Cause). verdict_after x plain follow results c.args.row.now) (sym c.in-Fact.is))
-
-pub returns-in-Fact-clause-by_result : goal.returns-in-Fact-clause-by_result
-returns-in-Fact-clause-by_result c =
+pub returns-in-Fact : goal.returns-in-Fact
+returns-in-Fact c =
     let plain = c.args.plain.now.entries in
     let follow = c.args.follow.now.entries in
     let row = c.args.row.now in
-    c.by_result_of.ensures
-    ∙ (ap (λ (h : Held). cond row.alone (each_verdict plain follow h.statement h.ids.items) row.by_result) c.deref-in-Fact.ensures
-    ∙ ap (λ (x : Cause). by_result_after x plain follow row) (sym c.in-Fact.is))
+    record {
+      verdict = c.verdict_of.ensures
+          ∙ (ap (λ (h : Held). verdict_by plain follow c.args.results.now h.statement h.ids.items) c.deref.ensures
+          ∙ ap (λ (x : Cause). verdict_after x plain follow c.args.results.now row) (sym c.in-Fact.is));
+      by_result = c.by_result_of.ensures
+          ∙ (ap (λ (h : Held). cond row.alone (each_verdict plain follow h.statement h.ids.items) row.by_result) c.deref-in-Fact.ensures
+          ∙ ap (λ (x : Cause). by_result_after x plain follow row) (sym c.in-Fact.is));
+    }

@@ -7,26 +7,17 @@ use Rattle.cpe_applicability.proofs.tickets.take_out.Goals as goal
 
 pub remove-requires : goal.remove-requires
 remove-requires c =
-    let t = c.args.ticket in
-    let place = c.count_below-place.result in
-    let xs : List ℕ = c.args.list.now.items in
-    let there = ap (λ (u : List ℕ). stands_at u place t) (sym c.deref-2.ensures.value) ∙ (sym c.stands_at.ensures ∙ c.if-stands_at.true) in
-    omega (arith, stands_within xs place t there)
+    let there = ap (λ (u : List ℕ). stands_at u c.count_below-place.result c.args.ticket) (sym c.deref-2.ensures.value) ∙ (sym c.stands_at.ensures ∙ c.if-stands_at.true) in
+    omega (arith, stands_within c.args.list.now.items c.count_below-place.result c.args.ticket there)
 
 pub returns-then-stands_at-clause-items : goal.returns-then-stands_at-clause-items
 returns-then-stands_at-clause-items c =
-    let t = c.args.ticket in
-    let place = c.count_below-place.result in
-    let xs : List ℕ = c.args.list.now.items in
-    let at = c.count_below-place.ensures.count ∙ ap (prefix (λ x. nat_lt x t)) c.deref.ensures.value in
-    let there = ap (λ (u : List ℕ). stands_at u place t) (sym c.deref-2.ensures.value) ∙ (sym c.stands_at.ensures ∙ c.if-stands_at.true) in
-    c.remove.ensures.by_index.2 ∙ taken_at t place xs c.requires.rising at there
+    let at = c.count_below-place.ensures.count ∙ ap (prefix (λ x. nat_lt x c.args.ticket)) c.deref.ensures.value in
+    let there = ap (λ (u : List ℕ). stands_at u c.count_below-place.result c.args.ticket) (sym c.deref-2.ensures.value) ∙ (sym c.stands_at.ensures ∙ c.if-stands_at.true) in
+    c.remove.ensures.by_index.2 ∙ taken_at c.args.ticket c.count_below-place.result c.args.list.now.items c.requires.rising at there
 
 pub returns-else-stands_at-clause-items : goal.returns-else-stands_at-clause-items
 returns-else-stands_at-clause-items c =
-    let t = c.args.ticket in
-    let place = c.count_below-place.result in
-    let xs : List ℕ = c.args.list.now.items in
-    let at = c.count_below-place.ensures.count ∙ ap (prefix (λ x. nat_lt x t)) c.deref.ensures.value in
-    let there = ap (λ (u : List ℕ). stands_at u place t) (sym c.deref-2.ensures.value) ∙ (sym c.stands_at.ensures ∙ c.if-stands_at.false) in
-    absent_at t place xs c.requires.rising at there
+    let at = c.count_below-place.ensures.count ∙ ap (prefix (λ x. nat_lt x c.args.ticket)) c.deref.ensures.value in
+    let there = ap (λ (u : List ℕ). stands_at u c.count_below-place.result c.args.ticket) (sym c.deref-2.ensures.value) ∙ (sym c.stands_at.ensures ∙ c.if-stands_at.false) in
+    absent_at c.args.ticket c.count_below-place.result c.args.list.now.items c.requires.rising at there

@@ -16,9 +16,8 @@ drop_name-requires-clause-live c = let at = stands_at c.args.numbers.now c.args.
 pub returns-clause-order : goal.returns-clause-order
 returns-clause-order c =
     let table = c.args.table.now in
-    let id = c.args.id in
     subst (λ (xs : List NameId). AreItems table c.drop_name.new.self xs) (sym c.remove.ensures)
-    (removed_items table c.args.targets.now c.drop_name.new.self c.args.numbers.now id (kept_at table id.0).product c.requires.order c.requires.has c.drop_name.ensures.fits c.drop_name.ensures.dropped)
+    (removed_items table c.args.targets.now c.drop_name.new.self c.args.numbers.now c.args.id (kept_at table c.args.id.0).product c.requires.order c.requires.has c.drop_name.ensures.fits c.drop_name.ensures.dropped)
 
 pub returns-clause-gone : goal.returns-clause-gone
 returns-clause-gone c = subst (λ (xs : List NameId). (k : ℕ) → slice_get xs k ≢ Some c.args.id) (sym c.remove.ensures) (not_left c.args.numbers.now c.args.id c.lawful.ensures)

@@ -3,6 +3,7 @@ use Rattle.cpe_rows.specs.Rows.{Rows}
 use Rattle.cpe_rows.specs.declared.edit.Edit.TheVariants as edit
 use Rattle.name_index.specs.Table.{kept_at}
 use Rattle.kept_verdicts.proofs.TableLemmas.{held_ends, held_live, held_same, released_ends, released_live, released_same, stands_still}
+use Rattle.kept_verdicts.proofs.StandLemmas.{stands_by}
 use Rattle.kept_verdicts.proofs.law.verdicts_stand.Goals as goal
 
 pub returns-clause-held : goal.returns-clause-held
@@ -21,21 +22,9 @@ returns-clause-released c old new id v rows are r known stands =
 pub returns-clause-entries : goal.returns-clause-entries
 returns-clause-entries c names v rows next e h stands =
     let left = c.untouched_verdicts_stay.ensures.left rows next (edit.Entry e) h in
-    record {
-      statements = stands.statements ∙ sym (ap (λ (r : Rows). r.statements) left);
-      checks = stands.checks ∙ sym (ap (λ (r : Rows). r.checks) left);
-      named = stands.named;
-      truths = λ mode id used. stands.truths mode id used ∙ sym (c.untouched_verdicts_stay.ensures.facts rows next (edit.Entry e) mode (kept_at names id).name h refl);
-      shows = c.boards_stay.ensures.entries names v.facts rows next e h stands.shows;
-      fits = stands.fits;
-      sound = stands.sound;
-      settled = stands.settled;
-      followed = record {
-        whole = stands.followed.whole;
-        exact = stands.followed.exact;
-        ends = λ id numbers is.
-            let was = stands.followed.ends id numbers is in
-            record { live = was.live; names = was.names ∙ sym (c.entries_stand_alone.ensures.ends rows next e (kept_at names id).name h) };
-        linked = stands.followed.linked;
-      };
-    }
+    stands_by names v rows next stands (sym (ap (λ (r : Rows). r.statements) left)) (sym (ap (λ (r : Rows). r.checks) left))
+    (λ mode id used. stands.truths mode id used ∙ sym (c.untouched_verdicts_stay.ensures.facts rows next (edit.Entry e) mode (kept_at names id).name h refl))
+    (c.boards_stay.ensures.entries names v.facts rows next e h stands.shows)
+    (λ id numbers is.
+    let was = stands.followed.ends id numbers is in
+    record { live = was.live; names = was.names ∙ sym (c.entries_stand_alone.ensures.ends rows next e (kept_at names id).name h) })

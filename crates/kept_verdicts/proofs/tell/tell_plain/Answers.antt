@@ -1,4 +1,4 @@
-use Rattle.std.proofs.Common.{◌≤◌, ◌+◌, ◌||◌, nat_eq, ℕ, Bool, List, drop, get_or, sym, ap, subst, ◌∙◌}
+use Rattle.std.proofs.Common.{◌≤◌, ◌+◌, ◌||◌, nat_eq, ℕ, List, drop, get_or, sym, ap, subst}
 use Rattle.std.specs.List.{AllByRecursion}
 use Rattle.std.proofs.lemmas.List.{drop_all}
 use Rattle.name_index.specs.declared.table.NameId.{NameId}
@@ -9,16 +9,14 @@ use Rattle.level_board.specs.Board.{probe_times}
 use Rattle.numbered_names.specs.Shown.{names_at}
 use Rattle.followed_facts.specs.Followed.{has_end}
 use Rattle.kept_facts.proofs.Steps.{first_there}
-use Rattle.kept_verdicts.proofs.TellLemmas.{first_passes, right_same, stay_both, stay_one, told_one}
+use Rattle.kept_verdicts.proofs.TellLemmas.{right_end, right_next, stay_both, stay_one, told_one}
 use Rattle.kept_verdicts.proofs.tell.tell_plain.Goals as goal
 
 pub loop-number-preserved : goal.loop-number-preserved
 loop-number-preserved c =
-    let numbers = c.args.numbers.now in
-    let i = c.loop-number.number-index in
-    let x : NameId = get_or numbers i (name_id 0) in
-    let rest = drop (i + 1) numbers in
-    let here = first_there numbers i (name_id 0) c.loop-number-test.true in
+    let x : NameId = get_or c.args.numbers.now c.loop-number.number-index (name_id 0) in
+    let rest = drop (c.loop-number.number-index + 1) c.args.numbers.now in
+    let here = first_there c.args.numbers.now c.loop-number.number-index (name_id 0) c.loop-number-test.true in
     record {
       stays = stay_both c.args.board.now c.loop-number.board c.fact_changed.new.self Plain c.loop-number.invariant.stays
           (stay_one c.loop-number.board c.fact_changed.new.self Plain x.0 c.truth-truth.result c.fact_changed.ensures.rows c.fact_changed.ensures.checks c.fact_changed.ensures.truths);
@@ -30,14 +28,11 @@ loop-number-preserved c =
                 (λ used. c.truth-truth.ensures
                 (subst (λ (ns : List NameId). AllByRecursion (λ (y : NameId). 1 ≤ probe_times c.args.facts.now.plain y.0) ns) (sym c.from_ref.ensures.value) (on.0, tt))
                 names rows (kept_at names x.0).name fits shows (ap (names_at names) c.from_ref.ensures.value))
-                (right_same names rows Plain c.loop-number.board (λ (id : ℕ). has_end (drop i numbers) id || passes id) (λ (id : ℕ). nat_eq x.0 id || (has_end rest id || passes id))
-                (λ q free. ap {B = Bool} (λ (ns : List NameId). has_end ns q || passes q) here ∙ first_passes (nat_eq x.0 q) (has_end rest q) (passes q) free)
-                so_far.1),
+                (right_next (λ (y : NameId). nat_eq y.0) names rows Plain c.loop-number.board passes (drop c.loop-number.number-index c.args.numbers.now) rest x here so_far.1),
           );
     }
 
 pub returns-clause-right : goal.returns-clause-right
 returns-clause-right c names rows passes fits shows asked but =
-    right_same names rows Plain c.loop-number.board (λ (id : ℕ). has_end (drop c.loop-number.number-index c.args.numbers.now) id || passes id) passes
-    (λ q free. ap {B = Bool} (λ (ns : List NameId). has_end ns q || passes q) (drop_all c.loop-number.number-index c.args.numbers.now c.loop-number-test.false) ∙ free)
-    (c.loop-number.invariant.right names rows passes fits shows asked but).1
+    right_end (λ (y : NameId). nat_eq y.0) names rows Plain c.loop-number.board passes (drop c.loop-number.number-index c.args.numbers.now)
+    (drop_all c.loop-number.number-index c.args.numbers.now c.loop-number-test.false) (c.loop-number.invariant.right names rows passes fits shows asked but).1

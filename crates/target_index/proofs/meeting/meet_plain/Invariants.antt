@@ -7,10 +7,4 @@ use Rattle.target_index.specs.Targets.{is_maybe}
 use Rattle.target_index.proofs.meeting.meet_plain.Given as goal
 
 abbrev pub invariant-loop-target : goal.invariant-loop-target
-invariant-loop-target g l = record {
-  live : AllByRecursion (λ (id : NameId). IsLive l.table id.0) l.target-iterator;
-  later : l.fn.steps ≤ l.steps;
-  looked : l.steps + length l.target-iterator ≡ l.fn.steps + length l.initial.target-iterator;
-  covered : l.covered.items ++ filter (is_covered l.table l.name) l.target-iterator ≡ filter (is_covered l.table l.name) l.initial.target-iterator;
-  maybe : l.maybes.items ++ filter (is_maybe l.table l.name) l.target-iterator ≡ filter (is_maybe l.table l.name) l.initial.target-iterator;
-}
+invariant-loop-target g l = record { live : AllByRecursion (λ (id : NameId). IsLive l.table id.0) l.target-iterator; later : l.fn.steps ≤ l.steps; looked : l.steps + length l.target-iterator ≡ l.fn.steps + length l.initial.target-iterator; covered : l.covered.items ++ filter (is_covered l.table l.name) l.target-iterator ≡ filter (is_covered l.table l.name) l.initial.target-iterator; maybe : l.maybes.items ++ filter (is_maybe l.table l.name) l.target-iterator ≡ filter (is_maybe l.table l.name) l.initial.target-iterator }

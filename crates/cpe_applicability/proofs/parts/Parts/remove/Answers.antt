@@ -11,7 +11,8 @@ use Rattle.ticket_list.specs.Rising.{IsRising}
 use Rattle.cpe_applicability.specs.Told.{check_keys}
 use Rattle.cpe_applicability.specs.Users.{askers_at, users_at}
 use Rattle.ticket_list.proofs.RisingLemmas.{rising_passing}
-use Rattle.cpe_applicability.proofs.RemovedLemmas.{IsBoard-removed, keeps_used}
+use Rattle.cpe_applicability.proofs.PutLemmas.{keeps_among}
+use Rattle.cpe_applicability.proofs.RemovedLemmas.{IsBoard-removed}
 use Rattle.cpe_applicability.proofs.parts.Parts.remove.Goals as goal
 
 pub leave_held-requires-clause-plain : goal.leave_held-requires-clause-plain
@@ -47,4 +48,4 @@ pub returns-clause-truths : goal.returns-clause-truths
 returns-clause-truths c =
     let a : Parts = c.args.self.now in
     let b : Parts = record a { rows = c.take_row.new.rows; changed = c.strike.new.changed; by_id = c.forget_id.new.by_id; plain = c.leave_held.new.plain; follow = c.leave_held.new.follow; askers = c.leave_held.new.askers } in
-    keeps_used a b (returns-clause-board c) c.leave_held.ensures.plain_kept c.leave_held.ensures.follow_kept
+    keeps_among a b b (returns-clause-board c) c.leave_held.ensures.plain_kept c.leave_held.ensures.follow_kept (λ mode id was used. used)

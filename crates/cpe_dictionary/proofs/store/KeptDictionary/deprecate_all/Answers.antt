@@ -25,19 +25,17 @@ give_all-requires c =
 pub returns-in-Ok-clause-fits : goal.returns-in-Ok-clause-fits
 returns-in-Ok-clause-fits c =
     let table = c.args.table.now in
-    let ds = c.args.deprecations in
     let i = c.self.inside in
     let back = sym c.self.view_is in
     let fits = subst (FitsTable table) back c.requires.fits in
     let ns = names_numbered table i.names.numbers in
     let even = length-map i.names.numbers (λ (x : NameId). (kept_at table x.0).name) ∙ fits.even in
-    let all = c.give_all.ensures in
-    let left = ap (entries_of ns) all ∙ given_beside ns i.details.items ds even in
+    let left = ap (entries_of ns) c.give_all.ensures ∙ given_beside ns i.details.items c.args.deprecations even in
     let given = ap (λ (es : List Entry). each_deprecated es c.as_slice.result.now) (c.with.ensures ∙ ap (λ (s : Stored). entries_in table s) back)
     ∙ ap (λ (os : List (Option Deprecation)). each_deprecated (entries_of ns i.details.items) os) c.as_slice.ensures in
     record {
       order = fits.order;
-      even = fits.even ∙ sym (length_details i.details.items ds) ∙ sym (ap (λ (xs : List Details). length xs) all);
+      even = fits.even ∙ sym (length_details i.details.items c.args.deprecations) ∙ sym (ap (λ (xs : List Details). length xs) c.give_all.ensures);
       kept = subst (λ (es : List Entry). IsKept es c.in-Ok.graph.nodes) (given ∙ sym left) c.in-Ok.ensures.kept;
     }
 

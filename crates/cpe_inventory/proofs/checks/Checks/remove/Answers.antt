@@ -39,5 +39,4 @@ returns-in-None-clause-found c = ap is_some c.in-None.ensures.ticket ∙ is_kept
 pub returns-in-None-clause-results : goal.returns-in-None-clause-results
 returns-in-None-clause-results c =
     let s = c.self.inside in
-    let key = c.args.key.now in
-    left_whole s.results.items s.by_key.entries s.next c.self.invariant key (sym c.in-None.ensures.ticket) ∙ ap (without_first (has_key key)) c.self.view_is
+    left_whole s.results.items s.by_key.entries s.next c.self.invariant c.args.key.now (sym c.in-None.ensures.ticket) ∙ ap (without_first (has_key c.args.key.now)) c.self.view_is

@@ -12,17 +12,15 @@ use Rattle.cpe_registry.proofs.registry.Registry.add_entry.Goals as goal
 pub returns : goal.returns
 returns c =
     let i = c.self.inside in
-    let t = i.table in
-    let id = c.args.id in
-    let es = entries_in t i.dictionary in
-    let items = names_numbered t i.items.numbers in
-    let e = new_entry (name_in t id) c.args.title c.args.provenance in
+    let es = entries_in i.table i.dictionary in
+    let items = names_numbered i.table i.items.numbers in
+    let e = new_entry (name_in i.table c.args.id) c.args.title c.args.provenance in
     record {
       table = ap (λ (x : Registered). x.table) c.self.view_is;
       items = ap (λ (x : Registered). x.items) c.self.view_is;
-      ok = subst (λ (x : Registered). OnOk c.add.result (entries_in t c.add.new.self ≡ x.entries ++ new_entry (name_in x.table id) c.args.title c.args.provenance ∷ [])) c.self.view_is c.add.ensures.ok;
-      others = λ others held. let shows = subst (λ (x : Registered). AreHeld x (name_in x.table id ∷ others)) (sym c.self.view_is) held in
-          let more = c.lists_are_shown.ensures.order t (holds_in t) (name_in t id ∷ (others ++ (names_of es ++ items))) (others ++ ((names_of es ++ name_in t id ∷ []) ++ items)) (last_of_second (name_in t id) others (names_of es) items) shows in
-          on_ok c.add.result (λ ok. subst (λ (ns : List Values). Shows t (holds_in t) (others ++ (ns ++ items))) (sym (ap names_of ok ∙ names_more es e)) more) c.add.ensures.ok;
-      err = on_err c.add.result (λ same. ap (λ (s : Stored). registered t s i.items) same ∙ c.self.view_is) c.add.ensures.err;
+      ok = subst (λ (x : Registered). OnOk c.add.result (entries_in i.table c.add.new.self ≡ x.entries ++ new_entry (name_in x.table c.args.id) c.args.title c.args.provenance ∷ [])) c.self.view_is c.add.ensures.ok;
+      others = λ others held. let shows = subst (λ (x : Registered). AreHeld x (name_in x.table c.args.id ∷ others)) (sym c.self.view_is) held in
+          let more = c.lists_are_shown.ensures.order i.table (holds_in i.table) (name_in i.table c.args.id ∷ (others ++ (names_of es ++ items))) (others ++ ((names_of es ++ name_in i.table c.args.id ∷ []) ++ items)) (last_of_second (name_in i.table c.args.id) others (names_of es) items) shows in
+          on_ok c.add.result (λ ok. subst (λ (ns : List Values). Shows i.table (holds_in i.table) (others ++ (ns ++ items))) (sym (ap names_of ok ∙ names_more es e)) more) c.add.ensures.ok;
+      err = on_err c.add.result (λ same. ap (λ (s : Stored). registered i.table s i.items) same ∙ c.self.view_is) c.add.ensures.err;
     }

@@ -17,10 +17,7 @@ returns-in-Plain g c = record {
   fits = grind (arith, common_steps);
   shows = λ rows s own asked_before led. let names = c.args.table.now in
       let before = subst (λ (b : Boards). ShowRows names b rows) (sym c.self.view_is) asked_before in
-      record {
-        plain = asks names c.lawful.ensures c.self.inside.plain c.ask.new.board Plain c.args.numbers.now c.requires.live rows (after rows (edit.PutStatement s)) c.ask.ensures.asks (statement_more rows Plain s (names_at names c.args.numbers.now) (subst (λ (m : Mode). SameElements (names_at names c.args.numbers.now) (flat_map (leads rows.entries m) (fresh_facts m rows.statements s))) c.in-Plain.is led)) refl before.plain;
-        follow = reordered names c.self.inside.follow Follow rows (after rows (edit.PutStatement s)) (other_put rows Plain s (own ∙ c.in-Plain.is)) refl before.follow;
-      };
+      record { plain = asks names c.lawful.ensures c.self.inside.plain c.ask.new.board Plain c.args.numbers.now c.requires.live rows (after rows (edit.PutStatement s)) c.ask.ensures.asks (statement_more rows Plain s (names_at names c.args.numbers.now) (subst (λ (m : Mode). SameElements (names_at names c.args.numbers.now) (flat_map (leads rows.entries m) (fresh_facts m rows.statements s))) c.in-Plain.is led)) refl before.plain; follow = reordered names c.self.inside.follow Follow rows (after rows (edit.PutStatement s)) (other_put rows Plain s (own ∙ c.in-Plain.is)) refl before.follow };
   known = let next : Boards = record { plain = c.ask.new.board; follow = c.self.inside.follow } in
       subst (λ (b : Boards). KeepKnown b next) c.self.view_is
       (record { plain = asks_known c.self.inside.plain c.ask.new.board c.args.table.now c.args.numbers.now c.ask.ensures.asks; follow = same_known c.self.inside.follow });
@@ -37,10 +34,7 @@ returns-in-Follow g c = record {
   fits = grind (arith, common_steps);
   shows = λ rows s own asked_before led. let names = c.args.table.now in
       let before = subst (λ (b : Boards). ShowRows names b rows) (sym c.self.view_is) asked_before in
-      record {
-        follow = asks names c.lawful.ensures c.self.inside.follow c.ask-in-Follow.new.board Follow c.args.numbers.now c.requires.live rows (after rows (edit.PutStatement s)) c.ask-in-Follow.ensures.asks (statement_more rows Follow s (names_at names c.args.numbers.now) (subst (λ (m : Mode). SameElements (names_at names c.args.numbers.now) (flat_map (leads rows.entries m) (fresh_facts m rows.statements s))) c.in-Follow.is led)) refl before.follow;
-        plain = reordered names c.self.inside.plain Plain rows (after rows (edit.PutStatement s)) (other_put rows Follow s (own ∙ c.in-Follow.is)) refl before.plain;
-      };
+      record { follow = asks names c.lawful.ensures c.self.inside.follow c.ask-in-Follow.new.board Follow c.args.numbers.now c.requires.live rows (after rows (edit.PutStatement s)) c.ask-in-Follow.ensures.asks (statement_more rows Follow s (names_at names c.args.numbers.now) (subst (λ (m : Mode). SameElements (names_at names c.args.numbers.now) (flat_map (leads rows.entries m) (fresh_facts m rows.statements s))) c.in-Follow.is led)) refl before.follow; plain = reordered names c.self.inside.plain Plain rows (after rows (edit.PutStatement s)) (other_put rows Follow s (own ∙ c.in-Follow.is)) refl before.plain };
   known = let next : Boards = record { plain = c.self.inside.plain; follow = c.ask-in-Follow.new.board } in
       subst (λ (b : Boards). KeepKnown b next) c.self.view_is
       (record { follow = asks_known c.self.inside.follow c.ask-in-Follow.new.board c.args.table.now c.args.numbers.now c.ask-in-Follow.ensures.asks; plain = same_known c.self.inside.plain });

@@ -22,10 +22,7 @@ returns g c = record {
       };
   known = let after_both : Boards = record { plain = c.arrive.new.board; follow = c.arrive-2.new.board } in
       subst (λ (b : Boards). KeepKnown b after_both) c.self.view_is
-      (record {
-        plain = probes_known c.self.inside.plain c.arrive.new.board c.arrive.ensures.arrives.stay;
-        follow = probes_known c.self.inside.follow c.arrive-2.new.board c.arrive-2.ensures.arrives.stay;
-      });
+      (record { plain = probes_known c.self.inside.plain c.arrive.new.board c.arrive.ensures.arrives.stay; follow = probes_known c.self.inside.follow c.arrive-2.new.board c.arrive-2.ensures.arrives.stay });
   room = let one = subst (λ (ns : List NameId). Arrives c.self.inside.plain c.arrive.new.board c.args.table.now ns) c.from_ref.ensures.value c.arrive.ensures.arrives in
       subst (λ (b : Boards). KeepsRoom b.plain c.arrive.new.board 0 1) c.self.view_is (arrived_room c.self.inside.plain c.arrive.new.board c.args.table.now (c.args.item ∷ []) one);
   room_follow = subst (λ (b : Boards). KeepsRoom b.follow c.arrive-2.new.board 0 (length c.args.ends.now)) c.self.view_is (arrived_room c.self.inside.follow c.arrive-2.new.board c.args.table.now c.args.ends.now c.arrive-2.ensures.arrives);

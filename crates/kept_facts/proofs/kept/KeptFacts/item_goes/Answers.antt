@@ -29,10 +29,7 @@ returns g c = record {
       };
   known = let after_both : Boards = record { plain = c.leave.new.board; follow = c.leave-2.new.board } in
       subst (λ (b : Boards). KeepKnown b after_both) c.self.view_is
-      (record {
-        plain = probes_known c.self.inside.plain c.leave.new.board c.leave.ensures.leaves.stay;
-        follow = probes_known c.self.inside.follow c.leave-2.new.board c.leave-2.ensures.leaves.stay;
-      });
+      (record { plain = probes_known c.self.inside.plain c.leave.new.board c.leave.ensures.leaves.stay; follow = probes_known c.self.inside.follow c.leave-2.new.board c.leave-2.ensures.leaves.stay });
   room = let one = subst (λ (ns : List NameId). Departs c.self.inside.plain c.leave.new.board c.args.table.now ns) c.from_ref.ensures.value c.leave.ensures.leaves in
       subst (λ (b : Boards). KeepsRoom b.plain c.leave.new.board 0 0) c.self.view_is (left_room c.self.inside.plain c.leave.new.board c.args.table.now (c.args.item ∷ []) one);
   room_follow = subst (λ (b : Boards). KeepsRoom b.follow c.leave-2.new.board 0 0) c.self.view_is (left_room c.self.inside.follow c.leave-2.new.board c.args.table.now c.args.ends.now c.leave-2.ensures.leaves);

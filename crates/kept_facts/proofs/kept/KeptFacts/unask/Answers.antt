@@ -28,16 +28,10 @@ returns-in-Plain g c = record {
   fits = grind (arith, common_steps);
   shows = λ rows id s own found asked_before led. let names = c.args.table.now in
       let before = subst (λ (b : Boards). ShowRows names b rows) (sym c.self.view_is) asked_before in
-      record {
-        plain = unasks names c.lawful.ensures c.self.inside.plain c.unask.new.board Plain c.args.numbers.now c.requires.live rows (after rows (edit.DropStatement id)) c.unask.ensures.unasks (statement_less rows Plain id s (names_at names c.args.numbers.now) found (subst (λ (m : Mode). SameElements (names_at names c.args.numbers.now) (flat_map (leads rows.entries m) (fresh_facts m (after rows (edit.DropStatement id)).statements s))) c.in-Plain.is led)) refl before.plain;
-        follow = reordered names c.self.inside.follow Follow rows (after rows (edit.DropStatement id)) (other_dropped rows Plain id s (own ∙ c.in-Plain.is) found) refl before.follow;
-      };
+      record { plain = unasks names c.lawful.ensures c.self.inside.plain c.unask.new.board Plain c.args.numbers.now c.requires.live rows (after rows (edit.DropStatement id)) c.unask.ensures.unasks (statement_less rows Plain id s (names_at names c.args.numbers.now) found (subst (λ (m : Mode). SameElements (names_at names c.args.numbers.now) (flat_map (leads rows.entries m) (fresh_facts m (after rows (edit.DropStatement id)).statements s))) c.in-Plain.is led)) refl before.plain; follow = reordered names c.self.inside.follow Follow rows (after rows (edit.DropStatement id)) (other_dropped rows Plain id s (own ∙ c.in-Plain.is) found) refl before.follow };
   back = λ rows s own led asked_before. let names = c.args.table.now in
       let before = subst (λ (b : Boards). ShowRows names b (after rows (edit.PutStatement s))) (sym c.self.view_is) asked_before in
-      record {
-        plain = unasks names c.lawful.ensures c.self.inside.plain c.unask.new.board Plain c.args.numbers.now c.requires.live (after rows (edit.PutStatement s)) rows c.unask.ensures.unasks (turned (names_at names c.args.numbers.now ++ asked rows Plain) (asked (after rows (edit.PutStatement s)) Plain) (statement_more rows Plain s (names_at names c.args.numbers.now) (subst (λ (m : Mode). SameElements (names_at names c.args.numbers.now) (flat_map (leads rows.entries m) (fresh_facts m rows.statements s))) c.in-Plain.is led))) refl before.plain;
-        follow = reordered names c.self.inside.follow Follow (after rows (edit.PutStatement s)) rows (turned (asked rows Follow) (asked (after rows (edit.PutStatement s)) Follow) (other_put rows Plain s (own ∙ c.in-Plain.is))) refl before.follow;
-      };
+      record { plain = unasks names c.lawful.ensures c.self.inside.plain c.unask.new.board Plain c.args.numbers.now c.requires.live (after rows (edit.PutStatement s)) rows c.unask.ensures.unasks (turned (names_at names c.args.numbers.now ++ asked rows Plain) (asked (after rows (edit.PutStatement s)) Plain) (statement_more rows Plain s (names_at names c.args.numbers.now) (subst (λ (m : Mode). SameElements (names_at names c.args.numbers.now) (flat_map (leads rows.entries m) (fresh_facts m rows.statements s))) c.in-Plain.is led))) refl before.plain; follow = reordered names c.self.inside.follow Follow (after rows (edit.PutStatement s)) rows (turned (asked rows Follow) (asked (after rows (edit.PutStatement s)) Follow) (other_put rows Plain s (own ∙ c.in-Plain.is))) refl before.follow };
   known = let next : Boards = record { plain = c.unask.new.board; follow = c.self.inside.follow } in
       subst (λ (b : Boards). KeepKnown b next) c.self.view_is
       (record { plain = unasks_known c.self.inside.plain c.unask.new.board c.args.table.now c.args.numbers.now c.unask.ensures.unasks; follow = same_known c.self.inside.follow });
@@ -53,16 +47,10 @@ returns-in-Follow g c = record {
   fits = grind (arith, common_steps);
   shows = λ rows id s own found asked_before led. let names = c.args.table.now in
       let before = subst (λ (b : Boards). ShowRows names b rows) (sym c.self.view_is) asked_before in
-      record {
-        follow = unasks names c.lawful.ensures c.self.inside.follow c.unask-in-Follow.new.board Follow c.args.numbers.now c.requires.live rows (after rows (edit.DropStatement id)) c.unask-in-Follow.ensures.unasks (statement_less rows Follow id s (names_at names c.args.numbers.now) found (subst (λ (m : Mode). SameElements (names_at names c.args.numbers.now) (flat_map (leads rows.entries m) (fresh_facts m (after rows (edit.DropStatement id)).statements s))) c.in-Follow.is led)) refl before.follow;
-        plain = reordered names c.self.inside.plain Plain rows (after rows (edit.DropStatement id)) (other_dropped rows Follow id s (own ∙ c.in-Follow.is) found) refl before.plain;
-      };
+      record { follow = unasks names c.lawful.ensures c.self.inside.follow c.unask-in-Follow.new.board Follow c.args.numbers.now c.requires.live rows (after rows (edit.DropStatement id)) c.unask-in-Follow.ensures.unasks (statement_less rows Follow id s (names_at names c.args.numbers.now) found (subst (λ (m : Mode). SameElements (names_at names c.args.numbers.now) (flat_map (leads rows.entries m) (fresh_facts m (after rows (edit.DropStatement id)).statements s))) c.in-Follow.is led)) refl before.follow; plain = reordered names c.self.inside.plain Plain rows (after rows (edit.DropStatement id)) (other_dropped rows Follow id s (own ∙ c.in-Follow.is) found) refl before.plain };
   back = λ rows s own led asked_before. let names = c.args.table.now in
       let before = subst (λ (b : Boards). ShowRows names b (after rows (edit.PutStatement s))) (sym c.self.view_is) asked_before in
-      record {
-        follow = unasks names c.lawful.ensures c.self.inside.follow c.unask-in-Follow.new.board Follow c.args.numbers.now c.requires.live (after rows (edit.PutStatement s)) rows c.unask-in-Follow.ensures.unasks (turned (names_at names c.args.numbers.now ++ asked rows Follow) (asked (after rows (edit.PutStatement s)) Follow) (statement_more rows Follow s (names_at names c.args.numbers.now) (subst (λ (m : Mode). SameElements (names_at names c.args.numbers.now) (flat_map (leads rows.entries m) (fresh_facts m rows.statements s))) c.in-Follow.is led))) refl before.follow;
-        plain = reordered names c.self.inside.plain Plain (after rows (edit.PutStatement s)) rows (turned (asked rows Plain) (asked (after rows (edit.PutStatement s)) Plain) (other_put rows Follow s (own ∙ c.in-Follow.is))) refl before.plain;
-      };
+      record { follow = unasks names c.lawful.ensures c.self.inside.follow c.unask-in-Follow.new.board Follow c.args.numbers.now c.requires.live (after rows (edit.PutStatement s)) rows c.unask-in-Follow.ensures.unasks (turned (names_at names c.args.numbers.now ++ asked rows Follow) (asked (after rows (edit.PutStatement s)) Follow) (statement_more rows Follow s (names_at names c.args.numbers.now) (subst (λ (m : Mode). SameElements (names_at names c.args.numbers.now) (flat_map (leads rows.entries m) (fresh_facts m rows.statements s))) c.in-Follow.is led))) refl before.follow; plain = reordered names c.self.inside.plain Plain (after rows (edit.PutStatement s)) rows (turned (asked rows Plain) (asked (after rows (edit.PutStatement s)) Plain) (other_put rows Follow s (own ∙ c.in-Follow.is))) refl before.plain };
   known = let next : Boards = record { plain = c.self.inside.plain; follow = c.unask-in-Follow.new.board } in
       subst (λ (b : Boards). KeepKnown b next) c.self.view_is
       (record { follow = unasks_known c.self.inside.follow c.unask-in-Follow.new.board c.args.table.now c.args.numbers.now c.unask-in-Follow.ensures.unasks; plain = same_known c.self.inside.plain });

@@ -9,10 +9,9 @@ use Rattle.cpe_rows.specs.declared.statement.Statement.{Statement}
 use Rattle.numbered_names.specs.Shown.{names_at}
 use Rattle.asked_names.specs.Asked.{fresh_facts}
 use Rattle.cpe_applicability.specs.Board.{Judged}
-use Rattle.kept_facts.specs.Kept.{AreLive}
 use Rattle.kept_verdicts.specs.Kept.{AreFollowed, Stands, Verdicts}
 use Rattle.kept_verdicts.specs.Putting.{AreLast}
-use Rattle.kept_verdicts.proofs.DropLemmas.{asked_follow, asked_plain, drop_follow, drop_plain, drop_stands, found_row, last_followed}
+use Rattle.kept_verdicts.proofs.DropLemmas.{asked_follow, asked_plain, drop_follow, drop_plain, drop_stands, found_row, last_ends}
 use Rattle.kept_verdicts.proofs.PutLemmas.{stands_whole}
 use Rattle.kept_verdicts.proofs.kept.KeptVerdicts.drop_with.Goals as goal
 
@@ -24,31 +23,21 @@ let_go-requires-clause-stood g c =
     let same = subst (λ (m : Mode). SameElements (names_at c.args.table.now c.args.last.now) (fresh_facts m (without_first (has_id c.args.id.now) st.0.statements) st.1)) (sym own.0) own.1 in
     (st.0, st.1, own.0, st.4, stands.shows, asked_plain st.0.entries st.1.mode (names_at c.args.table.now c.args.last.now) (fresh_facts st.1.mode (without_first (has_id c.args.id.now) st.0.statements) st.1) same (own.0 ∙ c.in-Plain.is))
 
-pub let_go-requires-in-Follow-clause-live : goal.let_go-requires-in-Follow-clause-live
-let_go-requires-in-Follow-clause-live g c =
+pub let_go-requires-in-Follow : goal.let_go-requires-in-Follow
+let_go-requires-in-Follow g c =
     let st = c.requires.stood in
-    let stands = subst (λ (v : Verdicts). Stands c.args.table.now v st.0) (sym c.self.view_is) st.3 in
+    let table = c.args.table.now in
+    let stands = subst (λ (v : Verdicts). Stands table v st.0) (sym c.self.view_is) st.3 in
     let last = subst (λ (m : Mode). AreLast c.self.inside.board.rows c.args.id.now m c.args.last.now) c.in-Follow.is (subst (λ (v : Verdicts). AreLast v.board.rows c.args.id.now c.args.mode c.args.last.now) (sym c.self.view_is) c.requires.last) in
-    let all = last_followed c.args.table.now c.self.inside.board.rows c.args.id.now st.0.entries c.self.inside.followed stands.followed c.args.last.now last in
-    subst (AreLive c.args.table.now) (sym c.deref.ensures.value) (c.in_ok-asked-in-Follow.ensures.live c.args.table.now st.0.entries all)
-
-pub let_go-requires-in-Follow-clause-stood : goal.let_go-requires-in-Follow-clause-stood
-let_go-requires-in-Follow-clause-stood g c =
-    let st = c.requires.stood in
-    let stands = subst (λ (v : Verdicts). Stands c.args.table.now v st.0) (sym c.self.view_is) st.3 in
-    let last = subst (λ (m : Mode). AreLast c.self.inside.board.rows c.args.id.now m c.args.last.now) c.in-Follow.is (subst (λ (v : Verdicts). AreLast v.board.rows c.args.id.now c.args.mode c.args.last.now) (sym c.self.view_is) c.requires.last) in
-    let all = last_followed c.args.table.now c.self.inside.board.rows c.args.id.now st.0.entries c.self.inside.followed stands.followed c.args.last.now last in
+    let asked = last_ends table c.self.inside.board.rows c.args.id.now st.0.entries c.self.inside.followed stands.followed c.args.last.now last c.deref.result.now (c.deref.ensures.value ∙ c.in_ok-asked-in-Follow.ensures) in
     let own = c.requires.asked st.0 st.1 st.3 st.4 in
     let facts = fresh_facts st.1.mode (without_first (has_id c.args.id.now) st.0.statements) st.1 in
-    let same = subst (λ (m : Mode). SameElements (names_at c.args.table.now c.args.last.now) (fresh_facts m (without_first (has_id c.args.id.now) st.0.statements) st.1)) (sym own.0) own.1 in (
-      st.0,
-      st.1,
-      own.0,
-      st.4,
-      stands.shows,
-      asked_follow st.0.entries st.1.mode (names_at c.args.table.now c.args.last.now) facts same (names_at c.args.table.now c.deref.result.now) (own.0 ∙ c.in-Follow.is)
-          (ap (names_at c.args.table.now) c.deref.ensures.value ∙ c.in_ok-asked-in-Follow.ensures.names c.args.table.now st.0.entries all),
-    )
+    let same = subst (λ (m : Mode). SameElements (names_at table c.args.last.now) (fresh_facts m (without_first (has_id c.args.id.now) st.0.statements) st.1)) (sym own.0) own.1 in
+    record {
+      live = asked.0;
+      fits = stands.fits;
+      stood = (st.0, st.1, own.0, st.4, stands.shows, asked_follow st.0.entries st.1.mode (names_at table c.args.last.now) facts same (names_at table c.deref.result.now) (own.0 ∙ c.in-Follow.is) asked.1);
+    }
 
 pub returns-in-Plain-clause-ok : goal.returns-in-Plain-clause-ok
 returns-in-Plain-clause-ok g c rows s stands_now found =
@@ -79,9 +68,8 @@ returns-in_ok-asked-in-Follow-clause-ok g c rows s stands_now found =
     let facts = fresh_facts s.mode (without_first (has_id id) rows.statements) s in
     let same = subst (λ (m : Mode). SameElements (names_at table c.args.last.now) (fresh_facts m (without_first (has_id id) rows.statements) s)) (sym own.0) own.1 in
     let last = subst (λ (m : Mode). AreLast old.board.rows id m c.args.last.now) c.in-Follow.is (subst (λ (v : Verdicts). AreLast v.board.rows id c.args.mode c.args.last.now) (sym c.self.view_is) c.requires.last) in
-    let all = last_followed table old.board.rows id rows.entries old.followed stands.followed c.args.last.now last in
     let asked = asked_follow rows.entries s.mode (names_at table c.args.last.now) facts same (names_at table c.deref.result.now) (own.0 ∙ c.in-Follow.is)
-    (ap (names_at table) c.deref.ensures.value ∙ c.in_ok-asked-in-Follow.ensures.names table rows.entries all) in
+    (last_ends table old.board.rows id rows.entries old.followed stands.followed c.args.last.now last c.deref.result.now (c.deref.ensures.value ∙ c.in_ok-asked-in-Follow.ensures)).1 in
     stands_whole table new next
     (drop_stands table old new rows id stands c.let_go-in-Follow.ensures.rows c.let_go-in-Follow.ensures.truths c.let_go-in-Follow.ensures.checks (c.let_go-in-Follow.ensures.shows rows s own.0 found stands.shows asked) c.let_go-in-Follow.ensures.fits c.let_go-in-Follow.ensures.sound c.let_go-in-Follow.ensures.settled)
     (subst (λ (js : List Judged). AreFollowed table js rows.entries c.forget_all.new.followed) (sym c.let_go-in-Follow.ensures.rows)

@@ -1,4 +1,4 @@
-use Rattle.std.proofs.Common.{◌∷◌, [], length, refl, sym, ap, subst, arith}
+use Rattle.std.proofs.Common.{length, refl, sym, ap, subst, arith}
 use Rattle.std.proofs.lemmas.List.{length-map}
 use Rattle.product_orders.specs.declared.products.Side.TheVariants as side
 use Rattle.cpe_rows.specs.After.{after}
@@ -6,10 +6,8 @@ use Rattle.cpe_rows.specs.Rows.{Rows}
 use Rattle.cpe_rows.specs.declared.edit.Edit.TheVariants as edit
 use Rattle.cpe_rows.specs.declared.statement.Mode.TheVariants.{Plain, Follow}
 use Rattle.numbered_names.specs.Shown.{name_at}
-use Rattle.asked_names.specs.Asked.{asked}
-use Rattle.kept_facts.specs.Kept.{looks_by}
 use Rattle.kept_verdicts.specs.Kept.{HasRoom, Stands, Verdicts}
-use Rattle.kept_verdicts.proofs.StandLemmas.{moved_by}
+use Rattle.kept_verdicts.proofs.StandLemmas.{item_looked, moved_by}
 use Rattle.kept_verdicts.proofs.kept.KeptVerdicts.item_comes.Goals as goal
 
 pub returns-clause-stands : goal.returns-clause-stands
@@ -23,17 +21,8 @@ returns-clause-stands g c rows stands ends =
 
 pub returns-clause-steps : goal.returns-clause-steps
 returns-clause-steps g c rows stands ends =
-    let table = c.args.table.now in
-    let s = subst (λ (v : Verdicts). Stands table v rows) (sym c.self.view_is) stands in (
-      c.item_comes.ensures.rise,
-      omega (
-        arith,
-        c.item_comes.ensures.steps,
-        c.looks_are_by_names.ensures.asked table c.self.inside.facts.plain rows Plain (c.args.item ∷ []) c.lawful-2.ensures (c.lawful.ensures.on Plain) s.shows.plain,
-        c.looks_are_by_names.ensures.asked table c.self.inside.facts.follow rows Follow c.args.ends.now c.lawful-2.ensures (c.lawful.ensures.on Follow) s.shows.follow,
-        ap (looks_by side.Target (asked rows Follow)) ends.names,
-      ),
-    )
+    let s = subst (λ (v : Verdicts). Stands c.args.table.now v rows) (sym c.self.view_is) stands in
+    (c.item_comes.ensures.rise, omega (arith, c.item_comes.ensures.steps, item_looked c.args.table.now c.self.inside.facts rows c.args.item c.args.ends.now c.lawful-2.ensures c.lawful.ensures s.shows ends))
 
 pub item_comes-requires : goal.item_comes-requires
 item_comes-requires g c =

@@ -13,7 +13,7 @@ use Rattle.numbered_names.specs.Shown.{names_at}
 use Rattle.kept_verdicts.specs.Kept.{AreFollowed, Stands, Verdicts}
 use Rattle.kept_verdicts.specs.Putting.{AllFollowed, AreAskedFor, AreUnused, HasLeads, OthersKept, StandsElse}
 use Rattle.kept_verdicts.proofs.AskLemmas.{on_err}
-use Rattle.kept_verdicts.proofs.PutLemmas.{all_lead, else_with, put_follow, stands_else, stands_whole, unfollowed}
+use Rattle.kept_verdicts.proofs.PutLemmas.{all_lead, put_follow, stands_else, stands_whole, unfollowed}
 use Rattle.kept_verdicts.proofs.kept.KeptVerdicts.put_followed.Goals as goal
 
 pub returns-in_err-asked-clause-err : goal.returns-in_err-asked-clause-err
@@ -24,7 +24,7 @@ returns-in_err-asked-clause-err g c rows stands_now same =
     let stands = subst (λ (v : Verdicts). Stands table v rows) (sym c.self.view_is) stands_now in
     let unused = subst (λ (v : Verdicts). AreUnused v.board.rows c.args.statement.mode c.args.ids.now c.args.fresh.now) (sym c.self.view_is) c.requires.unused in
     on_err c.from_residual.result (Stands table new rows)
-    (stands_whole table new rows (else_with table old rows c.follow.new.followed (stands_else table old rows stands))
+    (stands_whole table new rows (stands_else table old rows stands)
     (unfollowed table old.board.rows rows.entries c.args.statement.mode c.args.ids.now c.args.fresh.now old.followed c.follow.new.followed stands.followed c.requires.follow unused c.in_err-asked.ensures.none c.follow.ensures.stay c.follow.ensures.linked))
 
 pub put_asked-requires-clause-stood : goal.put_asked-requires-clause-stood
@@ -32,14 +32,13 @@ put_asked-requires-clause-stood g c =
     let table = c.args.registry.now.table in
     let st = c.requires.stood in
     let old : Verdicts = record { board = c.self.inside.board; facts = c.self.inside.facts; followed = c.self.inside.followed } in
-    let mid : Verdicts = record { board = c.self.inside.board; facts = c.self.inside.facts; followed = c.follow.new.followed } in
     let stands = subst (λ (v : Verdicts). Stands table v st.0) (sym c.self.view_is) st.2 in
     let asked = c.requires.asked st.0 c.deref.result.now st.2 (ap (names_at table) c.deref.ensures.value ∙ c.in_ok-asked.ensures.asked ∙ ap (λ (es : List Entry). flat_map (ends es) (names_at table c.args.fresh.now)) (sym st.3)) in
     let led = subst (λ (es : List Entry). AllByRecursion (HasLeads table c.follow.new.followed es c.args.statement.mode) c.args.fresh.now) (sym st.3) (all_lead table c.follow.new.followed c.args.registry.now.entries c.args.statement.mode c.requires.follow c.args.fresh.now c.in_ok-asked.ensures.ends) in
     subst
-    (λ (n : Names). (rows : Rows) × IsLawful rows × StandsElse n mid rows × AreAskedFor n rows c.args.statement c.deref.result.now × AllByRecursion (HasLeads n c.follow.new.followed rows.entries c.args.statement.mode) c.args.fresh.now)
+    (λ (n : Names). (rows : Rows) × IsLawful rows × StandsElse n old rows × AreAskedFor n rows c.args.statement c.deref.result.now × AllByRecursion (HasLeads n c.follow.new.followed rows.entries c.args.statement.mode) c.args.fresh.now)
     (sym c.table.ensures)
-    (st.0, st.1, else_with table old st.0 c.follow.new.followed (stands_else table old st.0 stands), asked, led)
+    (st.0, st.1, stands_else table old st.0 stands, asked, led)
 
 pub returns-in-Ok-clause-ok : goal.returns-in-Ok-clause-ok
 returns-in-Ok-clause-ok g c rows stands_now same =
@@ -47,7 +46,6 @@ returns-in-Ok-clause-ok g c rows stands_now same =
     let s = c.args.statement in
     let next : Rows = after rows (edit.PutStatement s) in
     let old : Verdicts = record { board = c.self.inside.board; facts = c.self.inside.facts; followed = c.self.inside.followed } in
-    let mid : Verdicts = record { board = c.self.inside.board; facts = c.self.inside.facts; followed = c.follow.new.followed } in
     let stands = subst (λ (v : Verdicts). Stands table v rows) (sym c.self.view_is) stands_now in
     let unused = subst (λ (v : Verdicts). AreUnused v.board.rows s.mode c.args.ids.now c.args.fresh.now) (sym c.self.view_is) c.requires.unused in
     let asked = c.requires.asked rows c.deref.result.now stands_now (ap (names_at table) c.deref.ensures.value ∙ c.in_ok-asked.ensures.asked ∙ ap (λ (es : List Entry). flat_map (ends es) (names_at table c.args.fresh.now)) (sym same)) in
@@ -56,7 +54,7 @@ returns-in-Ok-clause-ok g c rows stands_now same =
     stands_whole table c.put_asked.new.self next
     (subst (λ (n : Names). StandsElse n c.put_asked.new.self next) c.table.ensures
     (c.in-Ok.ensures.ok rows
-    (subst (λ (n : Names). StandsElse n mid rows) (sym c.table.ensures) (else_with table old rows c.follow.new.followed (stands_else table old rows stands)))
+    (subst (λ (n : Names). StandsElse n old rows) (sym c.table.ensures) (stands_else table old rows stands))
     (subst (λ (n : Names). AreAskedFor n rows s c.deref.result.now) (sym c.table.ensures) asked)
     (subst (λ (n : Names). AllByRecursion (HasLeads n c.follow.new.followed rows.entries s.mode) c.args.fresh.now) (sym c.table.ensures) led)))
     (subst (AreFollowed table c.put_asked.new.self.board.rows rows.entries) (sym c.in-Ok.ensures.followed)
@@ -68,8 +66,6 @@ returns-clause-err g c rows stands_now same =
     let table = c.args.registry.now.table in
     let s = c.args.statement in
     let old : Verdicts = record { board = c.self.inside.board; facts = c.self.inside.facts; followed = c.self.inside.followed } in
-    let mid : Verdicts = record { board = c.self.inside.board; facts = c.self.inside.facts; followed = c.follow.new.followed } in
-    let put : Verdicts = record { board = c.self-2.inside.board; facts = c.self-2.inside.facts; followed = c.self-2.inside.followed } in
     let new : Verdicts = record { board = c.self-2.inside.board; facts = c.self-2.inside.facts; followed = c.forget_all.new.followed } in
     let stands = subst (λ (v : Verdicts). Stands table v rows) (sym c.self.view_is) stands_now in
     let unused = subst (λ (v : Verdicts). AreUnused v.board.rows s.mode c.args.ids.now c.args.fresh.now) (sym c.self.view_is) c.requires.unused in
@@ -80,9 +76,9 @@ returns-clause-err g c rows stands_now same =
     let linked : AreLinked old.followed → AreLinked c.forget_all.new.followed = λ was. c.forget_all.ensures.linked (subst AreLinked (sym followed_is) (c.follow.ensures.linked was)) in
     let still : StandsElse table c.put_asked.new.self rows = subst (λ (n : Names). StandsElse n c.put_asked.new.self rows) c.table.ensures
     (c.in-Err.ensures.err rows
-    (subst (λ (n : Names). StandsElse n mid rows) (sym c.table.ensures) (else_with table old rows c.follow.new.followed (stands_else table old rows stands)))
+    (subst (λ (n : Names). StandsElse n old rows) (sym c.table.ensures) (stands_else table old rows stands))
     (subst (λ (n : Names). AreAskedFor n rows s c.deref.result.now) (sym c.table.ensures) asked)) in
     stands_whole table new rows
-    (else_with table put rows c.forget_all.new.followed (subst (λ (v : Verdicts). StandsElse table v rows) (sym c.self-2.view_is) still))
+    (subst (λ (v : Verdicts). StandsElse table v rows) (sym c.self-2.view_is) still)
     (subst (λ (js : List Judged). AreFollowed table js rows.entries c.forget_all.new.followed) (sym rows_are)
     (unfollowed table old.board.rows rows.entries s.mode c.args.ids.now c.args.fresh.now old.followed c.forget_all.new.followed stands.followed c.requires.follow unused c.forget_all.ensures.none stay linked))

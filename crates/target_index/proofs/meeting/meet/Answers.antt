@@ -15,7 +15,7 @@ use Rattle.target_index.specs.Targets.{FitsTargets, held, is_maybe, Targets}
 use Rattle.target_index.specs.Parts.{pair_of, pairs_of, targets_of}
 use Rattle.target_index.proofs.Meetings.{covered_all, none_open}
 use Rattle.target_index.proofs.Walks.{met_count}
-use Rattle.target_index.proofs.parts.Parts.met.Goals as goal
+use Rattle.target_index.proofs.meeting.meet.Goals as goal
 
 -- what is covered has no special, so it is found among those that have none
 all_covered : {E : Type 0} (names : Names) (name : Values) (t : Targets) → FitsTargets t names → ((a b : Values) → IsTrue (covers a b) → name_has_specials b ≡ false) → (r : Result Met E)
@@ -27,23 +27,23 @@ all_covered names name t fits law r plain =
     (λ (m : Met) same. covered_all names name t fits law m.covered.items same)
     plain
 
-pub returns-then-self-eq0-clause-covered : goal.returns-then-self-eq0-clause-covered
-returns-then-self-eq0-clause-covered g c =
-    all_covered c.args.table.now c.args.name.now (targets_of c.args.self.now) c.requires.fits c.maybe_laws.ensures.whole c.meet_whole.result c.meet_whole.ensures.covered
+pub returns-then-parts-eq0-clause-covered : goal.returns-then-parts-eq0-clause-covered
+returns-then-parts-eq0-clause-covered g c =
+    all_covered c.args.table.now c.args.name.now (targets_of c.args.parts.now) c.requires.fits c.maybe_laws.ensures.whole c.meet_whole.result c.meet_whole.ensures.covered
 
-pub returns-then-self-eq0-clause-maybe : goal.returns-then-self-eq0-clause-maybe
-returns-then-self-eq0-clause-maybe g c =
-    let t = targets_of c.args.self.now in
+pub returns-then-parts-eq0-clause-maybe : goal.returns-then-parts-eq0-clause-maybe
+returns-then-parts-eq0-clause-maybe g c =
+    let t = targets_of c.args.parts.now in
     IfOk-weaker c.meet_whole.result
     (λ (m : Met). m.maybe.items ≡ [])
     (λ (m : Met). SameElements (filter (is_maybe c.args.table.now c.args.name.now) (ids (held t))) m.maybe.items)
-    (λ (m : Met) none. none_open c.args.table.now c.args.name.now t c.requires.fits c.maybe_laws.ensures.part c.if-self-eq0.true m.maybe.items none)
+    (λ (m : Met) none. none_open c.args.table.now c.args.name.now t c.requires.fits c.maybe_laws.ensures.part c.if-parts-eq0.true m.maybe.items none)
     c.meet_whole.ensures.maybe
 
-pub returns-then-self-eq0-clause-steps : goal.returns-then-self-eq0-clause-steps
-returns-then-self-eq0-clause-steps g c = (
+pub returns-then-parts-eq0-clause-steps : goal.returns-then-parts-eq0-clause-steps
+returns-then-parts-eq0-clause-steps g c = (
   c.meet_whole.ensures.steps.0,
-  omega (arith, c.meet_whole.ensures.steps.1, met_count c.args.table.now c.args.name.now.product c.args.self.now.plain.held (pairs_of c.args.self.now.loose.items) c.requires.fits.all_loose),
+  omega (arith, c.meet_whole.ensures.steps.1, met_count c.args.table.now c.args.name.now.product c.args.parts.now.plain.held (pairs_of c.args.parts.now.loose.items) c.requires.fits.all_loose),
 )
 
 pub meet_each-requires-clause-loose : goal.meet_each-requires-clause-loose
@@ -51,10 +51,10 @@ meet_each-requires-clause-loose g c = subst (λ (xs : List Loose). Fits (pairs_o
 
 pub returns-clause-covered : goal.returns-clause-covered
 returns-clause-covered g c =
-    all_covered c.args.table.now c.args.name.now (targets_of c.args.self.now) c.requires.fits c.maybe_laws.ensures.whole c.meet_each.result c.meet_each.ensures.covered
+    all_covered c.args.table.now c.args.name.now (targets_of c.args.parts.now) c.requires.fits c.maybe_laws.ensures.whole c.meet_each.result c.meet_each.ensures.covered
 
 pub returns-clause-steps : goal.returns-clause-steps
 returns-clause-steps g c = (
   c.meet_each.ensures.steps.0,
-  omega (arith, c.meet_each.ensures.steps.1, ap length c.deref.ensures.value, length-map c.args.self.now.loose.items pair_of, met_count c.args.table.now c.args.name.now.product c.args.self.now.plain.held (pairs_of c.args.self.now.loose.items) c.requires.fits.all_loose),
+  omega (arith, c.meet_each.ensures.steps.1, ap length c.deref.ensures.value, length-map c.args.parts.now.loose.items pair_of, met_count c.args.table.now c.args.name.now.product c.args.parts.now.plain.held (pairs_of c.args.parts.now.loose.items) c.requires.fits.all_loose),
 )
