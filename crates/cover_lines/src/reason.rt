@@ -18,8 +18,7 @@ pub enum CoverReason {
 impl Reason for CoverReason {
     ghost text = { reason_text };
 
-    fn push(&self, alloc: Global, page: &mut Page) -> Result<(), AllocError> {
-        let _ = alloc;
+    fn push(&self, _alloc: Global, page: &mut Page) -> Result<(), AllocError> {
         match self {
             CoverReason::Name(place) => page.push_numbered(b"name ", *place as u64),
             CoverReason::Full(which) => push_full(page, *which),

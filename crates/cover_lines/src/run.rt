@@ -1,9 +1,8 @@
 // A whole run of the command.
 ghost use Rattle.std.specs.Prelude.{◌≡◌, []};
-ghost use Rattle.cpe_io.specs.Causes.{Rose};
+ghost use Rattle.cpe_session.specs.Prelude.{Rose, StepsWithin};
 ghost use Rattle.cpe_session.specs.Ran.{Ran, Completes, Counted};
 ghost use Rattle.cpe_session.specs.Task.{task};
-ghost use Rattle.cpe_steps.specs.Within.{StepsWithin};
 ghost use Rattle.cover_lines.specs.Lines.{cover_session, most_steps};
 
 use crate::speaker::Cover;

@@ -1,6 +1,5 @@
 // What a line of a name says.
-ghost use Rattle.std.specs.Prelude.{◌≡◌, IfOk, OnErr, ℕ, List};
-ghost use Rattle.std.specs.Option.{option_map};
+ghost use Rattle.std.specs.Prelude.{◌≡◌, IfOk, OnErr, ℕ, List, option_map};
 ghost use Rattle.cpe_name.specs.Lower.{IsLower, lower_name};
 ghost use Rattle.cpe_session.specs.Pages.{IsSaid};
 ghost use Rattle.cover_lines.specs.Lines.{by_added, cover_session};
@@ -37,12 +36,10 @@ impl Speaker for Cover {
         &self,
         alloc: Global,
         state: &mut Names,
-        page: &mut Page,
+        _page: &mut Page,
         line: &Line<'_>,
-        steps: &mut Steps<L>,
+        _steps: &mut Steps<L>,
     ) -> Result<Option<CoverReason>, AllocError> {
-        let _ = page;
-        let _ = steps;
         match unbind_any(alloc, line.text) {
             Ok(name) => add(state, name),
             Err(UriFault::At(place)) => Ok(Some(CoverReason::Name(place))),

@@ -1,11 +1,8 @@
 // The names that stay, as lines.
-ghost use Rattle.std.specs.Prelude.{◌≡◌, ◌++◌, [], OnOk, length, slice_get};
-ghost use Rattle.std.specs.List.{flat_map};
+ghost use Rattle.std.specs.Prelude.{◌≡◌, ◌++◌, [], OnOk, length, slice_get, flat_map};
 ghost use Rattle.std.specs.Option.{option_map_or};
 ghost use Rattle.cpe_fs.specs.Grammar.{fs_text};
-ghost use Rattle.cpe_io.specs.Causes.{HasSinkCause};
-ghost use Rattle.cpe_io.specs.Writes.{AppendsPrefix};
-ghost use Rattle.cpe_session.specs.Pages.{Pours};
+ghost use Rattle.cpe_session.specs.Prelude.{AppendsPrefix, HasSinkCause, Pours};
 ghost use Rattle.cover_lines.specs.Lines.{name_line};
 
 use cpe_fs::append_fs;

@@ -1,11 +1,7 @@
 // What a line of a record says.
-ghost use Rattle.std.specs.Prelude.{◌≡◌, ◌++◌, [], ℕ, List, true, None, IfOk, OnErr};
-ghost use Rattle.std.specs.Option.{option_map};
-ghost use Rattle.cpe_steps.specs.Within.{StepsWithin};
-ghost use Rattle.cpe_session.specs.Pages.{IsSaid};
-ghost use Rattle.cpe_ranges.specs.Step.{step};
-ghost use Rattle.cpe_ranges.specs.Answers.{answer, looks};
-ghost use Rattle.cpe_advisories.specs.Valid.{is_valid_edit, is_valid_query};
+ghost use Rattle.std.specs.Prelude.{◌≡◌, ◌++◌, [], ℕ, List, true, None, IfOk, OnErr, option_map};
+ghost use Rattle.cpe_session.specs.Prelude.{IsSaid, StepsWithin};
+ghost use Rattle.cpe_ranges.specs.Prelude.{answer, is_valid_edit, is_valid_query, looks, step};
 ghost use Rattle.cpe_advise.specs.Lines.{reply_text};
 ghost use Rattle.cpe_advise.specs.Reasons.{reason_text};
 ghost use Rattle.cpe_advise.specs.Records.{by_step, advice_session};
@@ -54,17 +50,12 @@ impl Speaker for Advise {
 
     fn say_end<K: Sink, L: Ledger>(
         &self,
-        alloc: Global,
-        state: &Advisories,
-        page: &mut Page,
-        sink: &mut K,
-        steps: &mut Steps<L>,
+        _alloc: Global,
+        _state: &Advisories,
+        _page: &mut Page,
+        _sink: &mut K,
+        _steps: &mut Steps<L>,
     ) -> Result<(), SinkFault> {
-        let _ = alloc;
-        let _ = state;
-        let _ = page;
-        let _ = sink;
-        let _ = steps;
         Ok(())
     }
 }

@@ -2,10 +2,9 @@
 ghost use Rattle.std.specs.Prelude.{◌≡◌, IfOk, Err, Option, option_map, true};
 ghost use Rattle.serde_json.specs.View.{view};
 ghost use Rattle.cpe_members.specs.Forms.{text_in};
-ghost use Rattle.cpe_members.specs.Line.{value_of};
 ghost use Rattle.cpe_uri.specs.EitherBinding.{read_any};
-ghost use Rattle.cpe_advisories.specs.Gives.{Gives, GivesBy};
-ghost use Rattle.cpe_advisories.specs.Reading.{advice_by, advice_of, advisory_in, bound_of, bounds_in, flag_at, id_at, json_of, key_of, name_at, named, record_kind_at, version_at, version_in, required};
+ghost use Rattle.cpe_advisories.specs.Gives.{Gives};
+ghost use Rattle.cpe_advisories.specs.Reading.{advice_by, advice_of, advisory_in, bound_of, bounds_in, flag_at, id_at, key_of, name_at, named, record_kind_at, version_at, version_in, required};
 ghost use Rattle.cpe_advisories.specs.Valid.{is_valid_advice};
 
 use crate::record_kind::{RecordKind, record_kind_of};
@@ -54,14 +53,8 @@ fn id_at(alloc: Global, source: &Value) -> Result<Text, AdviceReadFault>
     ensures { Gives result (id_at (view source.now)) }
 {
     match text_of(source, AdviceMember::Id) {
-        Some(text) => {
-            if is_id(text) {
-                Ok(Text::new(alloc, text)?)
-            } else {
-                Err(AdviceReadFault::Member(AdviceMember::Id))
-            }
-        }
-        None => Err(AdviceReadFault::Member(AdviceMember::Id)),
+        Some(text) if is_id(text) => Ok(Text::new(alloc, text)?),
+        _ => Err(AdviceReadFault::Member(AdviceMember::Id)),
     }
 }
 
@@ -94,14 +87,8 @@ fn version_in(
     ensures { Gives result (required member (version_in (view source.now))) }
 {
     match source.as_str() {
-        Some(text) => {
-            if is_id(text) {
-                Ok(Some(Text::new(alloc, text)?))
-            } else {
-                Err(AdviceReadFault::Member(member))
-            }
-        }
-        None => Err(AdviceReadFault::Member(member)),
+        Some(text) if is_id(text) => Ok(Some(Text::new(alloc, text)?)),
+        _ => Err(AdviceReadFault::Member(member)),
     }
 }
 
@@ -190,18 +177,12 @@ fn advice_by(alloc: Global, kind: RecordKind, source: &Value) -> Result<Advice, 
     }
 }
 
-fn json_of(alloc: Global, line: &[u8]) -> Result<Value, AdviceReadFault>
-    ensures { GivesBy view result (json_of (value_of line.now)) }
-{
-    value_of(alloc, line)?.ok_or(AdviceReadFault::Json)
-}
-
 // The record of a line, before it is known that it is in order.
 #[tactic(auto, unfolding(crate::specs::Reading::advice_of))]
 fn advice_in(alloc: Global, line: &[u8]) -> Result<Advice, AdviceReadFault>
     ensures { Gives result (advice_of line.now) }
 {
-    let value = json_of(alloc, line)?;
+    let value = value_of(alloc, line)?.ok_or(AdviceReadFault::Json)?;
     let kind = record_kind_at(&value)?;
     advice_by(alloc, kind, &value)
 }

@@ -1,6 +1,5 @@
 // The beginning of a session.
-ghost use Rattle.std.specs.Prelude.{◌≡◌, ◌∷◌, [], true, false, MatchOption};
-ghost use Rattle.std.specs.Str.{bytes_eq};
+ghost use Rattle.std.specs.Prelude.{◌≡◌, ◌∷◌, [], true, false, MatchOption, bytes_eq};
 ghost use Rattle.cpe_command.specs.Command.{are, command_of};
 ghost use Rattle.cpe_command.specs.Meaning.{meaning};
 ghost use Rattle.cpe_c.specs.Beginning.{answers_lines, begins, Opens, words_of};

@@ -1,6 +1,5 @@
 // What C keeps of a session.
-ghost use Rattle.std.specs.Prelude.{◌≡◌, Some, None, IsSome};
-ghost use Rattle.std.specs.declared.option.Option.{Option};
+ghost use Rattle.std.specs.Prelude.{◌≡◌, Some, None, IsSome, Option};
 ghost use Rattle.cpe_c.specs.Keeping.{kept_coded};
 ghost use Rattle.cpe_c.specs.declared.talk.Talk.{Talk};
 

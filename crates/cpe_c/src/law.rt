@@ -1,6 +1,5 @@
 // What the calls of a session come to together.
-ghost use Rattle.std.specs.Prelude.{◌≡◌, [], ℕ, List};
-ghost use Rattle.std.specs.declared.option.Option.{Option};
+ghost use Rattle.std.specs.Prelude.{◌≡◌, [], ℕ, List, Option};
 ghost use Rattle.cpe_io.specs.Lines.{lines};
 ghost use Rattle.cpe_session.specs.Task.{Says, Transcript};
 ghost use Rattle.cpe_command.specs.Meaning.{meaning};

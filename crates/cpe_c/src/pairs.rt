@@ -1,7 +1,6 @@
 // How two names relate.
 ghost use Rattle.std.specs.Prelude.{◌≡◌, IfOk, Ok};
-ghost use Rattle.cpe_name.specs.Borrowed.{name_lent};
-ghost use Rattle.cpe_name.specs.Eleven.{Values};
+ghost use Rattle.cpe_name.specs.Prelude.{name_lent, Values};
 ghost use Rattle.cpe_relation.specs.NameRelation.{covers, is_above};
 ghost use Rattle.cpe_uri.specs.EitherBinding.{IsUriOrFs, read_any};
 ghost use Rattle.cpe_c.specs.Compared.{AreRelations, IsCompared};

@@ -1,6 +1,5 @@
 // Who speaks in a session, and what its lines have left.
-ghost use Rattle.std.specs.Prelude.{◌≡◌, ◌∷◌, [], ℕ, List, IfOk, OnOk};
-ghost use Rattle.std.specs.declared.option.Option.{Option};
+ghost use Rattle.std.specs.Prelude.{◌≡◌, ◌∷◌, [], ℕ, List, IfOk, OnOk, Option};
 ghost use Rattle.cpe_io.specs.Lines.{line_of};
 ghost use Rattle.cpe_c.specs.Talks.{behind, goes_on};
 

@@ -1,6 +1,5 @@
 //! A law of what is written: it means what was read. The function does nothing; its clause is the law.
-ghost use Rattle.std.specs.Prelude.{◌≡◌, List, ℕ};
-ghost use Rattle.std.specs.declared.option.Option.{Option};
+ghost use Rattle.std.specs.Prelude.{◌≡◌, List, ℕ, Option};
 ghost use Rattle.std.specs.List.{AllByRecursion};
 ghost use Rattle.cpe_io.specs.Lines.{lines};
 ghost use Rattle.cpe_session.specs.Folding.{folded};

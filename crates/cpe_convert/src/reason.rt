@@ -19,8 +19,7 @@ pub enum ConvertReason {
 impl Reason for ConvertReason {
     ghost text = { reason_text };
 
-    fn push(&self, alloc: Global, page: &mut Page) -> Result<(), AllocError> {
-        let _ = alloc;
+    fn push(&self, _alloc: Global, page: &mut Page) -> Result<(), AllocError> {
         match self {
             ConvertReason::Unread(fault) => push_record_fault(page, fault),
             ConvertReason::Grown => page.push(b"grown"),

@@ -61,12 +61,12 @@ filter_where p q (n ∷ ns) same =
     let rest : filter p ns ≡ filter q ns = filter_where p q ns (λ m h. same m (or_right (same_name m n) (is_among ns m) h)) in
     λ i. cond (here i) (n ∷ rest i) (rest i)
 
+none_gone : (ns : List Values) → filter (λ n. true) ns ≡ ns
+none_gone [] = refl
+none_gone (n ∷ ns) = ap (λ ms. n ∷ ms) (none_gone ns)
+
 pub filter_keeps : (p : Values → Bool) (ns : List Values) → ((m : Values) → is_among ns m ≡ true → p m ≡ true) → filter p ns ≡ ns
-filter_keeps p [] all = refl
-filter_keeps p (n ∷ ns) all =
-    let here : p n ≡ true = all n (or_left (same_name n n) (is_among ns n) (itself n)) in
-    let rest : filter p ns ≡ ns = filter_keeps p ns (λ m h. all m (or_right (same_name m n) (is_among ns m) h)) in
-    λ i. cond (here i) (n ∷ rest i) (rest i)
+filter_keeps p ns all = filter_where p (λ n. true) ns all ∙ none_gone ns
 
 pub map_keeps : (f : Values → Values) (ns : List Values) → ((m : Values) → is_among ns m ≡ true → f m ≡ m) → map f ns ≡ ns
 map_keeps f [] all = refl

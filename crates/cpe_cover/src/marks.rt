@@ -1,8 +1,7 @@
 // Marks of the names that a name with a special covers.
 ghost use Rattle.std.specs.Prelude.{◌≡◌, ◌<◌, ◌||◌, ℕ, nat_eq, IfOk, OnOk, length, if◌then◌else◌};
 ghost use Rattle.std.specs.List.{AllByRecursion, list_any};
-ghost use Rattle.cpe_name.specs.Lower.{IsLower};
-ghost use Rattle.cpe_rows.specs.Names.{has_wildcards};
+ghost use Rattle.cpe_rows.specs.Prelude.{has_wildcards, IsLower};
 ghost use Rattle.cpe_steps.specs.Within.{StepsWithin};
 ghost use Rattle.names_in_order.specs.Places.{name_at};
 ghost use Rattle.cpe_cover.specs.Marks.{AreMarks, is_marked, matches};

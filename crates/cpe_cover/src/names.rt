@@ -1,8 +1,7 @@
 // The names as they are gathered.
 ghost use Rattle.std.specs.Prelude.{◌≡◌, ◌≤◌, ◌++◌, ◌∷◌, [], IfOk, OnOk, OnErr, false, length};
 ghost use Rattle.std.specs.List.{AllByRecursion};
-ghost use Rattle.cpe_name.specs.Lower.{IsLower};
-ghost use Rattle.cpe_steps.specs.Within.{StepsWithin};
+ghost use Rattle.name_index.specs.Prelude.{IsLower, StepsWithin};
 ghost use Rattle.cpe_cover.specs.Cover.{cover};
 ghost use Rattle.cpe_cover.specs.Laws.{AreNames, is_among};
 ghost use Rattle.cpe_cover.specs.Marks.{AreMarks};

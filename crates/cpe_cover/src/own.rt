@@ -1,8 +1,9 @@
 // Different names in the order in which they came, with a table of their own.
-ghost use Rattle.std.specs.Prelude.{◌≡◌, ◌++◌, ◌∷◌, [], OnOk, OnErr, false, length};
+ghost use Rattle.std.specs.Prelude.{◌≡◌, ◌++◌, ◌∷◌, [], List, OnOk, OnErr, false, length};
 ghost use Rattle.std.specs.List.{list_any};
-ghost use Rattle.cpe_name.specs.Equal.{same_name};
-ghost use Rattle.cpe_name.specs.Lower.{IsLower};
+ghost use Rattle.names_in_order.specs.InOrder.{names_numbered};
+ghost use Rattle.cpe_name.specs.Prelude.{IsLower, same_name, Values};
+ghost use Rattle.owned_names.specs.Owned.{AreOwn};
 
 use cpe_name::Wfn;
 use cpe_values::Memory;
@@ -20,11 +21,6 @@ pub(crate) struct OwnNames {
 }
 
 impl Model for OwnNames {
-    ghost use Rattle.std.specs.Prelude.{List};
-    ghost use Rattle.cpe_name.specs.Eleven.{Values};
-    ghost use Rattle.names_in_order.specs.InOrder.{names_numbered};
-    ghost use Rattle.owned_names.specs.Owned.{AreOwn};
-
     ghost Value = { List Values };
 
     ghost view = { λ n. names_numbered n.table n.names.numbers };

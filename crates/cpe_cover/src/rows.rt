@@ -1,8 +1,7 @@
 // The names that stay, each with its formatted string, by which they are put in order.
 ghost use Rattle.std.specs.Prelude.{◌≡◌, ◌<◌, ◌++◌, ◌∷◌, [], not, cond, filter, IfOk, OnOk, length, map};
 ghost use Rattle.std.specs.List.{AllByRecursion, IsDistinct};
-ghost use Rattle.cpe_name.specs.Equal.{same_name};
-ghost use Rattle.cpe_name.specs.Lower.{IsLower};
+ghost use Rattle.cpe_name.specs.Prelude.{IsLower, same_name};
 ghost use Rattle.names_in_order.specs.Places.{name_at};
 ghost use Rattle.cpe_cover.specs.Cover.{fs_order, ordered, uncovered};
 ghost use Rattle.cpe_cover.specs.Laws.{AreNames};

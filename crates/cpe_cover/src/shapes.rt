@@ -1,8 +1,7 @@
 // The name without specials that covers another, found by its hash: at each attribute it is the same, or is ANY.
 ghost use Rattle.std.specs.Prelude.{◌≡◌, ◌<◌, ◌||◌, ◌&&◌, not, false, true, IfOk, OnOk, length, if◌then◌else◌};
 ghost use Rattle.std.specs.List.{list_all, list_any};
-ghost use Rattle.cpe_name.specs.Eleven.{Values};
-ghost use Rattle.cpe_rows.specs.Names.{has_wildcards};
+ghost use Rattle.cpe_rows.specs.Prelude.{has_wildcards, Values};
 ghost use Rattle.names_in_order.specs.Places.{name_at};
 ghost use Rattle.cpe_cover.specs.Laws.{is_among};
 ghost use Rattle.cpe_cover.specs.Shapes.{any_at, AreShapes, finds_wider, is_as_wide, is_wider, same_shape, widened, widened_at};

@@ -1,6 +1,5 @@
 // The records of a product, by the texts of the numbers of its vendor, itself, and its check.
-ghost use Rattle.std.specs.Prelude.{◌≡◌, ◌++◌, OnOk};
-ghost use Rattle.std.specs.List.{flat_map};
+ghost use Rattle.std.specs.Prelude.{◌≡◌, ◌++◌, OnOk, flat_map};
 ghost use Rattle.cpe_drill.specs.Generated.{entry_record, item_record, statement_record, check_record, deprecation_record, search_record, verdict_record, restore_record};
 
 use cpe_session::Page;

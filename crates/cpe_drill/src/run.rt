@@ -1,11 +1,7 @@
 // The run over the generated records.
-ghost use Rattle.std.specs.Prelude.{◌≡◌, ◌⊎◌, ℕ, List};
-ghost use Rattle.std.specs.declared.option.Option.{Option};
-ghost use Rattle.cpe_io.specs.Causes.{Rose};
-ghost use Rattle.cpe_session.specs.Ran.{Ran, Counted};
-ghost use Rattle.cpe_session.specs.Task.{Fixed};
+ghost use Rattle.std.specs.Prelude.{◌≡◌, ◌⊎◌, ℕ, List, Option};
+ghost use Rattle.cpe_session.specs.Prelude.{Counted, Fixed, Ran, Rose, StepsWithin};
 ghost use Rattle.cpe_rows.specs.Rows.{no_rows};
-ghost use Rattle.cpe_steps.specs.Within.{StepsWithin};
 ghost use Rattle.cpe_drill.specs.Looks.{record_looks};
 ghost use Rattle.cpe_drill.specs.Outcome.{summed};
 ghost use Rattle.cpe_drill.specs.Drill.{undrilled, drill_session, drill_transcript, LeavesRows};
@@ -42,26 +38,22 @@ impl Speaker for Drilling {
         &self,
         alloc: Global,
         state: &mut Drilled,
-        page: &mut Page,
+        _page: &mut Page,
         line: &Line<'_>,
         steps: &mut Steps<L>,
     ) -> Result<Option<TooLong>, AllocError> {
-        let _ = page;
         state.read(alloc, line.text, steps)?;
         Ok(None)
     }
 
     fn say_end<K: Sink, L: Ledger>(
         &self,
-        alloc: Global,
+        _alloc: Global,
         state: &Drilled,
         page: &mut Page,
-        sink: &mut K,
-        steps: &mut Steps<L>,
+        _sink: &mut K,
+        _steps: &mut Steps<L>,
     ) -> Result<(), SinkFault> {
-        let _ = alloc;
-        let _ = sink;
-        let _ = steps;
         match push_summary(page, self.count, state) {
             Ok(()) => Ok(()),
             Err(_) => Err(SinkFault::Memory),

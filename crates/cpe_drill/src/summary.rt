@@ -1,6 +1,5 @@
 // What is written of all that records came to.
-ghost use Rattle.std.specs.Prelude.{◌≡◌, ◌++◌, OnOk};
-ghost use Rattle.std.specs.List.{flat_map};
+ghost use Rattle.std.specs.Prelude.{◌≡◌, ◌++◌, OnOk, flat_map};
 ghost use Rattle.cpe_drill.specs.Summary.{number_line, summary_of, summary};
 
 use crate::drilled::Drilled;

@@ -21,8 +21,7 @@ impl Table for GeneratedRecords {
         self.count as usize
     }
 
-    fn put(&self, alloc: Global, k: usize, page: &mut Page) -> Result<(), AllocError> {
-        let _ = alloc;
+    fn put(&self, _alloc: Global, k: usize, page: &mut Page) -> Result<(), AllocError> {
         push_generated(page, k)
     }
 }
@@ -43,8 +42,7 @@ impl Table for GeneratedLines {
         self.count as usize
     }
 
-    fn put(&self, alloc: Global, k: usize, page: &mut Page) -> Result<(), AllocError> {
-        let _ = alloc;
+    fn put(&self, _alloc: Global, k: usize, page: &mut Page) -> Result<(), AllocError> {
         push_generated(page, k)?;
         page.push(b"\n")
     }

@@ -39,6 +39,18 @@ module _ (rows : Rows) (mode : Mode) where
       ap (λ (o : Option (Bor Why)). option_map_or (p t) (option_copied o) true) f
       ∙ ((λ i. p (e i) (h i)) ∙ logic_level operator negate of truth ws)
 
+  -- the same where the children are lent, by what is said of them
+  pub at_children : (t : Test) (given : Option (Bor Why)) (w : Bor Why) (operator : Operator) (negate : Bool) (of children : List Test) (truth : Truth)
+      (ws : List (Option Why)) (verdict : Bool)
+      → t ≡ test.Logic operator negate of → given ≡ Some w → w.now ≡ why.Logic truth ws → children ≡ of → all_pass (map p children) ws ≡ verdict
+      → (verdict && is_settled operator negate truth ws) ≡ option_map_or (p t) (option_copied given) true
+  at_children t given w operator negate of children truth ws verdict e f h lent said =
+      sym (at_logic t given w operator negate of truth ws e f h
+      ∙ ap (λ b. b && is_settled operator negate truth ws) (ap (λ (ts : List Test). all_pass (map p ts) ws) (sym lent) ∙ said))
+
+pub as_many : {children of : List Test} (ws : List (Option Why)) {m n : ℕ} → children ≡ of → m ≡ length of → m ≡ n → n ≡ length ws → length children ≡ length ws
+as_many ws lent many same given = ap length lent ∙ (sym many ∙ (same ∙ given))
+
 module _ (q : Test → Why → Bool) where
   pub not_as_many : (xs : List Test) (ws : List (Option Why)) → (length xs ≡ length ws → ⊥) → all_pass (map q xs) ws ≡ false
   not_as_many [] [] h = absurd (h refl)
@@ -51,7 +63,7 @@ module _ (q : Test → Why → Bool) where
         and_no false = refl
 
   -- one more child of a loop over the children, with what is given at its place
-  pub child_step : (xs : List Test) (ws given : List (Option Why)) (i k : ℕ) (x : Test) (o : Option Why) (passed verdict : Bool)
+  child_step : (xs : List Test) (ws given : List (Option Why)) (i k : ℕ) (x : Test) (o : Option Why) (passed verdict : Bool)
       → i < length xs → x ≡ get_or xs i x → k ≡ i → length xs ≡ length ws
       → given ≡ ws → o ≡ option_map_or (λ (w : Option Why). w) (slice_get given k) None → passed ≡ option_map_or (q x) o true → passed ≡ verdict
       → all_pass (map q (drop i xs)) (drop k ws) ≡ (verdict && all_pass (map q (drop (i + 1) xs)) (drop (k + 1) ws))
@@ -63,7 +75,12 @@ module _ (q : Test → Why → Bool) where
       (λ j. all_pass (map q (drop_at xs i x (slice_get_read xs (length xs) i x refl within is) j)) (drop_at ws k w (slice_get-get_or ws k None (omega arith)) j))
       ∙ ap (λ b. b && all_pass (map q (drop (i + 1) xs)) (drop (k + 1) ws)) (sym here)
 
-  -- after the last child
-  pub all_done : (xs : List Test) (ws : List (Option Why)) (i k : ℕ) → k ≡ i → length xs ≡ length ws → length xs ≤ i
-      → all_pass (map q (drop i xs)) (drop k ws) ≡ true
-  all_done xs ws i k same many past = λ j. all_pass (map q (drop_all i xs past j)) (drop_all k ws (let h : length ws ≤ k = omega arith in h) j)
+  -- children of which those before a place pass
+  module _ (xs : List Test) (ws : List (Option Why)) (i k : ℕ) (place : k ≡ i) (left : all_pass (map q (drop i xs)) (drop k ws) ≡ all_pass (map q xs) ws) (many : length xs ≡ length ws) where
+    pub one_said : (given : List (Option Why)) (x : Test) (o : Option Why) (passed verdict : Bool) → i < length xs → x ≡ get_or xs i x
+        → given ≡ ws → o ≡ option_map_or (λ (w : Option Why). w) (slice_get given k) None → passed ≡ option_map_or (q x) o true → passed ≡ verdict
+        → all_pass (map q xs) ws ≡ (verdict && all_pass (map q (drop (i + 1) xs)) (drop (k + 1) ws))
+    one_said given x o passed verdict within is lent at said told = sym left ∙ child_step xs ws given i k x o passed verdict within is place many lent at said told
+
+    pub all_said : length xs ≤ i → all_pass (map q xs) ws ≡ true
+    all_said past = sym left ∙ (λ j. all_pass (map q (drop_all i xs past j)) (drop_all k ws (let h : length ws ≤ k = omega (arith, place, many, past) in h) j))

@@ -1,7 +1,8 @@
 -- The first fit is that of the first item that shows it.
 use Rattle.std.proofs.Common.{◌≡◌, ℕ, ◌+◌, List, Bool, true, false, cond, Option, Some, None, IfSome, filter, find, flat_map, option_map, is_some, drop, slice_get, refl, ap, sym, ◌∙◌}
 use Rattle.std.specs.List.{list_any}
-use Rattle.std.specs.Option.{option_and_then}
+use Rattle.std.specs.Borrow.{Bor}
+use Rattle.std.specs.Option.{option_and_then, option_copied}
 use Rattle.cpe_name.specs.Eleven.{Values}
 use Rattle.cpe_rows.specs.Chains.{ends}
 use Rattle.cpe_rows.specs.Verdict.{is_followed}
@@ -45,7 +46,7 @@ module _ (relates : Values → Values → Bool) (es : List Entry) (fact : Values
   some_fit_is items = some_of_all of_item items ∙ ap (λ (p : Values → Bool). list_any p items) (λ j i. some_of i j)
 
   -- the first item that shows it has the first fit
-  pub by_item : (items : List Values) (item : Values) → find (is_followed relates es fact) items ≡ Some item
+  by_item : (items : List Values) (item : Values) → find (is_followed relates es fact) items ≡ Some item
       → (g : Option Fit → Why) (w : Why) → IfSome (slice_get (of_item item) 0) (λ fit. w ≡ g (Some fit)) → w ≡ g (first_fit relates es items fact)
   by_item items item found g w h = go (slice_get (of_item item) 0) refl h where
     at : first_fit relates es items fact ≡ slice_get (of_item item) 0
@@ -58,8 +59,19 @@ module _ (relates : Values → Values → Bool) (es : List Entry) (fact : Values
     go (Some fit) e k = k ∙ ap g (sym (at ∙ e))
     go None e k = let clash : false ≡ true = sym (ap is_some e) ∙ some in absurd (let v : ⊥ = cc in v)
 
-  pub by_none : (items : List Values) → find (is_followed relates es fact) items ≡ None → first_fit relates es items fact ≡ None
-  by_none items found = first_fit_is items ∙ ap (option_and_then (λ i. slice_get (of_item i) 0)) found
+  -- the first fit of an item by its ends, and by those of the fact
+  pub first_by_ends : (i : Values) (o : Option Fit) (fact_ends item_ends : List Values) → fact_ends ≡ ends es fact → item_ends ≡ ends es i
+      → o ≡ slice_get (flat_map (fits_at relates fact_ends i) item_ends) 0 → o ≡ slice_get (of_item i) 0
+  first_by_ends i o fact_ends item_ends of_fact of_it first = first ∙ (λ j. slice_get (flat_map (fits_at relates (of_fact j) i) (of_it j)) 0)
+
+  -- the same where the item is lent, and where there is none
+  pub by_lent : (items : List Values) (o : Option (Bor Values)) (item : Bor Values) → option_copied o ≡ find (is_followed relates es fact) items → o ≡ Some item
+      → (g : Option Fit → Why) (w : Why) → IfSome (slice_get (of_item item.now) 0) (λ fit. w ≡ g (Some fit)) → w ≡ g (first_fit relates es items fact)
+  by_lent items o item found is = by_item items item.now (sym found ∙ ap option_copied is)
+
+  pub by_none : (items : List Values) (o : Option (Bor Values)) → option_copied o ≡ find (is_followed relates es fact) items → o ≡ None
+      → None ≡ first_fit relates es items fact
+  by_none items o found is = sym (first_fit_is items ∙ ap (option_and_then (λ i. slice_get (of_item i) 0)) (sym found ∙ ap option_copied is))
 
 -- going over the ends of an item
 module _ (relates : Values → Values → Bool) (fact_ends : List Values) (item : Values) (item_ends : List Values) (k : ℕ) where

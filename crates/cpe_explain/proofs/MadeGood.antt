@@ -1,5 +1,6 @@
 -- The certificate that is made of a statement gives the verdict, and is good.
-use Rattle.std.proofs.Common.{◌≡◌, List, [], ◌∷◌, ◌++◌, Bool, Option, Some, None, map, filter, flat_map, is_some, refl, ap, sym, ◌∙◌, subst, inl, inr}
+use Rattle.std.proofs.Common.{◌≡◌, ◌-◌, ℕ, List, [], ◌∷◌, ◌++◌, Bool, Option, Some, None, map, filter, flat_map, is_some, length, replicate, slice_get, refl, ap, sym, ◌∙◌, subst, inl, inr}
+use Rattle.std.specs.List.{position_or_len}
 use Rattle.cpe_name.specs.Eleven.{Values}
 use Rattle.cpe_relation.specs.NameRelation.{covers}
 use Rattle.cpe_relation.specs.Maybe.{maybe}
@@ -8,6 +9,7 @@ use Rattle.cpe_rows.specs.Rows.{Rows}
 use Rattle.cpe_rows.specs.Chains.{ends}
 use Rattle.cpe_rows.specs.Lawful.{IsLawful}
 use Rattle.cpe_rows.specs.Evaluation.{joined, negated, test_truth, test_truth_step}
+use Rattle.cpe_rows.specs.Truth.{same_truth}
 use Rattle.cpe_rows.specs.Verdict.{truth, fact_truth, check_truth}
 use Rattle.cpe_rows.specs.declared.entry.Entry.{Entry}
 use Rattle.cpe_rows.specs.declared.truth.Truth.{Truth}
@@ -21,9 +23,9 @@ use Rattle.cpe_rows.specs.declared.test.Test.TheOpen.{Test-F}
 use Rattle.cpe_rows.specs.declared.test.Test.TheFolds.{fold-roll-Test, ind-Test, map-Test}
 use Rattle.cpe_rows.specs.declared.test.Test.TheVariants as tests
 use Rattle.cpe_rows.proofs.Paths.{was_kept}
-use Rattle.cpe_explain.specs.Certificates.{truth_in, given_truth}
+use Rattle.cpe_explain.specs.Certificates.{truth_in, given_truth, given_truths}
 use Rattle.cpe_explain.specs.Choices.{Fit, fits_at, fits, first_fit, trace_to, why_by, fact_why, why_step, why_of, chosen}
-use Rattle.cpe_explain.specs.Good.{GoodLogic, Fits, GoodFact, GoodCheck, good_step, GoodFor}
+use Rattle.cpe_explain.specs.Good.{deciding, GoodLogic, Fits, GoodFact, GoodCheck, good_step, GoodFor}
 use Rattle.cpe_explain.specs.Checks.{CertificatesGiveVerdicts, CertificatesAreGood}
 use Rattle.cpe_explain.specs.Leading.{followed}
 use Rattle.cpe_explain.specs.declared.proof.Why.{Why, out-Why}
@@ -34,7 +36,7 @@ use Rattle.cpe_explain.proofs.Elements.{stands}
 use Rattle.cpe_explain.proofs.Facts.{fact_is}
 use Rattle.cpe_explain.proofs.FirstFits.{some_fit_is}
 use Rattle.cpe_explain.proofs.GoodLevels.{good-level, logic-map}
-use Rattle.cpe_explain.proofs.Chosen.{chosen_good}
+use Rattle.cpe_explain.proofs.Chosen.{chosen_all, chosen_good, chosen_one, joined_all, joined_one}
 use Rattle.cpe_explain.proofs.Ways.{good_trace}
 
 -- ---- levels of what is made
@@ -53,13 +55,13 @@ pub why-check : (rows : Rows) (mode : Mode) (key : CheckKey) → why_of rows mod
 why-check rows mode key =
     ap (why_of rows mode) (sym (tests.rolls-Check key)) ∙ fold-roll-Test Why (why_step rows mode) (Test-F.Check key)
 
-given-logic : (t : Truth) (of : List (Option Why)) → given_truth (why.Logic t of) ≡ t
+pub given-logic : (t : Truth) (of : List (Option Why)) → given_truth (why.Logic t of) ≡ t
 given-logic t of = ap truth_in (whys.outs-Logic t of)
 
-given-pair : (t : Truth) (fact one : List Values) → given_truth (why.Pair t fact one) ≡ t
+pub given-pair : (t : Truth) (fact one : List Values) → given_truth (why.Pair t fact one) ≡ t
 given-pair t fact one = ap truth_in (whys.outs-Pair t fact one)
 
-given-plain : (t : Truth) → given_truth (why.Plain t) ≡ t
+pub given-plain : (t : Truth) → given_truth (why.Plain t) ≡ t
 given-plain t = ap truth_in (whys.outs-Plain t)
 
 -- ---- elements
@@ -134,6 +136,27 @@ module _ (rows : Rows) (mode : Mode) where
 
   pub gives : (t : Test) → Gives t
   gives = ind-Test Gives (λ x y is. subst (λ z. Gives (roll-Test z)) is (rolled y))
+
+  -- ---- of a logical test, by the place of the first child that decides
+
+  module _ (operator : Operator) (negate : Bool) (of : List Test) (place : ℕ) (here : place ≡ position_or_len (λ x. same_truth (deciding operator) (found x)) of) (t : Truth) (given : List (Option Why)) where
+    abbrev tells : (x : Test) → same_truth (deciding operator) (given_truth (why_of rows mode x)) ≡ same_truth (deciding operator) (found x)
+    tells x = ap (same_truth (deciding operator)) (gives x)
+
+    pub one_decides : (child : Test) → slice_get of place ≡ Some child → t ≡ negated negate (deciding operator)
+        → given ≡ replicate place None ++ (Some (why_of rows mode child) ∷ replicate (length of - place - 1) None)
+        → why.Logic t given ≡ why_of rows mode (test.Logic operator negate of)
+    one_decides child at truth_is given_is =
+        let joins = truth_is ∙ ap (negated negate) (sym (joined_one operator (why_of rows mode) (λ x. same_truth (deciding operator) (found x)) tells of place child here at)) in
+        let chooses = given_is ∙ sym (chosen_one operator (why_of rows mode) (λ x. same_truth (deciding operator) (found x)) tells of place child here at) in
+        (λ i. why.Logic (joins i) (chooses i)) ∙ sym (why-logic rows mode operator negate of)
+
+    pub none_decides : slice_get of place ≡ None → t ≡ negated negate (joined operator (given_truths given)) → given ≡ map Some (map (why_of rows mode) of)
+        → why.Logic t given ≡ why_of rows mode (test.Logic operator negate of)
+    none_decides none truth_is all =
+        let joins = truth_is ∙ ap (negated negate) (ap (λ (ws : List (Option Why)). joined operator (given_truths ws)) all ∙ joined_all operator (why_of rows mode) (λ x. same_truth (deciding operator) (found x)) tells of) in
+        let chooses = all ∙ sym (chosen_all operator (why_of rows mode) (λ x. same_truth (deciding operator) (found x)) tells of place here none) in
+        (λ i. why.Logic (joins i) (chooses i)) ∙ sym (why-logic rows mode operator negate of)
 
   -- ---- that it is good
 

@@ -1,13 +1,17 @@
 -- In lawful rows the test of a certificate tells exactly the good ones.
-use Rattle.std.proofs.Common.{◌≡◌, List, [], ◌∷◌, Bool, map, refl, ap, sym, ◌∙◌, subst}
+use Rattle.std.proofs.Common.{◌≡◌, List, [], ◌∷◌, Bool, true, false, Option, Some, map, refl, ap, sym, ◌∙◌, subst}
+use Rattle.std.proofs.lemmas.Bool.{true≢false}
 use Rattle.cpe_rows.specs.Rows.{Rows}
 use Rattle.cpe_rows.specs.Lawful.{IsLawful}
 use Rattle.cpe_rows.specs.declared.statement.Mode.{Mode}
+use Rattle.cpe_rows.specs.declared.statement.Statement.{Statement}
 use Rattle.cpe_rows.specs.declared.test.Test.{Test, roll-Test}
 use Rattle.cpe_rows.specs.declared.test.Test.TheOpen.{Test-F}
 use Rattle.cpe_rows.specs.declared.test.Test.TheFolds.{fold-roll-Test, ind-Test, map-Test}
+use Rattle.cpe_explain.specs.Checks.{IsSaid}
 use Rattle.cpe_explain.specs.Good.{good_step, GoodFor}
 use Rattle.cpe_explain.specs.Tested.{test_passes, test_passes_step, logic_passes}
+use Rattle.cpe_explain.specs.declared.proof.Checked.TheVariants.{Holds, Fails}
 use Rattle.cpe_explain.specs.declared.proof.Why.{Why, out-Why}
 use Rattle.cpe_explain.proofs.Elements.{Tells}
 use Rattle.cpe_explain.proofs.Levels.{logic_tells, fact_tells, check_tells}
@@ -57,3 +61,11 @@ module _ (rows : Rows) (lawful : IsLawful rows) (mode : Mode) where
 
   pub told : (t : Test) → Told t
   told = ind-Test Told (λ x y is. subst (λ z. Told (roll-Test z)) is (rolled y))
+
+-- what is said of the certificate of a statement that is found
+module _ (rows : Rows) (lawful : IsLawful rows) (s : Statement) (w : Why) (o : Option Statement) (found : Some s ≡ o) where
+  pub said_to_hold : test_passes rows s.mode s.test w ≡ true → IsSaid rows w o Holds
+  said_to_hold passed = subst (λ (o : Option Statement). IsSaid rows w o Holds) found ((told rows lawful s.mode s.test w).0 passed)
+
+  pub said_to_fail : test_passes rows s.mode s.test w ≡ false → IsSaid rows w o Fails
+  said_to_fail failed = subst (λ (o : Option Statement). IsSaid rows w o Fails) found (λ good. true≢false (sym ((told rows lawful s.mode s.test w).1 good) ∙ failed))

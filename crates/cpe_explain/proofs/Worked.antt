@@ -1,6 +1,5 @@
 -- The row of each kind, worked out.
-use Rattle.std.proofs.Common.{◌≡◌, inl, List, [], ◌∷◌, Bool, true, false, Option, Some, codes, refl, ap, sym, ◌∙◌, subst}
-use Rattle.cpe_name.specs.Eleven.{Values}
+use Rattle.std.proofs.Common.{◌≡◌, inl, List, [], ◌∷◌, Bool, true, false, Option, Some, codes, refl, sym, ◌∙◌, subst}
 use Rattle.cpe_relation.specs.NameRelation.{covers}
 use Rattle.cpe_rows.specs.Evaluation.{joined, negated}
 use Rattle.cpe_rows.specs.declared.truth.Truth.{Truth}
@@ -12,7 +11,6 @@ use Rattle.cpe_rows.specs.declared.test.Test.{Test, roll-Test}
 use Rattle.cpe_rows.specs.declared.test.Test as test
 use Rattle.cpe_rows.specs.declared.test.Test.TheOpen.{Test-F}
 use Rattle.cpe_rows.specs.declared.test.Test.TheVariants as tests
-use Rattle.cpe_explain.specs.Certificates.{truth_in, given_truth}
 use Rattle.cpe_explain.specs.Good.{GoodLogic, Fits, GoodFact, GoodCheck, good_step, GoodFor, Good}
 use Rattle.cpe_explain.specs.Worked.{fact, one, key, below, whole, statement, rows, pair, negation, certificate, IsTold}
 use Rattle.cpe_explain.specs.declared.proof.Why.{Why, out-Why}
@@ -20,16 +18,8 @@ use Rattle.cpe_explain.specs.declared.proof.Why as why
 use Rattle.cpe_explain.specs.declared.proof.Why.TheOpen.{Why-F}
 use Rattle.cpe_explain.specs.declared.proof.Why.TheVariants as whys
 use Rattle.cpe_explain.proofs.GoodLevels.{good-level}
+use Rattle.cpe_explain.proofs.MadeGood.{given-logic, given-pair, given-plain}
 use Rattle.cpe_explain.proofs.Right.{good_are_right}
-
-given-logic : (truth : Truth) (of : List (Option Why)) → given_truth (why.Logic truth of) ≡ truth
-given-logic truth of = ap truth_in (whys.outs-Logic truth of)
-
-given-pair : (truth : Truth) (fact one : List Values) → given_truth (why.Pair truth fact one) ≡ truth
-given-pair truth fact one = ap truth_in (whys.outs-Pair truth fact one)
-
-given-plain : (truth : Truth) → given_truth (why.Plain truth) ≡ truth
-given-plain truth = ap truth_in (whys.outs-Plain truth)
 
 raised : (t : Test-F Test) (w : Why) → good_step rows Plain Test (λ y. y) (GoodFor rows Plain) t w → GoodFor rows Plain (roll-Test t) w
 raised t w g = subst (λ (G : Type 0). G) (sym (good-level rows Plain t w)) g

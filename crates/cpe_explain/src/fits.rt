@@ -1,9 +1,6 @@
 // Why a fact reference has its truth: the first item that shows it, and where both lead.
-ghost use Rattle.std.specs.Prelude.{◌≡◌, ◌∷◌, [], IfOk, IfSome, None, find, map, slice_get};
-ghost use Rattle.std.specs.List.{flat_map};
-ghost use Rattle.std.specs.Option.{option_copied, option_map};
-ghost use Rattle.cpe_relation.specs.Maybe.{maybe};
-ghost use Rattle.cpe_rows.specs.Chains.{ends};
+ghost use Rattle.std.specs.Prelude.{◌≡◌, ◌∷◌, [], IfOk, IfSome, None, find, map, slice_get, flat_map, option_copied, option_map};
+ghost use Rattle.cpe_rows.specs.Prelude.{ends, maybe};
 ghost use Rattle.cpe_explain.specs.Choices.{fact_why, first_fit, fits_at, pair_of, why_by};
 ghost use Rattle.cpe_explain.specs.Lent.{lent_fit};
 ghost use Rattle.cpe_explain.specs.Leading.{followed};

@@ -1,8 +1,7 @@
 // What is the same, of what is found.
 ghost use Rattle.std.specs.Prelude.{◌≡◌};
 ghost use Rattle.std.specs.List.{list_any};
-ghost use Rattle.cpe_rows.specs.Names.{is_same};
-ghost use Rattle.cpe_rows.specs.Rows.{same_key};
+ghost use Rattle.cpe_rows.specs.Prelude.{is_same, same_key};
 
 use cpe_name::Wfn;
 use cpe_rows::{CheckKey, is_same};

@@ -1,13 +1,8 @@
 // The truth of a fact reference, by lists of the entries and of the items.
-ghost use Rattle.std.specs.Prelude.{◌≡◌, ◌∷◌, [], map, fold, IfOk, OnOk, if◌then◌else◌};
+ghost use Rattle.std.specs.Prelude.{◌≡◌, ◌∷◌, [], map, fold, IfOk, OnOk, if◌then◌else◌, option_copied};
 ghost use Rattle.std.specs.List.{list_any};
-ghost use Rattle.std.specs.Option.{option_copied};
-ghost use Rattle.cpe_name.specs.Eleven.{Values};
-ghost use Rattle.cpe_relation.specs.NameRelation.{covers};
-ghost use Rattle.cpe_relation.specs.Maybe.{maybe};
+ghost use Rattle.cpe_rows.specs.Prelude.{covers, fact_truth, is_followed, maybe, Rows, truth, Values};
 ghost use Rattle.cpe_rows.specs.Lent.{entry_lent};
-ghost use Rattle.cpe_rows.specs.Rows.{Rows};
-ghost use Rattle.cpe_rows.specs.Verdict.{fact_truth, is_followed, truth};
 ghost use Rattle.cpe_explain.specs.Leading.{deprecation_of, next_of, is_end, AreEnds, AreLinked};
 ghost use Rattle.cpe_explain.specs.Relates.{related};
 ghost use Rattle.cpe_explain.specs.Seen.{with_name};

@@ -1,7 +1,6 @@
 // Different names that stand elsewhere, in the order in which they came.
-ghost use Rattle.std.specs.Prelude.{◌≡◌, ◌<◌, ◌^◌, [], fold, IsSome, OnOk, slice_get};
+ghost use Rattle.std.specs.Prelude.{◌≡◌, ◌<◌, ◌^◌, [], fold, IsSome, OnOk, slice_get, option_copied};
 ghost use Rattle.std.specs.List.{list_any};
-ghost use Rattle.std.specs.Option.{option_copied};
 ghost use Rattle.cpe_explain.specs.Relates.{related};
 ghost use Rattle.cpe_explain.specs.Seen.{with_name};
 

@@ -1,6 +1,5 @@
 // Paths from names to their ends.
-ghost use Rattle.std.specs.Prelude.{◌≡◌, ◌∷◌, [], IfOk, find};
-ghost use Rattle.std.specs.Option.{option_copied};
+ghost use Rattle.std.specs.Prelude.{◌≡◌, ◌∷◌, [], IfOk, find, option_copied};
 ghost use Rattle.cpe_explain.specs.Choices.{has_end, trace_to};
 ghost use Rattle.cpe_explain.specs.Leading.{followed, next_of};
 

@@ -1,11 +1,8 @@
 // Rows that are read one at a time.
 ghost use Rattle.std.specs.Prelude.{◌≡◌, find, IfOk, length, map, option_copied, option_map, slice_get};
 ghost use Rattle.std.specs.List.{list_any};
-ghost use Rattle.cpe_rows.specs.Prelude.{check_truth, ends, IsLawful, Rows};
+ghost use Rattle.cpe_rows.specs.Prelude.{check_truth, ends, fact_truth, has_id, is_followed, is_same, IsLawful, Rows};
 ghost use Rattle.cpe_rows.specs.Lent.{entry_lent};
-ghost use Rattle.cpe_rows.specs.Names.{is_same};
-ghost use Rattle.cpe_rows.specs.Rows.{has_id};
-ghost use Rattle.cpe_rows.specs.Verdict.{fact_truth, is_followed};
 ghost use Rattle.cpe_explain.specs.Leading.{deprecation_of, followed};
 ghost use Rattle.cpe_explain.specs.Relates.{related};
 

@@ -1,7 +1,6 @@
 // Traces: names from one to one of its ends.
-ghost use Rattle.std.specs.Prelude.{◌≡◌};
+ghost use Rattle.std.specs.Prelude.{◌≡◌, option_copied};
 ghost use Rattle.std.specs.List.{list_any, last_or};
-ghost use Rattle.std.specs.Option.{option_copied};
 ghost use Rattle.cpe_rows.specs.Names.{is_same};
 ghost use Rattle.cpe_explain.specs.Leading.{followed, deprecation_of, is_end, next_of};
 ghost use Rattle.cpe_explain.specs.Relates.{related};

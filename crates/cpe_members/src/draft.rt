@@ -179,7 +179,7 @@ impl Draft {
                 }
                 let mut within = true;
                 for child in of.as_slice() {
-                    within = within && child.is_within(limit - 1);
+                    within &= child.is_within(limit - 1);
                 }
                 within
             }

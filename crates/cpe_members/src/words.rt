@@ -40,12 +40,14 @@ pub fn kind_word(kind: Kind) -> &'static str
 pub fn kind_of(text: &str) -> Option<Kind>
     ensures { result ≡ kind_of text.now }
 {
-    let kinds = [
+    [
         Kind::NameCorrection,
         Kind::NameRemoval,
         Kind::AdditionalInformation,
-    ];
-    kinds.iter().copied().find(|kind| kind_word(*kind) == text)
+    ]
+    .iter()
+    .copied()
+    .find(|kind| kind_word(*kind) == text)
 }
 
 /// How the kind of a note is written.
@@ -64,16 +66,15 @@ pub fn note_kind_word(kind: NoteKind) -> &'static str
 pub fn note_kind_of(text: &str) -> Option<NoteKind>
     ensures { result ≡ note_kind_of text.now }
 {
-    let kinds = [
+    [
         NoteKind::OriginalRecord,
         NoteKind::AuthorityChange,
         NoteKind::Deprecation,
         NoteKind::DeprecationModification,
-    ];
-    kinds
-        .iter()
-        .copied()
-        .find(|kind| note_kind_word(*kind) == text)
+    ]
+    .iter()
+    .copied()
+    .find(|kind| note_kind_word(*kind) == text)
 }
 
 /// How a mode is written.
@@ -90,8 +91,10 @@ pub fn mode_word(mode: Mode) -> &'static str
 pub fn mode_of(text: &str) -> Option<Mode>
     ensures { result ≡ mode_of text.now }
 {
-    let modes = [Mode::Plain, Mode::Follow];
-    modes.iter().copied().find(|mode| mode_word(*mode) == text)
+    [Mode::Plain, Mode::Follow]
+        .iter()
+        .copied()
+        .find(|mode| mode_word(*mode) == text)
 }
 
 /// How an operator is written.
@@ -108,8 +111,7 @@ pub fn operator_word(operator: Operator) -> &'static str
 pub(crate) fn operator_of(text: &str) -> Option<Operator>
     ensures { result ≡ operator_of text.now }
 {
-    let operators = [Operator::And, Operator::Or];
-    operators
+    [Operator::And, Operator::Or]
         .iter()
         .copied()
         .find(|operator| operator_word(*operator) == text)
@@ -131,8 +133,7 @@ pub fn truth_word(truth: Truth) -> &'static str
 pub fn truth_of(text: &str) -> Option<Truth>
     ensures { result ≡ truth_of text.now }
 {
-    let truths = [Truth::True, Truth::False, Truth::Error, Truth::Unknown];
-    truths
+    [Truth::True, Truth::False, Truth::Error, Truth::Unknown]
         .iter()
         .copied()
         .find(|truth| truth_word(*truth) == text)

@@ -6,3 +6,4 @@ pub mod Answers
 pub mod Kept
 pub mod Groups
 pub mod Found
+pub mod Prelude

@@ -1,14 +1,12 @@
 // Advisories in the order in which they came.
-ghost use Rattle.std.specs.Prelude.{◌≡◌, ◌<◌, ℕ, List, [], ◌∷◌, ◌++◌, IfOk, IfNone, IfSome, IsOk, OnOk, OnErr, false, find, if◌then◌else◌, length, option_map};
+ghost use Rattle.std.specs.Prelude.{◌≡◌, ◌<◌, ℕ, List, [], ◌∷◌, ◌++◌, IfOk, IfNone, IfSome, IsOk, OnOk, OnErr, false, find, if◌then◌else◌, length, option_map, bytes_eq};
 ghost use Rattle.std.specs.List.{flat_map, list_any};
-ghost use Rattle.std.specs.Str.{bytes_eq};
 ghost use Rattle.indexmap.specs.IndexMap.{keys, spare};
 ghost use Rattle.cpe_values.specs.declared.value.Value.{Value};
 ghost use Rattle.cpe_values.specs.Same.{same_value};
 ghost use Rattle.cpe_ranges.specs.Found.{affecting_there, is_beside, own_group, place_in, places_where};
 ghost use Rattle.cpe_ranges.specs.Groups.{AreGrouped, group, group_of, is_in_group, is_plain};
-ghost use Rattle.cpe_name.specs.Lower.{IsLower};
-ghost use Rattle.cpe_rows.specs.After.{without_first};
+ghost use Rattle.cpe_rows.specs.Prelude.{IsLower, without_first};
 ghost use Rattle.cpe_ranges.specs.Answers.{ids_affecting};
 ghost use Rattle.cpe_ranges.specs.Kept.{advisory_from, advisories_in, AreLower};
 ghost use Rattle.cpe_ranges.specs.Affected.{affects};

@@ -1,21 +1,11 @@
 // Items and advisories, edits of them, and answers.
 ghost use Rattle.std.specs.Prelude.{◌≡◌, ◌≤◌, ◌+◌, ℕ, List, IfOk, Err, None, filter, length, not, true};
 ghost use Rattle.std.specs.List.{list_any};
-ghost use Rattle.cpe_name.specs.Lower.{IsLower};
-ghost use Rattle.cpe_relation.specs.NameRelation.{covers};
-ghost use Rattle.cpe_rows.specs.Names.{is_lower, is_same};
-ghost use Rattle.cpe_rows.specs.Step.{first_some};
-ghost use Rattle.cpe_steps.specs.Within.{StepsWithin};
+ghost use Rattle.cpe_rows.specs.Prelude.{covers, first_some, is_lower, is_same, IsLower};
+ghost use Rattle.names_in_order.specs.Prelude.{near_count, StepsWithin};
 ghost use Rattle.cpe_weight.specs.Capped.{capped};
 ghost use Rattle.cpe_weight.specs.Gain.{weight_of_first};
-ghost use Rattle.names_in_order.specs.Places.{near_count};
-ghost use Rattle.cpe_ranges.specs.Affected.{affects, is_in_range};
-ghost use Rattle.cpe_ranges.specs.Answers.{answer, looks};
-ghost use Rattle.cpe_ranges.specs.Kept.{advisory_from, IsWeight, rows_in};
-ghost use Rattle.cpe_ranges.specs.Rows.{has_id, no_rows};
-ghost use Rattle.cpe_ranges.specs.Step.{after, Applied, faults, full_by, is_any};
-ghost use Rattle.cpe_advisories.specs.Valid.{is_valid_advisory, is_valid_edit, is_valid_query};
-ghost use Rattle.cpe_ranges.specs.Weight.{advisory_weight, bound_bytes, weight as weight_of};
+ghost use Rattle.cpe_ranges.specs.Prelude.{advisory_from, advisory_weight, affects, after, answer, Applied, bound_bytes, faults, full_by, has_id, is_any, is_in_range, is_valid_advisory, is_valid_edit, is_valid_query, IsWeight, looks, no_rows, rows_in, weight as weight_of};
 
 use crate::MOST_ADVISORIES;
 use crate::advised::{Advised, Terms};

@@ -1,10 +1,8 @@
 // Items that an owner keeps with a table of their own.
-ghost use Rattle.std.specs.Prelude.{◌≡◌, ◌∷◌, ◌++◌, [], OnOk, OnErr, false, length, true};
+ghost use Rattle.std.specs.Prelude.{◌≡◌, ◌∷◌, ◌++◌, [], List, OnOk, OnErr, false, length, true};
 ghost use Rattle.std.specs.Bool.{OnFalse};
 ghost use Rattle.std.specs.List.{list_any};
-ghost use Rattle.cpe_name.specs.Lower.{IsLower};
-ghost use Rattle.cpe_rows.specs.Names.{is_same};
-ghost use Rattle.cpe_rows.specs.Prelude.{without_first};
+ghost use Rattle.cpe_rows.specs.Prelude.{is_same, IsLower, Values, without_first};
 ghost use Rattle.name_index.specs.Table.{kept_at};
 ghost use Rattle.names_in_order.specs.InOrder.{names_numbered, same_id};
 ghost use Rattle.owned_names.specs.Owned.{AreOwn};
@@ -27,11 +25,6 @@ pub(crate) struct Items {
 }
 
 impl Model for Items {
-    ghost use Rattle.std.specs.Prelude.{List};
-    ghost use Rattle.cpe_name.specs.Eleven.{Values};
-    ghost use Rattle.names_in_order.specs.InOrder.{names_numbered};
-    ghost use Rattle.owned_names.specs.Owned.{AreOwn};
-
     ghost Value = { List Values };
 
     ghost view = { λ i. names_numbered i.table i.names.numbers };

@@ -1,12 +1,8 @@
 // Items beside the table of their names.
-ghost use Rattle.std.specs.Prelude.{◌≡◌, ◌+◌, IfOk, OnOk, filter};
+ghost use Rattle.std.specs.Prelude.{◌≡◌, ◌+◌, List, IfOk, OnOk, filter};
 ghost use Rattle.std.specs.List.{list_any};
-ghost use Rattle.cpe_name.specs.Lower.{IsLower};
-ghost use Rattle.cpe_relation.specs.NameRelation.{covers};
-ghost use Rattle.cpe_rows.specs.Names.{is_same};
-ghost use Rattle.cpe_steps.specs.Within.{StepsWithin};
-ghost use Rattle.names_in_order.specs.InOrder.{AreInOrder, names_numbered};
-ghost use Rattle.names_in_order.specs.Places.{looked_count, near_count};
+ghost use Rattle.names_in_order.specs.Prelude.{AreInOrder, IsLower, looked_count, names_numbered, near_count, StepsWithin};
+ghost use Rattle.cpe_rows.specs.Prelude.{covers, is_same, Values};
 ghost use Rattle.cpe_inventory.specs.Slots.{names_kept};
 
 use cpe_name::Wfn;
@@ -27,10 +23,6 @@ pub(crate) struct ItemView<'t> {
 }
 
 impl<'t> Model for ItemView<'t> {
-    ghost use Rattle.std.specs.Prelude.{List};
-    ghost use Rattle.cpe_name.specs.Eleven.{Values};
-    ghost use Rattle.names_in_order.specs.InOrder.{AreInOrder, names_numbered};
-
     ghost Value = { List Values };
 
     ghost view = { λ i. names_numbered i.table.now i.names.now.numbers };

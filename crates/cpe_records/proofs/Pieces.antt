@@ -27,19 +27,22 @@ closed f (x ∷ xs) rest =
     append_assoc (json_tokens (f x)) (items_tokens (items_by f xs)) rest
     ∙ (ap (λ (z : List Token). json_tokens (f x) ++ z) (closed f xs rest) ∙ sym (append_assoc (json_tokens (f x)) (flat_map (λ x. json_tokens (f x)) xs) (end_array ∷ rest)))
 
--- the same of items that are made of others
-pub closed_made : {A B : Type 0} (f : B → Json) (g : A → B) (xs : List A) (rest : List Token) → items_tokens (items_by f (map g xs)) ++ rest ≡ flat_map (λ x. json_tokens (f (g x))) xs ++ end_array ∷ rest
-closed_made f g xs rest = closed f (map g xs) rest ∙ ap (λ ts. ts ++ end_array ∷ rest) (flat_map-map (λ y. json_tokens (f y)) g xs)
-
 -- three pieces, one after the other
 pub three : {A : Type 0} (o a b c t u v : List A) → t ≡ o ++ a → u ≡ t ++ b → v ≡ u ++ c → v ≡ o ++ (a ++ (b ++ c))
 three o a b c t u v h k l = two o a (b ++ c) t v h (two t b c u v k l)
 
--- a piece, what a loop put of each in a list, and a piece after these
-pub looped : {X A : Type 0} (f : X → List A) (of xs : List X) (i : ℕ) → length xs ≤ i → xs ≡ of → (o a b t u v : List A)
-    → t ≡ o ++ a → u ≡ t ++ flat_map f (take i xs) → v ≡ u ++ b → v ≡ o ++ (a ++ (flat_map f of ++ b))
-looped f of xs i past is o a b t u v h k l =
-    three o a (flat_map f of) b t u v h (k ∙ ap (λ ys. t ++ flat_map f ys) (take_all i xs past ∙ is)) l
+-- a piece, the items of an array, and what closes it
+pub listed : {A : Type 0} (f : A → Json) (xs : List A) (rest o a t u v : List Token)
+    → t ≡ o ++ a → u ≡ t ++ flat_map (λ x. json_tokens (f x)) xs → v ≡ u ++ end_array ∷ rest → v ≡ o ++ (a ++ (items_tokens (items_by f xs) ++ rest))
+listed f xs rest o a t u v h k l =
+    three o a (flat_map (λ x. json_tokens (f x)) xs) (end_array ∷ rest) t u v h k l ∙ ap (λ (z : List Token). o ++ (a ++ z)) (sym (closed f xs rest))
+
+-- the same where a loop put the items, which are made of others
+pub looped : {A B : Type 0} (f : B → Json) (g : A → B) (of xs : List A) (i : ℕ) → length xs ≤ i → xs ≡ of → (rest o a t u v : List Token)
+    → t ≡ o ++ a → u ≡ t ++ flat_map (λ x. json_tokens (f (g x))) (take i xs) → v ≡ u ++ end_array ∷ rest → v ≡ o ++ (a ++ (items_tokens (items_by f (map g of)) ++ rest))
+looped f g of xs i past is rest o a t u v h k l =
+    let all = k ∙ ap (λ ys. t ++ flat_map (λ x. json_tokens (f (g x))) ys) (take_all i xs past ∙ is) ∙ ap (λ (z : List Token). t ++ z) (sym (flat_map-map (λ y. json_tokens (f y)) g of)) in
+    listed f (map g of) rest o a t u v h all l
 
 one_value : (b : Bool) (k s : List ℕ) (rest : Members) → members_tokens (if b then rest else member k (json.string s) rest) ≡ (if b then [] else key k ∷ Token.string s ∷ []) ++ members_tokens rest
 one_value true k s rest = refl

@@ -32,6 +32,10 @@ key_json k = object (
     member (codes "id") (string k.id) (
     member (codes "system") (string k.system) no_members)))
 
+-- the tokens of its members
+abbrev pub key_tokens : CheckKey → List Token
+key_tokens k = key (codes "href") ∷ Token.string k.href ∷ key (codes "id") ∷ Token.string k.id ∷ key (codes "system") ∷ Token.string k.system ∷ []
+
 abbrev pub fact_json : Values → Json
 fact_json n = object (member (codes "fact") (name_object n) no_members)
 

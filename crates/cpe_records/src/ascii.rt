@@ -1,6 +1,5 @@
 // Names and dates as texts: all their bytes are ASCII.
-ghost use Rattle.std.specs.Prelude.{◌≡◌};
-ghost use Rattle.std.specs.Str.{IsAscii};
+ghost use Rattle.std.specs.Prelude.{◌≡◌, IsAscii};
 
 use cpe_rows::Date;
 

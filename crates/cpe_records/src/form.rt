@@ -1,6 +1,5 @@
 // The written form of records.
-ghost use Rattle.std.specs.Prelude.{◌≡◌, true, ◌++◌, IfOk, OnOk, Ok};
-ghost use Rattle.std.specs.Str.{IsUtf8};
+ghost use Rattle.std.specs.Prelude.{◌≡◌, true, ◌++◌, IfOk, OnOk, Ok, IsUtf8};
 ghost use Rattle.json.specs.Tree.{json_tokens};
 ghost use Rattle.cpe_rows.specs.declared.edit.Edit.TheVariants as edit;
 ghost use Rattle.cpe_rows.specs.declared.edit.Query.TheVariants as query;
@@ -12,7 +11,7 @@ ghost use Rattle.cpe_records.specs.declared.read.Record.{Record};
 ghost use Rattle.cpe_records.specs.WrittenRecord.{about_json, about_id_json, change_head, change_json, edit_json, query_json, record_json, record_text, titled_end};
 
 use crate::ascii::date_str;
-use crate::object::{put_around_name, put_name_objects};
+use crate::object::{put_around_key, put_around_name, put_name_objects};
 use crate::read::Record;
 use crate::record_kind::RecordKind;
 use crate::test::put_test;
@@ -230,22 +229,15 @@ fn put_result(writer: &mut Writer, key: &CheckKey, truth: Truth) -> Result<(), M
 fn put_dropped_check(writer: &mut Writer, key: &CheckKey) -> Result<(), Memory>
     ensures { Puts result writer.old writer.new (json_tokens (edit_json (edit.DropCheck key.now))) }
 {
-    put(
+    put_around_key(
         writer,
+        key,
         &[
             Token::BeginObject,
             Token::Key("do"),
             Token::String(RecordKind::DropCheck.word()),
-            Token::Key("href"),
-            Token::String(key.href.as_str()),
-            Token::Key("id"),
-            Token::String(key.id.as_str()),
-            Token::Key("system"),
-            Token::String(key.system.as_str()),
-            Token::Key("v"),
-            Token::String("2"),
-            Token::EndObject,
         ],
+        &[Token::Key("v"), Token::String("2"), Token::EndObject],
     )?;
     Ok(())
 }

@@ -73,14 +73,8 @@ pub(crate) fn id_at(alloc: Global, source: &Value) -> Result<Text, RecordFault>
     ensures { Gives result (id_at (view source.now)) }
 {
     match text_of(source, Member::Id) {
-        Some(text) => {
-            if is_id(text) {
-                Ok(Text::new(alloc, text)?)
-            } else {
-                Err(RecordFault::Member(Member::Id))
-            }
-        }
-        None => Err(RecordFault::Member(Member::Id)),
+        Some(text) if is_id(text) => Ok(Text::new(alloc, text)?),
+        _ => Err(RecordFault::Member(Member::Id)),
     }
 }
 

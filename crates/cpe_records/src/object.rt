@@ -1,4 +1,4 @@
-// Names as objects of their attributes.
+// Names as objects of their attributes, and what names a check.
 ghost use Rattle.std.specs.Prelude.{◌≡◌, ◌++◌, flat_map, map};
 ghost use Rattle.std.specs.List.{AllByRecursion};
 ghost use Rattle.json.specs.Print.{IsPrintable};
@@ -7,12 +7,14 @@ ghost use Rattle.json.specs.Tree.{json_tokens};
 ghost use Rattle.cpe_uri.specs.Canon.{is_any};
 ghost use Rattle.cpe_records.specs.Puts.{Puts};
 ghost use Rattle.cpe_records.specs.NameObject.{sorted_attributes, value_tokens, name_object};
+ghost use Rattle.cpe_records.specs.WrittenRecord.{key_tokens};
 
 use crate::ascii::ascii_str;
 use crate::write::put;
 use cpe_fs::bind_component;
 use cpe_members::attribute_word;
 use cpe_name::{Attribute, Wfn};
+use cpe_rows::CheckKey;
 use cpe_values::{Memory, Value};
 use json::{Token, Writer};
 use std::alloc::Global;
@@ -116,5 +118,32 @@ pub(crate) fn put_name_objects(
     for name in names {
         put_name_object(alloc, writer, name)?;
     }
+    Ok(())
+}
+
+/// Puts the members that name a check, with what stands before them and after them.
+pub(crate) fn put_around_key(
+    writer: &mut Writer,
+    key: &CheckKey,
+    before: &[Token<'_>],
+    behind: &[Token<'_>],
+) -> Result<(), Memory>
+    requires before { AllByRecursion (λ t. IsPrintable (token_of t)) before.now }
+    requires behind { AllByRecursion (λ t. IsPrintable (token_of t)) behind.now }
+    ensures { Puts result writer.old writer.new (map token_of before.now ++ (key_tokens key.now ++ map token_of behind.now)) }
+{
+    put(writer, before)?;
+    put(
+        writer,
+        &[
+            Token::Key("href"),
+            Token::String(key.href.as_str()),
+            Token::Key("id"),
+            Token::String(key.id.as_str()),
+            Token::Key("system"),
+            Token::String(key.system.as_str()),
+        ],
+    )?;
+    put(writer, behind)?;
     Ok(())
 }

@@ -4,7 +4,7 @@ ghost use Rattle.json.specs.Tree.{json_tokens};
 ghost use Rattle.cpe_records.specs.Puts.{Puts};
 ghost use Rattle.cpe_records.specs.WrittenRecord.{fact_json, check_json, test_json};
 
-use crate::object::put_around_name;
+use crate::object::{put_around_key, put_around_name};
 use crate::write::put;
 use cpe_members::operator_word;
 use cpe_rows::{BoxedName, CheckKey, Test};
@@ -28,23 +28,12 @@ fn put_fact(alloc: Global, writer: &mut Writer, name: &BoxedName) -> Result<(), 
 fn put_check(writer: &mut Writer, key: &CheckKey) -> Result<(), Memory>
     ensures { Puts result writer.old writer.new (json_tokens (check_json key.now)) }
 {
-    put(
+    put_around_key(
         writer,
-        &[
-            Token::BeginObject,
-            Token::Key("check"),
-            Token::BeginObject,
-            Token::Key("href"),
-            Token::String(key.href.as_str()),
-            Token::Key("id"),
-            Token::String(key.id.as_str()),
-            Token::Key("system"),
-            Token::String(key.system.as_str()),
-            Token::EndObject,
-            Token::EndObject,
-        ],
-    )?;
-    Ok(())
+        key,
+        &[Token::BeginObject, Token::Key("check"), Token::BeginObject],
+        &[Token::EndObject, Token::EndObject],
+    )
 }
 
 /// Puts a test.

@@ -1,9 +1,7 @@
 // The answer to a query for a chain whose entries are lent, as lines.
-ghost use Rattle.std.specs.Prelude.{◌≡◌, ◌++◌, List, OnOk, codes, filter, length, map};
-ghost use Rattle.std.specs.List.{flat_map};
+ghost use Rattle.std.specs.Prelude.{◌≡◌, ◌++◌, List, OnOk, codes, filter, length, map, flat_map};
 ghost use Rattle.std.specs.Option.{option_copied, option_map_or};
-ghost use Rattle.cpe_rows.specs.Answers.{row_of};
-ghost use Rattle.cpe_rows.specs.Chains.{chain as chain_of, ends, is_active};
+ghost use Rattle.cpe_rows.specs.Prelude.{chain as chain_of, ends, is_active, row_of};
 ghost use Rattle.cpe_rows.specs.Lent.{entry_lent};
 ghost use Rattle.cpe_rows.specs.declared.entry.Deprecation.{Deprecation};
 ghost use Rattle.cpe_rows.specs.declared.entry.Entry.{Entry};

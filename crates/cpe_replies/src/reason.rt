@@ -1,6 +1,5 @@
 // Why the line of a record is refused.
-ghost use Rattle.std.specs.Prelude.{◌≡◌, ◌++◌, OnOk, codes};
-ghost use Rattle.std.specs.Fmt.{decimal};
+ghost use Rattle.std.specs.Prelude.{◌≡◌, ◌++◌, OnOk, codes, decimal};
 ghost use Rattle.cpe_replies.specs.Replies.{name_text};
 ghost use Rattle.cpe_replies.specs.Reasons.{spot_text, record_fault_text, which_word, edit_fault_text, proof_fault_text, reason_text};
 
@@ -93,19 +92,6 @@ fn push_place(page: &mut Page, word: &[u8], place: u32) -> Result<(), AllocError
     page.push_numbered(word, u64::from(place))
 }
 
-fn which_word(which: Which) -> &'static [u8]
-    ensures { result.now ≡ which_word which }
-{
-    match which {
-        Which::Entries => b"entries",
-        Which::Items => b"items",
-        Which::Statements => b"statements",
-        Which::Facts => b"facts",
-        Which::Checks => b"checks",
-        Which::Weight => b"weight",
-    }
-}
-
 fn push_edit_fault(alloc: Global, page: &mut Page, fault: &EditFault) -> Result<(), AllocError>
     ensures { OnOk result (page.new ≡ page.old ++ edit_fault_text fault.now) }
 {
@@ -137,7 +123,14 @@ fn push_full(page: &mut Page, which: Which) -> Result<(), AllocError>
     ensures { OnOk result (page.new ≡ page.old ++ (codes "full " ++ which_word which)) }
 {
     page.push(b"full ")?;
-    page.push(which_word(which))
+    match which {
+        Which::Entries => page.push(b"entries"),
+        Which::Items => page.push(b"items"),
+        Which::Statements => page.push(b"statements"),
+        Which::Facts => page.push(b"facts"),
+        Which::Checks => page.push(b"checks"),
+        Which::Weight => page.push(b"weight"),
+    }
 }
 
 fn push_proof_fault(page: &mut Page, fault: ProofFault) -> Result<(), AllocError>

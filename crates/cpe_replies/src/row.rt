@@ -1,6 +1,5 @@
 // Names and entries in short, as lines.
-ghost use Rattle.std.specs.Prelude.{◌≡◌, ◌++◌, IfOk, OnOk};
-ghost use Rattle.std.specs.List.{flat_map};
+ghost use Rattle.std.specs.Prelude.{◌≡◌, ◌++◌, IfOk, OnOk, flat_map};
 ghost use Rattle.cpe_replies.specs.Replies.{state_word, name_text, name_line, row_line};
 
 use cpe_fs::append_fs;

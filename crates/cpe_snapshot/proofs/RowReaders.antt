@@ -1,5 +1,5 @@
 -- The readers of rows.
-use Rattle.std.proofs.Common.{◌≡◌, refl, sym, ◌∙◌, ap, subst, ℕ, zero, suc, ◌&&◌, Bool, true, false, List, [], ◌∷◌, ◌++◌, length, Option, Some, None, append_assoc}
+use Rattle.std.proofs.Common.{◌≡◌, refl, sym, ◌∙◌, ap, subst, ℕ, zero, suc, ◌+◌, ◌&&◌, Bool, true, false, List, [], ◌∷◌, ◌++◌, length, Option, Some, None, append_assoc, arith, slice_get}
 use Rattle.cpe_name.specs.Eleven.{Values}
 use Rattle.cpe_rows.specs.Date.{is_date, follows, digit, dash}
 use Rattle.cpe_rows.specs.declared.entry.Note.{Note}
@@ -18,7 +18,7 @@ use Rattle.cpe_snapshot.specs.declared.rows.PlacedEntry.{PlacedEntry}
 use Rattle.cpe_snapshot.specs.Parts.{number, text, name, list}
 use Rattle.cpe_snapshot.specs.Snapshot.{kind_byte, note_byte, truth_byte, note_row, deprecation_part, entry_row, key_part, result_row}
 use Rattle.cpe_snapshot.specs.Told.{IsNumber, IsText, AreCounted, IsToldNote, IsToldDeprecation, IsToldEntry, IsToldKey, IsToldResult}
-use Rattle.cpe_snapshot.specs.Reading.{told, when, byte_at, bytes_at, number_at, list_at, kind_of, note_kind_of, truth_of, date_at, note_from, note_at, successors_at, deprecation_at, provenance_from, provenance_at, details_from, details_at, entry_from, entry_at, key_from, key_at, result_from, result_at}
+use Rattle.cpe_snapshot.specs.Reading.{told, when, byte_at, bytes_at, number_at, list_at, deprecation_kinds, note_kinds, truths, date_at, note_from, note_at, successors_at, deprecation_at, provenance_from, provenance_at, details_from, details_at, entry_from, entry_at, key_from, key_at, result_from, result_at}
 use Rattle.cpe_snapshot.proofs.Readers.{IsBytes, IsTaken, IsReader, bind_some, some_is, both_read, made_read, told_read}
 use Rattle.cpe_snapshot.proofs.PartReaders.{IsAny, IsLong, one_byte, plain, when_some, when_true, byte_read, bytes_read, number_read, text_read, name_read, list_read}
 
@@ -32,54 +32,46 @@ refit is to from = record {
 
 -- ---- bytes of kinds
 
-note_kind_told : (b : ℕ) (k : NoteKind) → IsAny b → note_kind_of b ≡ Some k → (note_byte k ≡ b) × IsAny k
-note_kind_told zero k any e = (ap note_byte (sym (some_is note.OriginalRecord k e)), tt)
-note_kind_told (suc zero) k any e = (ap note_byte (sym (some_is note.AuthorityChange k e)), tt)
-note_kind_told (suc (suc zero)) k any e = (ap note_byte (sym (some_is note.Deprecation k e)), tt)
-note_kind_told (suc (suc (suc zero))) k any e = (ap note_byte (sym (some_is note.DeprecationModification k e)), tt)
-note_kind_told (suc (suc (suc (suc b)))) k any e = absurd cc
+-- each has the byte of its place, from a number on
+abbrev pub AreNumbered : {A : Type 0} → (A → ℕ) → ℕ → List A → Type 0
+AreNumbered byte n [] = Unit {0}
+AreNumbered byte n (k ∷ all) = (byte k ≡ n) × AreNumbered byte (suc n) all
 
-note_kind_again : (k : NoteKind) → IsAny k → note_kind_of (note_byte k) ≡ Some k
-note_kind_again note.OriginalRecord any = refl
-note_kind_again note.AuthorityChange any = refl
-note_kind_again note.Deprecation any = refl
-note_kind_again note.DeprecationModification any = refl
+numbered : {A : Type 0} (byte : A → ℕ) (n : ℕ) (all : List A) → AreNumbered byte n all → (b : ℕ) (k : A) → slice_get all b ≡ Some k → byte k ≡ n + b
+numbered byte n [] are b k e = absurd cc
+numbered byte n (x ∷ all) are zero k e = let here : byte k ≡ byte x = ap byte (sym (some_is x k e)) in omega (arith, here, are.0)
+numbered byte n (x ∷ all) are (suc b) k e = omega (arith, numbered byte (suc n) all are.1 b k e)
+
+-- a byte that tells one of some kinds
+module _ {A : Type 0} (all : List A) (byte : A → ℕ) (are : AreNumbered byte 0 all) (again : (k : A) → slice_get all (byte k) ≡ Some k) where
+  told_by : (b : ℕ) (k : A) → IsAny b → slice_get all b ≡ Some k → (byte k ≡ b) × IsAny k
+  told_by b k any e = (omega (arith, numbered byte 0 all are b k e), tt)
+
+  pub tag_read : IsReader IsAny (λ k. one_byte (byte k)) (told (slice_get all) byte_at)
+  tag_read = refit (told_read IsAny one_byte byte_at byte_read (slice_get all) byte IsAny told_by (λ k any. again k)) (λ k fits. tt) (λ k fits. (tt, tt))
+
+note_kind_again : (k : NoteKind) → slice_get note_kinds (note_byte k) ≡ Some k
+note_kind_again note.OriginalRecord = refl
+note_kind_again note.AuthorityChange = refl
+note_kind_again note.Deprecation = refl
+note_kind_again note.DeprecationModification = refl
 
 -- the byte of a kind, or of none
 abbrev pub first_byte : Option Kind → ℕ
 first_byte None = 0
 first_byte (Some k) = kind_byte k
 
-kind_told : (b : ℕ) (k : Option Kind) → IsAny b → kind_of b ≡ Some k → (first_byte k ≡ b) × IsAny k
-kind_told zero k any e = (ap first_byte (sym (some_is None k e)), tt)
-kind_told (suc zero) k any e = (ap first_byte (sym (some_is (Some NameCorrection) k e)), tt)
-kind_told (suc (suc zero)) k any e = (ap first_byte (sym (some_is (Some NameRemoval) k e)), tt)
-kind_told (suc (suc (suc zero))) k any e = (ap first_byte (sym (some_is (Some AdditionalInformation) k e)), tt)
-kind_told (suc (suc (suc (suc b)))) k any e = absurd cc
+kind_again : (k : Option Kind) → slice_get deprecation_kinds (first_byte k) ≡ Some k
+kind_again None = refl
+kind_again (Some NameCorrection) = refl
+kind_again (Some NameRemoval) = refl
+kind_again (Some AdditionalInformation) = refl
 
-kind_again : (k : Option Kind) → IsAny k → kind_of (first_byte k) ≡ Some k
-kind_again None any = refl
-kind_again (Some NameCorrection) any = refl
-kind_again (Some NameRemoval) any = refl
-kind_again (Some AdditionalInformation) any = refl
-
-truth_told : (b : ℕ) (t : Truth) → IsAny b → truth_of b ≡ Some t → (truth_byte t ≡ b) × IsAny t
-truth_told zero t any e = (ap truth_byte (sym (some_is True t e)), tt)
-truth_told (suc zero) t any e = (ap truth_byte (sym (some_is False t e)), tt)
-truth_told (suc (suc zero)) t any e = (ap truth_byte (sym (some_is Error t e)), tt)
-truth_told (suc (suc (suc zero))) t any e = (ap truth_byte (sym (some_is Unknown t e)), tt)
-truth_told (suc (suc (suc (suc b)))) t any e = absurd cc
-
-truth_again : (t : Truth) → IsAny t → truth_of (truth_byte t) ≡ Some t
-truth_again True any = refl
-truth_again False any = refl
-truth_again Error any = refl
-truth_again Unknown any = refl
-
--- a byte that tells one of some kinds
-module _ {A : Type 0} (tell : ℕ → Option A) (back : A → ℕ) (tells : (b : ℕ) (k : A) → IsAny b → tell b ≡ Some k → (back k ≡ b) × IsAny k) (again : (k : A) → IsAny k → tell (back k) ≡ Some k) where
-  pub tag_read : IsReader IsAny (λ k. one_byte (back k)) (told tell byte_at)
-  tag_read = refit (told_read IsAny one_byte byte_at byte_read tell back IsAny tells again) (λ k fits. tt) (λ k fits. (tt, tt))
+truth_again : (t : Truth) → slice_get truths (truth_byte t) ≡ Some t
+truth_again True = refl
+truth_again False = refl
+truth_again Error = refl
+truth_again Unknown = refl
 
 -- ---- notes
 
@@ -112,7 +104,7 @@ note_seen n = (n.kind, (n.date, n.comment))
 pub note_read : IsReader IsToldNote note_row note_at
 unfolding note_at
 note_read =
-    refit (made_read _ _ _ (both_read _ _ _ _ _ _ (tag_read note_kind_of note_byte note_kind_told note_kind_again) (both_read _ _ _ _ _ _ date_read text_read))
+    refit (made_read _ _ _ (both_read _ _ _ _ _ _ (tag_read note_kinds note_byte (refl, (refl, (refl, (refl, tt)))) note_kind_again) (both_read _ _ _ _ _ _ date_read text_read))
     note_from note_seen (λ x. refl) (λ y. refl))
     (λ n fits. (fits.1.0, fits.1.1)) (λ n fits. (tt, (fits.0, fits.1)))
 
@@ -150,13 +142,13 @@ successors_again : (d : Option PlacedDeprecation) (rest : List ℕ) → IsToldDe
 successors_again None rest fits = refl
 successors_again (Some d) rest fits = rw (places_read.again d.successors rest fits) refl
 
-kind_read : IsReader IsAny (λ k. one_byte (first_byte k)) (told kind_of byte_at)
-kind_read = tag_read kind_of first_byte kind_told kind_again
+kind_read : IsReader IsAny (λ k. one_byte (first_byte k)) (told (slice_get deprecation_kinds) byte_at)
+kind_read = tag_read deprecation_kinds first_byte (refl, (refl, (refl, (refl, tt)))) kind_again
 
 deprecation_taken : (bytes : List ℕ) (d : Option PlacedDeprecation) (rest : List ℕ) → IsBytes bytes → deprecation_at bytes ≡ Some (d, rest) → IsTaken IsToldDeprecation deprecation_part bytes d rest
 unfolding deprecation_at
 deprecation_taken bytes d rest are e =
-    let a = bind_some (told kind_of byte_at bytes) (λ k. successors_at k.0 k.1) (d, rest) e in
+    let a = bind_some (told (slice_get deprecation_kinds) byte_at bytes) (λ k. successors_at k.0 k.1) (d, rest) e in
     let k = kind_read.takes bytes a.0.0 a.0.1 are a.1 in
     let s = successors_taken a.0.0 a.0.1 d rest k.are_bytes a.2 in
     record {
@@ -243,5 +235,5 @@ result_seen r = (r.key, r.result)
 pub result_read : IsReader IsToldResult result_row result_at
 unfolding result_at
 result_read =
-    refit (made_read _ _ _ (both_read _ _ _ _ _ _ key_read (tag_read truth_of truth_byte truth_told truth_again)) result_from result_seen (λ x. refl) (λ y. refl))
+    refit (made_read _ _ _ (both_read _ _ _ _ _ _ key_read (tag_read truths truth_byte (refl, (refl, (refl, (refl, tt)))) truth_again)) result_from result_seen (λ x. refl) (λ y. refl))
     (λ r fits. fits.0) (λ r fits. (fits, tt))

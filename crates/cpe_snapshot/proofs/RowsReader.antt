@@ -1,5 +1,5 @@
 -- The reader of all rows.
-use Rattle.std.proofs.Common.{nat_le, ◌&&◌, ◌≤◌, arith, ◌≡◌, inl, inr, refl, sym, ◌∙◌, ap, subst, ℕ, zero, suc, Bool, true, false, cond, eqb, List, [], ◌++◌, length, Option, Some, None, Result, Ok, Err}
+use Rattle.std.proofs.Common.{nat_le, ◌&&◌, ◌≤◌, arith, ◌≡◌, inl, inr, refl, sym, ◌∙◌, ap, subst, ℕ, zero, suc, Bool, true, false, cond, eqb, List, [], ◌++◌, length, slice_get, Option, Some, None, Result, Ok, Err}
 use Rattle.std.specs.List.{AllByRecursion, flat_map}
 use Rattle.std.specs.Str.{bytes_eq}
 use Rattle.std.proofs.lemmas.Bool.{eqb-true, leb-true}
@@ -20,7 +20,7 @@ use Rattle.cpe_snapshot.specs.declared.rows.PlacedRows.{PlacedRows}
 use Rattle.cpe_snapshot.specs.Parts.{number, name}
 use Rattle.cpe_snapshot.specs.Snapshot.{mode_byte, entry_row, statement_row, result_row, mark, snapshot_of}
 use Rattle.cpe_snapshot.specs.Told.{IsNumber, IsSpelled, IsToldEntry, IsToldStatement, IsToldResult, AreTold, Spells, Reads, SnapshotsAreClear, SnapshotsAreRead}
-use Rattle.cpe_snapshot.specs.Reading.{◌>>=◌, Tells, told, bytes_at, name_at, mode_of, entry_at, statement_from, statement_at, result_at, nothing_if, mark_at, is_few, when, head_from, numbers_at, head_at, rows_from, rows_at, whole, rows_of}
+use Rattle.cpe_snapshot.specs.Reading.{◌>>=◌, Tells, told, bytes_at, name_at, modes, entry_at, statement_from, statement_at, result_at, nothing_if, mark_at, is_few, when, head_from, numbers_at, head_at, rows_from, rows_at, whole, rows_of}
 use Rattle.cpe_snapshot.proofs.Readers.{IsBytes, IsReader, bind_some, some_is, both_read, made_read, told_read, many_read}
 use Rattle.cpe_snapshot.proofs.PartReaders.{when_some, when_true, IsAny, IsLong, plain, bytes_read, number_read, text_read, name_read}
 use Rattle.cpe_snapshot.proofs.RowReaders.{refit, tag_read, entry_read, result_read}
@@ -41,14 +41,9 @@ all_true a b c d p q r t = ap (λ x. x && (b && (c && d))) p ∙ (ap (λ x. x &&
 
 -- ---- statements
 
-mode_told : (b : ℕ) (k : Mode) → IsAny b → mode_of b ≡ Some k → (mode_byte k ≡ b) × IsAny k
-mode_told zero k any e = (ap mode_byte (sym (some_is Plain k e)), tt)
-mode_told (suc zero) k any e = (ap mode_byte (sym (some_is Follow k e)), tt)
-mode_told (suc (suc b)) k any e = absurd cc
-
-mode_again : (k : Mode) → IsAny k → mode_of (mode_byte k) ≡ Some k
-mode_again Plain any = refl
-mode_again Follow any = refl
+mode_again : (k : Mode) → slice_get modes (mode_byte k) ≡ Some k
+mode_again Plain = refl
+mode_again Follow = refl
 
 abbrev statement_seen : Statement → List ℕ × (List ℕ × (Mode × Test))
 statement_seen s = (s.id, (s.title, (s.mode, s.test)))
@@ -57,7 +52,7 @@ statement_read : IsReader IsToldStatement statement_row statement_at
 unfolding statement_at
 statement_read =
     refit (made_read _ _ _ (both_read _ _ _ _ _ _ text_read (both_read _ _ _ _ _ _ text_read
-    (both_read _ _ _ _ _ _ (tag_read mode_of mode_byte mode_told mode_again) (test_read MOST_LEVELS)))) statement_from statement_seen (λ x. refl) (λ y. refl))
+    (both_read _ _ _ _ _ _ (tag_read modes mode_byte (refl, (refl, tt)) mode_again) (test_read MOST_LEVELS)))) statement_from statement_seen (λ x. refl) (λ y. refl))
     (λ s fits. record { id = fits.0; title = fits.1.0; test = fits.1.1.1 })
     (λ s fits. (fits.id, (fits.title, (tt, fits.test))))
 

@@ -17,22 +17,26 @@ use Rattle.cpe_snapshot.specs.declared.rows.PlacedDeprecation.{PlacedDeprecation
 use Rattle.cpe_snapshot.specs.declared.rows.PlacedEntry.{PlacedEntry}
 use Rattle.cpe_snapshot.specs.declared.rows.PlacedRows.{PlacedRows}
 use Rattle.cpe_snapshot.specs.Snapshot.{snapshot_of}
-use Rattle.cpe_snapshot.specs.States.{AreNamed, IsMeantDeprecation, IsMeant, AreMeantEntries, AreMeant, pair_of, place_in, placed_deprecation, placed_entry, placed_rows, result_of, StatesAreClear, StatesHaveOne, PlacesArePositions}
+use Rattle.cpe_snapshot.specs.States.{OneByOne, IsNamed, AreNamed, IsMeantDeprecation, IsMeant, AreMeantEntries, AreMeant, pair_of, place_in, placed_deprecation, placed_entry, placed_rows, result_of, StatesAreClear, StatesHaveOne, PlacesArePositions}
 use Rattle.cpe_snapshot.proofs.Readers.{some_is}
 use Rattle.cpe_snapshot.proofs.RowsReader.{clear}
 
 -- ---- rows mean one state
 
-named_once : (es : List PlacedEntry) (ks : List ℕ) (ns ms : List Values) → AreNamed es ks ns → AreNamed es ks ms → ns ≡ ms
-named_once es [] [] [] a b = refl
-named_once es [] [] (m ∷ ms) a b = absurd b
-named_once es [] (n ∷ ns) ms a b = absurd a
-named_once es (k ∷ ks) [] ms a b = absurd a
-named_once es (k ∷ ks) (n ∷ ns) [] a b = absurd b
-named_once es (k ∷ ks) (n ∷ ns) (m ∷ ms) a b =
-    let first : n ≡ m = some_is n m (sym a.0 ∙ b.0) in
-    let others = named_once es ks ns ms a.1 b.1 in
+once : {A B : Type 0} (Belongs : A → B → Type 0) → ((x : A) (y z : B) → Belongs x y → Belongs x z → y ≡ z)
+    → (xs : List A) (ys zs : List B) → OneByOne Belongs xs ys → OneByOne Belongs xs zs → ys ≡ zs
+once Belongs one [] [] [] a b = refl
+once Belongs one [] [] (z ∷ zs) a b = absurd b
+once Belongs one [] (y ∷ ys) zs a b = absurd a
+once Belongs one (x ∷ xs) [] zs a b = absurd a
+once Belongs one (x ∷ xs) (y ∷ ys) [] a b = absurd b
+once Belongs one (x ∷ xs) (y ∷ ys) (z ∷ zs) a b =
+    let first : y ≡ z = one x y z a.0 b.0 in
+    let others = once Belongs one xs ys zs a.1 b.1 in
     λ i. first i ∷ others i
+
+named_once : (es : List PlacedEntry) (ks : List ℕ) (ns ms : List Values) → AreNamed es ks ns → AreNamed es ks ms → ns ≡ ms
+named_once es = once (IsNamed es) (λ k n m a b. some_is n m (sym a ∙ b))
 
 pub deprecation_once : (es : List PlacedEntry) (p : Option PlacedDeprecation) (d f : Option Deprecation) → IsMeantDeprecation es p d → IsMeantDeprecation es p f → d ≡ f
 deprecation_once es None None None a b = refl
@@ -54,15 +58,7 @@ entry_once es p e f a b =
     λ i. record { name = names i; title = titles i; provenance = provenances i; deprecation = deprecations i }
 
 entries_once : (all ps : List PlacedEntry) (es fs : List Entry) → AreMeantEntries all ps es → AreMeantEntries all ps fs → es ≡ fs
-entries_once all [] [] [] a b = refl
-entries_once all [] [] (f ∷ fs) a b = absurd b
-entries_once all [] (e ∷ es) fs a b = absurd a
-entries_once all (p ∷ ps) [] fs a b = absurd a
-entries_once all (p ∷ ps) (e ∷ es) [] a b = absurd b
-entries_once all (p ∷ ps) (e ∷ es) (f ∷ fs) a b =
-    let first = entry_once all p e f a.0 b.0 in
-    let others = entries_once all ps es fs a.1 b.1 in
-    λ i. first i ∷ others i
+entries_once all = once (IsMeant all) (entry_once all)
 
 pub one_state : (p : PlacedRows) (rows others : Rows) → AreMeant p rows → AreMeant p others → rows ≡ others
 one_state p rows others a b =

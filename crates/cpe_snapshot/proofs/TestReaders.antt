@@ -1,5 +1,5 @@
 -- The readers of tests, by their levels of logic.
-use Rattle.std.proofs.Common.{◌≡◌, refl, sym, ◌∙◌, ap, subst, ℕ, zero, suc, Bool, true, false, List, [], ◌∷◌, ◌++◌, length, map, Option, Some, None}
+use Rattle.std.proofs.Common.{◌≡◌, refl, sym, ◌∙◌, ap, subst, ℕ, zero, suc, Bool, true, false, List, [], ◌∷◌, ◌++◌, length, map, Option, Some, None, slice_get}
 use Rattle.std.specs.List.{flat_map}
 use Rattle.std.proofs.lemmas.List.{length-map}
 use Rattle.std.proofs.lemmas.List.Folds.{flat_map-map}
@@ -15,30 +15,20 @@ use Rattle.cpe_rows.specs.declared.test.Test.TheFolds.{fold-roll-Test}
 use Rattle.cpe_snapshot.specs.Parts.{number, name, list}
 use Rattle.cpe_snapshot.specs.Snapshot.{operator_byte, flag_byte, key_part, test_step, test_part}
 use Rattle.cpe_snapshot.specs.Told.{IsSpelled, AreCounted, IsToldKey, IsToldStep, IsToldTest}
-use Rattle.cpe_snapshot.specs.Reading.{both, made, told, byte_at, name_at, key_at, list_at, operator_of, flag_of, logic_from, logic_at, test_of, node_at, logic_within, test_at}
+use Rattle.cpe_snapshot.specs.Reading.{both, made, told, byte_at, name_at, key_at, list_at, operators, flags, logic_from, logic_at, test_of, node_at, logic_within, test_at}
 use Rattle.cpe_snapshot.proofs.Readers.{IsBytes, IsTaken, IsReader, bind_some, some_is, both_read}
 use Rattle.cpe_snapshot.proofs.PartReaders.{IsAny, IsBytes-rest, name_read, list_read}
 use Rattle.cpe_snapshot.proofs.RowReaders.{tag_read, key_read}
 
 -- ---- bytes of kinds
 
-operator_told : (b : ℕ) (k : Operator) → IsAny b → operator_of b ≡ Some k → (operator_byte k ≡ b) × IsAny k
-operator_told zero k any e = (ap operator_byte (sym (some_is And k e)), tt)
-operator_told (suc zero) k any e = (ap operator_byte (sym (some_is Or k e)), tt)
-operator_told (suc (suc b)) k any e = absurd cc
+operator_again : (k : Operator) → slice_get operators (operator_byte k) ≡ Some k
+operator_again And = refl
+operator_again Or = refl
 
-operator_again : (k : Operator) → IsAny k → operator_of (operator_byte k) ≡ Some k
-operator_again And any = refl
-operator_again Or any = refl
-
-flag_told : (b : ℕ) (k : Bool) → IsAny b → flag_of b ≡ Some k → (flag_byte k ≡ b) × IsAny k
-flag_told zero k any e = (ap flag_byte (sym (some_is false k e)), tt)
-flag_told (suc zero) k any e = (ap flag_byte (sym (some_is true k e)), tt)
-flag_told (suc (suc b)) k any e = absurd cc
-
-flag_again : (k : Bool) → IsAny k → flag_of (flag_byte k) ≡ Some k
-flag_again false any = refl
-flag_again true any = refl
+flag_again : (k : Bool) → slice_get flags (flag_byte k) ≡ Some k
+flag_again false = refl
+flag_again true = refl
 
 -- ---- what is made of a part, in one case of some
 
@@ -150,10 +140,10 @@ module _ (Fits : Test → Type 0) (child : List ℕ → Option (Test × List ℕ
   abbrev FitJoined : Operator × (Bool × List Test) → Type 0
   FitJoined p = IsAny p.0 × (IsAny p.1.0 × AreCounted Fits p.1.1)
 
-  joined_read : IsReader FitJoined spell_logic (both (told operator_of byte_at) (both (told flag_of byte_at) (list_at child)))
+  joined_read : IsReader FitJoined spell_logic (both (told (slice_get operators) byte_at) (both (told (slice_get flags) byte_at) (list_at child)))
   joined_read =
-      both_read _ _ _ _ _ _ (tag_read operator_of operator_byte operator_told operator_again)
-      (both_read _ _ _ _ _ _ (tag_read flag_of flag_byte flag_told flag_again) (list_read Fits test_part child is))
+      both_read _ _ _ _ _ _ (tag_read operators operator_byte (refl, (refl, tt)) operator_again)
+      (both_read _ _ _ _ _ _ (tag_read flags flag_byte (refl, (refl, tt)) flag_again) (list_read Fits test_part child is))
 
   pub logic_read : IsLogicReader (AreCounted Fits) (logic_at child)
   unfolding logic_at

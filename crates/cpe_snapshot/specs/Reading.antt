@@ -1,5 +1,5 @@
 -- Reading from left to right: a part, and the bytes that are left after it.
-use Rattle.std.specs.Prelude.{nat_le, ◌&&◌, ◌≡◌, ℕ, zero, suc, ◌==◌, List, [], ◌∷◌, length, take, drop, Bool, true, false, Option, Some, None, Result, Ok, Err, nat_lt, if◌then◌else◌}
+use Rattle.std.specs.Prelude.{nat_le, ◌&&◌, ◌≡◌, ℕ, zero, suc, ◌==◌, List, [], ◌∷◌, length, take, drop, Bool, true, false, Option, Some, None, Result, Ok, Err, nat_lt, slice_get, if◌then◌else◌}
 use Rattle.std.specs.Str.{is_utf8, bytes_eq}
 use Rattle.std.specs.Int.{w32, from_be_bytes}
 use Rattle.cpe_name.specs.Eleven.{Values}
@@ -127,44 +127,26 @@ list_at read bytes = do
   n ← number_at bytes
   many read n.0 n.1
 
--- ---- bytes of kinds
+-- ---- kinds, each of which a byte tells by its place among all
 
--- the kind of a deprecation, or none
-abbrev pub kind_of : ℕ → Option (Option Kind)
-kind_of zero = Some None
-kind_of (suc zero) = Some (Some NameCorrection)
-kind_of (suc (suc zero)) = Some (Some NameRemoval)
-kind_of (suc (suc (suc zero))) = Some (Some AdditionalInformation)
-kind_of (suc (suc (suc (suc b)))) = None
+-- the kinds of a deprecation, or none
+abbrev pub deprecation_kinds : List (Option Kind)
+deprecation_kinds = None ∷ Some NameCorrection ∷ Some NameRemoval ∷ Some AdditionalInformation ∷ []
 
-abbrev pub note_kind_of : ℕ → Option NoteKind
-note_kind_of zero = Some note.OriginalRecord
-note_kind_of (suc zero) = Some note.AuthorityChange
-note_kind_of (suc (suc zero)) = Some note.Deprecation
-note_kind_of (suc (suc (suc zero))) = Some note.DeprecationModification
-note_kind_of (suc (suc (suc (suc b)))) = None
+abbrev pub note_kinds : List NoteKind
+note_kinds = note.OriginalRecord ∷ note.AuthorityChange ∷ note.Deprecation ∷ note.DeprecationModification ∷ []
 
-abbrev pub mode_of : ℕ → Option Mode
-mode_of zero = Some Plain
-mode_of (suc zero) = Some Follow
-mode_of (suc (suc b)) = None
+abbrev pub modes : List Mode
+modes = Plain ∷ Follow ∷ []
 
-abbrev pub operator_of : ℕ → Option Operator
-operator_of zero = Some And
-operator_of (suc zero) = Some Or
-operator_of (suc (suc b)) = None
+abbrev pub operators : List Operator
+operators = And ∷ Or ∷ []
 
-abbrev pub flag_of : ℕ → Option Bool
-flag_of zero = Some false
-flag_of (suc zero) = Some true
-flag_of (suc (suc b)) = None
+abbrev pub flags : List Bool
+flags = false ∷ true ∷ []
 
-abbrev pub truth_of : ℕ → Option Truth
-truth_of zero = Some True
-truth_of (suc zero) = Some False
-truth_of (suc (suc zero)) = Some Error
-truth_of (suc (suc (suc zero))) = Some Unknown
-truth_of (suc (suc (suc (suc b)))) = None
+abbrev pub truths : List Truth
+truths = True ∷ False ∷ Error ∷ Unknown ∷ []
 
 -- ---- rows
 
@@ -175,7 +157,7 @@ unfoldable pub date_at : List ℕ → Option (List ℕ × List ℕ)
 date_at bytes = told (when is_date) (bytes_at 10) bytes
 
 unfoldable pub note_at : List ℕ → Option (Note × List ℕ)
-note_at bytes = made note_from (both (told note_kind_of byte_at) (both date_at text_at)) bytes
+note_at bytes = made note_from (both (told (slice_get note_kinds) byte_at) (both date_at text_at)) bytes
 
 -- the successors of a deprecation of this kind; nothing of none
 abbrev pub successors_at : Option Kind → List ℕ → Option (Option PlacedDeprecation × List ℕ)
@@ -184,7 +166,7 @@ successors_at (Some k) bytes = made (λ s. Some (record { kind = k; successors =
 
 unfoldable pub deprecation_at : List ℕ → Option (Option PlacedDeprecation × List ℕ)
 deprecation_at bytes = do
-  k ← told kind_of byte_at bytes
+  k ← told (slice_get deprecation_kinds) byte_at bytes
   successors_at k.0 k.1
 
 abbrev pub provenance_from : (List ℕ × (List ℕ × List Note)) → Provenance
@@ -217,7 +199,7 @@ logic_from p = Logic p.0 p.1.0 p.1.1
 
 -- a logical test by how its children are read
 unfoldable pub logic_at : (List ℕ → Option (Test × List ℕ)) → List ℕ → Option (Test × List ℕ)
-logic_at child bytes = made logic_from (both (told operator_of byte_at) (both (told flag_of byte_at) (list_at child))) bytes
+logic_at child bytes = made logic_from (both (told (slice_get operators) byte_at) (both (told (slice_get flags) byte_at) (list_at child))) bytes
 
 -- a test by how a logical one is read
 abbrev pub test_of : (List ℕ → Option (Test × List ℕ)) → ℕ → List ℕ → Option (Test × List ℕ)
@@ -245,13 +227,13 @@ abbrev pub statement_from : (List ℕ × (List ℕ × (Mode × Test))) → State
 statement_from p = record { id = p.0; title = p.1.0; mode = p.1.1.0; test = p.1.1.1 }
 
 unfoldable pub statement_at : List ℕ → Option (Statement × List ℕ)
-statement_at bytes = made statement_from (both text_at (both text_at (both (told mode_of byte_at) (test_at MOST_LEVELS)))) bytes
+statement_at bytes = made statement_from (both text_at (both text_at (both (told (slice_get modes) byte_at) (test_at MOST_LEVELS)))) bytes
 
 abbrev pub result_from : (CheckKey × Truth) → KeptResult
 result_from p = record { key = p.0; result = p.1 }
 
 unfoldable pub result_at : List ℕ → Option (KeptResult × List ℕ)
-result_at bytes = made result_from (both key_at (told truth_of byte_at)) bytes
+result_at bytes = made result_from (both key_at (told (slice_get truths) byte_at)) bytes
 
 -- ---- all rows
 

@@ -25,12 +25,20 @@ use Rattle.cpe_snapshot.specs.Told.{Spells}
 
 -- ---- which rows are meant
 
+-- as many of the one as of the other, which belong together one by one
+abbrev pub OneByOne : {A B : Type 0} → (A → B → Type 0) → List A → List B → Type 0
+OneByOne Belongs [] [] = Unit {0}
+OneByOne Belongs [] (y ∷ ys) = ⊥
+OneByOne Belongs (x ∷ xs) [] = ⊥
+OneByOne Belongs (x ∷ xs) (y ∷ ys) = Belongs x y × OneByOne Belongs xs ys
+
+-- the name of the entry at this place
+abbrev pub IsNamed : List PlacedEntry → ℕ → Values → Type 0
+IsNamed entries k n = option_map (λ e. e.name) (slice_get entries k) ≡ Some n
+
 -- these are the names of the entries at these places, one by one
 abbrev pub AreNamed : List PlacedEntry → List ℕ → List Values → Type 0
-AreNamed entries [] [] = Unit {0}
-AreNamed entries [] (n ∷ ns) = ⊥
-AreNamed entries (k ∷ ks) [] = ⊥
-AreNamed entries (k ∷ ks) (n ∷ ns) = (option_map (λ e. e.name) (slice_get entries k) ≡ Some n) × AreNamed entries ks ns
+AreNamed entries ks ns = OneByOne (IsNamed entries) ks ns
 
 abbrev pub IsMeantDeprecation : List PlacedEntry → Option PlacedDeprecation → Option Deprecation → Type 0
 IsMeantDeprecation entries None None = Unit {0}
@@ -46,10 +54,7 @@ pub record IsMeant (entries : List PlacedEntry) (p : PlacedEntry) (e : Entry) : 
   pub deprecation : IsMeantDeprecation entries p.deprecation e.deprecation
 
 abbrev pub AreMeantEntries : List PlacedEntry → List PlacedEntry → List Entry → Type 0
-AreMeantEntries entries [] [] = Unit {0}
-AreMeantEntries entries [] (e ∷ es) = ⊥
-AreMeantEntries entries (p ∷ ps) [] = ⊥
-AreMeantEntries entries (p ∷ ps) (e ∷ es) = IsMeant entries p e × AreMeantEntries entries ps es
+AreMeantEntries entries ps es = OneByOne (IsMeant entries) ps es
 
 abbrev pub pair_of : KeptResult → CheckKey × Truth
 pair_of r = (r.key, r.result)

@@ -1,6 +1,6 @@
 // Rows that are read from bytes.
-ghost use Rattle.std.specs.Prelude.{◌≡◌};
-ghost use Rattle.cpe_snapshot.specs.Reading.{Took, Found, told, kind_of, note_kind_of, mode_of, truth_of, byte_at, number_at, name_at, date_at, note_at, deprecation_at, provenance_at, details_at, entry_at, key_at, statement_at, result_at, successors_at};
+ghost use Rattle.std.specs.Prelude.{◌≡◌, slice_get};
+ghost use Rattle.cpe_snapshot.specs.Reading.{Took, Found, told, deprecation_kinds, note_kinds, modes, truths, byte_at, number_at, name_at, date_at, note_at, deprecation_at, provenance_at, details_at, entry_at, key_at, statement_at, result_at, successors_at};
 
 use crate::cursor::Cursor;
 use crate::fault::LoadFault;
@@ -12,40 +12,52 @@ use std::alloc::Global;
 
 // ---- bytes of kinds
 
-fn kind(cursor: &mut Cursor<'_>) -> Result<Option<Kind>, LoadFault>
-    ensures { Found result cursor.new (told kind_of byte_at cursor.old) }
+// The one of these whose place the next byte says.
+pub(crate) fn one_of<T: Copy>(cursor: &mut Cursor<'_>, all: &[T]) -> Result<T, LoadFault>
+    ensures { Found result cursor.new (told (slice_get all.now) byte_at cursor.old) }
 {
-    match cursor.byte()? {
-        0 => Ok(None),
-        1 => Ok(Some(Kind::NameCorrection)),
-        2 => Ok(Some(Kind::NameRemoval)),
-        3 => Ok(Some(Kind::AdditionalInformation)),
-        _ => Err(LoadFault::NotSnapshot),
+    let place = cursor.byte()?;
+    match all.get(usize::from(place)) {
+        Some(kind) => Ok(*kind),
+        None => Err(LoadFault::NotSnapshot),
     }
+}
+
+fn kind(cursor: &mut Cursor<'_>) -> Result<Option<Kind>, LoadFault>
+    ensures { Found result cursor.new (told (slice_get deprecation_kinds) byte_at cursor.old) }
+{
+    one_of(
+        cursor,
+        &[
+            None,
+            Some(Kind::NameCorrection),
+            Some(Kind::NameRemoval),
+            Some(Kind::AdditionalInformation),
+        ],
+    )
 }
 
 fn note_kind(cursor: &mut Cursor<'_>) -> Result<NoteKind, LoadFault>
-    ensures { Found result cursor.new (told note_kind_of byte_at cursor.old) }
+    ensures { Found result cursor.new (told (slice_get note_kinds) byte_at cursor.old) }
 {
-    match cursor.byte()? {
-        0 => Ok(NoteKind::OriginalRecord),
-        1 => Ok(NoteKind::AuthorityChange),
-        2 => Ok(NoteKind::Deprecation),
-        3 => Ok(NoteKind::DeprecationModification),
-        _ => Err(LoadFault::NotSnapshot),
-    }
+    one_of(
+        cursor,
+        &[
+            NoteKind::OriginalRecord,
+            NoteKind::AuthorityChange,
+            NoteKind::Deprecation,
+            NoteKind::DeprecationModification,
+        ],
+    )
 }
 
 fn truth(cursor: &mut Cursor<'_>) -> Result<Truth, LoadFault>
-    ensures { Found result cursor.new (told truth_of byte_at cursor.old) }
+    ensures { Found result cursor.new (told (slice_get truths) byte_at cursor.old) }
 {
-    match cursor.byte()? {
-        0 => Ok(Truth::True),
-        1 => Ok(Truth::False),
-        2 => Ok(Truth::Error),
-        3 => Ok(Truth::Unknown),
-        _ => Err(LoadFault::NotSnapshot),
-    }
+    one_of(
+        cursor,
+        &[Truth::True, Truth::False, Truth::Error, Truth::Unknown],
+    )
 }
 
 // ---- entries

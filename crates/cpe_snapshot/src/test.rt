@@ -1,43 +1,31 @@
 // Statements and their tests that are read from bytes.
-ghost use Rattle.std.specs.Prelude.{◌≡◌};
-ghost use Rattle.cpe_snapshot.specs.Reading.{Took, Found, told, operator_of, flag_of, mode_of, byte_at, made, many, name_at, logic_at, logic_within, test_at};
+ghost use Rattle.std.specs.Prelude.{◌≡◌, slice_get};
+ghost use Rattle.cpe_snapshot.specs.Reading.{Took, Found, told, operators, flags, modes, byte_at, made, many, name_at, logic_at, logic_within, test_at};
 ghost use Rattle.cpe_rows.specs.declared.test.Test.{Fact};
 
 use crate::cursor::Cursor;
 use crate::fault::LoadFault;
 use crate::parts::{Part, name, text};
-use crate::read::key;
+use crate::read::{key, one_of};
 use cpe_rows::{BoxedName, List, MOST_LEVELS, Mode, Operator, Statement, Test};
 use std::alloc::Global;
 
 fn operator(cursor: &mut Cursor<'_>) -> Result<Operator, LoadFault>
-    ensures { Found result cursor.new (told operator_of byte_at cursor.old) }
+    ensures { Found result cursor.new (told (slice_get operators) byte_at cursor.old) }
 {
-    match cursor.byte()? {
-        0 => Ok(Operator::And),
-        1 => Ok(Operator::Or),
-        _ => Err(LoadFault::NotSnapshot),
-    }
+    one_of(cursor, &[Operator::And, Operator::Or])
 }
 
 fn flag(cursor: &mut Cursor<'_>) -> Result<bool, LoadFault>
-    ensures { Found result cursor.new (told flag_of byte_at cursor.old) }
+    ensures { Found result cursor.new (told (slice_get flags) byte_at cursor.old) }
 {
-    match cursor.byte()? {
-        0 => Ok(false),
-        1 => Ok(true),
-        _ => Err(LoadFault::NotSnapshot),
-    }
+    one_of(cursor, &[false, true])
 }
 
 fn mode(cursor: &mut Cursor<'_>) -> Result<Mode, LoadFault>
-    ensures { Found result cursor.new (told mode_of byte_at cursor.old) }
+    ensures { Found result cursor.new (told (slice_get modes) byte_at cursor.old) }
 {
-    match cursor.byte()? {
-        0 => Ok(Mode::Plain),
-        1 => Ok(Mode::Follow),
-        _ => Err(LoadFault::NotSnapshot),
-    }
+    one_of(cursor, &[Mode::Plain, Mode::Follow])
 }
 
 fn fact(alloc: Global, cursor: &mut Cursor<'_>) -> Result<Test, LoadFault>

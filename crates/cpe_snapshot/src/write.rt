@@ -1,7 +1,6 @@
 // Rows that are written as bytes, one after the other. Each function puts what it writes after what a buffer holds. Where memory runs
 // out the buffer is dropped.
-ghost use Rattle.std.specs.Prelude.{◌≡◌, ◌++◌, ◌∷◌, [], IfOk, length, map};
-ghost use Rattle.std.specs.List.{flat_map};
+ghost use Rattle.std.specs.Prelude.{◌≡◌, ◌++◌, ◌∷◌, [], IfOk, length, map, flat_map};
 ghost use Rattle.cpe_snapshot.specs.Parts.{number, text, name, list};
 ghost use Rattle.cpe_snapshot.specs.Snapshot.{note_byte, kind_byte, mode_byte, operator_byte, flag_byte, truth_byte, mark, placed, note_row, deprecation_part, entry_row, key_part, test_part, statement_row, result_row};
 ghost use Rattle.cpe_snapshot.specs.declared.rows.PlacedEntry.{PlacedEntry};

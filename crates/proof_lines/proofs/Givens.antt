@@ -5,13 +5,13 @@ use Rattle.std.specs.Ordering.{nat_cmp, match_ordering}
 use Rattle.std.specs.Cmp.Lexicographic.{slice_cmp}
 use Rattle.serde_json.specs.Data.{Data, null, boolean, number, string, array, object, Items, no_items, item, Members, no_members, member}
 use Rattle.serde_json.specs.Find.{get, get_member, as_array, as_null}
-use Rattle.cpe_members.specs.FirstFault.{◌>>=◌, all_from}
+use Rattle.cpe_members.specs.FirstFault.{◌>>=◌, all_from, FailsUnless}
 use Rattle.cpe_members.specs.Forms.{list_of}
 use Rattle.cpe_explain.specs.declared.proof.Why.{Why}
 use Rattle.cpe_members.proofs.AllFrom.{carried}
 use Rattle.proof_lines.specs.declared.fault.ProofFault.{ProofFault}
 use Rattle.proof_lines.specs.declared.fault.ProofFault.TheVariants as fault
-use Rattle.proof_lines.specs.Gives.{Fails, is_out_of_memory}
+use Rattle.proof_lines.specs.Gives.{is_out_of_memory}
 use Rattle.proof_lines.specs.Reading.{formed, items_at, has, logic_in, leaf_in, why_by, there, given_of, children_in, children_at, children_of}
 
 -- the children of an array that was looked for
@@ -95,7 +95,7 @@ module _ (d : Data) (no_null : is_some (as_null d) ≡ false) (has_it : has (cod
 
   -- the fault of a child is that of all
   pub child_fails : (ds : List Data) → Some ds ≡ option_map list_of (option_and_then as_array (get (codes "of") d))
-      → (e : ProofFault) → Fails e (all_from (λ k. given_of) 1 ds) → Fails e (given_of d)
+      → (e : ProofFault) → FailsUnless is_out_of_memory e (all_from (λ k. given_of) 1 ds) → FailsUnless is_out_of_memory e (given_of d)
   child_fails ds some e =
       carried is_out_of_memory e (all_from (λ k. given_of) 1 ds) (given_of d)
       (λ p. all_there ds some ∙ (ap (λ r. there (logic_in d r)) p ∙ ap there (logic_fails d e)))

@@ -1,6 +1,6 @@
 -- Reading a certificate, up to its first fault.
 use Rattle.std.specs.Prelude.{Bool, true, false, Result}
-use Rattle.cpe_members.specs.FirstFault.{FailsUnless, GivesUnless}
+use Rattle.cpe_members.specs.FirstFault.{GivesUnless}
 use Rattle.proof_lines.specs.declared.fault.ProofFault.{ProofFault}
 use Rattle.proof_lines.specs.declared.fault.ProofFault.TheVariants as fault
 
@@ -8,10 +8,6 @@ abbrev pub is_out_of_memory : ProofFault → Bool
 is_out_of_memory fault.Id = false
 is_out_of_memory fault.Why = false
 is_out_of_memory fault.Memory = true
-
--- the fault is that of what is read; that memory ran out says nothing of it
-abbrev pub Fails : {A : Type 0} → ProofFault → Result A ProofFault → Type 0
-Fails e read = FailsUnless is_out_of_memory e read
 
 -- what a reader answered is what is read, unless memory ran out
 abbrev pub GivesBy : {X A : Type 0} → (X → A) → Result X ProofFault → Result A ProofFault → Type 0

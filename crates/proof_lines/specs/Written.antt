@@ -1,5 +1,6 @@
 -- A certificate as JSON, without spaces and with the members of each object sorted by their keys.
-use Rattle.std.specs.Prelude.{ℕ, List, codes, Option, Some, None, option_map}
+use Rattle.std.specs.Prelude.{ℕ, List, [], ◌∷◌, codes, Option, Some, None, option_map}
+use Rattle.json.specs.Token.{Token}
 use Rattle.json.specs.Json.{Json, null, string, array, object, Members, no_members, member}
 use Rattle.json.specs.Tree.{json_tokens}
 use Rattle.json.specs.Print.{print}
@@ -16,6 +17,10 @@ use Rattle.cpe_explain.specs.declared.proof.Why.TheFolds.{fold-Why}
 
 abbrev pub has_truth : Truth → Members
 has_truth truth = member (codes "truth") (string (truth_word truth)) no_members
+
+-- its tokens, and that of the object's end
+abbrev pub truth_end : Truth → List Token
+truth_end truth = Token.key (codes "truth") ∷ Token.string (truth_word truth) ∷ Token.end_object ∷ []
 
 -- names by their formatted strings
 abbrev pub has_names : List ℕ → List Values → Members → Members

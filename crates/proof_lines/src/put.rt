@@ -1,7 +1,7 @@
 // Certificates as JSON, a token at a time.
 ghost use Rattle.json.specs.Tree.{json_tokens};
 ghost use Rattle.cpe_records.specs.Puts.{Puts};
-ghost use Rattle.proof_lines.specs.Written.{pair_json, plain_json, why_json, proof_json};
+ghost use Rattle.proof_lines.specs.Written.{truth_end, pair_json, plain_json, why_json, proof_json};
 
 use cpe_explain::{Proof, Why};
 use cpe_members::truth_word;
@@ -11,6 +11,20 @@ use cpe_rows::Truth;
 use cpe_values::Memory;
 use json::{Token, Writer};
 use std::alloc::Global;
+
+// The truth, which is the last member, and the object's end.
+fn put_truth(writer: &mut Writer, truth: Truth) -> Result<(), Memory>
+    ensures { Puts result writer.old writer.new (truth_end truth) }
+{
+    put(
+        writer,
+        &[
+            Token::Key("truth"),
+            Token::String(truth_word(truth)),
+            Token::EndObject,
+        ],
+    )
+}
 
 fn put_pair(
     alloc: Global,
@@ -31,30 +45,16 @@ fn put_pair(
         &[Token::EndArray, Token::Key("item"), Token::BeginArray],
     )?;
     put_names(alloc, writer, item)?;
-    put(
-        writer,
-        &[
-            Token::EndArray,
-            Token::Key("truth"),
-            Token::String(truth_word(truth)),
-            Token::EndObject,
-        ],
-    )?;
+    put(writer, &[Token::EndArray])?;
+    put_truth(writer, truth)?;
     Ok(())
 }
 
 fn put_plain(writer: &mut Writer, truth: Truth) -> Result<(), Memory>
     ensures { Puts result writer.old writer.new (json_tokens (plain_json truth)) }
 {
-    put(
-        writer,
-        &[
-            Token::BeginObject,
-            Token::Key("truth"),
-            Token::String(truth_word(truth)),
-            Token::EndObject,
-        ],
-    )?;
+    put(writer, &[Token::BeginObject])?;
+    put_truth(writer, truth)?;
     Ok(())
 }
 
@@ -75,15 +75,8 @@ fn put_why(alloc: Global, writer: &mut Writer, why: &Why) -> Result<(), Memory>
                 };
                 put_why(alloc, writer, child)?;
             }
-            put(
-                writer,
-                &[
-                    Token::EndArray,
-                    Token::Key("truth"),
-                    Token::String(truth_word(*truth)),
-                    Token::EndObject,
-                ],
-            )?;
+            put(writer, &[Token::EndArray])?;
+            put_truth(writer, *truth)?;
             Ok(())
         }
         Why::Pair { truth, fact, item } => {

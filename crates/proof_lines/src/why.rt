@@ -157,7 +157,7 @@ fn is_within(why: &Why, limit: u32) -> bool
     ensures { result ≡ nat_le (levels why.now) limit }
 {
     match why {
-        Why::Logic { of, .. } => {
+        Why::Logic { truth: _, of } => {
             if limit == 0 {
                 return false;
             }

@@ -4,7 +4,7 @@ use Rattle.json.specs.Tree.{json_tokens}
 use Rattle.cpe_members.specs.Words.{operator_word}
 use Rattle.cpe_records.specs.Puts.{Puts}
 use Rattle.cpe_records.specs.WrittenRecord.{test_json}
-use Rattle.cpe_records.proofs.Pieces.{looped, closed_made}
+use Rattle.cpe_records.proofs.Pieces.{looped}
 use Rattle.cpe_records.proofs.TestForms.{json-logic, json-fact, json-check}
 use Rattle.cpe_records.proofs.test.+put_test.Goals as goal
 
@@ -12,18 +12,13 @@ pub returns-in_ok-put-in-Logic-2 : goal.returns-in_ok-put-in-Logic-2
 returns-in_ok-put-in-Logic-2 t c =
     let start = c.args.writer.now.tokens in
     let of = c.in-Logic.of in
-    let items = c.as_slice-child-items.result.now in
-    let t1 = c.put.new.writer.tokens in
-    let t2 = c.loop-child.writer.tokens in
-    let t3 = c.put-in-Logic.new.writer.tokens in
     let before : List Token = begin_object ∷ key (codes "negate") ∷ boolean c.in-Logic.negate ∷ key (codes "of") ∷ begin_array ∷ [] in
     let rest : List Token = key (codes "op") ∷ string (operator_word c.in-Logic.operator) ∷ end_object ∷ [] in
-    let h3 : t3 ≡ t2 ++ end_array ∷ rest = cc (c.in_ok-put-in-Logic-2.ensures.1, c.operator_word.ensures) in
-    let all = looped (λ t. json_tokens (test_json t)) of items c.loop-child.child-index c.loop-child-test.false c.as_slice-child-items.ensures
-    start before (end_array ∷ rest) t1 t2 t3 c.in_ok-put-in-Logic.ensures.1 c.loop-child.invariant.1 h3 in (
+    let last : c.put-in-Logic.new.writer.tokens ≡ c.loop-child.writer.tokens ++ end_array ∷ rest = cc (c.in_ok-put-in-Logic-2.ensures.1, c.operator_word.ensures) in (
       cc (c.in_ok-put-in-Logic.ensures.0, c.loop-child.invariant.0, c.in_ok-put-in-Logic-2.ensures.0),
-      all ∙ (ap (λ (z : List Token). start ++ (before ++ z)) (sym (closed_made (λ j. j) test_json of rest))
-          ∙ ap (λ j. start ++ json_tokens j) (sym (json-logic c.args.test.now c.in-Logic.operator c.in-Logic.negate of c.in-Logic.is))),
+      looped (λ j. j) test_json of c.as_slice-child-items.result.now c.loop-child.child-index c.loop-child-test.false c.as_slice-child-items.ensures
+          rest start before c.put.new.writer.tokens c.loop-child.writer.tokens c.put-in-Logic.new.writer.tokens c.in_ok-put-in-Logic.ensures.1 c.loop-child.invariant.1 last
+          ∙ ap (λ j. start ++ json_tokens j) (sym (json-logic c.args.test.now c.in-Logic.operator c.in-Logic.negate of c.in-Logic.is)),
     )
 
 pub returns-in-Fact : goal.returns-in-Fact

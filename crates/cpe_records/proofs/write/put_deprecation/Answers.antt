@@ -4,7 +4,7 @@ use Rattle.json.specs.Token.{Token, string, key, begin_object, end_object, begin
 use Rattle.json.specs.Tree.{json_tokens}
 use Rattle.cpe_members.specs.Words.{kind_word}
 use Rattle.cpe_records.specs.Written.{name_json, deprecation_json}
-use Rattle.cpe_records.proofs.Pieces.{two, closed}
+use Rattle.cpe_records.proofs.Pieces.{listed}
 use Rattle.cpe_records.proofs.write.put_deprecation.Goals as goal
 
 pub returns-in_ok-put-in-Some-2 : goal.returns-in_ok-put-in-Some-2
@@ -15,12 +15,9 @@ returns-in_ok-put-in-Some-2 c =
     let named = c.put_names.new.writer.tokens in
     let ended = c.put-in-Some-2.new.writer.tokens in
     let prefix : List Token = begin_object ∷ key (codes "kind") ∷ string (kind_word d.kind) ∷ key (codes "successors") ∷ begin_array ∷ [] in
-    let names : List Token = flat_map (λ n. json_tokens (name_json n)) d.successors in
     let rest : List Token = end_object ∷ [] in
     let first : opened ≡ start ++ prefix = cc (c.in_ok-put-in-Some.ensures.1, c.kind_word.ensures) in
-    let second : named ≡ opened ++ names = cc (c.in_ok-put_names-in-Some.ensures.1, c.as_slice.ensures) in
-    let third : ended ≡ named ++ end_array ∷ rest = c.in_ok-put-in-Some-2.ensures.1 in
-    let all : ended ≡ start ++ (prefix ++ (names ++ end_array ∷ rest)) = two start prefix _ opened ended first (two opened names (end_array ∷ rest) named ended second third) in (
+    let second : named ≡ opened ++ flat_map (λ n. json_tokens (name_json n)) d.successors = cc (c.in_ok-put_names-in-Some.ensures.1, c.as_slice.ensures) in (
       cc (c.in_ok-put-in-Some.ensures.0, c.in_ok-put_names-in-Some.ensures.0, c.in_ok-put-in-Some-2.ensures.0),
-      all ∙ (ap (λ (z : List Token). start ++ (prefix ++ z)) (sym (closed name_json d.successors rest)) ∙ ap (λ o. start ++ json_tokens (deprecation_json o)) (sym c.in-Some.is)),
+      listed name_json d.successors rest start prefix opened named ended first second c.in_ok-put-in-Some-2.ensures.1 ∙ ap (λ o. start ++ json_tokens (deprecation_json o)) (sym c.in-Some.is),
     )

@@ -1,22 +1,20 @@
-use Rattle.std.proofs.Common.{◌≡◌, List, [], ◌∷◌, ◌++◌, codes, ap, sym, ◌∙◌}
+use Rattle.std.proofs.Common.{◌≡◌, List, [], ◌∷◌, ◌++◌, codes}
 use Rattle.std.specs.List.{flat_map}
 use Rattle.json.specs.Token.{Token, string, key, begin_object, end_object, begin_array, end_array}
 use Rattle.json.specs.Tree.{json_tokens}
 use Rattle.cpe_records.specs.Written.{note_json}
-use Rattle.cpe_records.proofs.Pieces.{two, closed}
+use Rattle.cpe_records.proofs.Pieces.{listed}
 use Rattle.cpe_records.proofs.write.put_provenance.Goals as goal
 
 pub returns : goal.returns
 returns c =
-    let start = c.args.writer.now.tokens in
+    let provenance = c.args.provenance.now in
     let opened = c.put.new.writer.tokens in
     let noted = c.put_notes.new.writer.tokens in
     let ended = c.put-2.new.writer.tokens in
-    let prefix : List Token = begin_object ∷ key (codes "authority") ∷ string c.args.provenance.now.authority ∷ key (codes "changes") ∷ begin_array ∷ [] in
-    let notes : List Token = flat_map (λ n. json_tokens (note_json n)) c.args.provenance.now.notes in
-    let rest : List Token = key (codes "submitter") ∷ string c.args.provenance.now.submitter ∷ end_object ∷ [] in
-    let first : opened ≡ start ++ prefix = cc (c.in_ok-put.ensures.1, c.as_str.ensures) in
-    let second : noted ≡ opened ++ notes = cc (c.in_ok-put_notes.ensures.1, c.as_slice.ensures) in
+    let prefix : List Token = begin_object ∷ key (codes "authority") ∷ string provenance.authority ∷ key (codes "changes") ∷ begin_array ∷ [] in
+    let rest : List Token = key (codes "submitter") ∷ string provenance.submitter ∷ end_object ∷ [] in
+    let first : opened ≡ c.args.writer.now.tokens ++ prefix = cc (c.in_ok-put.ensures.1, c.as_str.ensures) in
+    let second : noted ≡ opened ++ flat_map (λ n. json_tokens (note_json n)) provenance.notes = cc (c.in_ok-put_notes.ensures.1, c.as_slice.ensures) in
     let third : ended ≡ noted ++ end_array ∷ rest = cc (c.in_ok-put-2.ensures.1, c.as_str-2.ensures) in
-    let all : ended ≡ start ++ (prefix ++ (notes ++ end_array ∷ rest)) = two start prefix _ opened ended first (two opened notes (end_array ∷ rest) noted ended second third) in
-    (cc (c.in_ok-put.ensures.0, c.in_ok-put_notes.ensures.0, c.in_ok-put-2.ensures.0), all ∙ ap (λ (z : List Token). start ++ (prefix ++ z)) (sym (closed note_json c.args.provenance.now.notes rest)))
+    (cc (c.in_ok-put.ensures.0, c.in_ok-put_notes.ensures.0, c.in_ok-put-2.ensures.0), listed note_json provenance.notes rest c.args.writer.now.tokens prefix opened noted ended first second third)

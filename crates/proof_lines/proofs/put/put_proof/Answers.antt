@@ -7,13 +7,12 @@ use Rattle.proof_lines.proofs.put.put_proof.Goals as goal
 
 pub returns : goal.returns
 returns c =
-    let p = c.args.proof.now in
     let start = c.args.writer.now.tokens in
     let t1 = c.put.new.writer.tokens in
     let t2 = c.put_why.new.writer.tokens in
     let t3 = c.put-2.new.writer.tokens in
-    let opened : List Token = begin_object ∷ key (codes "do") ∷ string (codes "proof") ∷ key (codes "id") ∷ string p.id ∷ key (codes "why") ∷ [] in
-    let why : List Token = json_tokens (why_json p.why) in
+    let opened : List Token = begin_object ∷ key (codes "do") ∷ string (codes "proof") ∷ key (codes "id") ∷ string c.args.proof.now.id ∷ key (codes "why") ∷ [] in
+    let why : List Token = json_tokens (why_json c.args.proof.now.why) in
     let rest : List Token = end_object ∷ [] in
     let h1 : t1 ≡ start ++ opened = cc (c.in_ok-put.ensures.1, c.as_str.ensures) in (
       cc (c.in_ok-put.ensures.0, c.in_ok-put_why.ensures.0, c.in_ok-put-2.ensures.0),

@@ -1,9 +1,9 @@
-use Rattle.std.proofs.Common.{◌<◌, map, not, codes, sym, ap, ◌∙◌, subst, rules}
-use Rattle.serde_json.specs.Data.{depth}
+use Rattle.std.proofs.Common.{map, not, codes, sym, ap, ◌∙◌, subst, rules}
 use Rattle.serde_json.specs.View.{view}
 use Rattle.cpe_members.proofs.AllFrom.{all_from-more, all_from-whole, all_from_fails}
 use Rattle.cpe_members.proofs.Depths.{item_falls}
-use Rattle.proof_lines.specs.Gives.{Fails, Gives, is_out_of_memory}
+use Rattle.cpe_members.specs.FirstFault.{FailsUnless}
+use Rattle.proof_lines.specs.Gives.{Gives, is_out_of_memory}
 use Rattle.proof_lines.specs.Reading.{given_of, logic_in, there}
 use Rattle.proof_lines.proofs.Givens.{has_of, none_there, all_there, child_fails}
 use Rattle.proof_lines.proofs.why.+given_of.Goals as goal
@@ -16,16 +16,14 @@ returns-in_default t c =
 
 pub given_of-requires : goal.given_of-requires
 given_of-requires t c =
-    let smaller : depth (view c.item-item.result) < depth (view c.args.source.now) =
-    item_falls view (codes "of") (view c.args.source.now) c.in-Some.items.now c.loop-item.item-index c.item-item.result c.loop-item-test.true c.item-item.is c.in-Some.ensures in
-    search (rules, smaller)
+    search (rules, item_falls view (codes "of") (view c.args.source.now) c.in-Some.items.now c.loop-item.item-index c.item-item.result c.loop-item-test.true c.item-item.is c.in-Some.ensures)
 
 pub returns-in-Err : goal.returns-in-Err
 returns-in-Err t c =
     let d = view c.args.source.now in
     let has_it = has_of (λ v. view v.now) d c.get.result c.get.ensures (c.is_none.ensures ∙ ap not c.if-is_none.false) in
     let fails = all_from_fails view (λ k. given_of) 1 c.loop-item.item-index c.in-Some.items.now c.item-item.result c.loop-item-test.true
-    is_out_of_memory c.loop-item.of c.in-Err.fault c.loop-item.invariant (subst (λ v. Fails c.in-Err.fault (given_of (view v))) c.item-item.is c.in-Err.ensures) in
+    is_out_of_memory c.loop-item.of c.in-Err.fault c.loop-item.invariant (subst (λ v. FailsUnless is_out_of_memory c.in-Err.fault (given_of (view v))) c.item-item.is c.in-Err.ensures) in
     child_fails d (sym c.is_null.ensures ∙ c.if-is_null.false) has_it (map view c.in-Some.items.now) c.in-Some.ensures c.in-Err.fault fails
 
 pub loop-item-preserved : goal.loop-item-preserved

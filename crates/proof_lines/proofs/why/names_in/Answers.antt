@@ -2,7 +2,8 @@ use Rattle.std.proofs.Common.{◌≡◌, sym, ap, ◌∙◌, subst, get_or}
 use Rattle.std.specs.Prelude.{Ok}
 use Rattle.serde_json.specs.View.{view}
 use Rattle.cpe_members.proofs.AllFrom.{all_from-more, all_from_fails}
-use Rattle.proof_lines.specs.Gives.{Fails, is_out_of_memory}
+use Rattle.cpe_members.specs.FirstFault.{FailsUnless}
+use Rattle.proof_lines.specs.Gives.{is_out_of_memory}
 use Rattle.proof_lines.specs.Reading.{name_in}
 use Rattle.proof_lines.proofs.why.names_in.Goals as goal
 
@@ -19,4 +20,4 @@ pub returns-in-Err : goal.returns-in-Err
 returns-in-Err c =
     all_from_fails view (λ k. name_in) 1 c.loop-source.source-index c.args.sources.now c.source-item.result c.loop-source-test.true
     is_out_of_memory c.loop-source.names c.in-Err.fault c.loop-source.invariant
-    (subst (λ v. Fails c.in-Err.fault (name_in (view v))) c.source-item.is c.in-Err.ensures)
+    (subst (λ v. FailsUnless is_out_of_memory c.in-Err.fault (name_in (view v))) c.source-item.is c.in-Err.ensures)

@@ -7,20 +7,17 @@ use Rattle.cpe_rows.specs.declared.entry.Deprecation.{Deprecation}
 use Rattle.cpe_explain.proofs.Loops.{left_here, left_none, left_next}
 use Rattle.cpe_explain.proofs.rows.PlainRows.deprecation_of.Goals as goal
 
-its_deprecation : Option Entry → Option Deprecation
+abbrev its_deprecation : Option Entry → Option Deprecation
 its_deprecation o = option_map_or (λ (e : Entry). e.deprecation) o None
 
 pub returns-then-is_same : goal.returns-then-is_same
-unfolding its_deprecation
 returns-then-is_same g c =
     ap its_deprecation (sym (left_here (is_named c.args.name.now) (g.Self.PlainRows.rows c.args.self.now).entries c.loop-k.k
     (entry_lent c.in-Some.entry) c.loop-k.invariant (sym c.in-Some.ensures) (sym c.is_same.ensures ∙ c.if-is_same.true)))
 
 pub returns-in-None : goal.returns-in-None
-unfolding its_deprecation
 returns-in-None g c =
-    ap its_deprecation (sym (left_none (is_named c.args.name.now) (g.Self.PlainRows.rows c.args.self.now).entries c.loop-k.k c.loop-k.invariant
-    (sym c.in-None.ensures)))
+    ap its_deprecation (sym (left_none (is_named c.args.name.now) (g.Self.PlainRows.rows c.args.self.now).entries c.loop-k.k c.loop-k.invariant (sym c.in-None.ensures)))
 
 pub loop-k-preserved : goal.loop-k-preserved
 loop-k-preserved g c =

@@ -7,20 +7,17 @@ use Rattle.cpe_rows.specs.declared.truth.Truth.TheVariants.{Unknown}
 use Rattle.cpe_explain.proofs.Loops.{left_here, left_none, left_next}
 use Rattle.cpe_explain.proofs.rows.PlainRows.result_of.Goals as goal
 
-result_of : Option (CheckKey × Truth) → Truth
+abbrev result_of : Option (CheckKey × Truth) → Truth
 result_of o = option_map_or (λ (c : CheckKey × Truth). c.1) o Unknown
 
 pub returns-then-is_key : goal.returns-then-is_key
-unfolding result_of
 returns-then-is_key g c =
     ap result_of (sym (left_here (has_key c.args.key.now) (g.Self.PlainRows.rows c.args.self.now).checks c.loop-k.k (c.in-Some.kept.now, c.in-Some.truth)
     c.loop-k.invariant (sym c.in-Some.ensures) (sym c.is_key.ensures ∙ c.if-is_key.true)))
 
 pub returns-in-None : goal.returns-in-None
-unfolding result_of
 returns-in-None g c =
-    ap result_of (sym (left_none (has_key c.args.key.now) (g.Self.PlainRows.rows c.args.self.now).checks c.loop-k.k c.loop-k.invariant
-    (sym c.in-None.ensures)))
+    ap result_of (sym (left_none (has_key c.args.key.now) (g.Self.PlainRows.rows c.args.self.now).checks c.loop-k.k c.loop-k.invariant (sym c.in-None.ensures)))
 
 pub loop-k-preserved : goal.loop-k-preserved
 loop-k-preserved g c =

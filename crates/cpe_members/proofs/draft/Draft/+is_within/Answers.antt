@@ -1,25 +1,17 @@
-use Rattle.std.proofs.Common.{true, false, take_all, ◌≡◌, ◌-◌, List, map, take, get_or, nat_le}
+use Rattle.std.proofs.Common.{take_all, ◌-◌, List, map, take, get_or}
 use Rattle.std.proofs.lemmas.List.{map_more}
 use Rattle.cpe_rows.specs.Shape.{largest}
 use Rattle.cpe_members.specs.Tests.{draft_depth}
 use Rattle.cpe_members.specs.declared.draft.Draft.{Draft}
-use Rattle.cpe_rows.proofs.Within.{within-snoc, and_true, and_false, suc_within}
+use Rattle.cpe_rows.proofs.Within.{within-snoc, suc_within}
 use Rattle.cpe_members.proofs.DraftDepth.{draft_depth-logic}
 use Rattle.cpe_members.proofs.draft.Draft.+is_within.Goals as goal
-use Rattle.cpe_members.proofs.draft.Draft.+is_within.Goals.{then-within, else-within}
 
 pub loop-child-preserved : goal.loop-child-preserved
 loop-child-preserved t c =
     let items : List Draft = c.as_slice-child-items.result.now in
     let i = c.loop-child.child-index in
-    let more = map_more draft_depth items i c.child-item.result c.loop-child-test.true in
-    let snoc = within-snoc (map draft_depth (take i items)) (draft_depth (get_or items i c.child-item.result)) (c.args.limit - 1) in
-    let so_far = nat_le (largest (map draft_depth (take i items))) (c.args.limit - 1) in
-    let here = nat_le (draft_depth (get_or items i c.child-item.result)) (c.args.limit - 1) in
-    elim c.if-within.branch [
-      | then-within w ↦ (let ok : so_far ≡ true = cc in cc (more, snoc, and_true so_far here ok))
-      | else-within w ↦ (let no : so_far ≡ false = cc in cc (more, snoc, and_false so_far here no))
-    ]
+    cc (map_more draft_depth items i c.child-item.result c.loop-child-test.true, within-snoc (map draft_depth (take i items)) (draft_depth (get_or items i c.child-item.result)) (c.args.limit - 1))
 
 pub returns-after-loop-child : goal.returns-after-loop-child
 returns-after-loop-child t c =
