@@ -15,13 +15,8 @@ use Rattle.cpe_replies.specs.Replies.{verdict_table}
 -- how many rows there are of each kind, a line each
 abbrev pub counts_text : Counts → List ℕ
 counts_text counts =
-    flat_map (λ (line : List ℕ × ℕ). number_line line.0 line.1) (
-    (codes "entries", counts.entries)
-    ∷ (codes "deprecated", counts.deprecated)
-    ∷ (codes "items", counts.items)
-    ∷ (codes "statements", counts.statements)
-    ∷ (codes "checks", counts.checks)
-    ∷ [])
+    flat_map (λ (line : List ℕ × ℕ). number_line line.0 line.1)
+    ((codes "entries", counts.entries) ∷ (codes "deprecated", counts.deprecated) ∷ (codes "items", counts.items) ∷ (codes "statements", counts.statements) ∷ (codes "checks", counts.checks) ∷ [])
 
 -- then the table of verdicts
 abbrev pub state_text : Rows → List ℕ

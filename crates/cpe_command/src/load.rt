@@ -1,12 +1,7 @@
 // A whole input that is read as a snapshot.
-ghost use Rattle.std.specs.Prelude.{◌≡◌, ◌++◌, ◌<◌, ℕ, List, OnOk, IfOk, IfErr};
-ghost use Rattle.std.specs.List.{flat_map};
-ghost use Rattle.std.specs.declared.option.Option.{Option};
-ghost use Rattle.cpe_io.specs.Causes.{HasSinkCause};
-ghost use Rattle.cpe_io.specs.Writes.{AppendsPrefix};
-ghost use Rattle.cpe_session.specs.Pages.{Pours};
+ghost use Rattle.std.specs.Prelude.{◌≡◌, ◌++◌, ◌<◌, ℕ, List, OnOk, IfOk, IfErr, flat_map, Option};
+ghost use Rattle.cpe_session.specs.Prelude.{AppendsPrefix, Fixed, HasSinkCause, Pours};
 ghost use Rattle.cpe_session.specs.Ran.{Ran, Anything, Counted};
-ghost use Rattle.cpe_session.specs.Task.{Fixed};
 ghost use Rattle.cpe_snapshot.specs.States.{Snap, most_bytes};
 ghost use Rattle.cpe_drill.specs.Summary.{number_line};
 ghost use Rattle.cpe_command.specs.Loading.{counts_text, IsNoSnapshot, load_says, LoadLeaves, refusal_told, state_text, state_told};

@@ -1,10 +1,8 @@
 // What a line of a source and a target says.
-ghost use Rattle.std.specs.Prelude.{◌≡◌, ◌≤◌, ◌+◌, ◌*◌, ◌∷◌, ◌++◌, Ok, IfOk, OnOk, codes, drop, length, take, true};
-ghost use Rattle.std.specs.List.{flat_map};
+ghost use Rattle.std.specs.Prelude.{◌≡◌, ◌≤◌, ◌+◌, ◌*◌, ◌∷◌, ◌++◌, Ok, IfOk, OnOk, codes, drop, length, take, true, flat_map};
 ghost use Rattle.cpe_io.specs.Halves.{halves};
 ghost use Rattle.cpe_session.specs.Pages.{Puts};
-ghost use Rattle.cpe_name.specs.Names.{attributes};
-ghost use Rattle.cpe_name.specs.Borrowed.{name_lent};
+ghost use Rattle.cpe_name.specs.Prelude.{attributes, name_lent};
 ghost use Rattle.cpe_uri.specs.EitherBinding.{IsUriOrFs, read_any};
 ghost use Rattle.cpe_relation.specs.NameRelation.{relation_of};
 ghost use Rattle.cpe_command.specs.Pairs.{relation_text, relation_line, to_target, from_source, compared, pair_reason_text};

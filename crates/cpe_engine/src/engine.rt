@@ -1,10 +1,8 @@
 // The engine, its edits and its answers.
-ghost use Rattle.std.specs.Prelude.{◌≡◌, ◌+◌, ◌≤◌, IfOk, length, map, position, slice_get, true};
+ghost use Rattle.std.specs.Prelude.{◌≡◌, ◌+◌, ◌≤◌, IfOk, length, map, position, slice_get, true, option_map};
 ghost use Rattle.std.specs.List.{filter_map, list_any};
-ghost use Rattle.std.specs.Option.{option_map};
-ghost use Rattle.cpe_rows.specs.Prelude.{answer, Applied, chain, changes, has_key, is_named, is_valid_edit, IsLawful, no_rows, verdict};
+ghost use Rattle.cpe_rows.specs.Prelude.{answer, Applied, chain, changes, has_key, is_lower, is_named, is_valid_edit, IsLawful, no_rows, verdict};
 ghost use Rattle.cpe_rows.specs.Counts.{counts_of};
-ghost use Rattle.cpe_rows.specs.Names.{is_lower};
 ghost use Rattle.cpe_rows.specs.Valid.{is_valid_query};
 ghost use Rattle.cpe_rows.specs.Weight.{weight};
 ghost use Rattle.cpe_rows.specs.Lent.{entry_lent};

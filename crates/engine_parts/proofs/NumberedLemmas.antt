@@ -1,10 +1,13 @@
 -- The names that come with an edit, and why a change of a deprecation is refused, whatever becomes of the deprecation.
-use Rattle.std.proofs.Common.{◌≡◌, ℕ, List, Some, refl}
+use Rattle.std.proofs.Common.{◌≡◌, ℕ, Bool, List, Option, Some, refl, sym, ap, ◌∙◌}
 use Rattle.name_index.specs.Table.{Names}
 use Rattle.cpe_registry.specs.Registered.{AreLive}
 use Rattle.cpe_name.specs.Eleven.{Values}
 use Rattle.cpe_rows.specs.Causes.{causes}
 use Rattle.cpe_rows.specs.Rows.{Rows}
+use Rattle.cpe_rows.specs.Step.{first_some}
+use Rattle.cpe_rows.specs.declared.entry.Deprecation.{Deprecation}
+use Rattle.cpe_rows.specs.declared.entry.Entry.{Entry}
 use Rattle.cpe_dictionary.specs.Causes.{change_causes}
 use Rattle.engine_parts.specs.Numbered.{coming, given, is_first, IsFound, note_of, turned}
 use Rattle.engine_parts.specs.declared.numbered.Numbered.{Numbered}
@@ -28,3 +31,9 @@ module _ (rows : Rows) (n : Values) (date comment : List ℕ) where
   causes_turned (Give d) = refl
   causes_turned (Replace d) = refl
   causes_turned TakeAway = refl
+
+  -- and so its first cause, by what is at hand of the dictionary and of the change
+  pub first_cause : (t : Turn) {es : List Entry} {name : Values} {first : Bool} {d : Option Deprecation} → es ≡ rows.entries → name ≡ n → first ≡ is_first t → d ≡ given t
+      → first_some (change_causes es name first d (Some (note_of t date comment))) ≡ first_some (causes rows (turned n t date comment))
+  first_cause t entries named is_it gives =
+      (λ i. first_some (change_causes (entries i) (named i) (is_it i) (gives i) (Some (note_of t date comment)))) ∙ ap first_some (sym (causes_turned t))

@@ -4,3 +4,4 @@ pub mod Holding
 pub mod Planned
 pub mod Checked
 pub mod Moved
+pub mod Prelude

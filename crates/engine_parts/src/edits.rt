@@ -55,7 +55,7 @@ impl Parts {
     {
         match edit {
             Edit::Entry(entry) => Ok(self.number_entry(entry)?),
-            Edit::Item(name) => Ok(self.number_item(name)?),
+            Edit::Item(name) => Ok(Numbered::Item(self.hold_name(name)?)),
             Edit::DropItem(name) => self.number_dropped_item(name),
             Edit::Deprecate {
                 name,

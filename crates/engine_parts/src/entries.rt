@@ -37,18 +37,13 @@ impl Parts {
         ensures are { IfOk result (λ n. AreOf self.new.registry self.new.verdicts (rows_in self.old) (names_coming self.new.registry.table n)) }
         ensures err { OnErr result (AreOf self.new.registry self.new.verdicts (rows_in self.old) []) }
     {
-        cpe_rows::law::names_are_equal();
-        numbered_names::law::lists_are_shown();
-        numbered_names::law::tables_are_lists();
-        kept_verdicts::law::verdicts_stand();
-        asked_names::law::lawful_rows_ask_few();
         let Entry {
             name,
             title,
             provenance,
             deprecation: _,
         } = entry;
-        match self.registry.hold_moved(name) {
+        match self.hold_name(name) {
             Ok(id) => Ok(Numbered::Entry {
                 id,
                 title,

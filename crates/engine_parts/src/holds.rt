@@ -1,8 +1,6 @@
 // Names that are held for the fact references of a statement, and let go.
 ghost use Rattle.std.specs.Prelude.{◌≡◌, ◌≤◌, ◌+◌, ◌∷◌, ◌++◌, [], ℕ, List, OnOk, length, true, vec_capacity, vec_len};
-ghost use Rattle.cpe_name.specs.Eleven.{Values};
-ghost use Rattle.cpe_rows.specs.Names.{is_lower};
-ghost use Rattle.cpe_rows.specs.Prelude.{fact_names, Rows};
+ghost use Rattle.cpe_rows.specs.Prelude.{fact_names, is_lower, Rows, Values};
 ghost use Rattle.cpe_rows.specs.Shape.{is_sound};
 ghost use Rattle.name_index.specs.Table.{IsLive};
 ghost use Rattle.numbered_names.specs.Shown.{names_at};

@@ -1,7 +1,9 @@
 // Items that come and go get their numbers.
-ghost use Rattle.std.specs.Prelude.{◌≡◌, [], IfErr, IfOk, OnErr, true};
-ghost use Rattle.cpe_rows.specs.Prelude.{causes, first_some, is_valid_edit, IsCause};
+ghost use Rattle.std.specs.Prelude.{◌≡◌, ◌∷◌, [], IfErr, IfOk, OnErr, true};
+ghost use Rattle.cpe_rows.specs.Prelude.{causes, first_some, is_lower, IsCause};
 ghost use Rattle.cpe_rows.specs.declared.edit.Edit.TheVariants as edit;
+ghost use Rattle.name_index.specs.Table.{IsLive};
+ghost use Rattle.cpe_registry.specs.Registered.{name_in};
 ghost use Rattle.engine_parts.specs.Numbered.{IsFound, names_coming};
 ghost use Rattle.engine_parts.specs.Parts.{AreKept, AreOf, edit_in, rows_in};
 
@@ -10,21 +12,22 @@ use crate::parts::Parts;
 use cpe_name::Wfn;
 use cpe_rows::EditFault;
 use cpe_values::Memory;
+use name_index::NameId;
 
 impl Parts {
-    /// An item that comes: its name is held.
+    /// Holds the name of an entry or an item that comes.
     ///
     /// # Errors
     /// Only that memory ran out; all is then as it was.
-    pub(crate) fn number_item(&mut self, name: Wfn) -> Result<Numbered, Memory>
+    pub(crate) fn hold_name(&mut self, name: Wfn) -> Result<NameId, Memory>
         requires kept { AreKept self.old }
-        requires valid { is_valid_edit (edit.Item name) ≡ true }
+        requires lower { is_lower name ≡ true }
         ensures rows { rows_in self.new ≡ rows_in self.old }
         ensures verdicts { self.new.verdicts ≡ self.old.verdicts }
         ensures weight { self.new.weight ≡ self.old.weight }
-        ensures edit { IfOk result (λ n. edit_in self.new n ≡ edit.Item name) }
-        ensures found { IfOk result (IsFound self.new.registry.table) }
-        ensures are { IfOk result (λ n. AreOf self.new.registry self.new.verdicts (rows_in self.old) (names_coming self.new.registry.table n)) }
+        ensures live { IfOk result (λ id. IsLive self.new.registry.table id.0) }
+        ensures named { IfOk result (λ id. name_in self.new.registry.table id ≡ name) }
+        ensures are { IfOk result (λ id. AreOf self.new.registry self.new.verdicts (rows_in self.old) (name_in self.new.registry.table id ∷ [])) }
         ensures err { OnErr result (AreOf self.new.registry self.new.verdicts (rows_in self.old) []) }
     {
         cpe_rows::law::names_are_equal();
@@ -33,7 +36,7 @@ impl Parts {
         kept_verdicts::law::verdicts_stand();
         asked_names::law::lawful_rows_ask_few();
         let id = self.registry.hold_moved(name)?;
-        Ok(Numbered::Item(id))
+        Ok(id)
     }
 
     /// An item that goes, by its name, which is let go.

@@ -1,6 +1,5 @@
 // Edits whose names are numbers of the engine's table.
-ghost use Rattle.std.specs.Prelude.{◌≡◌};
-ghost use Rattle.std.specs.Option.{option_copied};
+ghost use Rattle.std.specs.Prelude.{◌≡◌, option_copied};
 ghost use Rattle.engine_parts.specs.Numbered.{coming, given, is_first, note_kind, note_of, numbers_of};
 
 use cpe_rows::{CheckKey, Date, Deprecation, Note, NoteKind, Provenance, Statement, Text, Truth};

@@ -1,6 +1,7 @@
 -- What an edit that was applied says, and one that was refused.
-use Rattle.std.proofs.Common.{◌≡◌, List, Option, Some, None, refl, sym, subst, ◌∙◌}
-use Rattle.std.specs.Prelude.{IfErr, Result, Ok, Err}
+use Rattle.std.proofs.Common.{◌≡◌, List, ◌∷◌, Option, Some, None, refl, sym, ap, subst, ◌∙◌}
+use Rattle.std.specs.Prelude.{IfErr, IsErrAnd, Result, Ok, Err}
+use Rattle.std.proofs.lemmas.Result.{err_from_is_err_and}
 use Rattle.cpe_rows.specs.After.{after}
 use Rattle.cpe_rows.specs.Applied.{Refuses}
 use Rattle.cpe_rows.specs.Faults.{faults}
@@ -59,5 +60,12 @@ unless_memory (fault.Full w) other = refl
 unless_memory fault.Memory other = absurd (other refl)
 
 -- a refusal that is handed on
-pub refused_with : {T E : Type 0} (r : Result T E) (e : E) (Q : E → Type 0) → r ≡ Err e → Q e → IfErr r Q
-refused_with r e Q is q = subst (λ s. IfErr s Q) (sym is) q
+pub handed_on : {T E : Type 0} (r : Result T E) (e : E) (Q : E → Type 0) → IsErrAnd r (λ f. f ≡ e) → Q e → IfErr r Q
+handed_on r e Q is q =
+    let p = err_from_is_err_and r is in
+    subst (λ s. IfErr s Q) (sym (p.1 ∙ ap Err p.2)) q
+
+-- where rows are put one after the other, and the next is not taken, what is to come of all of them does not fit
+pub not_taken : {A : Type 0} (put : Rows → List A → Rows) (Fits : Rows → Type 0) (rows : Rows) {target : Rows} {x : A} {all rest : List A} {Taken : Type 0}
+    → put rows all ≡ target → all ≡ x ∷ rest → (Fits (put rows (x ∷ rest)) → Taken) → (Taken → ⊥) → Fits target → ⊥
+not_taken put Fits rows so_far is taken none fit = none (taken (subst Fits (sym (ap (put rows) (sym is) ∙ so_far)) fit))

@@ -1,7 +1,6 @@
 mod PartLemmas
 mod Taken
 mod RowLemmas
-mod LoopLemmas
 mod EditLemmas
 mod MeantLemmas
 mod RunLemmas

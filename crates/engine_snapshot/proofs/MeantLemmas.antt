@@ -91,10 +91,7 @@ meant_once es [] [] (f ∷ fs) a b = absurd b
 meant_once es [] (d ∷ ds) fs a b = absurd a
 meant_once es (o ∷ os) [] fs a b = absurd a
 meant_once es (o ∷ os) (d ∷ ds) [] a b = absurd b
-meant_once es (o ∷ os) (d ∷ ds) (f ∷ fs) a b =
-    let first = deprecation_once es o d f a.0 b.0 in
-    let others = meant_once es os ds fs a.1 b.1 in
-    λ i. first i ∷ others i
+meant_once es (o ∷ os) (d ∷ ds) (f ∷ fs) a b = λ i. deprecation_once es o d f a.0 b.0 i ∷ meant_once es os ds fs a.1 b.1 i
 
 -- ---- none at all
 

@@ -22,6 +22,10 @@ use Rattle.cpe_rows.proofs.Limited.{AreFewer, still_within}
 
 -- ---- lists
 
+pub nothing_left : {A : Type 0} (xs : List A) (n : ℕ) → n ≡ length xs → n ≡ 0 → xs ≡ []
+nothing_left [] n many none = refl
+nothing_left (x ∷ xs) n many none = absurd (omega (arith, many, none))
+
 module _ {A : Type 0} where
   pub none_prefix : (p : A → Bool) (xs ys : List A) → list_any p (xs ++ ys) ≡ false → list_any p xs ≡ false
   none_prefix p xs ys h = (or_parts (list_any p xs) (list_any p ys) (sym (list_any-append p xs ys) ∙ h)).0

@@ -78,10 +78,10 @@ module _ {A : Type 0} (put : Rows → List A → Rows) (no_more : (rows : Rows) 
   abbrev pub starts : (rows : Rows) (total rest : Option (List A × List ℕ)) → rest ≡ total → ArePutSoFar put total rest rows rows
   starts rows total rest all = record { rows = []; so_far = with_none rest ∙ all; are_put = sym (no_more rows) }
 
-module _ {A : Type 0} (read : List ℕ → Option (A × List ℕ)) (put : Rows → List A → Rows) (more_of : (rows : Rows) (xs ys : List A) → put (put rows xs) ys ≡ put rows (xs ++ ys))
-    (total : Option (List A × List ℕ)) (old now : Rows) (count i : ℕ) (bytes : List ℕ) (so_far : ArePutSoFar put total (many read (count - i) bytes) old now) where
-  abbrev pub steps : (next : Rows) (x : A) (after : List ℕ) → i < count → read bytes ≡ Some (x, after) → next ≡ put now (x ∷ []) → ArePutSoFar put total (many read (count - (i + 1)) after) old next
-  steps next x after below is put_is = record {
+module _ {A : Type 0} (read : List ℕ → Option (A × List ℕ)) {put : Rows → List A → Rows} (more_of : (rows : Rows) (xs ys : List A) → put (put rows xs) ys ≡ put rows (xs ++ ys))
+    {total : Option (List A × List ℕ)} {old now : Rows} (count i : ℕ) (bytes : List ℕ) (so_far : ArePutSoFar put total (many read (count - i) bytes) old now) where
+  abbrev pub steps : {next : Rows} {x : A} {after : List ℕ} → i < count → read bytes ≡ Some (x, after) → next ≡ put now (x ∷ []) → ArePutSoFar put total (many read (count - (i + 1)) after) old next
+  steps {x = x} {after = after} below is put_is = record {
     rows = so_far.rows ++ x ∷ [];
     so_far = goes_on read so_far.rows count i bytes x after total below is so_far.so_far;
     are_put = put_is ∙ ap (λ r. put r (x ∷ [])) so_far.are_put ∙ more_of old so_far.rows (x ∷ []);
@@ -90,13 +90,13 @@ module _ {A : Type 0} (read : List ℕ → Option (A × List ℕ)) (put : Rows �
   abbrev pub are_done : count ≤ i → ArePut put total bytes old now
   are_done past = record { rows = so_far.rows; are_read = is_done read so_far.rows count i bytes total past so_far.so_far; are_put = so_far.are_put }
 
-  pub unread : (Fits : Rows → Type 0) (f : LoadFault) (left : List ℕ) → i < count → Took (Err f) left (read bytes) → NonePut put Fits total old f
-  unread Fits f left below took is xs end found fit =
+  pub unread : (Fits : Rows → Type 0) {f : LoadFault} (left : List ℕ) → i < count → Took (Err f) left (read bytes) → NonePut put Fits total old f
+  unread Fits {f = f} left below took is xs end found fit =
       let none = took_none f left total is (ends read f so_far.rows count i bytes left left total below took so_far.so_far) in
       nothing_some (xs, end) (sym none ∙ found)
 
-  pub unput : (Fits : Rows → Type 0) (f : LoadFault) (x : A) (after : List ℕ) → i < count → read bytes ≡ Some (x, after) → NotAfter put Fits now x f → NonePut put Fits total old f
-  unput Fits f x after below here not_after is xs end found fit =
+  pub unput : (Fits : Rows → Type 0) {f : LoadFault} {x : A} {after : List ℕ} → i < count → read bytes ≡ Some (x, after) → NotAfter put Fits now x f → NonePut put Fits total old f
+  unput Fits {x = x} {after = after} below here not_after is xs end found fit =
       let prefix : List A = so_far.rows ++ x ∷ [] in
       let next = goes_on read so_far.rows count i bytes x after total below here so_far.so_far in
       let b = behind prefix (many read (count - (i + 1)) after) xs end (next ∙ found) in

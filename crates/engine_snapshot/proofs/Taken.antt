@@ -42,9 +42,6 @@ regroup xs x ys = sym (append_assoc xs (x ∷ []) ys)
 
 -- ---- entries
 
-pub entries_on : (rows : Rows) (e : Entry) (more : List Entry) → with_entries rows (e ∷ more) ≡ with_entries (after rows (edit.Entry e)) more
-entries_on rows e more = ap (λ (es : List Entry). record rows { entries = es }) (regroup rows.entries e more)
-
 module _ (rows : Rows) (e : Entry) (more : List Entry) (active : e.deprecation ≡ None) (fine : AreFine (with_entries rows (e ∷ more))) where
   abbrev all_entries : Rows
   all_entries = with_entries rows (e ∷ more)
@@ -84,61 +81,55 @@ module _ (rows : Rows) (e : Entry) (more : List Entry) (active : e.deprecation �
     taken = light_accepted rows (edit.Entry e) within_before no_cause (light next_entries within_after);
   }
 
--- ---- items
-
-pub items_on : (rows : Rows) (n : Values) (more : List Values) → with_items rows (n ∷ more) ≡ with_items (after rows (edit.Item n)) more
-items_on rows n more = ap (λ (ns : List Values). record rows { items = ns }) (regroup rows.items n more)
+-- ---- rows of lawful rows are lawful before the last of a kind
 
 pub lawful_before_items : (rows : Rows) (ns : List Values) → IsLawful (with_items rows ns) → IsLawful rows
 lawful_before_items rows ns h =
     lawful_part rows (with_items rows ns) (record { entries = all_of_it rows.entries; items = (ns, refl); statements = all_of_it rows.statements; checks = all_of_it rows.checks }) refl h
 
-module _ (rows : Rows) (n : Values) (more : List Values) (h : IsLawful (with_items rows (n ∷ more))) where
-  abbrev next_items : Rows
-  next_items = after rows (edit.Item n)
+pub lawful_before_statements : (rows : Rows) (ss : List Statement) → IsLawful (with_statements rows ss) → IsLawful rows
+lawful_before_statements rows ss h =
+    lawful_part rows (with_statements rows ss) (record { entries = all_of_it rows.entries; items = all_of_it rows.items; statements = (ss, refl); checks = all_of_it rows.checks }) refl h
 
-  lawful_items : IsLawful next_items
-  lawful_items = lawful_before_items next_items more (subst IsLawful (items_on rows n more) h)
+pub lawful_before_checks : (rows : Rows) (cs : List (CheckKey × Truth)) → IsLawful (with_checks rows cs) → IsLawful rows
+lawful_before_checks rows cs h =
+    lawful_part rows (with_checks rows cs) (record { entries = all_of_it rows.entries; items = all_of_it rows.items; statements = all_of_it rows.statements; checks = (cs, refl) }) refl h
+
+-- ---- items
+
+module _ (rows : Rows) (n : Values) (more : List Values) (h : IsLawful (with_items rows (n ∷ more))) where
+  lawful_items : IsLawful (after rows (edit.Item n))
+  lawful_items = lawful_before_items (after rows (edit.Item n)) more (subst IsLawful (ap (λ (ns : List Values). record rows { items = ns }) (regroup rows.items n more)) h)
 
   pub item_taken : IsTaken rows (edit.Item n)
   item_taken =
       let new = apart_before is_same not_same rows.items n more h.items_differ in
-      let few = no_more (most limit.Items) rows.items n (each_within next_items lawful_items.within limit.Items) in
+      let few = no_more (most limit.Items) rows.items n (each_within (after rows (edit.Item n)) lawful_items.within limit.Items) in
       record {
         valid = all_middle is_lower rows.items n more h.item_names;
         taken =
             light_accepted rows (edit.Item n) (lawful_before_items rows (n ∷ more) h).within
             (λ i. first_some (when (new i) fault.Exists ∷ when (few i) (fault.Full limit.Items) ∷ []))
-            (light next_items lawful_items.within);
+            (light (after rows (edit.Item n)) lawful_items.within);
       }
 
 -- ---- statements
 
-pub statements_on : (rows : Rows) (s : Statement) (more : List Statement) → with_statements rows (s ∷ more) ≡ with_statements (after rows (edit.PutStatement s)) more
-statements_on rows s more = ap (λ (ss : List Statement). record rows { statements = ss }) (regroup rows.statements s more)
-
-pub lawful_before_statements : (rows : Rows) (ss : List Statement) → IsLawful (with_statements rows ss) → IsLawful rows
-lawful_before_statements rows ss h =
-    lawful_part rows (with_statements rows ss) (record { entries = all_of_it rows.entries; items = all_of_it rows.items; statements = (ss, refl); checks = all_of_it rows.checks }) refl h
-
 module _ (rows : Rows) (s : Statement) (more : List Statement) (h : IsLawful (with_statements rows (s ∷ more))) where
-  abbrev next_statements : Rows
-  next_statements = after rows (edit.PutStatement s)
-
-  lawful_statements : IsLawful next_statements
-  lawful_statements = lawful_before_statements next_statements more (subst IsLawful (statements_on rows s more) h)
+  lawful_statements : IsLawful (after rows (edit.PutStatement s))
+  lawful_statements = lawful_before_statements (after rows (edit.PutStatement s)) more (subst IsLawful (ap (λ (ss : List Statement). record rows { statements = ss }) (regroup rows.statements s more)) h)
 
   pub statement_taken : IsTaken rows (edit.PutStatement s)
   statement_taken =
       let new = apart_before (λ (x : Statement). has_id x.id) (λ a b. other_bytes b.id a.id) rows.statements s more h.ids_differ in
-      let few = no_more (most limit.Statements) rows.statements s (each_within next_statements lawful_statements.within limit.Statements) in
-      let facts = each_within next_statements lawful_statements.within limit.Facts in
+      let few = no_more (most limit.Statements) rows.statements s (each_within (after rows (edit.PutStatement s)) lawful_statements.within limit.Statements) in
+      let facts = each_within (after rows (edit.PutStatement s)) lawful_statements.within limit.Facts in
       record {
         valid = all_middle is_lawful_statement rows.statements s more h.lawful_statements;
         taken =
             light_accepted rows (edit.PutStatement s) (lawful_before_statements rows (s ∷ more) h).within
             (λ i. first_some (when (new i) fault.Exists ∷ when (few i) (fault.Full limit.Statements) ∷ when (facts i) (fault.Full limit.Facts) ∷ []))
-            (light next_statements lawful_statements.within);
+            (light (after rows (edit.PutStatement s)) lawful_statements.within);
       }
 
 -- ---- results
@@ -155,10 +146,6 @@ check_put rows k t new = ap (λ (cs : List (CheckKey × Truth)). record rows { c
 
 pub checks_on : (rows : Rows) (c : CheckKey × Truth) (more : List (CheckKey × Truth)) → with_checks rows (c ∷ more) ≡ with_checks (with_checks rows (c ∷ [])) more
 checks_on rows c more = ap (λ (cs : List (CheckKey × Truth)). record rows { checks = cs }) (regroup rows.checks c more)
-
-pub lawful_before_checks : (rows : Rows) (cs : List (CheckKey × Truth)) → IsLawful (with_checks rows cs) → IsLawful rows
-lawful_before_checks rows cs h =
-    lawful_part rows (with_checks rows cs) (record { entries = all_of_it rows.entries; items = all_of_it rows.items; statements = all_of_it rows.statements; checks = (cs, refl) }) refl h
 
 module _ (rows : Rows) (k : CheckKey) (t : Truth) (more : List (CheckKey × Truth)) (h : IsLawful (with_checks rows ((k, t) ∷ more))) where
   pub new_key : list_any (has_key k) rows.checks ≡ false

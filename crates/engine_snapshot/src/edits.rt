@@ -10,16 +10,16 @@ ghost use Rattle.engine_snapshot.specs.Begun.{adopt_fault, AreFine, IsTaken, wit
 
 use cpe_engine::{AdoptFault, Engine};
 use cpe_name::Wfn;
-use cpe_rows::{CheckKey, Edit, EditFault, Entry, List, Statement};
+use cpe_rows::{Edit, EditFault, Entry, List, Statement};
 use cpe_snapshot::KeptResult;
 use cpe_steps::Steps;
 use std::sync::ledger::Ledger;
 
-// Lets an edit go that isn't in order.
-fn refuse(edit: Edit) -> AdoptFault
+// Lets an edit go that isn't in order, or a key for which a result is kept already.
+fn refuse<T: Drop>(refused: T) -> AdoptFault
     ensures { result ≡ AdoptFault.Unlawful }
 {
-    drop(edit);
+    drop(refused);
     AdoptFault::Unlawful
 }
 
@@ -116,14 +116,6 @@ pub(crate) fn add_statements<L: Ledger>(
     Ok(())
 }
 
-// Lets a key go for which a result is kept already.
-fn refuse_key(key: CheckKey) -> AdoptFault
-    ensures { result ≡ AdoptFault.Unlawful }
-{
-    drop(key);
-    AdoptFault::Unlawful
-}
-
 // Puts this result last, of a key for which none is kept.
 pub(crate) fn add_check<L: Ledger>(
     engine: &mut Engine,
@@ -135,7 +127,7 @@ pub(crate) fn add_check<L: Ledger>(
 {
     let KeptResult { key, result } = kept;
     if engine.has_check(&key) {
-        return Err(refuse_key(key));
+        return Err(refuse(key));
     }
     make(engine, Edit::SetCheck { key, result }, steps)
 }

@@ -1,15 +1,15 @@
 // The deprecations that are meant by places of entries, once an engine has these entries as active ones.
 ghost use Rattle.std.specs.Prelude.{◌≡◌, IfErr, IfOk, List as Items, None, Option as Perhaps, Some, length, map};
-ghost use Rattle.cpe_name.specs.Eleven.{Values};
-ghost use Rattle.cpe_rows.specs.Prelude.{IsLawful};
+ghost use Rattle.cpe_rows.specs.Prelude.{IsLawful, Values};
 ghost use Rattle.cpe_rows.specs.declared.entry.Deprecation.{Deprecation as DeprecationRow};
 ghost use Rattle.cpe_engine.specs.Adopting.{IsBare, with_deprecations};
 ghost use Rattle.cpe_snapshot.specs.States.{AreNamed, IsMeantDeprecation};
 ghost use Rattle.engine_snapshot.specs.Meant.{AreGiven, AreMeantDeprecations, name_in, undeprecated};
 
 use crate::boxed::BoxedDeprecation;
+use crate::puts::load_fault;
 use crate::runs::PlacedDeprecations;
-use cpe_engine::{AdoptFault, Engine};
+use cpe_engine::Engine;
 use cpe_name::Wfn;
 use cpe_rows::{Deprecation, List};
 use cpe_snapshot::{LoadFault, PlacedDeprecation};
@@ -141,8 +141,7 @@ fn deprecate_all(
 {
     match engine.deprecate_all(deprecations) {
         Ok(engine) => Ok(engine),
-        Err(AdoptFault::Unlawful) => Err(LoadFault::NotSnapshot),
-        Err(AdoptFault::Memory) => Err(LoadFault::Memory),
+        Err(fault) => Err(load_fault(fault)),
     }
 }
 

@@ -1,7 +1,6 @@
 // Rows that an engine puts as they are read, one at a time.
 ghost use Rattle.std.specs.Prelude.{◌≡◌, ◌++◌, ◌∷◌, [], IfErr, OnOk, true};
-ghost use Rattle.cpe_rows.specs.Prelude.{after, is_valid_edit, IsLawful};
-ghost use Rattle.cpe_rows.specs.Names.{is_lower};
+ghost use Rattle.cpe_rows.specs.Prelude.{after, is_lower, is_valid_edit, IsLawful};
 ghost use Rattle.engine_snapshot.specs.Begun.{AreFine, IsTaken, with_items, with_statements};
 ghost use Rattle.engine_snapshot.specs.Read.{NotAfter, with_placed, with_results};
 
@@ -15,6 +14,16 @@ use cpe_steps::Steps;
 use std::alloc::Global;
 use std::sync::ledger::Ledger;
 
+/// What a fault is of that rows have which are read.
+pub(crate) fn load_fault(fault: AdoptFault) -> LoadFault
+    ensures { result ≡ LoadFault.NotSnapshot → fault ≡ AdoptFault.Unlawful }
+{
+    match fault {
+        AdoptFault::Unlawful => LoadFault::NotSnapshot,
+        AdoptFault::Memory => LoadFault::Memory,
+    }
+}
+
 // Makes an edit that is in order.
 fn put<L: Ledger>(engine: &mut Engine, edit: Edit, steps: &mut Steps<L>) -> Result<(), LoadFault>
     requires { is_valid_edit edit ≡ true }
@@ -23,8 +32,7 @@ fn put<L: Ledger>(engine: &mut Engine, edit: Edit, steps: &mut Steps<L>) -> Resu
 {
     match make_valid(engine, edit, steps) {
         Ok(()) => Ok(()),
-        Err(AdoptFault::Unlawful) => Err(LoadFault::NotSnapshot),
-        Err(AdoptFault::Memory) => Err(LoadFault::Memory),
+        Err(fault) => Err(load_fault(fault)),
     }
 }
 
@@ -95,8 +103,7 @@ pub(crate) fn put_statement<L: Ledger>(
 {
     match make(engine, Edit::PutStatement(statement), steps) {
         Ok(()) => Ok(()),
-        Err(AdoptFault::Unlawful) => Err(LoadFault::NotSnapshot),
-        Err(AdoptFault::Memory) => Err(LoadFault::Memory),
+        Err(fault) => Err(load_fault(fault)),
     }
 }
 
@@ -111,7 +118,6 @@ pub(crate) fn put_result<L: Ledger>(
 {
     match add_check(engine, kept, steps) {
         Ok(()) => Ok(()),
-        Err(AdoptFault::Unlawful) => Err(LoadFault::NotSnapshot),
-        Err(AdoptFault::Memory) => Err(LoadFault::Memory),
+        Err(fault) => Err(load_fault(fault)),
     }
 }

@@ -1,7 +1,6 @@
 // An engine that is read from its snapshot, row by row.
 ghost use Rattle.std.specs.Prelude.{◌≡◌, IfErr, IfOk, OnOk};
-ghost use Rattle.cpe_rows.specs.Rows.{Rows};
-ghost use Rattle.cpe_rows.specs.Lawful.{IsLawful};
+ghost use Rattle.cpe_rows.specs.Prelude.{IsLawful, Rows};
 ghost use Rattle.cpe_snapshot.specs.Reading.{entry_at, many};
 ghost use Rattle.cpe_snapshot.specs.States.{Snap};
 ghost use Rattle.engine_snapshot.specs.Read.{AreEntriesLoaded, NoEntries, Others, with_others};

@@ -2,14 +2,9 @@
 ghost use Rattle.std.specs.Prelude.{◌≡◌, [], IfOk, OnErr, OnOk};
 ghost use Rattle.cpe_steps.specs.Within.{StepsWithin};
 ghost use Rattle.cpe_rows.specs.Prelude.{after, changes, IsLawful};
-ghost use Rattle.name_index.specs.Table.{IsLive};
+ghost use Rattle.engine_parts.specs.Prelude.{AreOf, edit_in, given, HasPlan, IsLead, IsLive, known_in, name_in, rows_in};
 ghost use Rattle.cpe_dictionary.specs.Plans.{IsPlan};
-ghost use Rattle.cpe_registry.specs.Registered.{name_in};
-ghost use Rattle.kept_verdicts.specs.Kept.{IsLead, known_in};
-ghost use Rattle.engine_parts.specs.Numbered.{given};
-ghost use Rattle.engine_parts.specs.Parts.{AreOf, edit_in, rows_in};
 ghost use Rattle.made_edits.specs.Looks.{edit_looks};
-ghost use Rattle.engine_parts.specs.Planned.{HasPlan};
 ghost use Rattle.made_edits.specs.Ready.{IsReady};
 
 use cpe_dictionary::{Plan, edits_by_number};

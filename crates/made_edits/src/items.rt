@@ -2,14 +2,10 @@
 ghost use Rattle.std.specs.Prelude.{◌≡◌, ◌∷◌, [], IfOk, OnErr, OnOk, false, true};
 ghost use Rattle.std.specs.List.{list_any};
 ghost use Rattle.cpe_steps.specs.Within.{StepsWithin};
-ghost use Rattle.cpe_rows.specs.Names.{is_same};
-ghost use Rattle.cpe_rows.specs.Prelude.{after, changes, IsLawful};
+ghost use Rattle.cpe_rows.specs.Prelude.{after, changes, is_same, IsLawful};
 ghost use Rattle.cpe_rows.specs.declared.edit.Edit.TheVariants as edit;
-ghost use Rattle.name_index.specs.Table.{IsLive};
-ghost use Rattle.cpe_registry.specs.Registered.{name_in};
-ghost use Rattle.kept_verdicts.specs.Kept.{known_in};
+ghost use Rattle.engine_parts.specs.Prelude.{AreOf, edit_in, IsLive, known_in, name_in, rows_in};
 ghost use Rattle.kept_verdicts.specs.Looks.{item_looks};
-ghost use Rattle.engine_parts.specs.Parts.{AreOf, edit_in, rows_in};
 ghost use Rattle.made_edits.specs.Looks.{edit_looks};
 ghost use Rattle.made_edits.specs.Ready.{IsReady};
 

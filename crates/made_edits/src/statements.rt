@@ -1,11 +1,9 @@
 // Statements that are put and dropped.
-ghost use Rattle.std.specs.Prelude.{◌≡◌, ◌<◌, ◌≤◌, ◌^◌, ◌∷◌, [], IfOk, IfSome, None, OnErr, OnOk, Some, slice_get, true};
+ghost use Rattle.std.specs.Prelude.{◌≡◌, ◌<◌, ◌≤◌, ◌^◌, ◌∷◌, [], IfOk, IfSome, None, OnErr, OnOk, Some, slice_get, true, option_map};
 ghost use Rattle.std.specs.List.{list_any};
-ghost use Rattle.std.specs.Option.{option_map};
-ghost use Rattle.cpe_steps.specs.Within.{StepsWithin};
+ghost use Rattle.name_index.specs.Prelude.{Names, StepsWithin};
 ghost use Rattle.cpe_rows.specs.Prelude.{after, change, changes, has_id, IsLawful, Rows, verdict};
 ghost use Rattle.cpe_rows.specs.declared.edit.Edit.TheVariants as edit;
-ghost use Rattle.name_index.specs.Table.{Names};
 ghost use Rattle.kept_verdicts.specs.Kept.{Stands};
 ghost use Rattle.engine_parts.specs.Parts.{AreOf, edit_in, rows_in};
 ghost use Rattle.made_edits.specs.Looks.{edit_looks};

@@ -24,25 +24,17 @@ use Rattle.proof_lines.specs.Reading.{proof_of}
 use Rattle.proof_lines.specs.declared.fault.ProofFault.{ProofFault}
 use Rattle.record_lines.specs.Checking.{checked}
 use Rattle.record_lines.specs.declared.records.RecordCommand.{RecordCommand}
-use Rattle.record_lines.specs.declared.records.RecordCommand.TheVariants.{Resolve, Evaluate, Watch, Explain, Check, Save}
+use Rattle.record_lines.specs.declared.records.RecordCommand.TheVariants.{Evaluate, Watch, Explain, Check, Save}
 
 -- what an accepted edit, the line of this number, writes where it leaves the next rows: nothing, or under `watch` the verdicts that it changes
 abbrev pub edit_text : RecordCommand → ℕ → Rows → edit.Edit → Rows → List ℕ
-edit_text Resolve number rows e next = []
-edit_text Evaluate number rows e next = []
 edit_text Watch number rows e next = changes_text number next e (changes rows e)
-edit_text Explain number rows e next = []
-edit_text Check number rows e next = []
-edit_text Save number rows e next = []
+edit_text command number rows e next = []
 
 -- what a query writes: its answer, but nothing under `save`
 abbrev pub query_text : RecordCommand → Rows → query.Query → List ℕ
-query_text Resolve rows q = reply_text (answer rows q)
-query_text Evaluate rows q = reply_text (answer rows q)
-query_text Watch rows q = reply_text (answer rows q)
-query_text Explain rows q = reply_text (answer rows q)
-query_text Check rows q = reply_text (answer rows q)
 query_text Save rows q = []
+query_text command rows q = reply_text (answer rows q)
 
 -- an accepted edit writes this text of the rows that it leaves
 abbrev pub by_step : (Rows → List ℕ) → Result Rows EditFault → Saying Rows
@@ -57,12 +49,8 @@ by_record command number rows (Err fault) = Err (record_fault_text fault)
 
 -- the certificate that a line is; but under `check` no line is one
 abbrev pub proof_in : RecordCommand → List ℕ → Result (Option Proof) ProofFault
-proof_in Resolve text = Ok None
-proof_in Evaluate text = Ok None
-proof_in Watch text = Ok None
-proof_in Explain text = Ok None
 proof_in Check text = proof_of text
-proof_in Save text = Ok None
+proof_in command text = Ok None
 
 -- what is said of a certificate in these rows; a line that is none says what its record does
 abbrev pub by_proof : Rows → Result (Option Proof) ProofFault → Saying Rows → Saying Rows
@@ -72,21 +60,15 @@ by_proof rows (Err fault) record_says = Err (proof_fault_text fault)
 
 -- what is written at the end of the input
 abbrev pub ending : RecordCommand → Rows → List ℕ
-ending Resolve rows = []
 ending Evaluate rows = verdict_table rows
-ending Watch rows = []
 ending Explain rows = certificate_lines rows
-ending Check rows = []
 ending Save rows = snapshot rows
+ending command rows = []
 
 -- whether a refused line writes nothing
 abbrev pub is_quiet : RecordCommand → Bool
-is_quiet Resolve = false
-is_quiet Evaluate = false
-is_quiet Watch = false
-is_quiet Explain = false
-is_quiet Check = false
 is_quiet Save = true
+is_quiet command = false
 
 abbrev pub record_session : RecordCommand → Session Rows
 record_session command = record {

@@ -1,11 +1,7 @@
 // The verdicts that an edit changes.
-ghost use Rattle.std.specs.Prelude.{◌≡◌, ◌++◌, true, IfOk, OnErr, OnOk};
-ghost use Rattle.std.specs.Option.{option_map};
-ghost use Rattle.std.specs.List.{flat_map};
-ghost use Rattle.cpe_steps.specs.Within.{StepsWithin};
-ghost use Rattle.cpe_session.specs.Pages.{IsBeforeOrAfter, IsSaid};
-ghost use Rattle.cpe_rows.specs.Step.{step};
-ghost use Rattle.cpe_rows.specs.Valid.{is_valid_edit};
+ghost use Rattle.std.specs.Prelude.{◌≡◌, ◌++◌, true, IfOk, OnErr, OnOk, option_map, flat_map};
+ghost use Rattle.cpe_session.specs.Prelude.{IsBeforeOrAfter, IsSaid, StepsWithin};
+ghost use Rattle.cpe_rows.specs.Prelude.{is_valid_edit, step};
 ghost use Rattle.cpe_engine.specs.Looks.{edit_looks};
 ghost use Rattle.cpe_replies.specs.Replies.{change_line, changed_id, dropped_id, statement_id};
 ghost use Rattle.cpe_replies.specs.Reasons.{reason_text};

@@ -1,9 +1,7 @@
 // Certificates of verdicts, and what is said of them.
 ghost use Rattle.std.specs.Prelude.{◌≡◌, ◌++◌, [], IfOk, OnOk, length, slice_get, None, codes};
 ghost use Rattle.std.specs.Option.{option_map_or};
-ghost use Rattle.cpe_io.specs.Causes.{HasSinkCause};
-ghost use Rattle.cpe_io.specs.Writes.{AppendsPrefix};
-ghost use Rattle.cpe_session.specs.Pages.{Pours};
+ghost use Rattle.cpe_session.specs.Prelude.{AppendsPrefix, HasSinkCause, Pours};
 ghost use Rattle.proof_lines.specs.Written.{proof_text};
 ghost use Rattle.cpe_replies.specs.Proofs.{certificate_line, certificate_lines, checked_line};
 ghost use Rattle.record_lines.specs.Checking.{checked};

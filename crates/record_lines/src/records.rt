@@ -1,10 +1,7 @@
 // What a line of a record says.
-ghost use Rattle.std.specs.Prelude.{◌≡◌, ◌++◌, [], ℕ, List, true, None, Err, IfOk, OnErr, OnOk};
-ghost use Rattle.std.specs.Option.{option_map};
-ghost use Rattle.cpe_steps.specs.Within.{StepsWithin};
-ghost use Rattle.cpe_session.specs.Pages.{IsBeforeOrAfter, IsSaid};
-ghost use Rattle.cpe_rows.specs.Step.{step};
-ghost use Rattle.cpe_rows.specs.Answers.{answer};
+ghost use Rattle.std.specs.Prelude.{◌≡◌, ◌++◌, [], ℕ, List, true, None, Err, IfOk, OnErr, OnOk, option_map};
+ghost use Rattle.cpe_session.specs.Prelude.{IsBeforeOrAfter, IsSaid, StepsWithin};
+ghost use Rattle.cpe_rows.specs.Prelude.{answer, step};
 ghost use Rattle.cpe_rows.specs.Valid.{is_valid_edit, is_valid_query};
 ghost use Rattle.cpe_engine.specs.Looks.{edit_looks, looks};
 ghost use Rattle.cpe_replies.specs.Replies.{reply_text};

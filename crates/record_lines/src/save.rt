@@ -1,8 +1,6 @@
 // The snapshot of the rows.
 ghost use Rattle.std.specs.Prelude.{◌++◌, OnOk};
-ghost use Rattle.cpe_io.specs.Causes.{HasSinkCause};
-ghost use Rattle.cpe_io.specs.Writes.{AppendsPrefix};
-ghost use Rattle.cpe_session.specs.Pages.{Pours};
+ghost use Rattle.cpe_session.specs.Prelude.{AppendsPrefix, HasSinkCause, Pours};
 ghost use Rattle.cpe_snapshot.specs.States.{snapshot};
 
 use cpe_engine::Engine;

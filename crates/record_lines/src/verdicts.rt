@@ -1,10 +1,7 @@
 // The table of verdicts.
-ghost use Rattle.std.specs.Prelude.{◌≡◌, ◌++◌, [], OnOk, codes, length, slice_get};
+ghost use Rattle.std.specs.Prelude.{◌≡◌, ◌++◌, [], OnOk, codes, length, slice_get, decimal};
 ghost use Rattle.std.specs.Option.{option_map_or};
-ghost use Rattle.std.specs.Fmt.{decimal};
-ghost use Rattle.cpe_io.specs.Causes.{HasSinkCause};
-ghost use Rattle.cpe_io.specs.Writes.{AppendsPrefix};
-ghost use Rattle.cpe_session.specs.Pages.{Pours};
+ghost use Rattle.cpe_session.specs.Prelude.{AppendsPrefix, HasSinkCause, Pours};
 ghost use Rattle.cpe_replies.specs.Replies.{statement_line, verdict_table};
 
 use cpe_engine::Engine;

@@ -1,10 +1,7 @@
 // Where names lead, and the first item by the ends of both.
-ghost use Rattle.std.specs.Prelude.{◌≡◌, ◌∷◌, [], ℕ, IfOk, find, map, true};
+ghost use Rattle.std.specs.Prelude.{◌≡◌, ◌∷◌, [], ℕ, IfOk, find, map, true, option_copied};
 ghost use Rattle.std.specs.List.{AllByRecursion, filter_map, list_any};
-ghost use Rattle.std.specs.Option.{option_copied};
-ghost use Rattle.cpe_name.specs.Lower.{IsLower};
-ghost use Rattle.cpe_rows.specs.Prelude.{ends, Rows};
-ghost use Rattle.cpe_rows.specs.Verdict.{is_followed};
+ghost use Rattle.cpe_rows.specs.Prelude.{ends, is_followed, IsLower, Rows};
 ghost use Rattle.name_index.specs.Table.{IsLive};
 ghost use Rattle.numbered_names.specs.Shown.{names_at};
 ghost use Rattle.cpe_registry.specs.Registered.{AreLive, name_in};

@@ -1,7 +1,5 @@
 // Items by their slots, and the first to which a name stands so.
-ghost use Rattle.std.specs.Prelude.{◌≡◌, IfOk, find, length, slice_get};
-ghost use Rattle.std.specs.List.{filter_map};
-ghost use Rattle.std.specs.Option.{option_copied};
+ghost use Rattle.std.specs.Prelude.{◌≡◌, IfOk, find, length, slice_get, filter_map, option_copied};
 ghost use Rattle.cpe_name.specs.Lower.{IsLower};
 ghost use Rattle.cpe_explain.specs.Relates.{related};
 

@@ -1,7 +1,6 @@
 // Truths of fact references that are kept.
 ghost use Rattle.std.specs.Prelude.{◌≡◌, IfSome};
-ghost use Rattle.cpe_rows.specs.Prelude.{Rows};
-ghost use Rattle.cpe_rows.specs.Verdict.{fact_truth};
+ghost use Rattle.cpe_rows.specs.Prelude.{fact_truth, Rows};
 ghost use Rattle.name_index.specs.Table.{Names};
 ghost use Rattle.numbered_names.specs.Shown.{name_at};
 ghost use Rattle.kept_verdicts.specs.Kept.{Stands};

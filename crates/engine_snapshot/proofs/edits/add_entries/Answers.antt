@@ -1,15 +1,12 @@
-use Rattle.std.proofs.Common.{◌≡◌, ◌∷◌, ap, ◌∙◌}
-use Rattle.std.specs.Prelude.{Err}
+use Rattle.std.proofs.Common.{◌≡◌, ◌∷◌, subst}
 use Rattle.std.specs.Vec.Iter.{into_iter_items}
-use Rattle.std.proofs.lemmas.Result.{err_from_is_err_and}
-use Rattle.engine_snapshot.proofs.EditLemmas.{refused_with}
-use Rattle.engine_snapshot.proofs.LoopLemmas.{entries_refused}
+use Rattle.engine_snapshot.specs.Begun.{AreFine, with_entries}
+use Rattle.engine_snapshot.proofs.EditLemmas.{handed_on, not_taken}
+use Rattle.engine_snapshot.proofs.RowLemmas.{AreActive}
+use Rattle.engine_snapshot.proofs.Taken.{entry_taken}
 use Rattle.engine_snapshot.proofs.edits.add_entries.Goals as goal
 
 pub returns-in_err-make-clause-unlawful : goal.returns-in_err-make-clause-unlawful
 returns-in_err-make-clause-unlawful g c =
-    let at = c.loop-entry in
-    let steps : into_iter_items at.entry-iterator ≡ c.in-Some.entry ∷ into_iter_items c.next.new.self = c.in-Some.ensures.steps.0 in
-    let p = err_from_is_err_and c.from_residual.result c.from_residual.ensures.1 in
-    refused_with c.from_residual.result c.in_err-make.field-0.0 _ (p.1 ∙ ap Err p.2)
-    (λ is lawful. entries_refused at.engine _ c.in-Some.entry _ _ at.invariant.so_far steps at.invariant.active (c.in_err-make.ensures.unlawful is) lawful)
+    let steps : into_iter_items c.loop-entry.entry-iterator ≡ c.in-Some.entry ∷ into_iter_items c.next.new.self = c.in-Some.ensures.steps.0 in
+    handed_on c.from_residual.result c.in_err-make.field-0.0 _ c.from_residual.ensures.1 (λ is. not_taken with_entries AreFine c.loop-entry.engine c.loop-entry.invariant.so_far steps (entry_taken c.loop-entry.engine c.in-Some.entry _ (subst AreActive steps c.loop-entry.invariant.active).0) (c.in_err-make.ensures.unlawful is))

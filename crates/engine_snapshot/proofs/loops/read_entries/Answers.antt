@@ -1,13 +1,11 @@
 use Rattle.std.proofs.Common.{◌≡◌, ◌-◌, ◌++◌, ◌∷◌, [], List, Option, ap, arith, sym, ◌∙◌}
-use Rattle.std.specs.Prelude.{Err}
 use Rattle.std.proofs.lemmas.List.{map-append}
-use Rattle.std.proofs.lemmas.Result.{err_from_is_err_and}
 use Rattle.cpe_snapshot.specs.Reading.{entry_at, many}
 use Rattle.cpe_snapshot.specs.declared.rows.PlacedDeprecation.{PlacedDeprecation}
 use Rattle.cpe_snapshot.specs.declared.rows.PlacedEntry.{PlacedEntry}
 use Rattle.engine_snapshot.specs.Begun.{AreFine}
 use Rattle.engine_snapshot.specs.Read.{with_placed}
-use Rattle.engine_snapshot.proofs.EditLemmas.{refused_with}
+use Rattle.engine_snapshot.proofs.EditLemmas.{handed_on}
 use Rattle.engine_snapshot.proofs.PartsRead.{entry_lower}
 use Rattle.engine_snapshot.proofs.ReadLemmas.{are_done, more_placed, no_placed, starts, steps, unput, unread}
 use Rattle.engine_snapshot.proofs.loops.read_entries.Goals as goal
@@ -22,28 +20,19 @@ loop-init g c =
 
 pub returns-in_err-placed-clause-refused : goal.returns-in_err-placed-clause-refused
 returns-in_err-placed-clause-refused g c =
-    let r = c.from_residual in
-    let p = err_from_is_err_and r.result r.ensures.1 in
-    refused_with r.result c.in_err-placed.field-0.0 _ (p.1 ∙ ap Err p.2)
-    (unread entry_at with_placed more_placed _ c.args.engine.now c.loop.engine c.args.count c.loop.counter c.loop.cursor c.loop.invariant.are_put AreFine c.in_err-placed.field-0.0 c.take.new.cursor
-    c.loop-test.true c.in_err-placed.ensures)
+    handed_on c.from_residual.result c.in_err-placed.field-0.0 _ c.from_residual.ensures.1 (unread entry_at more_placed c.args.count c.loop.counter c.loop.cursor c.loop.invariant.are_put AreFine c.take.new.cursor c.loop-test.true c.in_err-placed.ensures)
 
 pub returns-in_err-put_entry-clause-refused : goal.returns-in_err-put_entry-clause-refused
 returns-in_err-put_entry-clause-refused g c =
-    let r = c.from_residual-in_err-put_entry in
-    let p = err_from_is_err_and r.result r.ensures.1 in
-    refused_with r.result c.in_err-put_entry.field-0.0 _ (p.1 ∙ ap Err p.2)
-    (unput entry_at with_placed more_placed _ c.args.engine.now c.loop.engine c.args.count c.loop.counter c.loop.cursor c.loop.invariant.are_put AreFine c.in_err-put_entry.field-0.0
-    c.in_ok-placed.placed c.take.new.cursor c.loop-test.true c.in_ok-placed.ensures c.in_err-put_entry.ensures.refused)
+    handed_on c.from_residual-in_err-put_entry.result c.in_err-put_entry.field-0.0 _ c.from_residual-in_err-put_entry.ensures.1
+    (unput entry_at more_placed c.args.count c.loop.counter c.loop.cursor c.loop.invariant.are_put AreFine c.loop-test.true c.in_ok-placed.ensures c.in_err-put_entry.ensures.refused)
 
 pub loop-preserved : goal.loop-preserved
 loop-preserved g c =
     let p = c.in_ok-placed.placed in
     let so_far = c.loop.invariant in
     record {
-      are_put =
-          steps entry_at with_placed more_placed _ c.args.engine.now c.loop.engine c.args.count c.loop.counter c.loop.cursor so_far.are_put c.put_entry.new.engine p c.take.new.cursor c.loop-test.true
-          c.in_ok-placed.ensures c.in_ok-put_entry.ensures.ok;
+      are_put = steps entry_at more_placed c.args.count c.loop.counter c.loop.cursor so_far.are_put c.loop-test.true c.in_ok-placed.ensures c.in_ok-put_entry.ensures.ok;
       deprecations_are =
           c.in_ok-put_entry.ensures.deprecation ∙ ap (λ (ds : List (Option PlacedDeprecation)). ds ++ p.deprecation ∷ []) so_far.deprecations_are
           ∙ sym (map-append (λ (q : PlacedEntry). q.deprecation) so_far.are_put.rows (p ∷ []));
@@ -51,8 +40,7 @@ loop-preserved g c =
 
 pub returns-clause-ok : goal.returns-clause-ok
 returns-clause-ok g c = record {
-  are_put =
-      are_done entry_at with_placed more_placed _ c.args.engine.now c.loop.engine c.args.count c.loop.counter c.loop.cursor c.loop.invariant.are_put c.loop-test.false;
+  are_put = are_done entry_at more_placed c.args.count c.loop.counter c.loop.cursor c.loop.invariant.are_put c.loop-test.false;
   deprecations_are = c.loop.invariant.deprecations_are;
 }
 

@@ -1,22 +1,12 @@
-use Rattle.std.proofs.Common.{ap, ◌∙◌}
-use Rattle.std.specs.Prelude.{Err}
-use Rattle.std.proofs.lemmas.Result.{err_from_is_err_and}
 use Rattle.cpe_rows.specs.Lawful.{IsLawful}
 use Rattle.cpe_snapshot.specs.Reading.{result_at}
-use Rattle.engine_snapshot.specs.Read.{with_results}
-use Rattle.engine_snapshot.proofs.EditLemmas.{refused_with}
+use Rattle.engine_snapshot.proofs.EditLemmas.{handed_on}
 use Rattle.engine_snapshot.proofs.ReadLemmas.{more_results, steps, unput}
 use Rattle.engine_snapshot.proofs.loops.read_results.Goals as goal
 
 pub returns-in_err-put_result-clause-refused : goal.returns-in_err-put_result-clause-refused
 returns-in_err-put_result-clause-refused g c =
-    let r = c.from_residual-in_err-put_result in
-    let p = err_from_is_err_and r.result r.ensures.1 in
-    refused_with r.result c.in_err-put_result.field-0.0 _ (p.1 ∙ ap Err p.2)
-    (unput result_at with_results more_results _ c.args.engine.now c.loop.engine c.args.count c.loop.counter c.loop.cursor c.loop.invariant IsLawful c.in_err-put_result.field-0.0 c.in_ok-kept.kept c.take.new.cursor c.loop-test.true
-    c.in_ok-kept.ensures c.in_err-put_result.ensures.refused)
+    handed_on c.from_residual-in_err-put_result.result c.in_err-put_result.field-0.0 _ c.from_residual-in_err-put_result.ensures.1 (unput result_at more_results c.args.count c.loop.counter c.loop.cursor c.loop.invariant IsLawful c.loop-test.true c.in_ok-kept.ensures c.in_err-put_result.ensures.refused)
 
 pub loop-preserved : goal.loop-preserved
-loop-preserved g c =
-    steps result_at with_results more_results _ c.args.engine.now c.loop.engine c.args.count c.loop.counter c.loop.cursor c.loop.invariant c.put_result.new.engine c.in_ok-kept.kept c.take.new.cursor c.loop-test.true c.in_ok-kept.ensures
-    c.in_ok-put_result.ensures.ok
+loop-preserved g c = steps result_at more_results c.args.count c.loop.counter c.loop.cursor c.loop.invariant c.loop-test.true c.in_ok-kept.ensures c.in_ok-put_result.ensures.ok

@@ -1,19 +1,15 @@
-use Rattle.std.proofs.Common.{Option, ap, map, subst, sym, ◌∙◌}
-use Rattle.std.specs.Prelude.{Err}
-use Rattle.std.proofs.lemmas.Result.{err_from_is_err_and}
+use Rattle.std.proofs.Common.{Option, map, subst, sym}
 use Rattle.cpe_snapshot.specs.States.{IsMeantDeprecation}
 use Rattle.cpe_snapshot.specs.declared.rows.PlacedDeprecation.{PlacedDeprecation}
 use Rattle.engine_snapshot.specs.Meant.{undeprecated}
-use Rattle.engine_snapshot.proofs.EditLemmas.{refused_with}
+use Rattle.engine_snapshot.proofs.EditLemmas.{handed_on}
 use Rattle.engine_snapshot.proofs.MeantLemmas.{next_meant, none_meant}
 use Rattle.engine_snapshot.proofs.meant.deprecations_of.Goals as goal
 
 pub returns-in_err-deprecation-clause-refused : goal.returns-in_err-deprecation-clause-refused
 returns-in_err-deprecation-clause-refused c =
     let all = map undeprecated c.args.engine.now.entries in
-    let r = c.from_residual-in_err-deprecation in
-    let p = err_from_is_err_and r.result r.ensures.1 in
-    refused_with r.result c.in_err-deprecation.field-0.0 _ (p.1 ∙ ap Err p.2)
+    handed_on c.from_residual-in_err-deprecation.result c.in_err-deprecation.field-0.0 _ c.from_residual-in_err-deprecation.ensures.1
     (λ is ds are. none_meant all c.args.all.now c.loop-placed.placed-index c.placed-item.result ds c.loop-placed-test.true
     (λ d meant. c.in_err-deprecation.ensures.refused is d (subst (λ (o : Option PlacedDeprecation). IsMeantDeprecation all o d) (sym c.placed-item.is) meant)) are)
 

@@ -1,9 +1,7 @@
-use Rattle.std.proofs.Common.{ap, get_or, map, ◌∙◌}
-use Rattle.std.specs.Prelude.{Err}
-use Rattle.std.proofs.lemmas.Result.{err_from_is_err_and}
+use Rattle.std.proofs.Common.{get_or, map, ◌∙◌}
 use Rattle.cpe_snapshot.proofs.NameLemmas.{next_named, none_named}
 use Rattle.engine_snapshot.specs.Meant.{undeprecated}
-use Rattle.engine_snapshot.proofs.EditLemmas.{refused_with}
+use Rattle.engine_snapshot.proofs.EditLemmas.{handed_on}
 use Rattle.engine_snapshot.proofs.MeantLemmas.{name_there}
 use Rattle.engine_snapshot.proofs.meant.names_at.Goals as goal
 
@@ -12,9 +10,7 @@ returns-in_err-name-clause-refused c =
     let es = c.args.engine.now.entries in
     let ks = c.args.places.now in
     let i = c.loop-place.place-index in
-    let r = c.from_residual-in_err-name in
-    let p = err_from_is_err_and r.result r.ensures.1 in
-    refused_with r.result c.in_err-name.field-0.0 _ (p.1 ∙ ap Err p.2)
+    handed_on c.from_residual-in_err-name.result c.in_err-name.field-0.0 _ c.from_residual-in_err-name.ensures.1
     (λ is ns are. none_named (map undeprecated es) ks i 0 ns c.loop-place-test.true (name_there es (get_or ks i 0) ∙ c.in_err-name.ensures.refused is) are)
 
 pub loop-place-preserved : goal.loop-place-preserved

@@ -1,7 +1,7 @@
 use Rattle.std.proofs.Common.{◌≡◌, ◌++◌, List, map, sym, subst, ◌∙◌, append-nil}
 use Rattle.cpe_rows.specs.declared.entry.Entry.{Entry}
 use Rattle.engine_snapshot.specs.Plain.{active_entry}
-use Rattle.engine_snapshot.proofs.LoopLemmas.{nothing_left}
+use Rattle.engine_snapshot.proofs.PartLemmas.{nothing_left}
 use Rattle.engine_snapshot.proofs.parted.part_entries.Goals as goal
 
 pub returns-clause-active : goal.returns-clause-active

@@ -1,22 +1,17 @@
 use Rattle.std.proofs.Common.{ap, arith, sym, ◌∙◌}
-use Rattle.std.specs.Prelude.{Err}
-use Rattle.std.proofs.lemmas.Result.{err_from_is_err_and}
 use Rattle.cpe_snapshot.specs.Reading.{head_at}
-use Rattle.engine_snapshot.proofs.EditLemmas.{refused_with}
+use Rattle.engine_snapshot.proofs.EditLemmas.{handed_on}
 use Rattle.engine_snapshot.proofs.SnapshotLemmas.{has_entries, has_head, has_others, is_snap}
 use Rattle.engine_snapshot.proofs.read.read_snapshot.Goals as goal
 
 pub returns-in_err-head-clause-refused : goal.returns-in_err-head-clause-refused
 returns-in_err-head-clause-refused g c =
-    let p = err_from_is_err_and c.from_residual.result c.from_residual.ensures.1 in
-    refused_with c.from_residual.result c.in_err-head.field-0.0 _ (p.1 ∙ ap Err p.2)
+    handed_on c.from_residual.result c.in_err-head.field-0.0 _ c.from_residual.ensures.1
     (λ is rows lawful snap. has_head c.args.bytes.now rows snap (ap head_at (sym c.new-cursor.ensures) ∙ c.in_err-head.ensures.1))
 
 pub returns-in_err-engine-clause-refused : goal.returns-in_err-engine-clause-refused
 returns-in_err-engine-clause-refused g c =
-    let r = c.from_residual-in_err-engine in
-    let p = err_from_is_err_and r.result r.ensures.1 in
-    refused_with r.result c.in_err-engine.field-0.0 _ (p.1 ∙ ap Err p.2)
+    handed_on c.from_residual-in_err-engine.result c.in_err-engine.field-0.0 _ c.from_residual-in_err-engine.ensures.1
     (λ is rows lawful snap. has_entries c.args.bytes.now rows snap c.in_ok-head.head c.read_head.new.cursor (ap head_at (sym c.new-cursor.ensures) ∙ c.in_ok-head.ensures) lawful
     (c.in_err-engine.ensures.refused is))
 

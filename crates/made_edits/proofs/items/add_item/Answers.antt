@@ -9,11 +9,9 @@ use Rattle.made_edits.proofs.items.add_item.Goals as goal
 
 pub returns-in-Ok-clause-changes : goal.returns-in-Ok-clause-changes
 returns-in-Ok-clause-changes g c =
-    let p = c.args.parts.now in
-    let rows = rows_in p in
-    let next = after rows (edit.Item (name_in p.registry.table c.args.id)) in
+    let next = after (rows_in c.args.parts.now) (edit.Item (name_in c.args.parts.now.registry.table c.args.id)) in
     let new = c.bring_item.new.parts in
-    told rows next new.verdicts c.changes.result (c.changes.ensures new.registry.table next c.in-Ok.ensures.ok.stands) (c.in-Ok.ensures.known ∙ c.requires.known) refl
+    told (rows_in c.args.parts.now) next new.verdicts c.changes.result (c.changes.ensures new.registry.table next c.in-Ok.ensures.ok.stands) (c.in-Ok.ensures.known ∙ c.requires.known) refl
 
 pub returns-in-Err-clause-err : goal.returns-in-Err-clause-err
 returns-in-Err-clause-err g c =

@@ -8,8 +8,6 @@ use Rattle.made_edits.proofs.items.drop_item.Goals as goal
 
 pub returns-in-Ok-clause-changes : goal.returns-in-Ok-clause-changes
 returns-in-Ok-clause-changes g c =
-    let p = c.args.parts.now in
-    let rows = rows_in p in
-    let next = after rows (edit.DropItem (name_in p.registry.table c.args.id)) in
+    let next = after (rows_in c.args.parts.now) (edit.DropItem (name_in c.args.parts.now.registry.table c.args.id)) in
     let new = c.take_item.new.parts in
-    told rows next new.verdicts c.changes.result (c.changes.ensures new.registry.table next c.in-Ok.ensures.ok.stands) (c.in-Ok.ensures.known ∙ c.requires.known) refl
+    told (rows_in c.args.parts.now) next new.verdicts c.changes.result (c.changes.ensures new.registry.table next c.in-Ok.ensures.ok.stands) (c.in-Ok.ensures.known ∙ c.requires.known) refl

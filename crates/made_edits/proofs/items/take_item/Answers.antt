@@ -30,15 +30,12 @@ module _ (g : Over) (c : After-drop_item g) where
   -- without the item, whose name is held still
   dropped : AreOf c.drop_item.new.self c.item_goes.new.self (after (rows_in c.args.parts.now) (edit.DropItem (name_in c.args.parts.now.registry.table c.args.id))) (name_in c.drop_item.new.self.table c.args.id ∷ [])
   dropped =
-      let p = c.args.parts.now in
-      let rows = rows_in p in
-      let old = p.registry.table in
-      let id = c.args.id in
-      let n = name_in old id in
-      let next = after rows (edit.DropItem n) in
-      let has = subst (λ (t : Names). list_any (is_same (name_at t id)) rows.items ≡ true) (sym c.table.ensures) c.requires.has in
-      item_dropped p.registry c.drop_item.new.self c.item_goes.new.self rows id c.table.result.now c.drop_item.ensures.table c.drop_item.ensures.entries c.drop_item.ensures.items
-      (c.lists_are_shown.ensures.order old (holds_in old) (names_kept rows) (n ∷ names_kept next) (c.items_arrive.ensures.kept_without rows n c.requires.has) c.requires.are.held) c.table.ensures
+      let rows = rows_in c.args.parts.now in
+      let old = c.args.parts.now.registry.table in
+      let n = name_in old c.args.id in
+      let has = subst (λ (t : Names). list_any (is_same (name_at t c.args.id)) rows.items ≡ true) (sym c.table.ensures) c.requires.has in
+      item_dropped c.args.parts.now.registry c.drop_item.new.self c.item_goes.new.self rows c.args.id c.table.result.now c.drop_item.ensures.table c.drop_item.ensures.entries c.drop_item.ensures.items
+      (c.lists_are_shown.ensures.order old (holds_in old) (names_kept rows) (n ∷ names_kept (after rows (edit.DropItem n))) (c.items_arrive.ensures.kept_without rows n c.requires.has) c.requires.are.held) c.table.ensures
       (c.item_goes.ensures.stands rows stood there has)
 
 pub release_all-requires-clause-are : goal.release_all-requires-clause-are

@@ -12,16 +12,12 @@ use Rattle.engine_parts.proofs.parts.Parts.plan.Goals as goal
 
 pub returns-in-Entry-clause-ok : goal.returns-in-Entry-clause-ok
 returns-in-Entry-clause-ok c =
-    let rows = rows_in c.args.self.now in
-    let table = c.args.self.now.registry.table in
-    let e = new_entry (name_in table c.in-Entry.id) c.in-Entry.title c.in-Entry.provenance in
-    let same = ap (λ (x : Numbered). first_some (causes rows (edit_of table x))) c.in-Entry.is in
+    let e = new_entry (name_in c.args.self.now.registry.table c.in-Entry.id) c.in-Entry.title c.in-Entry.provenance in
+    let same = ap (λ (x : Numbered). first_some (causes (rows_in c.args.self.now) (edit_of c.args.self.now.registry.table x))) c.in-Entry.is in
     IfOk-weaker c.unplanned.result _ _ (λ p none. same ∙ sym (c.entry_fault.ensures e refl) ∙ none) c.unplanned.ensures.ok
 
 pub returns-in-Entry-clause-err : goal.returns-in-Entry-clause-err
 returns-in-Entry-clause-err c =
-    let rows = rows_in c.args.self.now in
-    let table = c.args.self.now.registry.table in
-    let e = new_entry (name_in table c.in-Entry.id) c.in-Entry.title c.in-Entry.provenance in
-    let same = ap (λ (x : Numbered). first_some (causes rows (edit_of table x))) c.in-Entry.is in
+    let e = new_entry (name_in c.args.self.now.registry.table c.in-Entry.id) c.in-Entry.title c.in-Entry.provenance in
+    let same = ap (λ (x : Numbered). first_some (causes (rows_in c.args.self.now) (edit_of c.args.self.now.registry.table x))) c.in-Entry.is in
     IfErr-weaker c.unplanned.result _ _ (λ f h. subst (λ (o : Option EditFault). IsCause f o) (c.entry_fault.ensures e refl ∙ sym same) h) c.unplanned.ensures.err

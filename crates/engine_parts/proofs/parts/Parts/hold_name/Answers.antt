@@ -2,7 +2,7 @@ use Rattle.numbered_names.specs.Shown.{holds_in}
 use Rattle.asked_names.specs.Asked.{names_kept}
 use Rattle.engine_parts.specs.Parts.{rows_in}
 use Rattle.engine_parts.proofs.PartsLemmas.{by_hold, few_holds}
-use Rattle.engine_parts.proofs.parts.Parts.number_item.Goals as goal
+use Rattle.engine_parts.proofs.parts.Parts.hold_name.Goals as goal
 
 pub hold_moved-requires-clause-few : goal.hold_moved-requires-clause-few
 hold_moved-requires-clause-few c id has =
