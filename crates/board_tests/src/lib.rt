@@ -3,12 +3,4 @@
 #![tactic(auto)]
 
 #[cfg(test)]
-mod facts;
-#[cfg(test)]
-mod followed;
-#[cfg(test)]
-mod pairs;
-#[cfg(test)]
-mod statements;
-#[cfg(test)]
-mod tickets;
+mod tests;

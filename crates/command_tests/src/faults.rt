@@ -4,9 +4,10 @@
 mod generated;
 mod names;
 mod records;
+mod runs;
 mod snapshots;
 
-use crate::runs::{ended, words_of};
+use crate::faults::runs::{ended, words_of};
 use cpe_command::Status;
 use cpe_io::{MemSink, MemSource};
 use std::alloc::Global;
@@ -214,4 +215,21 @@ pub fn stands_without_table<'w>(
 // The same of a command that puts no table after the answers.
 pub fn stands_at_each_fault(alloc: Global, words: &[&str], input: &[u8], output: &[u8]) -> bool {
     stands_without_table(alloc, words, words, input, output)
+}
+
+// What a command writes where nothing fails.
+#[derive(Clone, Copy)]
+struct Told<'t> {
+    words: &'t [&'t str],
+    input: &'t [u8],
+    output: &'t [u8],
+}
+
+fn each_stands(alloc: Global, all: &[Told]) -> bool {
+    for told in all {
+        if !stands_at_each_fault(alloc, told.words, told.input, told.output) {
+            return false;
+        }
+    }
+    true
 }

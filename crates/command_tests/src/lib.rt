@@ -4,14 +4,8 @@
 #![tactic(auto)]
 
 #[cfg(test)]
-mod adopted;
-#[cfg(test)]
 mod again;
 #[cfg(test)]
-mod drilled;
+mod engines;
 #[cfg(test)]
 mod faults;
-#[cfg(test)]
-mod limits;
-#[cfg(test)]
-mod runs;

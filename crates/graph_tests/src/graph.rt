@@ -1,6 +1,5 @@
 // A graph of four nodes, what it answers, and which changes it refuses.
-ghost use Rattle.std.specs.Prelude.{◌≡◌, Some, ◌+◌, ◌<◌, ◌≤◌, length, OnOk, IfOk};
-ghost use Rattle.std.specs.Option.{option_copied};
+ghost use Rattle.std.specs.Prelude.{◌≡◌, Some, ◌+◌, ◌<◌, ◌≤◌, length, OnOk, IfOk, option_copied};
 ghost use Rattle.deprecation_graph.specs.Graph.{successors, IsChange};
 
 use deprecation_graph::{DeprecationGraph, GraphFault, Memory};

@@ -6,26 +6,4 @@
 #![tactic(auto)]
 
 #[cfg(test)]
-mod blocks;
-#[cfg(test)]
-mod filters;
-#[cfg(test)]
-mod held;
-#[cfg(test)]
-mod items;
-#[cfg(test)]
-mod lists;
-#[cfg(test)]
-mod looks;
-#[cfg(test)]
-mod marks;
-#[cfg(test)]
-mod moved;
-#[cfg(test)]
-mod names;
-#[cfg(test)]
-mod released;
-#[cfg(test)]
-mod removed;
-#[cfg(test)]
-mod shelf;
+mod tests;

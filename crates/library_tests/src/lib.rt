@@ -7,20 +7,4 @@
 #![tactic(auto)]
 
 #[cfg(test)]
-mod bytes;
-#[cfg(test)]
-mod calls;
-#[cfg(test)]
-mod components;
-#[cfg(test)]
-mod names;
-#[cfg(test)]
-mod readme;
-#[cfg(test)]
-mod relations;
-#[cfg(test)]
-mod rows;
-#[cfg(test)]
-mod texts;
-#[cfg(test)]
-mod values;
+mod tests;

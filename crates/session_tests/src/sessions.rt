@@ -19,8 +19,7 @@ struct Full;
 impl Reason for Full {
     ghost text = { λ _. codes "full" };
 
-    fn push(&self, alloc: Global, page: &mut Page) -> Result<(), AllocError> {
-        let _ = alloc;
+    fn push(&self, _alloc: Global, page: &mut Page) -> Result<(), AllocError> {
         page.push(b"full")
     }
 }
@@ -40,9 +39,7 @@ impl Table for Stars {
         self.count
     }
 
-    fn put(&self, alloc: Global, k: usize, page: &mut Page) -> Result<(), AllocError> {
-        let _ = alloc;
-        let _ = k;
+    fn put(&self, _alloc: Global, _k: usize, page: &mut Page) -> Result<(), AllocError> {
         page.push(b"*")
     }
 }
@@ -72,13 +69,12 @@ impl Speaker for Tally {
 
     fn say<L: Ledger>(
         &self,
-        alloc: Global,
+        _alloc: Global,
         state: &mut usize,
         page: &mut Page,
         line: &Line<'_>,
         steps: &mut Steps<L>,
     ) -> Result<Option<Full>, AllocError> {
-        let _ = alloc;
         steps.tick();
         let sum = state.saturating_add(line.text.len());
         if sum > 9 {
@@ -96,9 +92,8 @@ impl Speaker for Tally {
         state: &usize,
         page: &mut Page,
         sink: &mut K,
-        steps: &mut Steps<L>,
+        _steps: &mut Steps<L>,
     ) -> Result<(), SinkFault> {
-        let _ = steps;
         pour_table(alloc, &Stars { count: *state }, page, sink)
     }
 }

@@ -102,25 +102,15 @@ fn has_first_alone(alloc: Global, bytes: Result<Vec<u8>, Memory>) -> bool {
 }
 
 #[test]
-fn an_entry_is_read(rt: HostRuntime) {
+fn a_row_of_each_kind_is_read(rt: HostRuntime) {
     let alloc = rt.alloc();
     assert!(rt; has_rows(alloc, one_entry(alloc), 75, (1, 0, 0)));
+    assert!(rt; has_rows(alloc, one_statement(alloc), 50, (0, 1, 0)));
+    assert!(rt; has_rows(alloc, one_result(alloc), 40, (0, 0, 1)));
 }
 
 #[test]
 fn a_place_has_the_name_of_its_entry(rt: HostRuntime) {
     let alloc = rt.alloc();
     assert!(rt; has_first_alone(alloc, one_entry(alloc)));
-}
-
-#[test]
-fn a_statement_is_read(rt: HostRuntime) {
-    let alloc = rt.alloc();
-    assert!(rt; has_rows(alloc, one_statement(alloc), 50, (0, 1, 0)));
-}
-
-#[test]
-fn a_result_is_read(rt: HostRuntime) {
-    let alloc = rt.alloc();
-    assert!(rt; has_rows(alloc, one_result(alloc), 40, (0, 0, 1)));
 }

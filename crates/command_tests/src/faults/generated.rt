@@ -1,8 +1,8 @@
 // Commands that read nothing: no read is made, so none fails, and a write that fails leaves a prefix of the output.
 ghost use Rattle.std.specs.Prelude.{◌<◌, ◌≤◌};
 
+use crate::faults::runs::words_of;
 use crate::faults::{ALL, Ends, goes_over, prefix};
-use crate::runs::words_of;
 use cpe_command::{MOST_LINES, Status, generated};
 use std::alloc::Global;
 

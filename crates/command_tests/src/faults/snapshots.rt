@@ -1,6 +1,6 @@
 // Commands over snapshots.
+use crate::faults::runs::words_of;
 use crate::faults::{Ends, goes_over};
-use crate::runs::words_of;
 use cpe_command::Status;
 use std::alloc::Global;
 

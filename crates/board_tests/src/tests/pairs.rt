@@ -1,0 +1,119 @@
+// A board in use, and how many looks a change takes.
+ghost use Rattle.std.specs.Prelude.{◌≡◌, ◌≢◌, true, ◌+◌, ◌≤◌, ◌<◌, ℕ, [], ◌∷◌, List, length};
+ghost use Rattle.name_index.specs.Prelude.{IsLive, kept_at, SameElements};
+ghost use Rattle.level_board.specs.Rows.{number_at};
+ghost use Rattle.level_board.specs.Board.{FitsBoard, covers_at, maybe_at, target_times, probe_times};
+ghost use Rattle.level_board.specs.declared.level.Level.TheVariants.{Covered, Maybe, Free};
+ghost use Rattle.board_tests.specs.Tried.{plain};
+
+use cpe_steps::Steps;
+use level_board::{Level, LevelBoard};
+use name_index::{NameId, NameTable};
+use std::sync::ledger::Ledger;
+
+// Five probes are on the board, of the products `p` and `q0` to `q3`. A target of the product `p` comes: two looks at most.
+fn add_target_two_looks<L: Ledger>(
+    board: &mut LevelBoard,
+    table: &NameTable,
+    target: NameId,
+    steps: &mut Steps<L>,
+)
+    requires probes { SameElements ((0, 0) ∷ (1, 1) ∷ (2, 2) ∷ (3, 3) ∷ (4, 4) ∷ []) board.old.probe_ids }
+    requires fits { FitsBoard board.old table.now }
+    requires first { (kept_at table.now 0).name.product ≡ plain (112 ∷ []) }
+    requires second { (kept_at table.now 1).name.product ≡ plain (113 ∷ 48 ∷ []) }
+    requires third { (kept_at table.now 2).name.product ≡ plain (113 ∷ 49 ∷ []) }
+    requires fourth { (kept_at table.now 3).name.product ≡ plain (113 ∷ 50 ∷ []) }
+    requires fifth { (kept_at table.now 4).name.product ≡ plain (113 ∷ 51 ∷ []) }
+    requires live { IsLive table.now target.0 }
+    requires target { (kept_at table.now target.0).name.product ≡ plain (112 ∷ []) }
+    requires room { 1 ≤ board.old.target_room }
+    requires product { (kept_at table.now target.0).product < board.old.wide }
+    requires new { target_times board.old target.0 ≡ 0 }
+    ensures { steps.new ≤ steps.old + 2 }
+{
+    board.add_target(table, target, steps);
+}
+
+// Two targets come, and a probe that covers both. The first target goes, and then the second: what holds after each, and that the
+// probe is flipped then.
+fn drop_two_targets<L: Ledger>(
+    board: &mut LevelBoard,
+    table: &NameTable,
+    first: NameId,
+    second: NameId,
+    probe: NameId,
+    steps: &mut Steps<L>,
+) -> (Level, Level)
+    requires first { IsLive table.now first.0 }
+    requires second { IsLive table.now second.0 }
+    requires probe { IsLive table.now probe.0 }
+    requires apart { second.0 ≢ first.0 }
+    requires fits { FitsBoard board.old table.now }
+    requires no_targets { (t : ℕ) → target_times board.old t ≡ 0 }
+    requires no_probes { (p : ℕ) → probe_times board.old p ≡ 0 }
+    requires target_room { 2 ≤ board.old.target_room }
+    requires probe_room { 1 ≤ board.old.probe_room }
+    requires first_product { (kept_at table.now first.0).product < board.old.wide }
+    requires second_product { (kept_at table.now second.0).product < board.old.wide }
+    requires probe_product { (kept_at table.now probe.0).product < board.old.wide }
+    requires covers_second { covers_at table.now probe.0 second.0 ≡ true }
+    ensures one_left { result.0 ≡ Covered }
+    ensures none_left { result.1 ≡ Free }
+    ensures flipped { (k : ℕ) × (k < length board.new.flips) × (number_at board.new.flips k ≡ probe.0) }
+{
+    board.add_target(table, first, steps);
+    board.add_target(table, second, steps);
+    board.add_probe(table, probe, steps);
+    board.lawful();
+    board.drop_target(table, first, steps);
+    let one_left = board.level(probe);
+    board.drop_target(table, second, steps);
+    board.lawful();
+    (one_left, board.level(probe))
+}
+
+// The only target that comes is known in part, and a probe may cover it.
+fn add_target_known_in_part<L: Ledger>(
+    board: &mut LevelBoard,
+    table: &NameTable,
+    target: NameId,
+    probe: NameId,
+    steps: &mut Steps<L>,
+) -> Level
+    requires live { IsLive table.now target.0 }
+    requires fits { FitsBoard board.old table.now }
+    requires no_targets { (t : ℕ) → target_times board.old t ≡ 0 }
+    requires asked { 1 ≤ probe_times board.old probe.0 }
+    requires room { 1 ≤ board.old.target_room }
+    requires product { (kept_at table.now target.0).product < board.old.wide }
+    requires may { maybe_at table.now probe.0 target.0 ≡ true }
+    ensures { result ≡ Maybe }
+{
+    cpe_relation::law::maybe_laws();
+    board.add_target(table, target, steps);
+    board.level(probe)
+}
+
+// A target that a probe may cover goes, and one that it covers stays.
+fn drop_target_known_in_part<L: Ledger>(
+    board: &mut LevelBoard,
+    table: &NameTable,
+    part: NameId,
+    whole: NameId,
+    probe: NameId,
+    steps: &mut Steps<L>,
+) -> Level
+    requires live { IsLive table.now part.0 }
+    requires fits { FitsBoard board.old table.now }
+    requires apart { whole.0 ≢ part.0 }
+    requires part { 1 ≤ target_times board.old part.0 }
+    requires whole { 1 ≤ target_times board.old whole.0 }
+    requires asked { 1 ≤ probe_times board.old probe.0 }
+    requires may { maybe_at table.now probe.0 part.0 ≡ true }
+    requires covers { covers_at table.now probe.0 whole.0 ≡ true }
+    ensures { result ≡ Covered }
+{
+    board.drop_target(table, part, steps);
+    board.level(probe)
+}
