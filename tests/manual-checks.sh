@@ -54,8 +54,8 @@ are_one() {
 reasons_of_code() {
     reasons=crates/cpe_replies/specs/Reasons.antt
     sed -n 's/.*= Err (codes "\(.*\)").*/\1/p' crates/cpe_session/specs/Session.antt
-    codes name_reason_text crates/cpe_command/specs/Names.antt
-    codes pair_reason_text crates/cpe_command/specs/Pairs.antt
+    codes name_reason_text crates/name_lines/specs/Names.antt
+    codes pair_reason_text crates/name_lines/specs/Pairs.antt
     codes record_fault_text "$reasons" | grep -v -e '^name' -e '^attribute'
     codes spot_text "$reasons" | sed 's/^/name /'
     codes spot_text "$reasons" | sed 's/^/attribute /'

@@ -68,6 +68,59 @@ answers_bindings() {
     comes_back 'the real names bound as URIs and unbound again' examples/names.out bind uri
 }
 
+# gaps lines|answers unbind|bind: each byte that a line can have, alone or seventeen times, in gaps between two texts; and whether a
+# name has the whole. Up to sixteen bytes are looked at together.
+gaps() {
+    LC_ALL=C awk -v answers="$([ "$1" = answers ] && echo 1)" -v word="$2" '
+        function gap(before, times, behind, taken,   code, byte, many, i) {
+            for (code = 1; code < 256; code++) {
+                if (code == 10) continue
+                byte = many = sprintf("%c", code)
+                for (i = 1; i < times; i++) many = many byte
+                if (answers) print index(taken, byte) ? "read" : "refused"
+                else print before many behind
+            }
+        }
+        BEGIN {
+            digits = "0123456789"
+            letters = "ABCDEFGHIJKLMNOPQRSTUVWXYZabcdefghijklmnopqrstuvwxyz"
+            if (word == "bind") {
+                gap("wfn:[vendor=\"a", 1, "0\"]", digits letters "_")
+                gap("wfn:[vendor=\"a", 17, "0\"]", digits letters "_")
+                exit
+            }
+            bare = digits letters "-._"
+            # the part; within a body; after a backslash
+            gap("cpe:2.3:", 1, ":v:p:1:u:e:*:*:*:*:*", "*-aho")
+            gap("cpe:2.3:a:v:p:1", 1, "0:u:e:*:*:*:*:*", bare)
+            gap("cpe:2.3:a:v:p:1", 17, "0:u:e:*:*:*:*:*", bare)
+            gap("cpe:2.3:a:v:p:1:u\\", 1, ":e:*:*:*:*:*", "!\"#$%&\47()*+,/:;<=>?@[\\]^`{|}~")
+            # after a leading asterisk and a leading mark; after a trailing asterisk and a trailing mark
+            gap("cpe:2.3:a:v:p:1:u:*", 1, ":*:*:*:*:*", bare)
+            gap("cpe:2.3:a:v:p:1:u:e:*:?", 1, "s:*:*:*", bare "?")
+            gap("cpe:2.3:a:v:p:1:u:e:*:*:s*", 1, "h:*", ":")
+            gap("cpe:2.3:a:v:p:1:u:e:*:*:s?", 1, ":h:*", "?")
+            # the second letter of a language and the third; before a region, and within its code
+            gap("cpe:2.3:a:v:p:1:u:e:e", 1, ":*:*:*:*", letters)
+            gap("cpe:2.3:a:v:p:1:u:e:en", 1, ":*:*:*:*", letters)
+            gap("cpe:2.3:a:v:p:1:u:e:en", 1, "us:*:*:*:*", "-")
+            gap("cpe:2.3:a:v:p:1:u:e:en-", 1, "s:*:*:*:*", letters)
+            gap("cpe:2.3:a:v:p:1:u:e:eng-", 1, "40:*:*:*:*", digits)
+        }' < /dev/null
+}
+
+# takes_in_gaps WORD..: under these words each gap takes these bytes and no others.
+takes_in_gaps() {
+    what="each byte in each gap: $*"
+    needs "$what" awk || return
+    gaps lines "$1" > "$room/gaps.txt"
+    gaps answers "$1" > "$room/gaps.out"
+    limited "$program" "$@" < "$room/gaps.txt" > "$room/answers" 2> "$room/error"
+    status=$?
+    awk '{ print $1 == "refused" ? "refused" : "read" }' "$room/answers" > "$room/out"
+    judge "$what" "$status" 1 "$room/gaps.out"
+}
+
 # The vectors of a command, each with its answers: answers_vectors FOLDER WORD..
 answers_vectors() {
     folder=tests/vectors/$1
@@ -1502,6 +1555,8 @@ answers 'an empty input' /dev/null /dev/null 0 unbind
 answers_in_pieces examples/mixed.txt examples/mixed.out unbind
 answers_long_lines
 answers_bindings
+takes_in_gaps unbind
+takes_in_gaps bind fs
 answers_vectors unbind unbind
 answers_vectors bind-fs bind fs
 answers_vectors bind-uri bind uri

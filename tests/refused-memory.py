@@ -1,7 +1,7 @@
 #!/usr/bin/env python3
 """Refuses each allocation of short sessions in turn: refused-memory.py [PROGRAM [TESTS]].
 
-PROGRAM is build/cpe if left out, and TESTS the program of the tests in crates/command_tests, as the gate leaves it. A session is a
+PROGRAM is build/cpe if left out, and TESTS the program of the tests in crates/engine_tests, as the gate leaves it. A session is a
 command on one of the vectors beside this file. The allocations of a whole run are counted, and then it is run once for each of them,
 which is refused alone, and once where all after it are refused too; each with its input as reads give it, and in single bytes, where
 every answer is written before the next line is read. A run must end with status 5 and a prefix of the output, in whole lines; or with
@@ -22,7 +22,7 @@ import tempfile
 
 TOP = pathlib.Path(__file__).resolve().parent.parent
 # The program and the tests where none are named.
-FOUND = (TOP / "build" / "cpe", TOP / "crates" / "command_tests" / "out" / "command_tests_tests")
+FOUND = (TOP / "build" / "cpe", TOP / "crates" / "engine_tests" / "out" / "engine_tests_tests")
 # Between them they have each kind of edit and question, the table of verdicts, and edits that are refused.
 SESSIONS = (
     "resolve/a-chain-that-is-edited",

@@ -1,28 +1,42 @@
 // Runs in which one read or one write fails, at each call in turn, and in which bytes come and go in pieces, beside runs without
 // faults. What is owned is made in one function each and handed on by reference, and no call answers more than whether all went so:
 // then the proofs are quick.
-mod generated;
+ghost use Rattle.std.specs.Prelude.{◌≡◌, ◌<◌};
+ghost use Rattle.cpe_rows.specs.Rows.{no_rows};
+
 mod names;
 mod records;
-mod runs;
-mod snapshots;
+mod wholes;
 
-use crate::faults::runs::{ended, words_of};
-use cpe_command::Status;
+use cpe_command::{Status, run};
+use cpe_engine::Engine;
 use cpe_io::{MemSink, MemSource};
-use std::alloc::Global;
+use cpe_steps::Steps;
+use std::alloc::{AllocError, Global};
+use std::marker::Brand;
+use std::sync::ledger::{Blank, Ledger};
 
 // As many bytes as any write here has.
 const ALL: usize = 65_536;
 
-// Lines of a command, some of which are refused, and what a run writes in which nothing fails.
+// How a run ends in which nothing fails, and what it writes.
+#[derive(Clone, Copy)]
+struct Told<'t> {
+    words: &'t [&'t str],
+    // The words under which lines are answered as they are before a read that fails, with no table after them; none where the run
+    // reads nothing.
+    before: &'t [&'t str],
+    input: &'t [u8],
+    status: Status,
+    output: &'t [u8],
+}
+
+// The same with its words as a run has them.
 #[derive(Clone, Copy)]
 struct Session<'s> {
     words: &'s [String],
-    // The words under which the same lines are answered with no table after them.
-    without_table: &'s [String],
-    input: &'s [u8],
-    output: &'s [u8],
+    before: &'s [String],
+    told: &'s Told<'s>,
 }
 
 // How bytes come and go, and the numbers of the calls that fail.
@@ -32,6 +46,51 @@ struct Ends<'e> {
     reads: &'e [u64],
     most: usize,
     writes: &'e [u64],
+}
+
+// ---- a run: no test needs its clauses, and each would prove slowly beside them
+
+fn words_of(alloc: Global, words: &[&str]) -> Result<Vec<String>, AllocError> {
+    let mut owned = Vec::new(alloc);
+    for word in words {
+        owned.push(String::from_str(alloc, word)?)?;
+    }
+    Ok(owned)
+}
+
+fn run_unseen<L: Ledger>(
+    alloc: Global,
+    words: &[String],
+    source: &mut MemSource,
+    sink: &mut MemSink,
+    engine: &mut Engine,
+    steps: &mut Steps<L>,
+) -> Status
+    requires { engine.old ≡ no_rows }
+{
+    run(alloc, words, source, sink, engine, steps)
+}
+
+fn run_over<L: Ledger>(
+    alloc: Global,
+    words: &[String],
+    source: &mut MemSource,
+    sink: &mut MemSink,
+    blank: Blank,
+) -> Status
+    requires name { blank.name ≡ L.name }
+    requires parts { blank.parts ≡ L.parts }
+    requires some { 0 < blank.parts }
+{
+    let mut engine = Engine::new(alloc);
+    let mut steps = Steps::<L>::new(blank);
+    let status = run_unseen(alloc, words, source, sink, &mut engine, &mut steps);
+    drop(engine);
+    status
+}
+
+fn ended(alloc: Global, words: &[String], source: &mut MemSource, sink: &mut MemSink) -> Status {
+    run_over::<Brand>(alloc, words, source, sink, Blank::new(1))
 }
 
 // Whether a run ends so, and the sink holds this.
@@ -60,106 +119,104 @@ fn goes_from(
     }
 }
 
-// Whether a run over this input ends and writes so.
-fn goes_over(
-    alloc: Global,
-    words: &[String],
-    input: &[u8],
-    ends: &Ends,
-    status: Status,
-    output: &[u8],
-) -> bool {
-    match MemSource::new(alloc, input, ends.pieces, ends.reads) {
-        Ok(mut source) => goes_from(alloc, words, &mut source, ends, status, output),
+// Whether a run ends so and writes this.
+fn goes(alloc: Global, session: &Session, ends: &Ends, status: Status, output: &[u8]) -> bool {
+    match MemSource::new(alloc, session.told.input, ends.pieces, ends.reads) {
+        Ok(mut source) => goes_from(alloc, session.words, &mut source, ends, status, output),
         Err(_) => false,
     }
 }
 
-fn goes(alloc: Global, session: &Session, ends: &Ends, status: Status, output: &[u8]) -> bool {
-    goes_over(alloc, session.words, session.input, ends, status, output)
-}
-
-// Whether a run goes as one at once does, where bytes come in such pieces and so many go at a time.
-fn goes_in_pieces(alloc: Global, session: &Session, pieces: &[usize], most: usize) -> bool {
-    let ends = Ends {
-        pieces,
-        reads: &[],
-        most,
-        writes: &[],
-    };
-    goes(alloc, session, &ends, Status::SomeRefused, session.output)
-}
-
-fn goes_in_all_pieces(alloc: Global, session: &Session) -> bool {
-    goes_in_pieces(alloc, session, &[], ALL)
-        && goes_in_pieces(alloc, session, &[], 1)
-        && goes_in_pieces(alloc, session, &[1], ALL)
-        && goes_in_pieces(alloc, session, &[1, 2, ALL], 3)
-}
-
-fn prefix(bytes: &[u8], count: usize) -> &[u8] {
-    bytes.get(..count).unwrap_or(bytes)
-}
-
-// Whether a run goes so whose read of this number fails. Each read gives a byte.
-fn goes_until_read(
-    alloc: Global,
-    session: &Session,
-    read: usize,
-    status: Status,
-    output: &[u8],
-) -> bool {
-    let ends = Ends {
-        pieces: &[1],
-        reads: &[read as u64],
-        most: ALL,
-        writes: &[],
-    };
-    goes(alloc, session, &ends, status, output)
-}
-
-// Gives the sink what lines write under these words where nothing fails and all bytes come at once.
-fn write(alloc: Global, words: &[String], lines: &[u8], sink: &mut MemSink) -> bool {
+// Gives the sink what lines are answered before a read that fails.
+fn answer(alloc: Global, session: &Session, lines: &[u8], sink: &mut MemSink) -> bool {
     match MemSource::new(alloc, lines, &[], &[]) {
         Ok(mut source) => {
-            let _ = ended(alloc, words, &mut source, sink);
+            let _ = ended(alloc, session.before, &mut source, sink);
             true
         }
         Err(_) => false,
     }
 }
 
-// Whether a run whose read of this number fails has written what the whole lines until then say, and nothing after it.
+// ---- what is tried
+
+// Whether a run goes as told where bytes come in such pieces and so many go at a time, and this read, which is never made, would fail.
+fn goes_as_told(
+    alloc: Global,
+    session: &Session,
+    pieces: &[usize],
+    most: usize,
+    read: usize,
+) -> bool {
+    let ends = Ends {
+        pieces,
+        reads: &[read as u64],
+        most,
+        writes: &[],
+    };
+    goes(
+        alloc,
+        session,
+        &ends,
+        session.told.status,
+        session.told.output,
+    )
+}
+
+// The number of the first read that isn't made where each gives a byte.
+fn first_unmade(session: &Session) -> usize {
+    if session.before.is_empty() {
+        return 0;
+    }
+    session.told.input.len().saturating_add(1)
+}
+
+fn goes_in_all_pieces(alloc: Global, session: &Session) -> bool {
+    let unmade = first_unmade(session);
+    goes_as_told(alloc, session, &[], ALL, unmade)
+        && goes_as_told(alloc, session, &[], 1, unmade)
+        && goes_as_told(alloc, session, &[1], ALL, unmade)
+        && goes_as_told(alloc, session, &[1, 2, ALL], 3, unmade)
+}
+
+// Whether a run whose read of this number fails has written what the whole lines until then say, and nothing after it. Each read
+// gives a byte.
 fn stops_at_read(alloc: Global, session: &Session, read: usize, lines: &[u8]) -> bool {
+    let ends = Ends {
+        pieces: &[1],
+        reads: &[read as u64],
+        most: ALL,
+        writes: &[],
+    };
     match MemSink::new(alloc, ALL, &[]) {
         Ok(mut sink) => {
-            write(alloc, session.without_table, lines, &mut sink)
-                && goes_until_read(alloc, session, read, Status::ReadFault, sink.bytes())
+            answer(alloc, session, lines, &mut sink)
+                && goes(alloc, session, &ends, Status::ReadFault, sink.bytes())
         }
         Err(_) => false,
     }
 }
 
-// Whether a run stops so at each read before the one that finds the end.
+fn prefix(bytes: &[u8], count: usize) -> &[u8] {
+    bytes.get(..count).unwrap_or(bytes)
+}
+
+// Whether a run stops so at each read, the one that finds the end among them.
 fn stops_at_each_read(alloc: Global, session: &Session) -> bool {
+    if session.before.is_empty() {
+        return true;
+    }
+    let input = session.told.input;
     let mut lines: &[u8] = &[];
-    for (read, byte) in session.input.iter().enumerate() {
+    for (read, byte) in input.iter().enumerate() {
         if !stops_at_read(alloc, session, read, lines) {
             return false;
         }
         if *byte == b'\n' {
-            lines = prefix(session.input, read.saturating_add(1));
+            lines = prefix(input, read.saturating_add(1));
         }
     }
-    stops_at_end(alloc, session, lines)
-}
-
-// Whether it stops so at the read that finds the end, and a later one is never made.
-fn stops_at_end(alloc: Global, session: &Session, lines: &[u8]) -> bool {
-    let end = session.input.len();
-    let behind = end.saturating_add(1);
-    stops_at_read(alloc, session, end, lines)
-        && goes_until_read(alloc, session, behind, Status::SomeRefused, session.output)
+    stops_at_read(alloc, session, input.len(), lines)
 }
 
 // Whether a run whose write of this number fails has written the bytes until then. Each write takes a byte.
@@ -170,12 +227,12 @@ fn stops_at_write(alloc: Global, session: &Session, write: usize) -> bool {
         most: 1,
         writes: &[write as u64],
     };
-    let output = prefix(session.output, write);
+    let output = prefix(session.told.output, write);
     goes(alloc, session, &ends, Status::WriteFault, output)
 }
 
 fn stops_at_each_write(alloc: Global, session: &Session) -> bool {
-    for (write, _) in session.output.iter().enumerate() {
+    for (write, _) in session.told.output.iter().enumerate() {
         if !stops_at_write(alloc, session, write) {
             return false;
         }
@@ -183,53 +240,24 @@ fn stops_at_each_write(alloc: Global, session: &Session) -> bool {
     true
 }
 
-fn stands(alloc: Global, session: &Session) -> bool {
+fn stands_in_all(alloc: Global, session: &Session) -> bool {
     goes_in_all_pieces(alloc, session)
         && stops_at_each_read(alloc, session)
         && stops_at_each_write(alloc, session)
 }
 
-// Whether a run writes so in whatever pieces bytes come and go, and at each read and each write that fails leaves what the
-// definition of its ending says: `without_table` are the words under which the same lines are answered with no table after them.
-pub fn stands_without_table<'w>(
-    alloc: Global,
-    words: &[&'w str],
-    without_table: &[&'w str],
-    input: &[u8],
-    output: &[u8],
-) -> bool {
-    match (words_of(alloc, words), words_of(alloc, without_table)) {
-        (Ok(words), Ok(without_table)) => {
+// Whether a run writes so in whatever pieces bytes come and go, and at each read and each write that fails leaves what the definition of
+// its ending says.
+fn stands(alloc: Global, told: &Told) -> bool {
+    match (words_of(alloc, told.words), words_of(alloc, told.before)) {
+        (Ok(words), Ok(before)) => {
             let session = Session {
                 words: &words,
-                without_table: &without_table,
-                input,
-                output,
+                before: &before,
+                told,
             };
-            stands(alloc, &session)
+            stands_in_all(alloc, &session)
         }
         _ => false,
     }
-}
-
-// The same of a command that puts no table after the answers.
-pub fn stands_at_each_fault(alloc: Global, words: &[&str], input: &[u8], output: &[u8]) -> bool {
-    stands_without_table(alloc, words, words, input, output)
-}
-
-// What a command writes where nothing fails.
-#[derive(Clone, Copy)]
-struct Told<'t> {
-    words: &'t [&'t str],
-    input: &'t [u8],
-    output: &'t [u8],
-}
-
-fn each_stands(alloc: Global, all: &[Told]) -> bool {
-    for told in all {
-        if !stands_at_each_fault(alloc, told.words, told.input, told.output) {
-            return false;
-        }
-    }
-    true
 }

@@ -1,8 +1,5 @@
-//! Tests alone: products in their orders, a table of names, an index of them, and lists of items, through their public
-//! calls.
-
-// What a test made is let go by a call of `drop`, which is proved once for a type. At a function's end it would be taken apart there,
-// down to the last vector of a table, and in a loop at each exit.
+//! Tests alone, of tables of names: that numbers are used again, of which no clause speaks; and how many looks a search of five names takes,
+//! which is proved and not run: it says what a caller knows by the contracts.
 #![tactic(auto)]
 
 #[cfg(test)]

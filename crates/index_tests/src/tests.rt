@@ -1,13 +1,106 @@
-// Tests by what they try, and what several of them make.
-mod blocks;
-mod filters;
-mod held;
-mod items;
-mod lists;
-mod looks;
-mod marks;
-mod moved;
-mod names;
-mod released;
-mod removed;
-mod shelf;
+// Numbers that are used again, and looks at few of the names that are held. What a test made is let go by a call of `drop`, which is
+// proved once for a type: at a function's end it would be taken apart there, down to the last vector of a table.
+ghost use Rattle.std.specs.Prelude.{◌≡◌, ◌+◌, ◌≤◌, [], ◌∷◌};
+ghost use Rattle.name_index.specs.Prelude.{IsLower, kept_at};
+ghost use Rattle.name_index.specs.Index.{Fits};
+ghost use Rattle.index_tests.specs.Tried.{plain};
+
+use cpe_name::{Wfn, read_wfn};
+use cpe_steps::Steps;
+use cpe_values::Memory;
+use name_index::{NameId, NameIndex, NameTable};
+use std::alloc::Global;
+use std::sync::ledger::Ledger;
+
+// Holds a name that isn't there.
+fn hold(table: &mut NameTable, name: &Wfn) -> bool {
+    if !name.is_lower() {
+        return false;
+    }
+    if let Some(_) = table.find(name) {
+        return false;
+    }
+    table.hold(name).is_ok()
+}
+
+fn release(table: &mut NameTable, name: &Wfn) -> bool {
+    match table.find(name) {
+        Some(id) => {
+            table.release(id);
+            true
+        }
+        None => false,
+    }
+}
+
+// Whether this is the number of the name, and that of its product.
+fn has_number(table: &NameTable, name: &Wfn, number: u32) -> bool {
+    match table.find(name) {
+        Some(id) => id.0 == number && table.product(id).0 == number,
+        None => false,
+    }
+}
+
+// The number of the name that goes is the next one's, and so is that of its product; the others keep theirs.
+fn are_used_again(table: &mut NameTable, names: &[Wfn]) -> bool {
+    let [first, second, third, new] = names else {
+        return false;
+    };
+    hold(table, first)
+        && hold(table, second)
+        && hold(table, third)
+        && release(table, second)
+        && hold(table, new)
+        && has_number(table, new, 1)
+        && has_number(table, first, 0)
+        && has_number(table, third, 2)
+        && hold(table, second)
+        && has_number(table, second, 3)
+}
+
+fn is_pushed(alloc: Global, names: &mut Vec<Wfn>, text: &[u8]) -> bool {
+    match read_wfn(alloc, text) {
+        Ok(name) => names.push(name).is_ok(),
+        Err(_) => false,
+    }
+}
+
+fn uses_again(alloc: Global) -> bool {
+    let mut table = NameTable::new(alloc);
+    let mut names = Vec::new(alloc);
+    let is_so = is_pushed(alloc, &mut names, b"wfn:[product=\"bar\"]")
+        && is_pushed(alloc, &mut names, b"wfn:[product=\"foo\"]")
+        && is_pushed(alloc, &mut names, b"wfn:[product=\"mail\"]")
+        && is_pushed(alloc, &mut names, b"wfn:[product=\"new\"]")
+        && are_used_again(&mut table, &names);
+    drop(names);
+    drop(table);
+    is_so
+}
+
+#[test]
+fn a_number_that_goes_is_used_again(rt: HostRuntime) {
+    assert!(rt; uses_again(rt.alloc()));
+}
+
+// Names of the products `p` and `q0` to `q3` are held: to tell which of them one of the product `p` covers takes a look at most.
+fn look_at_one<L: Ledger>(
+    alloc: Global,
+    index: &NameIndex,
+    table: &NameTable,
+    name: &Wfn,
+    steps: &mut Steps<L>,
+) -> Result<Vec<NameId>, Memory>
+    requires fits { Fits index.now.held table.now }
+    requires held { index.now.held ≡ (0, 0) ∷ (1, 1) ∷ (2, 2) ∷ (3, 3) ∷ (4, 4) ∷ [] }
+    requires first { (kept_at table.now 0).name.product ≡ plain (112 ∷ []) }
+    requires second { (kept_at table.now 1).name.product ≡ plain (113 ∷ 48 ∷ []) }
+    requires third { (kept_at table.now 2).name.product ≡ plain (113 ∷ 49 ∷ []) }
+    requires fourth { (kept_at table.now 3).name.product ≡ plain (113 ∷ 50 ∷ []) }
+    requires fifth { (kept_at table.now 4).name.product ≡ plain (113 ∷ 51 ∷ []) }
+    requires lower { IsLower name.now }
+    requires asked { name.now.product ≡ plain (112 ∷ []) }
+    ensures { steps.new ≤ steps.old + 1 }
+{
+    index.covered_by(alloc, table, name, steps)
+}

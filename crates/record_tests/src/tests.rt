@@ -1,5 +1,107 @@
-// Tests by what is read from a line, and how a line is read.
-mod entries;
-mod forms;
-mod reading;
-mod statements;
+// Rows that lines give. A record is let go by one call: at the end of a scope each of its names would be let go in place, value by
+// value, which proves slowly.
+use cpe_name::Wfn;
+use cpe_records::{Record, read_record, write_entry};
+use cpe_rows::{CheckKey, Edit, Entry, Facts, Statement, Truth, evaluate};
+use std::alloc::Global;
+
+// ---- an entry
+
+const ENTRY: &str =
+    r#"{"title":"A \"B\"\\\n\u00e9\u0001","\u0064o":"entry","name":"cpe:2.3:a:Acme:P\u0031:*:*:*:*:*:*:*:*","x":[{}],"provenance":{"submitter":"acme","authority":"nvd","changes":[{"kind":"ORIGINAL_RECORD","date":"2024-01-02"}]}}"#;
+
+const WRITTEN: &str =
+    r#"{"deprecation":null,"name":"cpe:2.3:a:acme:p1:*:*:*:*:*:*:*:*","provenance":{"authority":"nvd","changes":[{"comment":"","date":"2024-01-02","kind":"ORIGINAL_RECORD"}],"submitter":"acme"},"title":"A \"B\"\\\né\u0001"}"#;
+
+fn is_written(alloc: Global, entry: &Entry) -> bool {
+    match write_entry(alloc, entry) {
+        Ok(written) => written.as_slice() == WRITTEN.as_bytes(),
+        Err(_) => false,
+    }
+}
+
+fn copy_is_written(alloc: Global, entry: &Entry) -> bool {
+    match entry.copy(alloc) {
+        Ok(copy) => {
+            let is_so = is_written(alloc, &copy);
+            drop(copy);
+            is_so
+        }
+        Err(_) => false,
+    }
+}
+
+// ---- a statement, and its truths over facts of our own
+
+// Not both a fact that any name is and a check.
+const STATEMENT: &str =
+    r#"{"do":"statement","id":"s","test":{"op":"AND","negate":true,"of":[{"fact":"cpe:/"},{"check":{"system":"s","href":"h","id":"i"}}]}}"#;
+
+// Facts that hold, and checks that all have one truth.
+#[derive(Drop)]
+struct Known {
+    check: Truth,
+}
+
+impl Facts for Known {
+    ghost use Rattle.cpe_rows.specs.declared.truth.Truth.TheVariants.{True};
+
+    ghost fact_truth = { λ _ _. True };
+
+    ghost check_truth = { λ known _. known.check };
+
+    fn fact(&self, _name: &Wfn) -> Truth {
+        Truth::True
+    }
+
+    fn check(&self, _key: &CheckKey) -> Truth {
+        self.check
+    }
+}
+
+fn truth_of(statement: &Statement, check: Truth) -> Truth {
+    evaluate(&statement.test, &Known { check })
+}
+
+fn copy_denies_both(alloc: Global, statement: &Statement) -> bool {
+    match statement.copy(alloc) {
+        Ok(copy) => {
+            let is_so = truth_of(&copy, Truth::True) == Truth::False
+                && truth_of(&copy, Truth::Error) == Truth::Error;
+            drop(copy);
+            is_so
+        }
+        Err(_) => false,
+    }
+}
+
+// ---- both
+
+fn holds(alloc: Global, record: &Record) -> bool {
+    match record {
+        Record::Edit(Edit::Entry(entry)) => copy_is_written(alloc, entry),
+        Record::Edit(Edit::PutStatement(statement)) => copy_denies_both(alloc, statement),
+        _ => false,
+    }
+}
+
+fn holds_of(alloc: Global, line: &str) -> bool {
+    match read_record(alloc, line.as_bytes()) {
+        Ok(record) => {
+            let holds = holds(alloc, &record);
+            drop(record);
+            holds
+        }
+        Err(_) => false,
+    }
+}
+
+#[test]
+fn an_entry_is_copied_and_written(rt: HostRuntime) {
+    assert!(rt; holds_of(rt.alloc(), ENTRY));
+}
+
+#[test]
+fn a_statement_is_copied_and_evaluated(rt: HostRuntime) {
+    assert!(rt; holds_of(rt.alloc(), STATEMENT));
+}

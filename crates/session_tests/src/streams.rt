@@ -1,7 +1,5 @@
-// Sources and sinks: readers and writers of std, of whose bytes no clause speaks, and those over memory.
-use cpe_io::{
-    Failed, MemSink, MemSource, Sink, SinkFault, Source, StdSink, StdSource, SureSink, write_all,
-};
+// Sources and sinks over readers and writers of std, of whose bytes no clause speaks.
+use cpe_io::{Failed, Sink, SinkFault, Source, StdSink, StdSource, write_all};
 use std::io::{self, Read, Write};
 
 // Whether a read into two bytes gives these.
@@ -77,39 +75,4 @@ impl Write for Stuck {
 fn what_fails_in_std_has_failed(rt: HostRuntime) {
     assert!(rt; gives_no_more(&mut StdSource::new(Stuck)));
     assert!(rt; takes_no_more(&mut StdSink::new(Stuck), b"a"));
-}
-
-// The second read fails, and moves nothing.
-fn source_fails(source: &mut MemSource) -> bool {
-    gives(source, b"ab") && gives_no_more(source) && gives(source, b"c")
-}
-
-#[test]
-fn the_named_read_fails_and_moves_nothing(rt: HostRuntime) {
-    let is_so = match MemSource::new(rt.alloc(), b"abc", &[2], &[1]) {
-        Ok(mut source) => source_fails(&mut source),
-        Err(_) => false,
-    };
-    assert!(rt; is_so);
-}
-
-// The second write fails, and moves nothing.
-fn sink_fails(sink: &mut MemSink) -> bool {
-    takes_no_more(sink, b"abc") && takes(sink, b"d") && sink.bytes() == b"abd".as_slice()
-}
-
-#[test]
-fn the_named_write_fails_and_moves_nothing(rt: HostRuntime) {
-    let is_so = match MemSink::new(rt.alloc(), 2, &[1]) {
-        Ok(mut sink) => sink_fails(&mut sink),
-        Err(_) => false,
-    };
-    assert!(rt; is_so);
-}
-
-#[test]
-fn few_bytes_are_taken_at_a_time(rt: HostRuntime) {
-    let mut sink = SureSink::new(rt.alloc(), 3);
-    assert!(rt; takes(&mut sink, b"one two"));
-    assert!(rt; sink.bytes() == b"one two".as_slice());
 }

@@ -1,7 +1,5 @@
-//! Tests alone: small snapshots, and one row of each kind, written and read through the public calls.
+//! Tests alone, of snapshots: calls that the program doesn't make, which read all rows at once. What it refuses is in `tests/snapshots.py`.
 #![tactic(auto)]
 
 #[cfg(test)]
-mod kinds;
-#[cfg(test)]
-mod small;
+mod tests;
