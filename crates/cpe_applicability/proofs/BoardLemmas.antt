@@ -10,24 +10,24 @@ use Rattle.cpe_rows.specs.declared.truth.Truth.TheVariants.{True, False, Error, 
 use Rattle.cpe_rows.specs.declared.test.CheckKey.{CheckKey}
 use Rattle.cpe_rows.specs.declared.statement.Mode.{Mode}
 use Rattle.cpe_rows.specs.declared.statement.Mode.TheVariants.{Plain, Follow}
-use Rattle.cpe_applicability.specs.declared.facts.Facts.{Facts}
+use Rattle.judged_statements.specs.declared.facts.Facts.{Facts}
 use Rattle.cpe_applicability.specs.declared.parts.Parts.{Parts}
-use Rattle.cpe_applicability.specs.declared.row.Row.{Row}
+use Rattle.judged_statements.specs.declared.row.Row.{Row}
 use Rattle.ticket_list.specs.Rising.{IsRisingBy}
-use Rattle.cpe_applicability.specs.declared.by_result.ByResult.{ByResult}
-use Rattle.cpe_applicability.specs.declared.row.Cause.{Cause}
-use Rattle.cpe_applicability.specs.declared.row.Cause.TheVariants.{Check, Fact}
-use Rattle.cpe_applicability.specs.ByResult.{asks_one}
-use Rattle.cpe_applicability.specs.Entering.{among, is_empty}
-use Rattle.cpe_applicability.specs.Users.{askers_at, users_at}
+use Rattle.judged_statements.specs.declared.by_result.ByResult.{ByResult}
+use Rattle.judged_statements.specs.declared.row.Cause.{Cause}
+use Rattle.judged_statements.specs.declared.row.Cause.TheVariants.{Check, Fact}
+use Rattle.judged_statements.specs.ByResult.{asks_one}
+use Rattle.judged_statements.specs.Entering.{among, is_empty}
+use Rattle.judged_statements.specs.Users.{askers_at, users_at}
 use Rattle.cpe_applicability.specs.Board.{is_used, known, same_mode}
-use Rattle.cpe_applicability.specs.Held.{anew, asks, at_tickets, each_verdict, has_row_id, is_changed, is_plain, settled, ticket_of, tickets, truths_by, uses_follow, uses_plain, verdict_after, verdict_now}
+use Rattle.judged_statements.specs.Held.{anew, asks, at_tickets, each_verdict, has_row_id, is_changed, is_plain, settled, ticket_of, tickets, truths_by, uses_follow, uses_plain, verdict_after, verdict_now}
 use Rattle.cpe_applicability.specs.Invariant.{IsBoard, TellsEach, judged, part_verdict, state_in}
 use Rattle.cpe_inventory.specs.Results.{one_or_none}
-use Rattle.cpe_applicability.specs.Told.{check_keys}
-use Rattle.cpe_applicability.specs.Truths.{truth_in}
-use Rattle.cpe_applicability.proofs.EnteringLemmas.{nat_decides}
-use Rattle.cpe_applicability.proofs.RowLemmas.{rising-at_all, rising-map, passing-map, tickets-at_all, length-map, members, still_room}
+use Rattle.judged_statements.specs.Told.{check_keys}
+use Rattle.judged_statements.specs.Truths.{truth_in}
+use Rattle.judged_statements.proofs.EnteringLemmas.{nat_decides}
+use Rattle.judged_statements.proofs.RowLemmas.{rising-at_all, rising-map, passing-map, tickets-at_all, length-map, members, still_room}
 
 module _ (f : Row → Row) (P Q : Row → Type 0) (ts : List ℕ) (here : (r : Row) → among ts (ticket_of r) ≡ true → P r → Q (f r)) (else_ : (r : Row) → among ts (ticket_of r) ≡ false → P r → Q r) where
   pub all_at_tickets : (rows : List Row) → AllByRecursion P rows → AllByRecursion Q (at_tickets ts f rows)

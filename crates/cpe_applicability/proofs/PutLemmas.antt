@@ -13,21 +13,21 @@ use Rattle.cpe_rows.specs.declared.statement.Mode.TheVariants.{Plain, Follow}
 use Rattle.cpe_rows.specs.declared.test.CheckKey.{CheckKey}
 use Rattle.cpe_applicability.specs.declared.parts.Parts.{Parts}
 use Rattle.std.proofs.Common.{Box, Global}
-use Rattle.cpe_applicability.specs.declared.by_result.ByResult.{ByResult}
-use Rattle.cpe_applicability.specs.declared.facts.Facts.{Facts}
-use Rattle.cpe_applicability.specs.declared.row.Held.{Held}
-use Rattle.cpe_applicability.specs.declared.row.Row.{Row}
+use Rattle.judged_statements.specs.declared.by_result.ByResult.{ByResult}
+use Rattle.judged_statements.specs.declared.facts.Facts.{Facts}
+use Rattle.judged_statements.specs.declared.row.Held.{Held}
+use Rattle.judged_statements.specs.declared.row.Row.{Row}
 use Rattle.cpe_applicability.specs.Board.{is_used, KeepsTruths, TakesTruths, is_of}
-use Rattle.cpe_applicability.specs.ByResult.{asks_one, each_result}
-use Rattle.cpe_applicability.specs.Entering.{entered, is_asked, is_empty}
-use Rattle.cpe_applicability.specs.Held.{asks, each_verdict, follow_use, has_row_id, is_changed, plain_use, ticket_of, tickets, uses_follow, uses_plain, verdict_by}
+use Rattle.judged_statements.specs.ByResult.{asks_one, each_result}
+use Rattle.judged_statements.specs.Entering.{entered, is_asked, is_empty}
+use Rattle.judged_statements.specs.Held.{asks, each_verdict, follow_use, has_row_id, is_changed, plain_use, ticket_of, tickets, uses_follow, uses_plain, verdict_by}
 use Rattle.cpe_applicability.specs.Invariant.{HasSameRows, IsBoard, IsEntered, IsReady, TellsEach, judged, new_row, part_verdict, state_in}
 use Rattle.cpe_inventory.specs.Results.{one_or_none}
-use Rattle.cpe_applicability.specs.Tickets.{IsBelow}
+use Rattle.judged_statements.specs.Tickets.{IsBelow}
 use Rattle.ticket_list.specs.Rising.{IsRisingBy}
-use Rattle.cpe_applicability.specs.Told.{check_keys}
-use Rattle.cpe_applicability.specs.Truths.{truth_or_unknown}
-use Rattle.cpe_applicability.specs.Users.{askers_at, users_at}
+use Rattle.judged_statements.specs.Told.{check_keys}
+use Rattle.judged_statements.specs.Truths.{truth_or_unknown}
+use Rattle.judged_statements.specs.Users.{askers_at, users_at}
 use Rattle.cpe_applicability.proofs.BoardLemmas.{all_weaker, any_follow, any_plain, same_self, used_follow, used_plain}
 use Rattle.cpe_applicability.proofs.RemovedLemmas.{all_used, each_kept, judged_kept}
 use Rattle.ticket_list.proofs.RisingLemmas.{rising_passing, rising_last}

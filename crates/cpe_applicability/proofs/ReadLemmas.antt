@@ -1,22 +1,22 @@
 -- Places of rows, found by their tickets, as places of the statements that pass.
-use Rattle.std.proofs.Common.{◌≡◌, ℕ, zero, suc, ◌+◌, ◌<◌, Bool, true, false, not, cond, List, [], ◌∷◌, length, find, map, position, refl, sym, ap, subst, ◌∙◌, arith}
-use Rattle.std.specs.Prelude.{nat_lt, slice_get, Option, Some, None}
+use Rattle.std.proofs.Common.{◌≡◌, ℕ, zero, suc, ◌<◌, Bool, true, false, not, cond, List, [], ◌∷◌, length, find, map, refl, sym, ap, subst, ◌∙◌, arith}
+use Rattle.std.specs.Prelude.{nat_lt, slice_get, Some, None}
 use Rattle.std.specs.Option.{option_map}
-use Rattle.std.specs.List.{AllByRecursion, filter, position_from}
-use Rattle.std.proofs.lemmas.Iterator.Adapters.{position_from-zero}
+use Rattle.std.specs.List.{AllByRecursion, filter}
 use Rattle.std.proofs.lemmas.Bool.Decides.{nat_tests}
 use Rattle.cpe_rows.specs.Truth.{same_truth}
 use Rattle.cpe_rows.specs.declared.truth.Truth.{Truth}
 use Rattle.cpe_applicability.specs.declared.parts.Parts.{Parts}
-use Rattle.cpe_applicability.specs.declared.row.Row.{Row}
+use Rattle.judged_statements.specs.declared.row.Row.{Row}
 use Rattle.ticket_list.specs.Rising.{IsRisingBy}
 use Rattle.cpe_applicability.specs.Board.{changed_places, has_changed, is_of, places, verdict_of}
-use Rattle.cpe_applicability.specs.Tickets.{first_place}
-use Rattle.cpe_applicability.specs.Held.{has_row_id, is_changed, place_in, ticket_of, tickets}
+use Rattle.judged_statements.specs.Tickets.{first_place}
+use Rattle.judged_statements.specs.Held.{has_row_id, is_changed, place_in, ticket_of, tickets}
 use Rattle.cpe_applicability.specs.Invariant.{judged, part_verdict, state_in}
 use Rattle.ticket_list.proofs.RisingLemmas.{all_passing}
-use Rattle.cpe_applicability.proofs.EnteringLemmas.{nat_same}
-use Rattle.cpe_applicability.proofs.RowLemmas.{all_at, lower_differs}
+use Rattle.judged_statements.proofs.EnteringLemmas.{nat_same}
+use Rattle.judged_statements.proofs.PlaceLemmas.{find_at, find_none, first-map}
+use Rattle.judged_statements.proofs.RowLemmas.{all_at, lower_differs}
 
 pub get-map : {X Y : Type 0} (f : X → Y) (xs : List X) (k : ℕ) → slice_get (map f xs) k ≡ option_map f (slice_get xs k)
 get-map f [] k = refl
@@ -114,33 +114,6 @@ all_changed b (r ∷ rows) h = (ap (λ (t : Truth). not (same_truth t r.was)) (s
 pub changed_are : (b : Parts) → AllByRecursion (λ r. r.verdict ≡ part_verdict b r) b.rows.items → changed_places (state_in b) ≡ places is_changed 0 b.rows.items
 changed_are b h = places-map judged is_changed (has_changed (state_in b)) 0 b.rows.items (all_changed b b.rows.items h)
 
-pub first-map : {X Y : Type 0} (f : X → Y) (q : Y → Bool) (xs : List X) → first_place q (map f xs) ≡ first_place (λ x. q (f x)) xs
-first-map f q [] = refl
-first-map f q (x ∷ xs) = ap (λ (o : Option ℕ). cond (q (f x)) (Some 0) (option_map suc o)) (first-map f q xs)
-
-module _ {X : Type 0} (p : X → Bool) where
-  no_suc : (o : Option ℕ) → option_map suc o ≡ None → o ≡ None
-  no_suc None h = refl
-  no_suc (Some n) h = absurd (cc)
-
-  pub find_none : (xs : List X) → first_place p xs ≡ None → find p xs ≡ None
-  find_none [] h = refl
-  find_none (x ∷ xs) h = go (p x) h (find_none xs) where
-    go : (b : Bool) → cond b (Some 0) (option_map suc (first_place p xs)) ≡ None → (first_place p xs ≡ None → find p xs ≡ None) → cond b (Some x) (find p xs) ≡ None
-    go true h more = absurd (cc)
-    go false h more = more (no_suc (first_place p xs) h)
-
-  pub find_at : (xs : List X) (k : ℕ) → first_place p xs ≡ Some k → find p xs ≡ slice_get xs k
-  find_at [] k h = absurd (cc)
-  find_at (x ∷ xs) k h = go (p x) k h (first_place p xs) refl (find_at xs) where
-    go : (b : Bool) (k : ℕ) → cond b (Some 0) (option_map suc (first_place p xs)) ≡ Some k → (o : Option ℕ) → first_place p xs ≡ o
-        → ((k : ℕ) → first_place p xs ≡ Some k → find p xs ≡ slice_get xs k) → cond b (Some x) (find p xs) ≡ slice_get (x ∷ xs) k
-    go true k h o e more = let same : 0 ≡ k = cc h in ap (slice_get (x ∷ xs)) same
-    go false k h None e more = absurd (let wrong : None ≡ Some k = sym (ap (option_map suc) e) ∙ h in cc)
-    go false k h (Some n) e more =
-        let same : suc n ≡ k = let one : Some (suc n) ≡ Some k = sym (ap (option_map suc) e) ∙ h in cc in
-        more n e ∙ ap (slice_get (x ∷ xs)) same
-
 pub verdict_there : (b : Parts) (k : ℕ) (r : Row) → AllByRecursion (λ r. r.verdict ≡ part_verdict b r) b.rows.items → slice_get b.rows.items k ≡ Some r
     → Some r.verdict ≡ option_map (verdict_of (state_in b)) (slice_get (map judged b.rows.items) k)
 verdict_there b k r h e =
@@ -156,24 +129,3 @@ verdict_found b id k h = find_at (is_of id) (map judged b.rows.items) k (first-m
 
 pub verdict_missing : (b : Parts) (id : List ℕ) → first_place (has_row_id id) b.rows.items ≡ None → find (is_of id) (map judged b.rows.items) ≡ None
 verdict_missing b id h = find_none (is_of id) (map judged b.rows.items) (first-map judged (is_of id) b.rows.items ∙ h)
-
--- ---- the place of the first, as std has it
-
-place_from : {X : Type 0} (p : X → Bool) (i : ℕ) (xs : List X) → position_from p i xs ≡ option_map (λ k. i + k) (first_place p xs)
-place_from p i [] = refl
-place_from p i (x ∷ xs) = go (p x) (place_from p (i + 1) xs) where
-  step : (o : Option ℕ) → option_map (λ k. i + 1 + k) o ≡ option_map (λ k. i + k) (option_map suc o)
-  step None = refl
-  step (Some k) = let same : i + 1 + k ≡ i + suc k = omega arith in ap (λ (n : ℕ). Some n) same
-
-  go : (b : Bool) → position_from p (i + 1) xs ≡ option_map (λ k. i + 1 + k) (first_place p xs)
-      → cond b (Some i) (position_from p (i + 1) xs) ≡ option_map (λ k. i + k) (cond b (Some 0) (option_map suc (first_place p xs)))
-  go true h = let same : i ≡ i + 0 = omega arith in ap (λ (n : ℕ). Some n) same
-  go false h = h ∙ step (first_place p xs)
-
-as_it_is : (o : Option ℕ) → option_map (λ k. 0 + k) o ≡ o
-as_it_is None = refl
-as_it_is (Some k) = let same : 0 + k ≡ k = omega arith in ap (λ (n : ℕ). Some n) same
-
-pub position_is : {X : Type 0} (p : X → Bool) (xs : List X) → position p xs ≡ first_place p xs
-position_is p xs = position_from-zero p xs ∙ (place_from p 0 xs ∙ as_it_is (first_place p xs))

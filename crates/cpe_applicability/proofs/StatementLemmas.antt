@@ -23,14 +23,14 @@ use Rattle.cpe_rows.specs.declared.statement.Mode.TheVariants.{Plain, Follow}
 use Rattle.cpe_rows.specs.declared.statement.Statement.{Statement}
 use Rattle.cpe_rows.specs.declared.truth.Truth.{Truth}
 use Rattle.cpe_inventory.specs.Kept.{IsCounted}
-use Rattle.cpe_applicability.specs.declared.row.Row.{Row}
+use Rattle.judged_statements.specs.declared.row.Row.{Row}
 use Rattle.cpe_applicability.specs.Board.{ChangesTruth, Judged, State, is_of, known, put_row, statements_of, truth_at, uses}
-use Rattle.cpe_applicability.specs.Entering.{among}
-use Rattle.cpe_applicability.specs.Held.{is_plain, ticket_of, tickets, uses_follow, uses_plain}
+use Rattle.judged_statements.specs.Entering.{among}
+use Rattle.judged_statements.specs.Held.{is_plain, ticket_of, tickets, uses_follow, uses_plain}
 use Rattle.cpe_applicability.specs.Invariant.{judged}
 use Rattle.cpe_applicability.proofs.BoardLemmas.{follow_one}
 use Rattle.cpe_applicability.proofs.PutLemmas.{map-last}
-use Rattle.cpe_applicability.proofs.RowLemmas.{unchanged_is}
+use Rattle.judged_statements.proofs.RowLemmas.{unchanged_is}
 
 -- ---- by their ids
 

@@ -11,9 +11,9 @@ use Rattle.cpe_rows.specs.declared.statement.Mode.TheVariants.{Plain, Follow}
 use Rattle.cpe_rows.specs.declared.statement.Statement.{Statement}
 use Rattle.cpe_rows.specs.declared.test.CheckKey.{CheckKey}
 use Rattle.cpe_rows.specs.declared.truth.Truth.{Truth}
-use Rattle.cpe_applicability.specs.Entering.{among}
-use Rattle.cpe_applicability.specs.Held.{is_plain, truths_by, verdict_by}
-use Rattle.cpe_applicability.specs.Truths.{truth_in}
+use Rattle.judged_statements.specs.Entering.{among}
+use Rattle.judged_statements.specs.Held.{is_plain, truths_by, verdict_by}
+use Rattle.judged_statements.specs.Truths.{truth_in}
 
 -- a statement, the numbers of its fact references, and the verdict that callers know
 pub record Judged : Type 0 where

@@ -8,18 +8,18 @@ use Rattle.std.specs.HashMap.{spare}
 use Rattle.std.proofs.Common.{Box, Global}
 use Rattle.cpe_rows.specs.declared.statement.Mode.{Mode}
 use Rattle.cpe_rows.specs.declared.statement.Mode.TheVariants.{Plain, Follow}
-use Rattle.cpe_applicability.specs.declared.row.Held.{Held}
+use Rattle.judged_statements.specs.declared.row.Held.{Held}
 use Rattle.cpe_rows.specs.declared.truth.Truth.{Truth}
 use Rattle.cpe_applicability.specs.declared.parts.Parts.{Parts}
-use Rattle.cpe_applicability.specs.declared.row.Row.{Row}
+use Rattle.judged_statements.specs.declared.row.Row.{Row}
 use Rattle.cpe_applicability.specs.Board.{Judged, State}
-use Rattle.cpe_applicability.specs.ByResult.{asks_one, each_result}
-use Rattle.cpe_applicability.specs.Entering.{entered, is_asked, is_empty}
-use Rattle.cpe_applicability.specs.Held.{asks, each_verdict, follow_use, has_row_id, is_changed, plain_use, ticket_of, tickets, uses_follow, uses_plain, verdict_by, verdict_now}
+use Rattle.judged_statements.specs.ByResult.{asks_one, each_result}
+use Rattle.judged_statements.specs.Entering.{entered, is_asked, is_empty}
+use Rattle.judged_statements.specs.Held.{asks, each_verdict, follow_use, has_row_id, is_changed, plain_use, ticket_of, tickets, uses_follow, uses_plain, verdict_by, verdict_now}
 use Rattle.cpe_inventory.specs.Results.{one_or_none}
 use Rattle.ticket_list.specs.Rising.{IsRisingBy}
-use Rattle.cpe_applicability.specs.Told.{check_keys}
-use Rattle.cpe_applicability.specs.Users.{AreAsked, AreUsed, askers_at, users_at}
+use Rattle.judged_statements.specs.Told.{check_keys}
+use Rattle.judged_statements.specs.Users.{AreAsked, AreUsed, askers_at, users_at}
 
 abbrev pub judged : Row → Judged
 judged r = record { statement = r.held.value.statement; ids = r.held.value.ids.items; was = r.was }

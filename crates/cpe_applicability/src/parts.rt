@@ -8,28 +8,23 @@ ghost use Rattle.cpe_rows.specs.declared.truth.Truth.{Truth};
 ghost use Rattle.cpe_rows.specs.declared.fault.Which.TheVariants as which;
 ghost use Rattle.cpe_rows.specs.declared.statement.Mode.TheVariants.{Plain, Follow};
 ghost use Rattle.cpe_applicability.specs.Board.{ChangesTruth, KeepsTruths, TakesTruths, changed_places, is_of, known, put_row, statements_of, truth_at, uses, verdict_of};
-ghost use Rattle.cpe_applicability.specs.Tickets.{first_place};
-ghost use Rattle.cpe_applicability.specs.Held.{has_row_id, is_changed};
-ghost use Rattle.cpe_applicability.specs.Entering.{left_out};
+ghost use Rattle.judged_statements.specs.Tickets.{first_place};
+ghost use Rattle.judged_statements.specs.Held.{has_row_id, is_changed};
+ghost use Rattle.judged_statements.specs.Entering.{left_out};
 ghost use Rattle.ticket_list.specs.Rising.{IsRising};
 ghost use Rattle.cpe_applicability.specs.Invariant.{HasSameRows, HasSameUsers, IsBoard, IsEntered, IsLean, IsReady, new_row, state_in};
 ghost use Rattle.std.specs.HashMap.{spare};
 
-use crate::askers::askers_of;
-use crate::by_result::{ByResult, asks_one};
 use crate::count::with_facts_of;
-use crate::facts::{FactTruth, Facts, change_truth};
 use crate::held::{enter_held, hold, leave_held};
-use crate::row::{Cause, Held, Row};
-use crate::rows::{
-    by_result_of, differ, place_of, refresh_rows, settle_rows, take_row, verdict_of,
-};
-use crate::tickets::take_out;
-use crate::told::truth_of;
-use crate::users::users_of;
 use cpe_inventory::{Checks, check_fault};
 use cpe_rows::{CheckKey, EditFault, Mode, Statement, Text, Truth};
 use cpe_values::Memory;
+use judged_statements::{
+    ByResult, Cause, FactTruth, Facts, Held, Row, askers_of, asks_one, by_result_of, change_truth,
+    differ, place_of, refresh_rows, settle_rows, take_out, take_row, truth_of, users_of,
+    verdict_of,
+};
 use name_index::NameId;
 use std::alloc::Global;
 use std::collections::HashMap;

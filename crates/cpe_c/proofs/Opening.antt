@@ -11,8 +11,8 @@ use Rattle.cpe_command.specs.declared.command.Command.{Command}
 use Rattle.cpe_command.specs.declared.command.Command.TheVariants as command
 use Rattle.cpe_command.specs.Command.{with_count}
 use Rattle.cpe_command.specs.Meaning.{meaning_of}
-use Rattle.cpe_command.specs.Names.{name_session}
-use Rattle.cpe_command.specs.Pairs.{pair_session}
+use Rattle.name_lines.specs.Names.{name_session}
+use Rattle.name_lines.specs.Pairs.{pair_session}
 use Rattle.cpe_command.specs.Records.{record_session}
 use Rattle.cpe_convert.specs.Convert.{convert_session}
 use Rattle.cpe_advise.specs.Records.{advice_session}

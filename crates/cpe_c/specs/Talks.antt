@@ -9,8 +9,8 @@ use Rattle.cpe_session.specs.declared.progress.Progress.{Progress}
 use Rattle.cpe_convert.specs.Convert.{convert_session}
 use Rattle.cpe_advise.specs.Records.{advice_session}
 use Rattle.cover_lines.specs.Lines.{cover_session}
-use Rattle.cpe_command.specs.Names.{name_session}
-use Rattle.cpe_command.specs.Pairs.{pair_session}
+use Rattle.name_lines.specs.Names.{name_session}
+use Rattle.name_lines.specs.Pairs.{pair_session}
 use Rattle.cpe_command.specs.Records.{record_session}
 use Rattle.cpe_c.specs.declared.speaking.Speaking.{Speaking}
 use Rattle.cpe_c.specs.declared.speaking.Speaking.TheVariants.{Name, Compare, Records, Convert, Advise, Cover}

@@ -23,8 +23,8 @@ use Rattle.cpe_command.specs.declared.command.Command.{Command}
 use Rattle.cpe_command.specs.declared.command.Command.TheVariants.{Name, Compare, Records, Convert, Advise, Load, Cover, Make, Drill}
 use Rattle.cpe_command.specs.Command.{command_of, usage}
 use Rattle.cpe_command.specs.Loading.{load_says, LoadLeaves}
-use Rattle.cpe_command.specs.Names.{name_session}
-use Rattle.cpe_command.specs.Pairs.{pair_session}
+use Rattle.name_lines.specs.Names.{name_session}
+use Rattle.name_lines.specs.Pairs.{pair_session}
 use Rattle.record_lines.specs.Records.{record_session}
 
 -- What a command means, by the bytes that a run takes of its input, where it takes some.

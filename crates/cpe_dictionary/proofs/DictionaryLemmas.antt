@@ -27,7 +27,7 @@ use Rattle.cpe_dictionary.specs.Numbers.{entries_at, node_of_entry, nodes_of_ent
 use Rattle.cpe_dictionary.proofs.Numbering.{entry_at}
 use Rattle.cpe_dictionary.specs.Kept.{IsKept, names_at, rewritten, written}
 use Rattle.cpe_dictionary.specs.Plans.{numbered}
-use Rattle.cpe_dictionary.proofs.AtNumbers.{active_names}
+use Rattle.entries_in_order.proofs.AtNumbers.{active_names}
 use Rattle.cpe_dictionary.proofs.SeenLemmas.{unknown_by_place}
 use Rattle.cpe_dictionary.proofs.Translating.{stands_at, nodes_rewritten, written_set}
 

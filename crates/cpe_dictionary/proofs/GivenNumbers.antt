@@ -1,5 +1,5 @@
 -- The numbers of the successors of deprecations, where entries may have these.
-use Rattle.std.proofs.Common.{◌≡◌, ℕ, ◌+◌, ◌<◌, ◌≤◌, Bool, true, false, if◌then◌else◌, is_none, ◌&&◌, List, [], ◌∷◌, ◌++◌, append_assoc, drop, length, map, nat_eq, position, refl, sym, ap, ◌∙◌, Option, Some, None}
+use Rattle.std.proofs.Common.{◌≡◌, ℕ, ◌+◌, Bool, true, false, if◌then◌else◌, is_none, ◌&&◌, List, [], ◌∷◌, ◌++◌, append_assoc, drop, length, map, nat_eq, position, refl, sym, ap, ◌∙◌, Option, Some, None}
 use Rattle.std.specs.Prelude.{is_some}
 use Rattle.std.specs.List.{list_all}
 use Rattle.std.proofs.lemmas.Option.{same_Some}
@@ -14,7 +14,7 @@ use Rattle.cpe_dictionary.specs.Faults.{RepeatsByNumber}
 use Rattle.cpe_dictionary.specs.Given.{are_entries, may_have}
 use Rattle.cpe_dictionary.specs.Numbers.{numbers_of}
 use Rattle.cpe_dictionary.specs.Plans.{numbered}
-use Rattle.cpe_dictionary.proofs.EntryLemmas.{there_by_name}
+use Rattle.entries_in_order.proofs.EntryLemmas.{there_by_name}
 use Rattle.cpe_dictionary.proofs.GivenGraph.{different_is}
 
 -- ---- what there is where a test passes

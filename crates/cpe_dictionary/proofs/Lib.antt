@@ -6,8 +6,6 @@ pub mod Edited
 pub mod Faulted
 pub mod Answered
 pub mod Asked
-pub mod KeptLemmas
-pub mod AtNumbers
 pub mod SeenLemmas
 pub mod Translating
 pub mod SuccessorLemmas
@@ -15,9 +13,7 @@ pub mod DictionaryLemmas
 pub mod PlanLemmas
 pub mod LeftLemmas
 pub mod SourceLemmas
-pub mod EntryLemmas
 pub mod LawfulNodes
 pub mod GivenLemmas
 pub mod GivenGraph
 pub mod GivenNumbers
-pub mod GivenDetails

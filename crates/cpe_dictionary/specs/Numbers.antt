@@ -9,7 +9,7 @@ use Rattle.cpe_rows.specs.Rows.{is_named}
 use Rattle.cpe_rows.specs.declared.entry.Entry.{Entry}
 use Rattle.deprecation_graph.specs.Paths.{IsClosed}
 use Rattle.deprecation_graph.specs.Chains.{reaches, chain_of, ends_of}
-use Rattle.names_in_order.specs.Places.{rows_at}
+pub use Rattle.entries_in_order.specs.Listed.{entries_at}
 
 -- no two entries have one name, and the successors of a number are those of its entry
 pub record AreNumbered (entries : List Entry) (next : ℕ → List ℕ) : Type 0 where
@@ -20,10 +20,6 @@ pub record AreNumbered (entries : List Entry) (next : ℕ → List ℕ) : Type 0
 -- the active numbers are those of active entries
 abbrev pub AreMarked : List Entry → (ℕ → Bool) → Type 0
 AreMarked entries active = (i : ℕ) (x : Entry) → slice_get entries i ≡ Some x → is_active x ≡ active i
-
--- the entries of these numbers
-abbrev pub entries_at : List Entry → List ℕ → List Entry
-entries_at entries numbers = rows_at entries numbers
 
 abbrev pub ChainsByNumber : Type 0
 ChainsByNumber =

@@ -10,10 +10,6 @@ ghost use Rattle.names_in_order.specs.Prelude.{IsLower, near_count, StepsWithin}
 ghost use Rattle.cpe_dictionary.specs.Kept.{IsKept, names_of};
 
 use crate::by_number::answers_by_number;
-use crate::chain::{active_names_at, rows_at};
-use crate::entries::Entries;
-use crate::kept::{entry_of, state_of};
-use crate::search::wanted_at;
 use cpe_name::Wfn;
 use cpe_rows::{
     BoxedName, Deprecation, EditFault, Entry, List, MOST_ENTRIES, Note, Row, State, Which,
@@ -21,6 +17,7 @@ use cpe_rows::{
 use cpe_steps::Steps;
 use cpe_values::Memory;
 use deprecation_graph::{DeprecationGraph, GraphFault};
+use entries_in_order::{Entries, active_names_at, rows_at};
 use std::alloc::Global;
 use std::marker::Model;
 use std::sync::ledger::Ledger;
@@ -110,30 +107,21 @@ impl Dictionary<'_> {
         requires { number < length self.now }
         ensures { option_map is_active (slice_get self.now number) ≡ Some result }
     {
-        match self.entries.get_index(number as usize) {
-            Some((_, details)) => details.deprecation.is_none(),
-            None => unreachable!(),
-        }
+        self.entries.is_active(number as usize)
     }
 
     /// Whether the entry of this name is active, or by which kind it is deprecated.
     pub fn state_of(&self, name: &Wfn) -> Option<State>
         ensures { result ≡ option_map state_of (find (is_named name.now) self.now) }
     {
-        match self.entries.find(name) {
-            Some(details) => Some(state_of(details)),
-            None => None,
-        }
+        self.entries.state_of(name)
     }
 
     /// The deprecation of the entry of a number, if it has one.
     pub fn deprecation_at(&self, number: u32) -> Option<&Deprecation>
         ensures { option_copied result ≡ option_and_then (λ e. e.deprecation) (slice_get self.now number) }
     {
-        match self.entries.get_index(number as usize) {
-            Some((_, details)) => details.deprecation.as_ref(),
-            None => None,
-        }
+        self.entries.deprecation_at(number as usize)
     }
 
     /// How many entries there are.
@@ -157,10 +145,7 @@ impl Dictionary<'_> {
     pub fn entry_of(&self, alloc: Global, name: &Wfn) -> Result<Option<Entry>, Memory>
         ensures { IfOk result (λ e. e ≡ find (is_named name.now) self.now) }
     {
-        match self.entries.find(name) {
-            Some(details) => Ok(Some(entry_of(alloc, name, details)?)),
-            None => Ok(None),
-        }
+        self.entries.entry_of(alloc, name)
     }
 
     /// The entries that a name in lower case covers, in order; where asked, the active ones alone. A step is a look at the name of an
@@ -179,8 +164,7 @@ impl Dictionary<'_> {
         ensures rows { IfOk result (λ rs. rs ≡ found asked.now active_only self.now) }
         ensures steps { StepsWithin steps.old steps.new (near_count asked.now (names_of self.now)) }
     {
-        let places = self.entries.covered_places(alloc, asked, steps)?;
-        wanted_at(alloc, &self.entries, &places, active_only)
+        self.entries.rows_found(alloc, asked, active_only, steps)
     }
 
     /// The entries of the chain of a name, and its ends. It searches the chain alone.
@@ -241,10 +225,7 @@ impl Dictionary<'_> {
     pub fn name_at(&self, number: u32) -> Option<&Wfn>
         ensures { option_copied result ≡ option_map (λ e. e.name) (slice_get self.now number) }
     {
-        match self.entries.get_index(number as usize) {
-            Some((name, _)) => Some(name),
-            None => None,
-        }
+        self.entries.name_at(number as usize)
     }
 
     /// Whether the entry of a number may be deprecated with successors of these numbers, or with `None` be active.
@@ -269,8 +250,8 @@ impl Dictionary<'_> {
         requires { number < length self.now }
         ensures { IsCause result (option_map (λ e. EditFault.TooWide e.name) (slice_get self.now number)) }
     {
-        match self.entries.get_index(number as usize) {
-            Some((name, _)) => match boxed_copy(self.alloc, name) {
+        match self.entries.name_at(number as usize) {
+            Some(name) => match boxed_copy(self.alloc, name) {
                 Ok(name) => EditFault::TooWide(name),
                 Err(_) => EditFault::Memory,
             },

@@ -4,14 +4,13 @@ ghost use Rattle.std.specs.List.{list_all};
 ghost use Rattle.cpe_rows.specs.Faults.{repeated_from};
 ghost use Rattle.cpe_rows.specs.Prelude.{IsDictionary};
 ghost use Rattle.cpe_rows.specs.declared.limits.TheConstants.{MOST_SUCCESSORS};
-ghost use Rattle.cpe_dictionary.specs.Given.{are_entries, details_given, each_deprecated, may_have};
+ghost use Rattle.cpe_dictionary.specs.Given.{are_entries, each_deprecated, may_have};
 ghost use Rattle.cpe_dictionary.specs.Kept.{entries_in, FitsTable, IsKept};
 ghost use Rattle.cpe_dictionary.specs.Numbers.{numbers_of};
 ghost use Rattle.cpe_dictionary.specs.Plans.{numbered};
 
 use crate::by_number::{chains_by_number, edits_by_number, entries_are_numbered, faults_by_number};
 use crate::dictionary::Dictionary;
-use crate::kept::Details;
 use crate::store::KeptDictionary;
 use crate::successors::{find_repeated, is_count};
 use cpe_name::Wfn;
@@ -146,18 +145,6 @@ impl Dictionary<'_> {
     }
 }
 
-// Gives what stands beside each name the deprecation at its place, or none.
-fn give_all(all: &mut Vec<Details>, deprecations: List<Option<Deprecation>>)
-    requires { length deprecations ≡ length all.old.items }
-    ensures { all.new.items ≡ details_given all.old.items deprecations }
-{
-    let mut place = 0;
-    for deprecation in deprecations.into_vec() {
-        all[place].deprecation = deprecation;
-        place += 1;
-    }
-}
-
 impl KeptDictionary {
     /// Gives each entry the deprecation at its place, or none, all at once, in the place of what it had; notes stay. One after the other
     /// they might be refused for what they lead to in between. It costs the entries and their successors.
@@ -179,7 +166,7 @@ impl KeptDictionary {
         let graph = self.with(table).graph_given(deprecations.as_slice());
         match graph {
             Ok(graph) => {
-                give_all(&mut self.details, deprecations);
+                self.entries.give_all(deprecations);
                 self.graph = graph;
                 Ok(())
             }

@@ -1,5 +1,5 @@
 -- A choice by the first byte, where the texts of the other scanner don't begin with such a byte.
-use Rattle.std.proofs.Common.{◌≡◌, ◌⊎◌, ℕ, Bool, true, false, List, [], ◌∷◌, ◌++◌, length, Ok, Err, refl, sym, ap, subst, ◌∙◌, inl, inr}
+use Rattle.std.proofs.Common.{◌≡◌, ℕ, Bool, false, List, [], ◌∷◌, ◌++◌, length, Ok, Err, refl, sym, ap, subst, ◌∙◌, inl, inr}
 use Rattle.cpe_grammar.specs.Scanners.{Scanner, choose}
 use Rattle.cpe_grammar.proofs.Results.{left_over, stopped, chosen}
 use Rattle.cpe_grammar.proofs.Scans.{Takes, Stops, Scans, Either, stops_alike, chosen_yes, chosen_no, choose_scans, HeadFails}

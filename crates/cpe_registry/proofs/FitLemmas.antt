@@ -17,7 +17,7 @@ use Rattle.cpe_rows.specs.Names.{is_same}
 use Rattle.cpe_rows.specs.Rows.{is_named}
 use Rattle.cpe_rows.specs.declared.entry.Entry.{Entry}
 use Rattle.cpe_dictionary.specs.Kept.{entries_in, entries_of, FitsTable, IsKept, names_of, Stored}
-use Rattle.cpe_dictionary.proofs.EntryLemmas.{names_are}
+use Rattle.entries_in_order.proofs.EntryLemmas.{names_are}
 use Rattle.items_in_order.specs.InOrder.{AreItems, ItemRoll}
 use Rattle.cpe_registry.specs.Moved.{NameHeld}
 use Rattle.cpe_registry.specs.Registered.{AreFitting, AreHeld, Registered, registered}

@@ -8,7 +8,7 @@ use Rattle.cpe_rows.specs.Names.{is_same}
 use Rattle.cpe_rows.specs.Rows.{Rows, is_named, is_entry}
 use Rattle.cpe_rows.specs.Chains.{successors_of, leads_to}
 use Rattle.cpe_rows.specs.Limits.{limited, exceeds, is_wide}
-use Rattle.cpe_rows.specs.After.{after, changed, deprecated}
+use Rattle.cpe_rows.specs.After.{changed, deprecated}
 use Rattle.cpe_rows.specs.Formed.{AreFormed}
 use Rattle.cpe_rows.specs.Faults.{full, too_wide, is_count, successor_faults, repeated_from}
 use Rattle.cpe_rows.specs.Lawful.{IsLawful, IsDictionary, is_entry_name, has_count, has_successors, are_different}

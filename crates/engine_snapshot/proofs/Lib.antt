@@ -1,7 +1,3 @@
-mod PartLemmas
-mod Taken
-mod RowLemmas
-mod EditLemmas
 mod MeantLemmas
 mod RunLemmas
 mod PartsRead

@@ -1,5 +1,3 @@
-pub mod Plain
-pub mod Begun
 pub mod Meant
 pub mod Read
 pub mod Runs

@@ -1,5 +1,5 @@
 -- What names that aren't flipped keep, and what tables change.
-use Rattle.std.proofs.Common.{◌≡◌, ℕ, ◌≤◌, false, List, [], ◌∷◌, length, Option, Some, None, refl, sym, ap, ◌∙◌, inl, inr, arith}
+use Rattle.std.proofs.Common.{◌≡◌, ℕ, ◌≤◌, List, [], ◌∷◌, length, Option, Some, None, refl, sym, ap, ◌∙◌, inl, inr, arith}
 use Rattle.std.specs.List.{list_any, AllByRecursion}
 use Rattle.std.proofs.lemmas.Bool.{cases_Bool}
 use Rattle.std.proofs.lemmas.Option.{same_Some}
@@ -10,8 +10,6 @@ use Rattle.name_index.specs.declared.table.NameId.{NameId}
 use Rattle.name_index.specs.Table.{Names, find_kept, kept_at, Holds, Releases}
 use Rattle.level_board.specs.Rows.{Seen, differs, level_now}
 use Rattle.level_board.proofs.Orders.{same_level}
-use Rattle.level_board.specs.declared.level.Level.{Level}
-use Rattle.level_board.specs.declared.level.Level.TheVariants.{Covered, Maybe, Free}
 use Rattle.level_board.specs.Board.{AreAnswers, AreFlips, Board, FitsBoard, probe_at, probe_times, target_times, times_in as times_of, was_in}
 use Rattle.cpe_rows.specs.Rows.{Rows}
 use Rattle.cpe_rows.specs.Truth.{or_of}

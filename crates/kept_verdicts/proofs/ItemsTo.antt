@@ -1,8 +1,8 @@
 -- The items that lead to the ends that pass are those of which an end passes.
-use Rattle.std.proofs.Common.{◌≡◌, ◌≤◌, ◌+◌, ℕ, Bool, true, false, not, cond, ◌||◌, ◌&&◌, List, [], ◌∷◌, ◌++◌, filter, map, Option, Some, None, refl, sym, ap, subst, ◌∙◌, inl, inr, arith, eq-eqb}
+use Rattle.std.proofs.Common.{◌≡◌, ◌≤◌, ◌+◌, ℕ, Bool, true, false, not, cond, ◌||◌, ◌&&◌, List, [], ◌∷◌, filter, Option, Some, None, refl, sym, ap, subst, ◌∙◌, inl, inr, arith, eq-eqb}
 use Rattle.std.specs.Prelude.{IsSome, is_none, nat_eq, nat_lt}
 use Rattle.std.specs.Cmp.{both_ways}
-use Rattle.std.specs.List.{AllByRecursion, flat_map, list_any, sum_by}
+use Rattle.std.specs.List.{flat_map, list_any, sum_by}
 use Rattle.std.proofs.lemmas.Bool.{and_parts, not-true, or_cases, or_left, or_right, true≢false}
 use Rattle.std.proofs.lemmas.List.Folds.{list_any-append}
 use Rattle.std.proofs.lemmas.List.Sums.{sum_by-cons}
@@ -15,9 +15,8 @@ use Rattle.cpe_name.specs.Equal.{same_name}
 use Rattle.cpe_rows.specs.Chains.{chain, ends, is_active, leads_to}
 use Rattle.cpe_rows.specs.Lawful.{are_different}
 use Rattle.cpe_rows.specs.Names.{is_same}
-use Rattle.cpe_rows.specs.Rows.{is_named, Rows}
+use Rattle.cpe_rows.specs.Rows.{is_named}
 use Rattle.cpe_rows.specs.declared.entry.Entry.{Entry}
-use Rattle.cpe_rows.specs.declared.statement.Mode.TheVariants.{Follow}
 use Rattle.cpe_rows.proofs.Added.{no_chain}
 use Rattle.cpe_rows.proofs.NameTests.{same_is}
 use Rattle.name_index.specs.Index.{ids, name_id, times_held}
@@ -26,12 +25,11 @@ use Rattle.name_index.specs.declared.table.NameId.{NameId}
 use Rattle.numbered_names.specs.Shown.{different, names_at, names_in, one_if_some, Shows}
 use Rattle.numbered_names.proofs.Different.{held_different}
 use Rattle.level_board.specs.Board.{Board, IsOn, target_ids, target_times}
-use Rattle.asked_names.specs.Asked.{entry_names, source_names, there}
+use Rattle.asked_names.specs.Asked.{entry_names, source_names}
 use Rattle.asked_names.proofs.Counted.{same_test}
 use Rattle.asked_names.proofs.Facts.{any_same}
 use Rattle.cpe_registry.specs.Registered.{items_leading}
 use Rattle.kept_facts.specs.Kept.{AreLive}
-use Rattle.kept_verdicts.specs.Leading.{AreItemsTo}
 use Rattle.kept_verdicts.proofs.Unled.{AreActive, none_active, own_end}
 
 -- ---- lists in which something is

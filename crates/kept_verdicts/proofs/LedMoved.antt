@@ -19,14 +19,16 @@ use Rattle.kept_facts.specs.Kept.{AreLive, AreSound, Boards, FitBoards, KeepKnow
 use Rattle.kept_facts.proofs.AskedOn.{facts_on}
 use Rattle.cpe_applicability.specs.Board.{Judged, State, is_used, statements_of}
 use Rattle.followed_facts.specs.Followed.{ends_at, Followed}
-use Rattle.kept_verdicts.specs.Kept.{IsLead, IsNamed, Stands, Verdicts}
-use Rattle.kept_verdicts.specs.Leading.{AreLeading, is_led}
-use Rattle.kept_verdicts.specs.Telling.{AreAnswered, AreRightBut, IsMoved, leads_to_one, Stays}
+use Rattle.told_facts.specs.Facts.{IsNamed}
+use Rattle.told_facts.specs.Telling.{AreAnswered, AreRightBut, leads_to_one, Stays}
+use Rattle.told_facts.specs.Leading.{AreLeading, is_led}
+use Rattle.kept_verdicts.specs.Kept.{IsLead, Stands, Verdicts}
+use Rattle.kept_verdicts.specs.Moved.{IsMoved}
+use Rattle.told_facts.proofs.FlipLemmas.{follow_stays, plain_stays}
+use Rattle.told_facts.proofs.LeadLemmas.{some_there}
+use Rattle.told_facts.proofs.TellLemmas.{other_right}
+use Rattle.told_facts.proofs.Used.{used_live, used_referred}
 use Rattle.kept_verdicts.specs.declared.lead.Lead.{Lead}
-use Rattle.kept_verdicts.proofs.FlipLemmas.{follow_stays, plain_stays}
-use Rattle.kept_verdicts.proofs.LeadLemmas.{some_there}
-use Rattle.kept_verdicts.proofs.TellLemmas.{other_right}
-use Rattle.kept_verdicts.proofs.Used.{used_live, used_referred}
 
 -- those that pass are a part of all
 parts : (h : Values → ℕ) (p : Values → Bool) (xs : List Values) → sum_by h xs ≡ sum_by h (filter p xs) + sum_by h (filter (λ x. not (p x)) xs)

@@ -18,11 +18,13 @@ use Rattle.kept_facts.proofs.Looks.{looks_are}
 use Rattle.kept_facts.proofs.AskedOn.{facts_on}
 use Rattle.cpe_applicability.specs.Board.{is_used, statements_of}
 use Rattle.followed_facts.specs.Followed.{ends_at, Followed}
-use Rattle.kept_verdicts.specs.Kept.{AreEnds, AreFollowed, AreTruths, Stands, Verdicts}
-use Rattle.kept_verdicts.specs.Looks.{item_looks}
-use Rattle.kept_verdicts.specs.Telling.{AreAnswered, AreRightBut, IsMoved, leads_to_one}
-use Rattle.kept_verdicts.proofs.FlipLemmas.{follow_stays, plain_stays}
-use Rattle.kept_verdicts.proofs.Used.{used_live, used_referred}
+use Rattle.told_facts.specs.Facts.{AreEnds, AreFollowed, AreTruths}
+use Rattle.told_facts.specs.Looks.{item_looks}
+use Rattle.told_facts.specs.Telling.{AreAnswered, AreRightBut, leads_to_one}
+use Rattle.kept_verdicts.specs.Kept.{Stands, Verdicts}
+use Rattle.kept_verdicts.specs.Moved.{IsMoved}
+use Rattle.told_facts.proofs.FlipLemmas.{follow_stays, plain_stays}
+use Rattle.told_facts.proofs.Used.{used_live, used_referred}
 
 -- the ends of a fact that is followed
 pub followed_ends : (f : Followed) (q : ℕ) → IsSome (ends_at f q) → (numbers : List NameId) × (ends_at f q ≡ Some numbers)

@@ -1,13 +1,16 @@
--- What is so of the verdicts after a statement was put or dropped, and what may be asked of a change of a deprecation.
+-- What is so of the verdicts while facts are still to be told, and after a statement was put or dropped, and what may be asked of a
+-- change of a deprecation.
 -- So many steps were taken `before`, and so many by `now`.
 use Rattle.std.proofs.Common.{Vec, Global}
 use Rattle.std.specs.Prelude.{◌≡◌, ◌∷◌, ◌++◌, [], ℕ, List, Result, IfOk, OnOk, OnErr, Some, find, map, position}
+use Rattle.std.specs.List.{AllByRecursion}
 use Rattle.cpe_steps.specs.Within.{StepsWithin}
 use Rattle.cpe_rows.specs.After.{after, without_first}
 use Rattle.cpe_rows.specs.FactNames.{fact_names}
 use Rattle.cpe_rows.specs.Lawful.{IsLawful}
 use Rattle.cpe_rows.specs.Rows.{Rows, has_id, is_named}
 use Rattle.cpe_rows.specs.declared.edit.Edit.TheVariants as edit
+use Rattle.cpe_rows.specs.declared.statement.Mode.TheVariants.{Plain, Follow}
 use Rattle.cpe_rows.specs.declared.statement.Statement.{Statement}
 use Rattle.name_index.specs.declared.table.NameId.{NameId}
 use Rattle.name_index.specs.Table.{Names, IsLive}
@@ -16,9 +19,25 @@ use Rattle.cpe_applicability.specs.Board.{is_of, put_row}
 use Rattle.cpe_dictionary.specs.Plans.{IsAllowed}
 use Rattle.cpe_dictionary.specs.declared.plans.Plan.{Plan}
 use Rattle.cpe_registry.specs.Registered.{name_in, Registered}
-use Rattle.kept_facts.specs.Kept.{AreLive}
-use Rattle.kept_verdicts.specs.Kept.{known_in, Stands, statements_in, Verdicts}
-use Rattle.kept_verdicts.specs.Looks.{statement_looks}
+use Rattle.kept_facts.specs.Kept.{AreLive, FitBoards, ShowRows}
+use Rattle.followed_facts.specs.Followed.{has_end}
+use Rattle.told_facts.specs.Facts.{AreFollowed, IsNamed}
+use Rattle.told_facts.specs.Looks.{statement_looks}
+use Rattle.told_facts.specs.Telling.{AreAnswered, AreRightBut, leads_to_one}
+use Rattle.kept_verdicts.specs.Kept.{checks_in, known_in, Stands, statements_in, Verdicts}
+
+-- The boards show the rows, by names that may be flipped: facts for which none of these is asked are right, and the others are still to
+-- be told.
+pub record IsMoved (names : Names) (v : Verdicts) (rows : Rows) : Type 0 where
+  pub statements : statements_in v ≡ rows.statements
+  pub checks : checks_in v ≡ rows.checks
+  pub named : AllByRecursion (IsNamed names) v.board.rows
+  pub shows : ShowRows names v.facts rows
+  pub fits : FitBoards v.facts names
+  pub followed : AreFollowed names v.board.rows rows.entries v.followed
+  pub answered : AreAnswered names v.board.rows rows.entries v.facts v.followed
+  pub plain : AreRightBut names v.board rows Plain (has_end v.facts.plain.flips)
+  pub follow : AreRightBut names v.board rows Follow (leads_to_one v.followed v.facts.follow.flips)
 
 -- A statement, whose fact references have these numbers, was put; or memory ran out.
 pub record StatementPut {Done Fault : Type 0} (registry : Registered) (old new : Verdicts) (s : Statement) (ids : List NameId) (before now : ℕ) (result : Result Done Fault) : Type 0 where

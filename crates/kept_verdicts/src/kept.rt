@@ -9,11 +9,11 @@ ghost use Rattle.cpe_applicability.specs.Board.{is_used, uses};
 ghost use Rattle.cpe_rows.specs.declared.edit.Edit.TheVariants as edit;
 ghost use Rattle.cpe_rows.specs.declared.truth.Truth.{Truth};
 ghost use Rattle.numbered_names.specs.Shown.{name_at};
-ghost use Rattle.kept_verdicts.specs.Kept.{AreEnds, checks_in, HasRoom, known_in, SameStatements, Stands, statements_in};
-ghost use Rattle.kept_verdicts.specs.Looks.{item_looks};
-ghost use Rattle.kept_verdicts.specs.Telling.{IsMoved};
+ghost use Rattle.told_facts.specs.Facts.{AreEnds};
+ghost use Rattle.told_facts.specs.Looks.{item_looks};
+ghost use Rattle.kept_verdicts.specs.Kept.{checks_in, HasRoom, known_in, SameStatements, Stands, statements_in};
+ghost use Rattle.kept_verdicts.specs.Moved.{IsMoved};
 
-use crate::tell::tell_flips;
 use cpe_applicability::Board;
 use cpe_rows::{Changed, CheckKey, EditFault, List, Mode, Room, Statement, Text, Truth};
 use cpe_steps::Steps;
@@ -24,6 +24,7 @@ use name_index::{NameId, NameTable};
 use std::alloc::Global;
 use std::marker::Model;
 use std::sync::ledger::Ledger;
+use told_facts::tell_flips;
 
 /// Statements with kept verdicts (NIST IR 7698), and the boards by which the truths of their facts are kept.
 #[derive(Drop)]

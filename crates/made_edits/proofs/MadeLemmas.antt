@@ -18,7 +18,8 @@ use Rattle.name_index.specs.declared.table.NameId.{NameId}
 use Rattle.numbered_names.specs.Shown.{holds_in, name_at, names_at, Shows}
 use Rattle.asked_names.specs.Asked.{names_kept}
 use Rattle.cpe_registry.specs.Registered.{AreLive, Registered}
-use Rattle.kept_verdicts.specs.Kept.{AreEnds, known_in, Stands, Verdicts}
+use Rattle.told_facts.specs.Facts.{AreEnds}
+use Rattle.kept_verdicts.specs.Kept.{known_in, Stands, Verdicts}
 use Rattle.engine_parts.specs.Parts.{AreOf}
 use Rattle.engine_parts.proofs.PartsLemmas.{by_lists}
 

@@ -5,7 +5,7 @@ ghost use Rattle.cpe_steps.specs.Within.{StepsWithin};
 ghost use Rattle.cpe_rows.specs.Prelude.{after, changes, is_same, IsLawful};
 ghost use Rattle.cpe_rows.specs.declared.edit.Edit.TheVariants as edit;
 ghost use Rattle.engine_parts.specs.Prelude.{AreOf, edit_in, IsLive, known_in, name_in, rows_in};
-ghost use Rattle.kept_verdicts.specs.Looks.{item_looks};
+ghost use Rattle.told_facts.specs.Looks.{item_looks};
 ghost use Rattle.made_edits.specs.Looks.{edit_looks};
 ghost use Rattle.made_edits.specs.Ready.{IsReady};
 

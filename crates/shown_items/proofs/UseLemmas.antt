@@ -3,7 +3,7 @@ use Rattle.std.proofs.Common.{inl, inr, not, eqb-true, ◌≡◌, List, Bool, tr
 use Rattle.std.specs.List.{list_any}
 use Rattle.std.specs.Prelude.{count_by}
 use Rattle.std.proofs.lemmas.Bool.{cases_Bool}
-use Rattle.kept_verdicts.proofs.UseLemmas.{none_counted}
+use Rattle.told_facts.proofs.UseLemmas.{none_counted}
 
 -- a statement uses what some use
 pub use_some : {X : Type 0} (p : X → Bool) (xs : List X) → (count_by p xs ≡ 0 → ⊥) → list_any p xs ≡ true

@@ -1,4 +1,4 @@
-use Rattle.std.proofs.Common.{◌≡◌, ap, sym, ◌∙◌, Some, get_or}
+use Rattle.std.proofs.Common.{ap, sym, ◌∙◌, Some, get_or}
 use Rattle.cpe_snapshot.specs.declared.rows.PlacedEntry.{PlacedEntry}
 use Rattle.cpe_snapshot.proofs.NameLemmas.{next_named, none_named, name_found, name_past}
 use Rattle.cpe_snapshot.proofs.names.names_at.Goals as goal

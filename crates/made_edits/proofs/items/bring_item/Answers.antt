@@ -7,8 +7,9 @@ use Rattle.numbered_names.specs.Shown.{holds_in, name_at}
 use Rattle.asked_names.specs.Asked.{names_kept}
 use Rattle.cpe_steps.specs.Within.{StepsWithin}
 use Rattle.cpe_registry.specs.Registered.{name_in, Registered}
-use Rattle.kept_verdicts.specs.Kept.{AreEnds, Stands}
-use Rattle.kept_verdicts.specs.Looks.{item_looks}
+use Rattle.told_facts.specs.Facts.{AreEnds}
+use Rattle.told_facts.specs.Looks.{item_looks}
+use Rattle.kept_verdicts.specs.Kept.{Stands}
 use Rattle.engine_parts.specs.Parts.{AreOf, rows_in}
 use Rattle.cpe_rows.specs.declared.statement.Mode.TheVariants.{Follow}
 use Rattle.cpe_rows.specs.Chains.{ends as ends_of_name}

@@ -6,8 +6,9 @@ use Rattle.numbered_names.specs.Shown.{holds_in, name_at}
 use Rattle.asked_names.specs.Asked.{names_kept}
 use Rattle.cpe_steps.specs.Within.{StepsWithin}
 use Rattle.cpe_registry.specs.Registered.{name_in}
-use Rattle.kept_verdicts.specs.Kept.{AreEnds, Stands}
-use Rattle.kept_verdicts.specs.Looks.{item_looks}
+use Rattle.told_facts.specs.Facts.{AreEnds}
+use Rattle.told_facts.specs.Looks.{item_looks}
+use Rattle.kept_verdicts.specs.Kept.{Stands}
 use Rattle.engine_parts.specs.Parts.{AreOf, rows_in}
 use Rattle.std.specs.List.{list_any}
 use Rattle.cpe_rows.specs.Names.{is_same}

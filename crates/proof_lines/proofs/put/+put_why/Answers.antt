@@ -1,4 +1,4 @@
-use Rattle.std.proofs.Common.{◌≡◌, List, [], ◌∷◌, ◌++◌, option_map, codes, ap, subst, sym, ◌∙◌}
+use Rattle.std.proofs.Common.{List, [], ◌∷◌, ◌++◌, option_map, codes, ap, subst, sym, ◌∙◌}
 use Rattle.json.specs.Token.{Token, key, begin_object, begin_array, end_array}
 use Rattle.json.specs.Tree.{json_tokens}
 use Rattle.cpe_records.specs.Puts.{Puts}

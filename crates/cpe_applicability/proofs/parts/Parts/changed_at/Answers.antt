@@ -1,7 +1,7 @@
 use Rattle.std.proofs.Common.{ℕ, List, ap, sym, ◌∙◌}
 use Rattle.std.specs.Prelude.{slice_get}
 use Rattle.cpe_applicability.specs.declared.parts.Parts.{Parts}
-use Rattle.cpe_applicability.specs.Held.{is_changed}
+use Rattle.judged_statements.specs.Held.{is_changed}
 use Rattle.cpe_applicability.proofs.ReadLemmas.{changed_are, place_none, place_nth}
 use Rattle.cpe_applicability.proofs.parts.Parts.changed_at.Goals as goal
 

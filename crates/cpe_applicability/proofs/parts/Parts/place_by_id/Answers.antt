@@ -1,6 +1,6 @@
 use Rattle.std.proofs.Common.{ap, sym, ◌∙◌}
 use Rattle.cpe_applicability.specs.declared.parts.Parts.{Parts}
-use Rattle.cpe_applicability.specs.Held.{has_row_id}
+use Rattle.judged_statements.specs.Held.{has_row_id}
 use Rattle.cpe_inventory.specs.Results.{one_or_none}
 use Rattle.cpe_applicability.proofs.ReadLemmas.{first_is, first_none}
 use Rattle.cpe_applicability.proofs.parts.Parts.place_by_id.Goals as goal

@@ -1,12 +1,12 @@
 use Rattle.std.proofs.Common.{◌≡◌, ◌++◌, [], ◌∷◌, cond, ap, ◌∙◌}
 use Rattle.cpe_rows.specs.declared.truth.Truth.{Truth}
 use Rattle.cpe_applicability.specs.declared.parts.Parts.{Parts}
-use Rattle.cpe_applicability.specs.declared.row.Held.{Held}
-use Rattle.cpe_applicability.specs.declared.row.Row.{Row}
-use Rattle.cpe_applicability.specs.ByResult.{asks_one, each_result}
-use Rattle.cpe_applicability.specs.Held.{each_verdict, verdict_by}
+use Rattle.judged_statements.specs.declared.row.Held.{Held}
+use Rattle.judged_statements.specs.declared.row.Row.{Row}
+use Rattle.judged_statements.specs.ByResult.{asks_one, each_result}
+use Rattle.judged_statements.specs.Held.{each_verdict, verdict_by}
 use Rattle.cpe_applicability.specs.Invariant.{new_row}
-use Rattle.cpe_applicability.specs.Told.{check_keys}
+use Rattle.judged_statements.specs.Told.{check_keys}
 use Rattle.cpe_applicability.proofs.parts.Parts.put_last.Goals as goal
 
 pub returns-clause-rows : goal.returns-clause-rows

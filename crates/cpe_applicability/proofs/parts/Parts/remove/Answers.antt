@@ -3,13 +3,13 @@ use Rattle.std.specs.Prelude.{None}
 use Rattle.std.specs.Map.{lookup}
 use Rattle.std.specs.Str.{bytes_eq}
 use Rattle.cpe_applicability.specs.declared.parts.Parts.{Parts}
-use Rattle.cpe_applicability.specs.declared.row.Held.{Held}
-use Rattle.cpe_applicability.specs.declared.row.Row.{Row}
-use Rattle.cpe_applicability.specs.Entering.{is_asked, left_out}
-use Rattle.cpe_applicability.specs.Held.{asks, follow_use, is_changed, plain_use, ticket_of, uses_follow, uses_plain}
+use Rattle.judged_statements.specs.declared.row.Held.{Held}
+use Rattle.judged_statements.specs.declared.row.Row.{Row}
+use Rattle.judged_statements.specs.Entering.{is_asked, left_out}
+use Rattle.judged_statements.specs.Held.{asks, follow_use, is_changed, plain_use, ticket_of, uses_follow, uses_plain}
 use Rattle.ticket_list.specs.Rising.{IsRising}
-use Rattle.cpe_applicability.specs.Told.{check_keys}
-use Rattle.cpe_applicability.specs.Users.{askers_at, users_at}
+use Rattle.judged_statements.specs.Told.{check_keys}
+use Rattle.judged_statements.specs.Users.{askers_at, users_at}
 use Rattle.ticket_list.proofs.RisingLemmas.{rising_passing}
 use Rattle.cpe_applicability.proofs.PutLemmas.{keeps_among}
 use Rattle.cpe_applicability.proofs.RemovedLemmas.{IsBoard-removed}

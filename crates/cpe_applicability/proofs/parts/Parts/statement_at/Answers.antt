@@ -2,7 +2,7 @@ use Rattle.std.proofs.Common.{map, ap, sym, ◌∙◌}
 use Rattle.std.specs.Prelude.{Some}
 use Rattle.std.specs.Option.{option_map}
 use Rattle.cpe_applicability.specs.declared.parts.Parts.{Parts}
-use Rattle.cpe_applicability.specs.declared.row.Held.{Held}
+use Rattle.judged_statements.specs.declared.row.Held.{Held}
 use Rattle.cpe_applicability.specs.Invariant.{judged}
 use Rattle.cpe_applicability.proofs.ReadLemmas.{get-map}
 use Rattle.cpe_applicability.proofs.StatementLemmas.{statement_in}

@@ -11,7 +11,7 @@ use Rattle.cpe_rows.specs.Step.{first_some}
 use Rattle.cpe_rows.specs.declared.entry.Entry.{Entry}
 use Rattle.cpe_rows.specs.declared.fault.EditFault.TheVariants as fault
 use Rattle.cpe_rows.specs.declared.fault.Which.TheVariants as limit
-use Rattle.cpe_dictionary.proofs.EntryLemmas.{there_by_name}
+use Rattle.entries_in_order.proofs.EntryLemmas.{there_by_name}
 use Rattle.cpe_dictionary.proofs.dictionary.Dictionary.entry_fault.Goals as goal
 
 -- the causes of an entry of this name, one by one

@@ -5,12 +5,12 @@ use Rattle.cpe_rows.specs.declared.entry.Deprecation.{Deprecation}
 use Rattle.cpe_rows.specs.declared.entry.Entry.{Entry}
 use Rattle.name_index.specs.declared.table.NameId.{NameId}
 use Rattle.name_index.specs.Table.{kept_at}
-use Rattle.names_in_order.specs.InOrder.{names_numbered}
-use Rattle.cpe_dictionary.specs.declared.kept.Details.{Details}
+use Rattle.names_in_order.specs.InOrder.{AreInOrder, names_numbered}
+use Rattle.entries_in_order.specs.Listed.{entries_listed, Listed}
 use Rattle.cpe_dictionary.specs.Given.{each_deprecated}
 use Rattle.cpe_dictionary.specs.Kept.{entries_in, entries_of, FitsTable, IsKept, Stored}
-use Rattle.cpe_dictionary.proofs.EntryLemmas.{count_is}
-use Rattle.cpe_dictionary.proofs.GivenDetails.{given_beside, length_details}
+use Rattle.entries_in_order.proofs.EntryLemmas.{count_is}
+use Rattle.entries_in_order.proofs.GivenDetails.{given_beside, length_details}
 use Rattle.cpe_dictionary.proofs.store.KeptDictionary.deprecate_all.Goals as goal
 
 pub give_all-requires : goal.give_all-requires
@@ -18,9 +18,9 @@ give_all-requires c =
     let table = c.args.table.now in
     let i = c.self.inside in
     let back = sym c.self.view_is in
-    let ns = names_numbered table i.names.numbers in
-    let even = length-map i.names.numbers (λ (x : NameId). (kept_at table x.0).name) ∙ subst (λ (s : Stored). length s.names.numbers ≡ length s.details) back c.requires.fits.even in
-    c.requires.even ∙ ap (λ (s : Stored). length (entries_in table s)) back ∙ sym (count_is ns i.details.items even) ∙ even
+    let ns = names_numbered table i.entries.names.numbers in
+    let even = length-map i.entries.names.numbers (λ (x : NameId). (kept_at table x.0).name) ∙ subst (λ (s : Stored). length s.names.numbers ≡ length s.details) back c.requires.fits.even in
+    c.requires.even ∙ ap (λ (s : Stored). length (entries_in table s)) back ∙ sym (count_is ns i.entries.details even) ∙ even
 
 pub returns-in-Ok-clause-fits : goal.returns-in-Ok-clause-fits
 returns-in-Ok-clause-fits c =
@@ -28,14 +28,16 @@ returns-in-Ok-clause-fits c =
     let i = c.self.inside in
     let back = sym c.self.view_is in
     let fits = subst (FitsTable table) back c.requires.fits in
-    let ns = names_numbered table i.names.numbers in
-    let even = length-map i.names.numbers (λ (x : NameId). (kept_at table x.0).name) ∙ fits.even in
-    let left = ap (entries_of ns) c.give_all.ensures ∙ given_beside ns i.details.items c.args.deprecations even in
+    let ns = names_numbered table i.entries.names.numbers in
+    let even = length-map i.entries.names.numbers (λ (x : NameId). (kept_at table x.0).name) ∙ fits.even in
+    let left = ap (entries_listed table) c.give_all.ensures ∙ given_beside ns i.entries.details c.args.deprecations even in
     let given = ap (λ (es : List Entry). each_deprecated es c.as_slice.result.now) (c.with.ensures ∙ ap (λ (s : Stored). entries_in table s) back)
-    ∙ ap (λ (os : List (Option Deprecation)). each_deprecated (entries_of ns i.details.items) os) c.as_slice.ensures in
+    ∙ ap (λ (os : List (Option Deprecation)). each_deprecated (entries_of ns i.entries.details) os) c.as_slice.ensures in
     record {
-      order = fits.order;
-      even = fits.even ∙ sym (length_details i.details.items c.args.deprecations) ∙ sym (ap (λ (xs : List Details). length xs) c.give_all.ensures);
+      order = subst (λ (l : Listed). AreInOrder table l.names.held l.names.numbers) (sym c.give_all.ensures) fits.order;
+      even =
+          ap (λ (l : Listed). length l.names.numbers) c.give_all.ensures ∙ fits.even ∙ sym (length_details i.entries.details c.args.deprecations)
+          ∙ sym (ap (λ (l : Listed). length l.details) c.give_all.ensures);
       kept = subst (λ (es : List Entry). IsKept es c.in-Ok.graph.nodes) (given ∙ sym left) c.in-Ok.ensures.kept;
     }
 
@@ -44,6 +46,6 @@ returns-in-Ok-clause-ok c =
     let table = c.args.table.now in
     let ds = c.args.deprecations in
     let i = c.self.inside in
-    let ns = names_numbered table i.names.numbers in
-    let even = length-map i.names.numbers (λ (x : NameId). (kept_at table x.0).name) ∙ subst (λ (s : Stored). length s.names.numbers ≡ length s.details) (sym c.self.view_is) c.requires.fits.even in
-    ap (entries_of ns) c.give_all.ensures ∙ given_beside ns i.details.items ds even ∙ ap (λ (s : Stored). each_deprecated (entries_in table s) ds) c.self.view_is
+    let ns = names_numbered table i.entries.names.numbers in
+    let even = length-map i.entries.names.numbers (λ (x : NameId). (kept_at table x.0).name) ∙ subst (λ (s : Stored). length s.names.numbers ≡ length s.details) (sym c.self.view_is) c.requires.fits.even in
+    ap (entries_listed table) c.give_all.ensures ∙ given_beside ns i.entries.details ds even ∙ ap (λ (s : Stored). each_deprecated (entries_in table s) ds) c.self.view_is

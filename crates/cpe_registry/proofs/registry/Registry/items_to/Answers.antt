@@ -1,4 +1,4 @@
-use Rattle.std.proofs.Common.{◌∷◌, [], List, filter, sym, ap, ◌∙◌}
+use Rattle.std.proofs.Common.{List, filter, sym, ap, ◌∙◌}
 use Rattle.std.specs.List.{list_any}
 use Rattle.std.proofs.lemmas.Result.{IfOk-weaker}
 use Rattle.cpe_name.specs.Eleven.{Values}

@@ -9,7 +9,7 @@ use Rattle.cpe_rows.specs.declared.entry.Entry.{Entry}
 use Rattle.cpe_weight.specs.Gain.{deprecated_weight, weight_of_first}
 use Rattle.cpe_registry.specs.Registered.{name_in}
 use Rattle.cpe_dictionary.proofs.DictionaryLemmas.{no_entry}
-use Rattle.cpe_dictionary.proofs.EntryLemmas.{not_found}
+use Rattle.entries_in_order.proofs.EntryLemmas.{not_found}
 use Rattle.cpe_dictionary.proofs.PlanLemmas.{entry_found}
 use Rattle.engine_parts.proofs.PartsLemmas.{counted}
 use Rattle.engine_parts.proofs.parts.Parts.deprecation_weight.Goals as goal

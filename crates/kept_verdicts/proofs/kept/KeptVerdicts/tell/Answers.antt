@@ -1,8 +1,9 @@
 use Rattle.std.proofs.Common.{List, sym, ap, subst, ◌∙◌}
 use Rattle.std.specs.List.{AllByRecursion}
 use Rattle.cpe_applicability.specs.Board.{Judged, statements_of}
-use Rattle.kept_verdicts.specs.Kept.{AreFollowed, IsNamed, Verdicts}
-use Rattle.kept_verdicts.specs.Telling.{IsMoved}
+use Rattle.told_facts.specs.Facts.{AreFollowed, IsNamed}
+use Rattle.kept_verdicts.specs.Kept.{Verdicts}
+use Rattle.kept_verdicts.specs.Moved.{IsMoved}
 use Rattle.kept_verdicts.proofs.kept.KeptVerdicts.tell.Goals as goal
 
 pub returns-clause-stands : goal.returns-clause-stands

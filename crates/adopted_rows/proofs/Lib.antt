@@ -1,0 +1,4 @@
+pub mod PartLemmas
+pub mod Taken
+pub mod RowLemmas
+pub mod EditLemmas

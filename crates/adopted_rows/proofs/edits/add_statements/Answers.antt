@@ -1,0 +1,12 @@
+use Rattle.std.proofs.Common.{◌≡◌, ◌∷◌}
+use Rattle.std.specs.Vec.Iter.{into_iter_items}
+use Rattle.cpe_rows.specs.Lawful.{IsLawful}
+use Rattle.adopted_rows.specs.Begun.{with_statements}
+use Rattle.adopted_rows.proofs.EditLemmas.{handed_on, not_taken}
+use Rattle.adopted_rows.proofs.Taken.{statement_taken}
+use Rattle.adopted_rows.proofs.edits.add_statements.Goals as goal
+
+pub returns-in_err-make-clause-unlawful : goal.returns-in_err-make-clause-unlawful
+returns-in_err-make-clause-unlawful g c =
+    let steps : into_iter_items c.loop-statement.statement-iterator ≡ c.in-Some.statement ∷ into_iter_items c.next.new.self = c.in-Some.ensures.steps.0 in
+    handed_on c.from_residual.result c.in_err-make.field-0.0 _ c.from_residual.ensures.1 (λ is. not_taken with_statements IsLawful c.loop-statement.engine c.loop-statement.invariant.so_far steps (statement_taken c.loop-statement.engine c.in-Some.statement _) (c.in_err-make.ensures.unlawful is))

@@ -1,0 +1,4 @@
+pub mod KeptLemmas
+pub mod AtNumbers
+pub mod EntryLemmas
+pub mod GivenDetails

@@ -1,0 +1,19 @@
+use Rattle.std.proofs.Common.{◌≡◌, false, length, sym, subst, ◌∙◌}
+use Rattle.std.proofs.lemmas.List.{length-map}
+use Rattle.std.specs.List.{list_any}
+use Rattle.name_index.specs.declared.table.NameId.{NameId}
+use Rattle.name_index.specs.Table.{kept_at}
+use Rattle.cpe_rows.specs.Rows.{is_named}
+use Rattle.names_in_order.specs.InOrder.{names_numbered}
+use Rattle.entries_in_order.specs.Listed.{entries_listed, Listed}
+use Rattle.entries_in_order.proofs.EntryLemmas.{fresh_name}
+use Rattle.entries_in_order.proofs.growing.GrowingEntries.push.Goals as goal
+
+pub put_last-requires-clause-fresh : goal.put_last-requires-clause-fresh
+put_last-requires-clause-fresh c =
+    let table = c.args.table.now in
+    let name = (kept_at table c.args.id.0).name in
+    let i = c.self.inside in
+    let fits = subst (λ (l : Listed). length l.names.numbers ≡ length l.details) (sym c.self.view_is) c.requires.listed.even in
+    fresh_name name (names_numbered table i.names.numbers) i.details.items (length-map i.names.numbers (λ (x : NameId). (kept_at table x.0).name) ∙ fits)
+    (subst (λ (l : Listed). list_any (is_named name) (entries_listed table l) ≡ false) (sym c.self.view_is) c.requires.absent)

@@ -1,0 +1,38 @@
+// The entries that are found, by their places.
+ghost use Rattle.std.specs.Prelude.{◌≡◌, ◌||◌, IfOk, filter, is_none, map, not};
+ghost use Rattle.cpe_rows.specs.Prelude.{row_of};
+ghost use Rattle.names_in_order.specs.Places.{rows_at};
+ghost use Rattle.entries_in_order.specs.Listed.{is_wanted};
+
+use crate::entries::Entries;
+use crate::kept::{Details, row_of};
+use cpe_rows::{List, Row};
+use cpe_values::Memory;
+use std::alloc::Global;
+
+// Whether an entry with these details is active, where that is asked.
+fn is_wanted(active_only: bool, details: &Details) -> bool
+    ensures { result ≡ (not active_only || is_none details.now.deprecation) }
+{
+    !active_only || details.deprecation.is_none()
+}
+
+/// The entries at these places; where asked, the active ones alone.
+pub(crate) fn wanted_at(
+    alloc: Global,
+    entries: &Entries,
+    places: &[usize],
+    active_only: bool,
+) -> Result<List<Row>, Memory>
+    ensures { IfOk result (λ rs. rs ≡ map row_of (filter (is_wanted active_only) (rows_at entries.now places.now))) }
+{
+    let mut rows = List::new(alloc);
+    for place in places {
+        if let Some((name, details)) = entries.get_index(*place) {
+            if is_wanted(active_only, details) {
+                rows.push(row_of(alloc, name, details)?)?;
+            }
+        }
+    }
+    Ok(rows)
+}

@@ -1,0 +1,10 @@
+pub mod TicketLemmas
+pub mod ToldLemmas
+pub mod EnteringLemmas
+pub mod RowLemmas
+pub mod VerdictLemmas
+pub mod ByResultLemmas
+pub mod UndoLemmas
+pub mod AskedLemmas
+pub mod PlaceLemmas
+pub mod TakenLemmas

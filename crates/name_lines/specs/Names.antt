@@ -1,0 +1,41 @@
+-- What a line of one name says under `unbind` and `bind` (NIST IR 7695, 6).
+use Rattle.std.specs.Prelude.{ℕ, List, ◌++◌, Some, None, Ok, Err, codes}
+use Rattle.std.specs.declared.option.Option.{Option}
+use Rattle.std.specs.declared.result.Result.{Result}
+use Rattle.std.specs.Fmt.{decimal}
+use Rattle.cpe_fs.specs.Bound.{bound}
+use Rattle.cpe_uri.specs.Bound.{bound_uri}
+use Rattle.cpe_uri.specs.EitherBinding.{unbound_any}
+use Rattle.cpe_session.specs.Session.{Session, printed, stateless}
+use Rattle.name_lines.specs.declared.names.NameCommand.{NameCommand}
+use Rattle.name_lines.specs.declared.names.NameCommand.TheVariants.{Unbind, BindFs, BindUri}
+use Rattle.name_lines.specs.declared.names.NameReason.{NameReason}
+use Rattle.name_lines.specs.declared.names.NameReason.TheVariants.{Wfn, Name}
+
+-- or the place of a text that no name has
+abbrev pub or_place : Result (List ℕ) ℕ → Result (List ℕ) NameReason
+or_place (Ok text) = Ok text
+or_place (Err place) = Err (Name place)
+
+-- or that it is the text of no name
+abbrev pub or_wfn : Option (List ℕ) → Result (List ℕ) NameReason
+or_wfn (Some text) = Ok text
+or_wfn None = Err Wfn
+
+-- the other form of the name that has this text
+abbrev pub other_form : NameCommand → List ℕ → Result (List ℕ) NameReason
+other_form Unbind text = or_place (unbound_any text)
+other_form BindFs text = or_wfn (bound text)
+other_form BindUri text = or_wfn (bound_uri text)
+
+-- as a line
+abbrev pub as_line : {Why : Type 0} → Result (List ℕ) Why → Result (List ℕ) Why
+as_line (Ok text) = Ok (text ++ codes "\n")
+as_line (Err why) = Err why
+
+abbrev pub name_reason_text : NameReason → List ℕ
+name_reason_text Wfn = codes "wfn"
+name_reason_text (Name place) = codes "name " ++ decimal place
+
+abbrev pub name_session : NameCommand → Session (Unit {0})
+name_session command = stateless (λ text. printed name_reason_text (as_line (other_form command text)))

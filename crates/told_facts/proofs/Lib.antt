@@ -1,0 +1,11 @@
+pub mod TellLemmas
+pub mod Used
+pub mod FlipLemmas
+pub mod StatementLemmas
+pub mod PutLemmas
+pub mod UseLemmas
+pub mod AskLemmas
+pub mod LoopLemmas
+pub mod LeadLemmas
+pub mod PlannedLemmas
+pub mod DropLemmas
