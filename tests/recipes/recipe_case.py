@@ -2,6 +2,7 @@
 import json
 import os
 import shutil
+import signal
 import subprocess
 import sys
 import tempfile
@@ -17,6 +18,14 @@ from test_feeds import Heard  # noqa: E402
 
 CPE = shutil.which(os.environ.get("CPE", "cpe"))
 needs_cpe = unittest.skipUnless(CPE, "there is no cpe")
+# The signals that end a recipe.
+ENDING = (signal.SIGTERM, signal.SIGINT, signal.SIGHUP)
+
+
+def obey_signals():
+    """Has a new process obey these signals, also where whoever runs the tests lets them pass, as nohup does."""
+    for number in ENDING:
+        signal.signal(number, signal.SIG_DFL)
 
 
 def fs(vendor, product, version="*", update="*", target="*"):

@@ -5,7 +5,7 @@ import subprocess
 import time
 import unittest
 
-from recipe_case import CPE, RECIPES, RecipeCase, fs, needs_cpe
+from recipe_case import CPE, RECIPES, RecipeCase, fs, needs_cpe, obey_signals
 
 from cpe_recipes import fleet
 from cpe_recipes.program import Program
@@ -250,7 +250,8 @@ class Parallel(RecipeCase):
         for number in (signal.SIGTERM, signal.SIGINT):
             (self.folder / "pid").unlink(missing_ok=True)
             words = ["sh", str(RECIPES / "fleet/parallel.sh"), self.records, str(self.folder / "machines")]
-            run = subprocess.Popen(words, env=environment, stdout=subprocess.PIPE, stderr=subprocess.DEVNULL, process_group=0)
+            pipes = {"stdout": subprocess.PIPE, "stderr": subprocess.DEVNULL}
+            run = subprocess.Popen(words, env=environment, **pipes, process_group=0, preexec_fn=obey_signals)
             self.wait_for(lambda: (self.folder / "pid").exists() and (self.folder / "pid").read_text().strip())
             worker = int((self.folder / "pid").read_text())
             run.send_signal(number)

@@ -9,10 +9,9 @@ import unittest
 from pathlib import Path
 from unittest import mock
 
-RECIPES = Path(__file__).resolve().parents[2] / "recipes"
-sys.path.insert(0, str(RECIPES))
+from recipe_case import ENDING, RECIPES, obey_signals
 
-from cpe_recipes import said  # noqa: E402
+from cpe_recipes import said
 
 # A recipe in a process of its own: what stands after `run`, as its body.
 FRAME = "import sys\nsys.path.insert(0, {path!r})\nfrom cpe_recipes.said import *\ndef run(words):\n{body}\nmain(run, 'it.sh', sys.argv[1:])\n"
@@ -128,15 +127,16 @@ class Ends(unittest.TestCase):
         os.close(write)
 
     def test_temporary_files_go_with_a_signal(self):
-        body = "import time\nwith room() as it:\n    (it / 'file').write_text('a')\n    print(it, flush=True)\n    time.sleep(60)\nreturn 0"
-        text = FRAME.format(path=str(RECIPES), body="\n".join(f"    {line}" for line in body.splitlines()))
-        for number in (signal.SIGTERM, signal.SIGINT, signal.SIGHUP):
-            with subprocess.Popen([sys.executable, "-B", "-c", text], stdout=subprocess.PIPE, text=True) as run:
-                folder = run.stdout.readline().strip()
-                self.assertTrue(os.path.isdir(folder))
-                run.send_signal(number)
-                self.assertEqual(run.wait(10), 130)
-            self.assertFalse(os.path.exists(folder))
+        body = "with room() as it:\n    (it / 'file').write_text('a')\n    print(it, flush=True)\n    os.kill(os.getpid(), {})\nreturn 0"
+        for number in ENDING:
+            run = recipe(body.format(int(number)), preexec_fn=obey_signals)
+            folder = run.stdout.strip()
+            self.assertEqual((run.returncode, os.path.isabs(folder), os.path.exists(folder)), (130, True, False))
+
+    def test_a_signal_that_is_let_pass_from_the_start_passes(self):
+        for number in ENDING:
+            run = recipe(f"os.kill(os.getpid(), {int(number)})\nreturn 0", preexec_fn=lambda: signal.signal(number, signal.SIG_IGN))
+            self.assertEqual((run.returncode, run.stderr), (0, ""))
 
     def test_a_full_folder_for_temporary_files_is_fatal(self):
         with mock.patch("tempfile.TemporaryDirectory", side_effect=OSError(28, "No space left on device")):
