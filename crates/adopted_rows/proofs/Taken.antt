@@ -7,9 +7,8 @@ use Rattle.std.proofs.lemmas.List.{length-append}
 use Rattle.cpe_name.specs.Eleven.{Values}
 use Rattle.cpe_rows.specs.After.{after, with_check}
 use Rattle.cpe_rows.specs.Causes.{entry_causes, heavy}
-use Rattle.cpe_rows.specs.FactNames.{number_of_facts}
 use Rattle.cpe_rows.specs.Faults.{when}
-use Rattle.cpe_rows.specs.Lawful.{are_different, IsLawful, is_entry_name, is_lawful_statement}
+use Rattle.cpe_rows.specs.Lawful.{IsLawful, is_entry_name, is_lawful_statement}
 use Rattle.cpe_rows.specs.Limits.{AreWithin, most}
 use Rattle.cpe_rows.specs.Names.{is_same, is_lower, is_identifier, has_wildcards}
 use Rattle.cpe_rows.specs.Rows.{Rows, is_named, has_id, has_key}

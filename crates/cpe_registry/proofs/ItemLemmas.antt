@@ -10,7 +10,7 @@ use Rattle.cpe_rows.specs.Names.{is_same}
 use Rattle.cpe_rows.specs.Rows.{is_named}
 use Rattle.cpe_rows.specs.declared.entry.Entry.{Entry}
 use Rattle.name_index.specs.declared.table.NameId.{NameId}
-use Rattle.name_index.specs.Table.{AreNames, IsLive, Names, kept_at}
+use Rattle.name_index.specs.Table.{AreNames, IsLive, Names}
 use Rattle.names_in_order.specs.InOrder.{AreLive as AreLiveAt, names_numbered, same_id}
 use Rattle.names_in_order.proofs.ChangeLemmas.{name_among}
 use Rattle.numbered_names.specs.Shown.{names_at}

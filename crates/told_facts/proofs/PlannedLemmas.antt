@@ -1,6 +1,6 @@
 -- Facts in use, by their numbers and by their names, and those that a planned change of a deprecation leads elsewhere.
 use Rattle.std.proofs.Common.{◌≡◌, ◌⊎◌, ◌≤◌, ℕ, Bool, true, false, cond, ◌||◌, List, [], ◌∷◌, ◌++◌, filter, map, Some, refl, sym, ap, subst, ◌∙◌, inl, inr, arith, eq-eqb}
-use Rattle.std.specs.Prelude.{IsSome, is_some, nat_eq, nat_lt, count_by}
+use Rattle.std.specs.Prelude.{IsSome, nat_eq, nat_lt, count_by}
 use Rattle.std.specs.List.{AllByRecursion, flat_map, list_any, sum_by}
 use Rattle.std.proofs.lemmas.Bool.{both_ways, cases_Bool, lt-ltb, ne_eqb, or_left, or_right}
 use Rattle.std.proofs.lemmas.List.{map-append}
@@ -25,17 +25,17 @@ use Rattle.cpe_dictionary.specs.declared.plans.Plan.{Plan}
 use Rattle.numbered_names.specs.Shown.{name_at, names_at, one_if_some, times_in, times_named}
 use Rattle.numbered_names.proofs.Shown.{live_is, number_first, same_names, times_agree}
 use Rattle.asked_names.specs.Asked.{facts_in, is_referred, source_names}
-use Rattle.asked_names.proofs.Counted.{counted, counted_once, first_removed, some_stands}
+use Rattle.asked_names.proofs.Counted.{counted, first_removed, some_stands}
 use Rattle.asked_names.proofs.Names.{sum_flat}
-use Rattle.asked_names.proofs.Sources.{apart_once, led_by_those_there}
+use Rattle.asked_names.proofs.Sources.{led_by_those_there}
 use Rattle.cpe_applicability.specs.Board.{Judged, is_used, statements_of, uses}
 use Rattle.followed_facts.specs.Followed.{ends_at, Followed}
 use Rattle.kept_facts.specs.Kept.{AreLive}
-use Rattle.kept_facts.proofs.Boards.{itself, same_boards}
+use Rattle.kept_facts.proofs.Boards.{itself}
 use Rattle.told_facts.specs.Facts.{AreFollowed, IsLed, IsNamed}
 use Rattle.told_facts.specs.Leading.{ends_or_none, is_in_use, is_led, IsPlanned}
 use Rattle.told_facts.proofs.LeadLemmas.{all_both, some_there}
-use Rattle.told_facts.proofs.StatementLemmas.{live_filtered, names_filtered}
+use Rattle.told_facts.proofs.StatementLemmas.{names_filtered}
 use Rattle.told_facts.proofs.Used.{used_live, used_referred}
 use Rattle.told_facts.specs.declared.lead.Led.{Led}
 

@@ -1,8 +1,6 @@
 use Rattle.std.proofs.Common.{sym, subst, ◌∙◌}
-use Rattle.std.specs.List.{flat_map}
 use Rattle.std.proofs.lemmas.Result.{IfOk-weaker}
-use Rattle.cpe_snapshot.specs.Snapshot.{result_row}
-use Rattle.cpe_snapshot.specs.States.{result_of, Snap}
+use Rattle.cpe_snapshot.specs.States.{Snap}
 use Rattle.snapshot_writer.proofs.WriteLemmas.{all_written, by_both}
 use Rattle.snapshot_writer.proofs.write.write_snapshot.Goals as goal
 
