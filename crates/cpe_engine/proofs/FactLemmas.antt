@@ -16,11 +16,11 @@ use Rattle.cpe_rows.specs.Truth.{same_truth}
 use Rattle.cpe_rows.specs.Verdict.{fact_truth, finds_item, is_followed, truth}
 use Rattle.cpe_rows.specs.declared.statement.Mode.{Mode}
 use Rattle.cpe_rows.specs.declared.truth.Truth.TheVariants.{True, False}
-use Rattle.cpe_explain.specs.Leading.{followed}
-use Rattle.cpe_explain.specs.Relates.{related, is_ruled_out}
-use Rattle.cpe_explain.specs.declared.relates.Relates.{Relates}
-use Rattle.cpe_explain.specs.declared.relates.Relates.TheVariants.{Covers, MayCover}
-use Rattle.cpe_explain.proofs.Facts.{found_is}
+use Rattle.checked_certificates.specs.Leading.{followed}
+use Rattle.checked_certificates.specs.Relates.{related, is_ruled_out}
+use Rattle.checked_certificates.specs.declared.relates.Relates.{Relates}
+use Rattle.checked_certificates.specs.declared.relates.Relates.TheVariants.{Covers, MayCover}
+use Rattle.checked_certificates.proofs.Facts.{found_is}
 use Rattle.cpe_explain.proofs.Firsts.{some_found}
 
 or_nothing : (b : Bool) → (b || false) ≡ b

@@ -2,11 +2,12 @@
 ghost use Rattle.std.specs.Prelude.{◌≡◌, IfOk, IfSome, None, find, slice_get, true};
 ghost use Rattle.std.specs.Option.{option_copied, option_map_or};
 ghost use Rattle.cpe_rows.specs.Verdict.{fact_truth, finds_item, is_followed, truth};
-ghost use Rattle.cpe_explain.specs.Leading.{followed};
-ghost use Rattle.cpe_explain.specs.Relates.{related};
+ghost use Rattle.checked_certificates.specs.Leading.{followed};
+ghost use Rattle.checked_certificates.specs.Relates.{related};
 
 use crate::engine::Engine;
-use cpe_explain::{ExplainedRows, PlainRows, Relates};
+use checked_certificates::{PlainRows, Relates};
+use cpe_explain::ExplainedRows;
 use cpe_name::Wfn;
 use cpe_rows::{CheckKey, Deprecation, EntryRef, Mode, Statement, Text, Truth};
 use cpe_values::Memory;

@@ -1,24 +1,24 @@
 -- What is chosen of the certificates of a logical test's children.
-use Rattle.std.proofs.Common.{◌≡◌, ◌⊎◌, ◌||◌, inl, inr, ℕ, suc, ◌+◌, ◌-◌, List, [], ◌∷◌, ◌++◌, Bool, true, false, not, cond, Option, Some, None, map, option_map, length, replicate, take, is_some, slice_get, if◌then◌else◌, refl, ap, sym, ◌∙◌, subst, arith}
+use Rattle.std.proofs.Common.{◌≡◌, ◌⊎◌, ◌||◌, inl, inr, ℕ, suc, ◌+◌, ◌-◌, ◌≤◌, List, [], ◌∷◌, ◌++◌, Bool, true, false, not, cond, Option, Some, None, map, option_map, length, replicate, take, is_some, slice_get, if◌then◌else◌, refl, ap, sym, ◌∙◌, subst, arith}
 use Rattle.std.specs.List.{list_any, list_all, position_or_len}
 use Rattle.std.proofs.lemmas.Bool.{true≢false}
 use Rattle.std.proofs.lemmas.List.{length-map, map-append}
 use Rattle.std.proofs.lemmas.List.Folds.{find_at}
-use Rattle.std.proofs.lemmas.Option.{slice_get-map}
+use Rattle.std.proofs.lemmas.Option.{slice_get-map, slice_get_past}
 use Rattle.cpe_rows.specs.Reach.{Among}
 use Rattle.cpe_rows.specs.Evaluation.{joined, negated}
 use Rattle.cpe_rows.specs.declared.test.Operator.{Operator}
 use Rattle.cpe_rows.proofs.Paths.{some_element}
-use Rattle.cpe_explain.specs.Certificates.{given_truth, given_truths}
+use Rattle.checked_certificates.specs.Certificates.{given_truth, given_truths}
+use Rattle.checked_certificates.specs.Good.{deciding, AreGood, IsOfAll, IsOfOne}
+use Rattle.checked_certificates.specs.declared.proof.Why.{Why}
+use Rattle.checked_certificates.proofs.Elements.{same_some}
+use Rattle.checked_certificates.proofs.Levels.{truth_tells}
+use Rattle.checked_certificates.proofs.Right.{decided}
+use Rattle.checked_certificates.proofs.Loops.{take_at, take_past}
+use Rattle.checked_certificates.proofs.TraceEnds.{mapped}
 use Rattle.cpe_explain.specs.Choices.{decides, first_alone, chosen}
-use Rattle.cpe_explain.specs.Good.{deciding, AreGood, IsOfAll, IsOfOne}
-use Rattle.cpe_explain.specs.declared.proof.Why.{Why}
-use Rattle.cpe_explain.proofs.Elements.{same_some, first_map}
 use Rattle.cpe_explain.proofs.Firsts.{some_found}
-use Rattle.cpe_explain.proofs.Levels.{truth_tells}
-use Rattle.cpe_explain.proofs.Right.{decided}
-use Rattle.cpe_explain.proofs.Loops.{take_at, take_past}
-use Rattle.cpe_explain.proofs.TraceEnds.{mapped}
 
 -- ---- the first that passes
 
@@ -55,6 +55,10 @@ module _ {A : Type 0} (q : A → Bool) where
 
   none_at : (xs : List A) (k : ℕ) → position_or_len q xs ≡ k → slice_get xs k ≡ None → list_any q xs ≡ false
   none_at xs k e at = sym (some_found q xs) ∙ ap is_some (find_at q xs ∙ (ap (slice_get xs) e ∙ at))
+
+first_map : {A B : Type 0} (p : B → Bool) (f : A → B) (xs : List A) → position_or_len p (map f xs) ≡ position_or_len (λ x. p (f x)) xs
+first_map p f [] = refl
+first_map p f (x ∷ xs) = let rest = first_map p f xs in λ i. cond (not (p (f x))) (1 + rest i) 0
 
 -- ---- of children whose certificates are made
 
@@ -151,6 +155,9 @@ module _ {X : Type 0} (good : X → Why → Type 0) (made : X → Why) (right : 
     go false h = (all_good xs, inl (all_some ws, ap (λ ts. negated negate (joined operator ts)) (sym (given_all ws))))
 
 -- ---- going over the children
+
+pub none_past : {A : Type 0} (xs : List A) (k : ℕ) → length xs ≤ k → slice_get xs k ≡ None
+none_past xs k past = slice_get_past xs k past
 
 module _ {X : Type 0} (made : X → Why) (xs : List X) (i : ℕ) where
   -- those so far are made

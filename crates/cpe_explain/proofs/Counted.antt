@@ -1,7 +1,7 @@
 -- The place of the first that passes, by going over a list.
 use Rattle.std.proofs.Common.{◌≡◌, ℕ, ◌+◌, List, Bool, true, false, not, cond, Some, None, drop, slice_get, ap, sym, ◌∙◌, arith}
 use Rattle.std.specs.List.{position_or_len}
-use Rattle.cpe_explain.proofs.Loops.{drop_at, drop_past}
+use Rattle.checked_certificates.proofs.Loops.{drop_at, drop_past}
 
 module _ {A : Type 0} (p : A → Bool) (xs : List A) (i : ℕ) where
   -- none before this place passes

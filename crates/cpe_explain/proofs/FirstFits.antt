@@ -1,5 +1,6 @@
 -- The first fit is that of the first item that shows it.
 use Rattle.std.proofs.Common.{◌≡◌, ℕ, ◌+◌, List, Bool, true, false, cond, Option, Some, None, IfSome, filter, find, flat_map, option_map, is_some, drop, slice_get, refl, ap, sym, ◌∙◌}
+use Rattle.std.specs.Cmp.{both_ways as same_tests}
 use Rattle.std.specs.List.{list_any}
 use Rattle.std.specs.Borrow.{Bor}
 use Rattle.std.specs.Option.{option_and_then, option_copied}
@@ -7,12 +8,23 @@ use Rattle.cpe_name.specs.Eleven.{Values}
 use Rattle.cpe_rows.specs.Chains.{ends}
 use Rattle.cpe_rows.specs.Verdict.{is_followed}
 use Rattle.cpe_rows.specs.declared.entry.Entry.{Entry}
+use Rattle.cpe_rows.proofs.Paths.{element_passes, some_element}
+use Rattle.checked_certificates.specs.declared.proof.Why.{Why}
+use Rattle.checked_certificates.proofs.Loops.{drop_at, drop_past}
 use Rattle.cpe_explain.specs.Choices.{Fit, fits_at, first_fit}
-use Rattle.cpe_explain.specs.declared.proof.Why.{Why}
-use Rattle.cpe_explain.proofs.Elements.{any_swap}
 use Rattle.cpe_explain.proofs.Ways.{found_among}
-use Rattle.cpe_explain.proofs.Loops.{drop_at, drop_past}
 use Rattle.cpe_explain.proofs.Firsts.{first_append, first_kept, some_found, first_map, some_map, first_of_all, some_of_all}
+
+-- the same for each pair, in whatever order they are gone over
+any_swap : {A B : Type 0} (r : A → B → Bool) (xs : List A) (ys : List B)
+    → list_any (λ x. list_any (λ y. r x y) ys) xs ≡ list_any (λ y. list_any (λ x. r x y) xs) ys
+any_swap r xs ys = same_tests (list_any (λ x. list_any (λ y. r x y) ys) xs) (list_any (λ y. list_any (λ x. r x y) xs) ys)
+    (λ h. let x = some_element (λ x. list_any (λ y. r x y) ys) xs h in
+    let y = some_element (λ y. r x.0 y) ys x.2 in
+    element_passes (λ y. list_any (λ x. r x y) xs) ys y.0 y.1 (element_passes (λ a. r a y.0) xs x.0 x.1 y.2))
+    (λ h. let y = some_element (λ y. list_any (λ x. r x y) xs) ys h in
+    let x = some_element (λ x. r x y.0) xs y.2 in
+    element_passes (λ x. list_any (λ y. r x y) ys) xs x.0 x.1 (element_passes (λ b. r x.0 b) ys y.0 y.1 x.2))
 
 module _ (relates : Values → Values → Bool) (fact_ends : List Values) (item : Values) where
   abbrev pub fit : Values → Values → Fit

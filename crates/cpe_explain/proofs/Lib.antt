@@ -1,17 +1,3 @@
-pub mod Elements
-pub mod Links
-pub mod TraceEnds
-pub mod GoodLevels
-pub mod Right
-pub mod Worked
-pub mod Walks
-pub mod Visits
-pub mod Facts
-pub mod Levels
-pub mod Told
-pub mod Loops
-pub mod Given
-pub mod Children
 pub mod Firsts
 pub mod FirstFits
 pub mod Ways

@@ -23,19 +23,20 @@ use Rattle.cpe_rows.specs.declared.test.Test.TheOpen.{Test-F}
 use Rattle.cpe_rows.specs.declared.test.Test.TheFolds.{fold-roll-Test, ind-Test, map-Test}
 use Rattle.cpe_rows.specs.declared.test.Test.TheVariants as tests
 use Rattle.cpe_rows.proofs.Paths.{was_kept}
-use Rattle.cpe_explain.specs.Certificates.{truth_in, given_truth, given_truths}
+use Rattle.checked_certificates.specs.Certificates.{given_truth, given_truths}
+use Rattle.checked_certificates.specs.Good.{deciding, GoodLogic, Fits, GoodFact, GoodCheck, good_step, GoodFor}
+use Rattle.checked_certificates.specs.Leading.{followed}
+use Rattle.checked_certificates.specs.declared.proof.Why.{Why, out-Why}
+use Rattle.checked_certificates.specs.declared.proof.Why as why
+use Rattle.checked_certificates.specs.declared.proof.Why.TheOpen.{Why-F}
+use Rattle.checked_certificates.specs.declared.proof.Why.TheVariants as whys
+use Rattle.checked_certificates.proofs.Elements.{stands}
+use Rattle.checked_certificates.proofs.Facts.{fact_is}
+use Rattle.checked_certificates.proofs.Given.{given-logic, given-pair, given-plain}
+use Rattle.checked_certificates.proofs.GoodLevels.{good-level, logic-map}
 use Rattle.cpe_explain.specs.Choices.{Fit, fits_at, fits, first_fit, trace_to, why_by, fact_why, why_step, why_of, chosen}
-use Rattle.cpe_explain.specs.Good.{deciding, GoodLogic, Fits, GoodFact, GoodCheck, good_step, GoodFor}
-use Rattle.cpe_explain.specs.Checks.{CertificatesGiveVerdicts, CertificatesAreGood}
-use Rattle.cpe_explain.specs.Leading.{followed}
-use Rattle.cpe_explain.specs.declared.proof.Why.{Why, out-Why}
-use Rattle.cpe_explain.specs.declared.proof.Why as why
-use Rattle.cpe_explain.specs.declared.proof.Why.TheOpen.{Why-F}
-use Rattle.cpe_explain.specs.declared.proof.Why.TheVariants as whys
-use Rattle.cpe_explain.proofs.Elements.{stands}
-use Rattle.cpe_explain.proofs.Facts.{fact_is}
+use Rattle.cpe_explain.specs.Laws.{CertificatesGiveVerdicts, CertificatesAreGood}
 use Rattle.cpe_explain.proofs.FirstFits.{some_fit_is}
-use Rattle.cpe_explain.proofs.GoodLevels.{good-level, logic-map}
 use Rattle.cpe_explain.proofs.Chosen.{chosen_all, chosen_good, chosen_one, joined_all, joined_one}
 use Rattle.cpe_explain.proofs.Ways.{good_trace}
 
@@ -54,15 +55,6 @@ why-fact rows mode name =
 pub why-check : (rows : Rows) (mode : Mode) (key : CheckKey) → why_of rows mode (test.Check key) ≡ why.Plain (check_truth rows key)
 why-check rows mode key =
     ap (why_of rows mode) (sym (tests.rolls-Check key)) ∙ fold-roll-Test Why (why_step rows mode) (Test-F.Check key)
-
-pub given-logic : (t : Truth) (of : List (Option Why)) → given_truth (why.Logic t of) ≡ t
-given-logic t of = ap truth_in (whys.outs-Logic t of)
-
-pub given-pair : (t : Truth) (fact one : List Values) → given_truth (why.Pair t fact one) ≡ t
-given-pair t fact one = ap truth_in (whys.outs-Pair t fact one)
-
-pub given-plain : (t : Truth) → given_truth (why.Plain t) ≡ t
-given-plain t = ap truth_in (whys.outs-Plain t)
 
 -- ---- elements
 

@@ -4,8 +4,8 @@ use Rattle.std.specs.Option.{option_map_or}
 use Rattle.std.proofs.lemmas.List.{append-nil, append_assoc}
 use Rattle.cpe_name.specs.Eleven.{Values}
 use Rattle.cpe_rows.specs.declared.entry.Entry.{Entry}
+use Rattle.checked_certificates.specs.Leading.{next_of}
 use Rattle.cpe_explain.specs.Choices.{has_end, way_to}
-use Rattle.cpe_explain.specs.Leading.{next_of}
 
 module _ (es : List Entry) (to : Values) (whole names : List Values) (n k : ℕ) (last : Values) where
   -- what is left of the way is still to be put

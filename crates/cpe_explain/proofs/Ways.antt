@@ -15,12 +15,12 @@ use Rattle.cpe_rows.proofs.Lists.{not_element}
 use Rattle.cpe_rows.proofs.NameTests.{same_is}
 use Rattle.cpe_rows.proofs.Paths.{element_passes, same_entry, has_path, path_leads, leads_further}
 use Rattle.cpe_rows.proofs.Reaches.{decided}
+use Rattle.checked_certificates.specs.Leading.{followed, next_of, is_end, AreLinked}
+use Rattle.checked_certificates.specs.Traces.{IsActive, Precedes, IsPath, EndsWith, IsTrace}
+use Rattle.checked_certificates.proofs.Elements.{same_some, listed_tells}
+use Rattle.checked_certificates.proofs.Links.{linked, found_some, next_found, end_found, next_absent, end_has_none, next_known}
+use Rattle.checked_certificates.proofs.Visits.{Comes, comes_end, end_comes}
 use Rattle.cpe_explain.specs.Choices.{has_end, way_to, trace_to}
-use Rattle.cpe_explain.specs.Leading.{followed, next_of, is_end, AreLinked}
-use Rattle.cpe_explain.specs.Traces.{IsActive, Precedes, IsPath, EndsWith, IsTrace}
-use Rattle.cpe_explain.proofs.Elements.{same_some, listed_tells}
-use Rattle.cpe_explain.proofs.Links.{linked, found_some, next_found, end_found, next_absent, end_has_none, next_known}
-use Rattle.cpe_explain.proofs.Visits.{Comes, comes_end, end_comes}
 
 -- ---- lists
 

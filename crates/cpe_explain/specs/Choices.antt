@@ -20,12 +20,12 @@ use Rattle.cpe_rows.specs.declared.test.Operator.{Operator}
 use Rattle.cpe_rows.specs.declared.test.Test.{Test}
 use Rattle.cpe_rows.specs.declared.test.Test.TheOpen.{Test-F}
 use Rattle.cpe_rows.specs.declared.test.Test.TheFolds.{fold-Test}
-use Rattle.cpe_explain.specs.Certificates.{given_truth}
-use Rattle.cpe_explain.specs.Good.{deciding}
-use Rattle.cpe_explain.specs.Leading.{followed, next_of}
-use Rattle.cpe_explain.specs.declared.proof.Proof.{Proof}
-use Rattle.cpe_explain.specs.declared.proof.Why.{Why}
-use Rattle.cpe_explain.specs.declared.proof.Why as why
+use Rattle.checked_certificates.specs.Certificates.{given_truth}
+use Rattle.checked_certificates.specs.Good.{deciding}
+use Rattle.checked_certificates.specs.Leading.{followed, next_of}
+use Rattle.checked_certificates.specs.declared.proof.Proof.{Proof}
+use Rattle.checked_certificates.specs.declared.proof.Why.{Why}
+use Rattle.checked_certificates.specs.declared.proof.Why as why
 
 -- ---- logical tests
 

@@ -1,11 +1,3 @@
-pub mod Certificates
-pub mod Seen
-pub mod Traces
-pub mod Good
 pub mod Choices
-pub mod Relates
 pub mod Lent
-pub mod Checks
-pub mod Leading
-pub mod Tested
-pub mod Worked
+pub mod Laws

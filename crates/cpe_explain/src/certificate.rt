@@ -4,13 +4,12 @@ ghost use Rattle.std.specs.List.{position_or_len};
 ghost use Rattle.cpe_rows.specs.Evaluation.{negated, test_truth};
 ghost use Rattle.cpe_rows.specs.Truth.{same_truth};
 ghost use Rattle.cpe_rows.specs.Verdict.{check_truth, fact_truth};
+ghost use Rattle.checked_certificates.specs.Good.{deciding};
 ghost use Rattle.cpe_explain.specs.Choices.{certificate, explained, why_of};
-ghost use Rattle.cpe_explain.specs.Good.{deciding};
 
-use crate::check::{deciding, is_truth, join_all, negate_if};
 use crate::fits::fact_why;
-use crate::proof::{Proof, Why};
 use crate::rows::ExplainedRows;
+use checked_certificates::{Proof, Why, deciding, is_truth, join_all, negate_if};
 use cpe_name::Wfn;
 use cpe_rows::{CheckKey, FindFacts, List, Mode, Operator, Statement, Test, Truth, find_truth};
 use cpe_values::Memory;

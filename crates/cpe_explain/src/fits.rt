@@ -1,15 +1,14 @@
 // Why a fact reference has its truth: the first item that shows it, and where both lead.
 ghost use Rattle.std.specs.Prelude.{◌≡◌, ◌∷◌, [], IfOk, IfSome, None, find, map, slice_get, flat_map, option_copied, option_map};
 ghost use Rattle.cpe_rows.specs.Prelude.{ends, maybe};
+ghost use Rattle.checked_certificates.specs.Leading.{followed};
+ghost use Rattle.checked_certificates.specs.Relates.{related, shown};
 ghost use Rattle.cpe_explain.specs.Choices.{fact_why, first_fit, fits_at, pair_of, why_by};
 ghost use Rattle.cpe_explain.specs.Lent.{lent_fit};
-ghost use Rattle.cpe_explain.specs.Leading.{followed};
-ghost use Rattle.cpe_explain.specs.Relates.{related, shown};
 
 use crate::paths::trace;
-use crate::proof::Why;
-use crate::relates::Relates;
 use crate::rows::ExplainedRows;
+use checked_certificates::{Relates, Why};
 use cpe_name::Wfn;
 use cpe_rows::{Mode, Truth};
 use cpe_values::Memory;

@@ -1,27 +1,16 @@
-//! Certificates: why a statement has its verdict (NIST IR 7698), in a form that is tested by the rows alone.
+//! Finding certificates: of each statement the one that shows its verdict (NIST IR 7698), where more than one may be good.
 //!
-//! A certificate goes down the test of a statement, level by level: where children decide a logical test, it has theirs; where a fact
-//! is TRUE, it names an item that the fact covers, and how deprecations lead to what is compared; where a fact is UNKNOWN, it names in the
-//! same way an item that the fact may cover; where a fact is FALSE, or of a check, it says so, and the rows tell whether it is. [`check_proof`] tests one over any [`PlainRows`], and [`law::good_proofs_are_right`] says
-//! that the truth of a good one is the verdict.
+//! [`explain`] makes it over any [`ExplainedRows`], which are rows by which certificates are tested (`checked_certificates`), and that also
+//! find the first item of a fact and the ends of a name. Of the children of a logical test it takes the first that decides, or else all;
+//! of the items that show a fact the first, and of the ends that meet the first of the item's, then of the fact's.
+//! [`law::certificates_are_good`] says that what is made has the verdict, and in lawful rows is good.
 #![tactic(auto)]
 
 mod certificate;
-mod check;
 mod fits;
-mod found;
 pub mod law;
-mod listed;
-mod name_set;
 mod paths;
-mod proof;
-mod references;
-mod relates;
 mod rows;
-mod trace;
 
 pub use certificate::explain;
-pub use check::check_proof;
-pub use proof::{Checked, Proof, Why};
-pub use relates::Relates;
-pub use rows::{ExplainedRows, PlainRows};
+pub use rows::ExplainedRows;

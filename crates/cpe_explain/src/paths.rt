@@ -1,14 +1,22 @@
 // Paths from names to their ends.
 ghost use Rattle.std.specs.Prelude.{◌≡◌, ◌∷◌, [], IfOk, find, option_copied};
+ghost use Rattle.std.specs.List.{list_any};
+ghost use Rattle.cpe_rows.specs.Prelude.{is_same};
+ghost use Rattle.checked_certificates.specs.Leading.{followed, next_of};
 ghost use Rattle.cpe_explain.specs.Choices.{has_end, trace_to};
-ghost use Rattle.cpe_explain.specs.Leading.{followed, next_of};
 
-use crate::found::has_name;
 use crate::rows::ExplainedRows;
 use cpe_name::Wfn;
-use cpe_rows::{List, Mode};
+use cpe_rows::{List, Mode, is_same};
 use cpe_values::Memory;
 use std::alloc::Global;
+
+// Whether a name is one of these.
+fn has_name(names: &[&Wfn], name: &Wfn) -> bool
+    ensures { result ≡ list_any (λ n. is_same name.now n.now) names.now }
+{
+    names.iter().any(|other| is_same(name, *other))
+}
 
 // Whether a name has an end.
 fn has_end<R: ExplainedRows>(alloc: Global, rows: &R, name: &Wfn, to: &Wfn) -> Result<bool, Memory>

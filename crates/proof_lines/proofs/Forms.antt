@@ -9,11 +9,11 @@ use Rattle.cpe_rows.specs.Shape.{largest}
 use Rattle.cpe_rows.specs.declared.truth.Truth.{Truth}
 use Rattle.cpe_records.specs.Written.{items_by, name_json}
 use Rattle.cpe_records.proofs.ReadBack.{fits, fit_items}
-use Rattle.cpe_explain.specs.declared.proof.Proof.{Proof}
-use Rattle.cpe_explain.specs.declared.proof.Why.{Why, Logic, Pair, Plain, roll-Why}
-use Rattle.cpe_explain.specs.declared.proof.Why.TheOpen.{Why-F}
-use Rattle.cpe_explain.specs.declared.proof.Why.TheVariants.{rolls-Logic, rolls-Pair, rolls-Plain}
-use Rattle.cpe_explain.specs.declared.proof.Why.TheFolds.{fold-roll-Why, ind-Why, map-Why}
+use Rattle.checked_certificates.specs.declared.proof.Proof.{Proof}
+use Rattle.checked_certificates.specs.declared.proof.Why.{Why, Logic, Pair, Plain, roll-Why}
+use Rattle.checked_certificates.specs.declared.proof.Why.TheOpen.{Why-F}
+use Rattle.checked_certificates.specs.declared.proof.Why.TheVariants.{rolls-Logic, rolls-Pair, rolls-Plain}
+use Rattle.checked_certificates.specs.declared.proof.Why.TheFolds.{fold-roll-Why, ind-Why, map-Why}
 use Rattle.proof_lines.specs.Levels.{given_levels, levels, levels_step}
 use Rattle.proof_lines.specs.Written.{or_null, logic_json, pair_json, plain_json, why_step, why_json, proof_json}
 use Rattle.proof_lines.proofs.Mapped.{mapped}

@@ -7,7 +7,7 @@ use Rattle.serde_json.specs.Data.{Data, null, boolean, number, string, array, ob
 use Rattle.serde_json.specs.Find.{get, get_member, as_array, as_null}
 use Rattle.cpe_members.specs.FirstFault.{◌>>=◌, all_from, FailsUnless}
 use Rattle.cpe_members.specs.Forms.{list_of}
-use Rattle.cpe_explain.specs.declared.proof.Why.{Why}
+use Rattle.checked_certificates.specs.declared.proof.Why.{Why}
 use Rattle.cpe_members.proofs.AllFrom.{carried}
 use Rattle.proof_lines.specs.declared.fault.ProofFault.{ProofFault}
 use Rattle.proof_lines.specs.declared.fault.ProofFault.TheVariants as fault

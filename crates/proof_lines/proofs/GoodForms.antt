@@ -30,13 +30,13 @@ use Rattle.cpe_rows.specs.declared.truth.Truth.{Truth}
 use Rattle.cpe_rows.specs.declared.truth.Truth.TheVariants.{True, False, Error, Unknown}
 use Rattle.cpe_rows.proofs.NameTests.{same_is}
 use Rattle.cpe_rows.proofs.Paths.{some_element}
-use Rattle.cpe_explain.specs.Good.{AreGood, GoodLogic, Fits, GoodPair, GoodFact, GoodCheck, good_step, GoodFor, Good}
-use Rattle.cpe_explain.specs.Traces.{Precedes, IsPath, BeginsWith, IsTrace}
-use Rattle.cpe_explain.specs.declared.proof.Why.{Why, out-Why, roll-Why}
-use Rattle.cpe_explain.specs.declared.proof.Why.TheOpen.{Why-F}
-use Rattle.cpe_explain.specs.declared.proof.Why.TheViews.{roll-out-Why}
-use Rattle.cpe_explain.specs.declared.proof.Why.TheFolds.{fold-roll-Why, map-Why}
-use Rattle.cpe_explain.proofs.GoodLevels.{good-level}
+use Rattle.checked_certificates.specs.Good.{AreGood, GoodLogic, Fits, GoodPair, GoodFact, GoodCheck, good_step, GoodFor, Good}
+use Rattle.checked_certificates.specs.Traces.{Precedes, IsPath, BeginsWith, IsTrace}
+use Rattle.checked_certificates.specs.declared.proof.Why.{Why, out-Why, roll-Why}
+use Rattle.checked_certificates.specs.declared.proof.Why.TheOpen.{Why-F}
+use Rattle.checked_certificates.specs.declared.proof.Why.TheViews.{roll-out-Why}
+use Rattle.checked_certificates.specs.declared.proof.Why.TheFolds.{fold-roll-Why, map-Why}
+use Rattle.checked_certificates.proofs.GoodLevels.{good-level}
 use Rattle.proof_lines.specs.Levels.{given_levels, levels, levels_step}
 use Rattle.proof_lines.specs.Whole.{names, names_step, HasNames, are_named, is_sound, sound_step, is_formed}
 use Rattle.proof_lines.proofs.Names.{given_names, all_parts}

@@ -7,10 +7,10 @@ use Rattle.cpe_name.specs.Eleven.{Values}
 use Rattle.cpe_rows.specs.Shape.{largest}
 use Rattle.cpe_rows.proofs.Within.{within-snoc}
 use Rattle.cpe_rows.specs.declared.truth.Truth.{Truth}
-use Rattle.cpe_explain.specs.declared.proof.Why.{Why, Logic, Pair, Plain}
-use Rattle.cpe_explain.specs.declared.proof.Why.TheOpen.{Why-F}
-use Rattle.cpe_explain.specs.declared.proof.Why.TheVariants.{rolls-Logic, rolls-Pair, rolls-Plain}
-use Rattle.cpe_explain.specs.declared.proof.Why.TheFolds.{fold-roll-Why}
+use Rattle.checked_certificates.specs.declared.proof.Why.{Why, Logic, Pair, Plain}
+use Rattle.checked_certificates.specs.declared.proof.Why.TheOpen.{Why-F}
+use Rattle.checked_certificates.specs.declared.proof.Why.TheVariants.{rolls-Logic, rolls-Pair, rolls-Plain}
+use Rattle.checked_certificates.specs.declared.proof.Why.TheFolds.{fold-roll-Why}
 use Rattle.proof_lines.specs.Levels.{given_levels, levels, levels_step}
 use Rattle.proof_lines.proofs.Mapped.{mapped}
 

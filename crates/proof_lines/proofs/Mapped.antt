@@ -1,8 +1,8 @@
 -- What is made of each child that is given.
 use Rattle.std.proofs.Common.{◌≡◌, List, [], ◌∷◌, Option, Some, None, option_map, map, refl, ap}
 use Rattle.cpe_rows.specs.declared.truth.Truth.{Truth}
-use Rattle.cpe_explain.specs.declared.proof.Why.TheOpen.{Why-F}
-use Rattle.cpe_explain.specs.declared.proof.Why.TheFolds.{map-Why}
+use Rattle.checked_certificates.specs.declared.proof.Why.TheOpen.{Why-F}
+use Rattle.checked_certificates.specs.declared.proof.Why.TheFolds.{map-Why}
 
 abbrev with_child : {Y : Type 0} → Option Y → Why-F Y → Why-F Y
 with_child o (Why-F.Logic truth of) = Why-F.Logic truth (o ∷ of)

@@ -10,7 +10,7 @@ use Rattle.cpe_members.specs.FirstFault.{◌>>=◌}
 use Rattle.cpe_members.specs.Forms.{tested}
 use Rattle.cpe_members.proofs.LineLemmas.{line_read}
 use Rattle.cpe_records.proofs.ReadBack.{data_of, read-printed}
-use Rattle.cpe_explain.specs.declared.proof.Proof.{Proof}
+use Rattle.checked_certificates.specs.declared.proof.Proof.{Proof}
 use Rattle.proof_lines.specs.declared.fault.ProofFault.TheVariants as fault
 use Rattle.proof_lines.specs.Levels.{levels}
 use Rattle.proof_lines.specs.Reading.{formed, within_limit, why_at, proof_in, proof_by, proof_of}

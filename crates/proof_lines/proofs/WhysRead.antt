@@ -11,10 +11,10 @@ use Rattle.cpe_members.specs.FirstFault.{◌>>=◌}
 use Rattle.cpe_records.specs.Written.{items_by}
 use Rattle.cpe_records.proofs.ReadBack.{data_of, data_items}
 use Rattle.cpe_records.proofs.WordForms.{truth_read}
-use Rattle.cpe_explain.specs.declared.proof.Why.{Why, Logic, Pair, Plain, roll-Why}
-use Rattle.cpe_explain.specs.declared.proof.Why.TheOpen.{Why-F}
-use Rattle.cpe_explain.specs.declared.proof.Why.TheVariants.{rolls-Logic, rolls-Pair, rolls-Plain}
-use Rattle.cpe_explain.specs.declared.proof.Why.TheFolds.{fold-roll-Why, ind-Why, map-Why}
+use Rattle.checked_certificates.specs.declared.proof.Why.{Why, Logic, Pair, Plain, roll-Why}
+use Rattle.checked_certificates.specs.declared.proof.Why.TheOpen.{Why-F}
+use Rattle.checked_certificates.specs.declared.proof.Why.TheVariants.{rolls-Logic, rolls-Pair, rolls-Plain}
+use Rattle.checked_certificates.specs.declared.proof.Why.TheFolds.{fold-roll-Why, ind-Why, map-Why}
 use Rattle.proof_lines.specs.declared.fault.ProofFault.{ProofFault}
 use Rattle.proof_lines.specs.Reading.{formed, logic_in, pair_in, there, given_of, children_of}
 use Rattle.proof_lines.specs.Whole.{names, HasNames, are_named, sound_step, is_sound}

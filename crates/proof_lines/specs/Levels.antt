@@ -1,9 +1,9 @@
 -- How deep a certificate is: the levels of logical tests along its deepest branch.
 use Rattle.std.specs.Prelude.{ℕ, suc, map, Option, unwrap_or}
 use Rattle.cpe_rows.specs.Shape.{largest}
-use Rattle.cpe_explain.specs.declared.proof.Why.{Why}
-use Rattle.cpe_explain.specs.declared.proof.Why.TheOpen.{Why-F}
-use Rattle.cpe_explain.specs.declared.proof.Why.TheFolds.{fold-Why}
+use Rattle.checked_certificates.specs.declared.proof.Why.{Why}
+use Rattle.checked_certificates.specs.declared.proof.Why.TheOpen.{Why-F}
+use Rattle.checked_certificates.specs.declared.proof.Why.TheFolds.{fold-Why}
 
 -- nothing has none
 abbrev pub given_levels : Option ℕ → ℕ

@@ -17,9 +17,9 @@ use Rattle.cpe_members.specs.Forms.{list_of, tested, text_in}
 use Rattle.cpe_members.specs.Line.{value_of}
 use Rattle.cpe_members.specs.Names.{lowered}
 use Rattle.cpe_members.specs.Words.{truth_of}
-use Rattle.cpe_explain.specs.declared.proof.Proof.{Proof}
-use Rattle.cpe_explain.specs.declared.proof.Why.{Why}
-use Rattle.cpe_explain.specs.declared.proof.Why as why
+use Rattle.checked_certificates.specs.declared.proof.Proof.{Proof}
+use Rattle.checked_certificates.specs.declared.proof.Why.{Why}
+use Rattle.checked_certificates.specs.declared.proof.Why as why
 use Rattle.proof_lines.specs.Levels.{levels}
 use Rattle.proof_lines.specs.declared.fault.ProofFault.{ProofFault}
 use Rattle.proof_lines.specs.declared.fault.ProofFault.TheVariants as fault

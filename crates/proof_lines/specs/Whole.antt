@@ -6,10 +6,10 @@ use Rattle.cpe_name.specs.Names.{IsName}
 use Rattle.cpe_rows.specs.Names.{is_lower}
 use Rattle.cpe_rows.specs.Valid.{is_id}
 use Rattle.cpe_rows.specs.declared.limits.TheConstants.{MOST_LEVELS}
-use Rattle.cpe_explain.specs.declared.proof.Proof.{Proof}
-use Rattle.cpe_explain.specs.declared.proof.Why.{Why}
-use Rattle.cpe_explain.specs.declared.proof.Why.TheOpen.{Why-F}
-use Rattle.cpe_explain.specs.declared.proof.Why.TheFolds.{fold-Why}
+use Rattle.checked_certificates.specs.declared.proof.Proof.{Proof}
+use Rattle.checked_certificates.specs.declared.proof.Why.{Why}
+use Rattle.checked_certificates.specs.declared.proof.Why.TheOpen.{Why-F}
+use Rattle.checked_certificates.specs.declared.proof.Why.TheFolds.{fold-Why}
 use Rattle.proof_lines.specs.Levels.{levels}
 
 -- ---- names

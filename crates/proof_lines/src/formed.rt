@@ -3,7 +3,7 @@ ghost use Rattle.std.specs.Prelude.{All};
 ghost use Rattle.cpe_name.specs.Names.{IsName};
 ghost use Rattle.proof_lines.specs.Whole.{HasNames};
 
-use cpe_explain::Why;
+use checked_certificates::Why;
 use cpe_name::Wfn;
 
 fn are_names(names: &[Wfn])

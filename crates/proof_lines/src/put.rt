@@ -3,7 +3,7 @@ ghost use Rattle.json.specs.Tree.{json_tokens};
 ghost use Rattle.cpe_records.specs.Puts.{Puts};
 ghost use Rattle.proof_lines.specs.Written.{truth_end, pair_json, plain_json, why_json, proof_json};
 
-use cpe_explain::{Proof, Why};
+use checked_certificates::{Proof, Why};
 use cpe_members::truth_word;
 use cpe_name::Wfn;
 use cpe_records::{put, put_names};

@@ -6,7 +6,7 @@ ghost use Rattle.proof_lines.specs.Reading.{id_at, proof_in, is_proof, proof_of}
 
 use crate::ProofFault;
 use crate::why::why_at;
-use cpe_explain::Proof;
+use checked_certificates::Proof;
 use cpe_members::{text_in, value_of};
 use cpe_rows::{Text, is_id};
 use serde_json::Value;

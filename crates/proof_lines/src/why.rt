@@ -8,7 +8,7 @@ ghost use Rattle.proof_lines.specs.Levels.{levels};
 ghost use Rattle.proof_lines.specs.Reading.{truth_at, named, name_in, items_at, names_at, logic_in, pair_in, plain_in, leaf_in, there, given_of, within_limit, why_at};
 
 use crate::ProofFault;
-use cpe_explain::Why;
+use checked_certificates::Why;
 use cpe_members::{array_in, lowered, text_in, truth_of, unbound};
 use cpe_name::Wfn;
 use cpe_rows::{List, MOST_LEVELS, Truth};

@@ -7,7 +7,7 @@ ghost use Rattle.proof_lines.specs.Written.{proof_text};
 use crate::formed::formed;
 use crate::law::written_is_read;
 use crate::put::put_proof;
-use cpe_explain::Proof;
+use checked_certificates::Proof;
 use cpe_values::Memory;
 use json::Writer;
 use std::alloc::Global;

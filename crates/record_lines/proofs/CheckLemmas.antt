@@ -6,13 +6,13 @@ use Rattle.std.proofs.lemmas.Bool.{false_from_ne_true}
 use Rattle.cpe_rows.specs.Rows.{Rows, has_id}
 use Rattle.cpe_rows.specs.Lawful.{IsLawful}
 use Rattle.cpe_rows.specs.declared.statement.Statement.{Statement}
-use Rattle.cpe_explain.specs.Checks.{IsSaid, IsChecked}
-use Rattle.cpe_explain.specs.Tested.{test_passes}
-use Rattle.cpe_explain.specs.declared.proof.Checked.{Checked}
-use Rattle.cpe_explain.specs.declared.proof.Checked.TheVariants.{Holds, Fails, Absent}
-use Rattle.cpe_explain.specs.declared.proof.Proof.{Proof}
-use Rattle.cpe_explain.specs.declared.proof.Why.{Why}
-use Rattle.cpe_explain.proofs.Told.{told}
+use Rattle.checked_certificates.specs.Checks.{IsSaid, IsChecked}
+use Rattle.checked_certificates.specs.Tested.{test_passes}
+use Rattle.checked_certificates.specs.declared.proof.Checked.{Checked}
+use Rattle.checked_certificates.specs.declared.proof.Checked.TheVariants.{Holds, Fails, Absent}
+use Rattle.checked_certificates.specs.declared.proof.Proof.{Proof}
+use Rattle.checked_certificates.specs.declared.proof.Why.{Why}
+use Rattle.checked_certificates.proofs.Told.{told}
 use Rattle.record_lines.specs.Checking.{checked}
 
 module _ (rows : Rows) (lawful : IsLawful rows) where

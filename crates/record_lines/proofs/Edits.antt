@@ -14,7 +14,7 @@ use Rattle.record_lines.specs.declared.records.RecordCommand.{RecordCommand}
 use Rattle.record_lines.specs.declared.records.RecordCommand.TheVariants.{Resolve, Evaluate, Watch, Explain, Check, Save}
 use Rattle.cpe_records.specs.Edited.{stepped, edited, line_edited}
 use Rattle.cpe_drill.specs.Looks.{line_looks}
-use Rattle.cpe_explain.specs.declared.proof.Proof.{Proof}
+use Rattle.checked_certificates.specs.declared.proof.Proof.{Proof}
 use Rattle.proof_lines.specs.Reading.{proof_of}
 use Rattle.proof_lines.specs.declared.fault.ProofFault.{ProofFault}
 use Rattle.proof_lines.proofs.NoRecords.{no_record}

@@ -1,12 +1,12 @@
 -- What is said of a certificate, as a test of each of its levels. In lawful rows that is what their definition says: it holds exactly where it
--- is good for the statement that has its id (`IsChecked`, cpe_explain).
+-- is good for the statement that has its id (`IsChecked`, checked_certificates).
 use Rattle.std.specs.Prelude.{find, if◌then◌else◌}
 use Rattle.std.specs.Option.{option_map_or}
 use Rattle.cpe_rows.specs.Rows.{Rows, has_id}
-use Rattle.cpe_explain.specs.Tested.{test_passes}
-use Rattle.cpe_explain.specs.declared.proof.Checked.{Checked}
-use Rattle.cpe_explain.specs.declared.proof.Checked.TheVariants.{Holds, Fails, Absent}
-use Rattle.cpe_explain.specs.declared.proof.Proof.{Proof}
+use Rattle.checked_certificates.specs.Tested.{test_passes}
+use Rattle.checked_certificates.specs.declared.proof.Checked.{Checked}
+use Rattle.checked_certificates.specs.declared.proof.Checked.TheVariants.{Holds, Fails, Absent}
+use Rattle.checked_certificates.specs.declared.proof.Proof.{Proof}
 
 unfoldable pub checked : Rows → Proof → Checked
 checked rows p = option_map_or (λ s. if test_passes rows s.mode s.test p.why then Holds else Fails) (find (has_id p.id) rows.statements) Absent

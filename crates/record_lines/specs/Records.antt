@@ -19,7 +19,7 @@ use Rattle.cpe_snapshot.specs.States.{snapshot}
 use Rattle.cpe_replies.specs.Replies.{reply_text, verdict_table, changes_text}
 use Rattle.cpe_replies.specs.Reasons.{record_fault_text, edit_fault_text, proof_fault_text}
 use Rattle.cpe_replies.specs.Proofs.{certificate_lines, checked_line}
-use Rattle.cpe_explain.specs.declared.proof.Proof.{Proof}
+use Rattle.checked_certificates.specs.declared.proof.Proof.{Proof}
 use Rattle.proof_lines.specs.Reading.{proof_of}
 use Rattle.proof_lines.specs.declared.fault.ProofFault.{ProofFault}
 use Rattle.record_lines.specs.Checking.{checked}

@@ -6,8 +6,9 @@ ghost use Rattle.proof_lines.specs.Written.{proof_text};
 ghost use Rattle.cpe_replies.specs.Proofs.{certificate_line, certificate_lines, checked_line};
 ghost use Rattle.record_lines.specs.Checking.{checked};
 
+use checked_certificates::{Checked, PlainRows, Proof, check_proof};
 use cpe_engine::Engine;
-use cpe_explain::{Checked, PlainRows, Proof, check_proof, explain};
+use cpe_explain::explain;
 use cpe_io::{Sink, SinkFault};
 use cpe_replies::{RecordReason, push_checked, push_proof};
 use cpe_session::{Page, Table, pour_table};

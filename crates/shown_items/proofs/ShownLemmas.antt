@@ -17,8 +17,8 @@ use Rattle.cpe_rows.proofs.NameTests.{is_lower_is, same_is}
 use Rattle.name_index.specs.declared.table.NameId.{NameId}
 use Rattle.name_index.specs.Table.{Names}
 use Rattle.numbered_names.specs.Shown.{name_at, names_at}
-use Rattle.cpe_explain.specs.Relates.{related}
-use Rattle.cpe_explain.specs.declared.relates.Relates.{Relates}
+use Rattle.checked_certificates.specs.Relates.{related}
+use Rattle.checked_certificates.specs.declared.relates.Relates.{Relates}
 use Rattle.kept_verdicts.specs.Leading.{AreItemsTo}
 use Rattle.shown_items.specs.Shown.{AreShown}
 

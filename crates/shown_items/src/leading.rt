@@ -6,10 +6,10 @@ ghost use Rattle.name_index.specs.Table.{IsLive};
 ghost use Rattle.numbered_names.specs.Shown.{names_at};
 ghost use Rattle.cpe_registry.specs.Registered.{AreLive, name_in};
 ghost use Rattle.kept_verdicts.specs.Leading.{AreItemsTo, AreOfRows};
-ghost use Rattle.cpe_explain.specs.Relates.{related};
+ghost use Rattle.checked_certificates.specs.Relates.{related};
 ghost use Rattle.shown_items.specs.Shown.{AreShown};
 
-use cpe_explain::Relates;
+use checked_certificates::Relates;
 use cpe_inventory::ItemSlots;
 use cpe_name::Wfn;
 use cpe_registry::Registry;

@@ -1,9 +1,9 @@
 // Items by their slots, and the first to which a name stands so.
 ghost use Rattle.std.specs.Prelude.{◌≡◌, IfOk, find, length, slice_get, filter_map, option_copied};
 ghost use Rattle.cpe_name.specs.Lower.{IsLower};
-ghost use Rattle.cpe_explain.specs.Relates.{related};
+ghost use Rattle.checked_certificates.specs.Relates.{related};
 
-use cpe_explain::Relates;
+use checked_certificates::Relates;
 use cpe_inventory::ItemSlots;
 use cpe_name::Wfn;
 use cpe_values::Memory;

@@ -4,12 +4,11 @@ use Rattle.cpe_rows.specs.Evaluation.{joined, negated, test_truth}
 use Rattle.cpe_rows.specs.Truth.{same_truth}
 use Rattle.cpe_rows.specs.Verdict.{check_truth, fact_truth}
 use Rattle.cpe_rows.specs.declared.test.Test.{Test}
-use Rattle.cpe_explain.specs.Certificates.{given_truths}
+use Rattle.checked_certificates.specs.Certificates.{given_truths}
+use Rattle.checked_certificates.specs.Good.{deciding}
+use Rattle.checked_certificates.specs.declared.proof.Why.{Why}
 use Rattle.cpe_explain.specs.Choices.{why_of}
-use Rattle.cpe_explain.specs.Good.{deciding}
-use Rattle.cpe_explain.specs.declared.proof.Why.{Why}
-use Rattle.cpe_explain.proofs.Chosen.{all_made}
-use Rattle.cpe_explain.proofs.Loops.{none_past}
+use Rattle.cpe_explain.proofs.Chosen.{all_made, none_past}
 use Rattle.cpe_explain.proofs.MadeGood.{none_decides, one_decides}
 use Rattle.cpe_explain.proofs.certificate.+why_of.Goals as goal
 

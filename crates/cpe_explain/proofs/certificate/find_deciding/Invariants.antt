@@ -2,7 +2,7 @@ use Rattle.std.proofs.Common.{◌≡◌}
 use Rattle.cpe_rows.specs.Evaluation.{test_truth}
 use Rattle.cpe_rows.specs.Truth.{same_truth}
 use Rattle.cpe_rows.specs.Verdict.{check_truth, fact_truth}
-use Rattle.cpe_explain.specs.Good.{deciding}
+use Rattle.checked_certificates.specs.Good.{deciding}
 use Rattle.cpe_explain.proofs.Counted.{IsSought}
 use Rattle.cpe_explain.proofs.certificate.find_deciding.Given as goal
 

@@ -2,8 +2,8 @@ use Rattle.std.proofs.Common.{◌≡◌, IfOk, Option, subst}
 use Rattle.std.proofs.lemmas.Result.{IfOk-weaker}
 use Rattle.cpe_relation.specs.NameRelation.{covers}
 use Rattle.cpe_relation.specs.Maybe.{maybe}
+use Rattle.checked_certificates.specs.Leading.{followed}
 use Rattle.cpe_explain.specs.Choices.{Fit, first_fit, why_by}
-use Rattle.cpe_explain.specs.Leading.{followed}
 use Rattle.cpe_explain.proofs.FirstFits.{by_lent, by_none}
 use Rattle.cpe_explain.proofs.fits.fact_why.Goals as goal
 

@@ -1,7 +1,7 @@
 use Rattle.std.proofs.Common.{map, sym, ◌∙◌}
 use Rattle.cpe_name.specs.Eleven.{Values}
-use Rattle.cpe_explain.specs.Relates.{related}
-use Rattle.cpe_explain.proofs.Loops.{left_here, left_next, now, shown_at}
+use Rattle.checked_certificates.specs.Relates.{related}
+use Rattle.checked_certificates.proofs.Loops.{left_here, left_next, now, shown_at}
 use Rattle.cpe_explain.proofs.fits.first_relating.Goals as goal
 
 pub returns-then-holds : goal.returns-then-holds

@@ -1,8 +1,8 @@
 use Rattle.std.proofs.Common.{map}
 use Rattle.std.specs.Borrow.{Bor}
 use Rattle.cpe_name.specs.Eleven.{Values}
-use Rattle.cpe_explain.specs.Relates.{related}
-use Rattle.cpe_explain.proofs.Loops.{IsLeft}
+use Rattle.checked_certificates.specs.Relates.{related}
+use Rattle.checked_certificates.proofs.Loops.{IsLeft}
 use Rattle.cpe_explain.proofs.fits.first_relating.Given as goal
 
 abbrev pub invariant-loop-relating : goal.invariant-loop-relating

@@ -1,6 +1,6 @@
 use Rattle.std.proofs.Common.{map, refl, sym}
-use Rattle.cpe_explain.specs.Relates.{related}
-use Rattle.cpe_explain.proofs.Loops.{now, shown_at, shown_past}
+use Rattle.checked_certificates.specs.Relates.{related}
+use Rattle.checked_certificates.proofs.Loops.{now, shown_at, shown_past}
 use Rattle.cpe_explain.proofs.FirstFits.{fit_here, fit_next, fit_none}
 use Rattle.cpe_explain.proofs.fits.fit_of.Goals as goal
 

@@ -1,13 +1,13 @@
 use Rattle.std.proofs.Common.{◌≡◌, IfOk, IfSome, Option, map, ap, subst, ◌∙◌}
 use Rattle.cpe_rows.specs.declared.truth.Truth.{Truth}
 use Rattle.cpe_rows.specs.declared.truth.Truth.TheVariants.{False}
+use Rattle.checked_certificates.specs.Leading.{followed}
+use Rattle.checked_certificates.specs.Relates.{related, shown}
+use Rattle.checked_certificates.specs.declared.proof.Why as why
+use Rattle.checked_certificates.proofs.Loops.{now}
 use Rattle.cpe_explain.specs.Choices.{Fit, pair_of}
-use Rattle.cpe_explain.specs.Leading.{followed}
 use Rattle.cpe_explain.specs.Lent.{lent_fit}
-use Rattle.cpe_explain.specs.Relates.{related, shown}
-use Rattle.cpe_explain.specs.declared.proof.Why as why
 use Rattle.cpe_explain.proofs.FirstFits.{first_by_ends}
-use Rattle.cpe_explain.proofs.Loops.{now}
 use Rattle.cpe_explain.proofs.fits.item_why.Goals as goal
 
 pub returns-in-Some : goal.returns-in-Some

@@ -1,7 +1,7 @@
 use Rattle.std.proofs.Common.{length, refl, sym, ◌∙◌}
 use Rattle.std.proofs.lemmas.Option.{slice_get_read}
+use Rattle.checked_certificates.proofs.Loops.{left_here, left_next}
 use Rattle.cpe_explain.specs.Choices.{has_end}
-use Rattle.cpe_explain.proofs.Loops.{left_here, left_next}
 use Rattle.cpe_explain.proofs.paths.find_leading.Goals as goal
 
 pub returns-then-branch : goal.returns-then-branch

@@ -1,5 +1,5 @@
+use Rattle.checked_certificates.proofs.Loops.{IsLeft}
 use Rattle.cpe_explain.specs.Choices.{has_end}
-use Rattle.cpe_explain.proofs.Loops.{IsLeft}
 use Rattle.cpe_explain.proofs.paths.find_leading.Given as goal
 
 abbrev pub invariant-loop-name : goal.invariant-loop-name

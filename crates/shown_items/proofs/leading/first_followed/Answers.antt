@@ -4,7 +4,7 @@ use Rattle.std.specs.List.{list_any}
 use Rattle.cpe_name.specs.Eleven.{Values}
 use Rattle.cpe_rows.specs.Chains.{ends}
 use Rattle.cpe_rows.specs.Verdict.{is_followed}
-use Rattle.cpe_explain.specs.Relates.{related}
+use Rattle.checked_certificates.specs.Relates.{related}
 use Rattle.shown_items.proofs.SlotLemmas.{left_here, left_next, left_over, left_none}
 use Rattle.shown_items.proofs.leading.first_followed.Goals as goal
 use Rattle.shown_items.proofs.leading.first_followed.Goals.{in-Some+in_ok-is_met+else-branch, in_default}

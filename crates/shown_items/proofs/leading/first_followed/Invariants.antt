@@ -1,5 +1,5 @@
 use Rattle.cpe_rows.specs.Verdict.{is_followed}
-use Rattle.cpe_explain.specs.Relates.{related}
+use Rattle.checked_certificates.specs.Relates.{related}
 use Rattle.shown_items.proofs.SlotLemmas.{IsLeft}
 use Rattle.shown_items.proofs.leading.first_followed.Given as goal
 

@@ -3,8 +3,8 @@ use Rattle.std.specs.Borrow.{Bor}
 use Rattle.std.specs.List.{list_any}
 use Rattle.cpe_name.specs.Eleven.{Values}
 use Rattle.cpe_rows.specs.Chains.{ends}
-use Rattle.cpe_explain.specs.Relates.{related}
-use Rattle.cpe_explain.proofs.Elements.{any_map}
+use Rattle.checked_certificates.specs.Relates.{related}
+use Rattle.checked_certificates.proofs.Elements.{any_map}
 use Rattle.shown_items.proofs.leading.is_met.Goals as goal
 
 pub returns : goal.returns

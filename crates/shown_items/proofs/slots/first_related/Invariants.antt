@@ -1,4 +1,4 @@
-use Rattle.cpe_explain.specs.Relates.{related}
+use Rattle.checked_certificates.specs.Relates.{related}
 use Rattle.shown_items.proofs.SlotLemmas.{IsLeft}
 use Rattle.shown_items.proofs.slots.first_related.Given as goal
 

@@ -1,0 +1,9 @@
+pub mod Certificates
+pub mod Seen
+pub mod Traces
+pub mod Good
+pub mod Relates
+pub mod Checks
+pub mod Leading
+pub mod Tested
+pub mod Worked

@@ -1,0 +1,146 @@
+// Rows that are read one at a time.
+ghost use Rattle.std.specs.Prelude.{◌≡◌, find, IfOk, option_copied, option_map, slice_get};
+ghost use Rattle.std.specs.List.{list_any};
+ghost use Rattle.cpe_rows.specs.Prelude.{check_truth, fact_truth, has_id, is_same, IsLawful, Rows, same_key};
+ghost use Rattle.cpe_rows.specs.Lent.{entry_lent};
+ghost use Rattle.checked_certificates.specs.Leading.{deprecation_of};
+
+use crate::listed::truth_in;
+use cpe_name::Wfn;
+use cpe_rows::{
+    CheckKey, Deprecation, EntryRef, MOST_CHECKS, MOST_ENTRIES, MOST_ITEMS, MOST_STATEMENTS, Mode,
+    Statement, Text, Truth, is_same,
+};
+use cpe_values::Memory;
+use std::alloc::Global;
+
+// Whether two keys are the same.
+fn is_key(key: &CheckKey, other: &CheckKey) -> bool
+    ensures { result ≡ same_key key.now other.now }
+{
+    key.system == other.system && key.href == other.href && key.id == other.id
+}
+
+/// The rows of a dictionary and of an inventory, each by its place from 0. Contracts see them as the plain state, which is lawful.
+///
+/// What is found in them is found by going over them, which is all that rows need that are no more than lists. Rows that have an index
+/// find it by that.
+pub trait PlainRows {
+    ghost rows: { Self → Rows };
+
+    /// What is so of them: they are lawful. It does nothing, and tells a proof so.
+    fn lawful(&self)
+        ensures { IsLawful (rows self.now) };
+
+    /// The entry at a place. There is none exactly where the place is the number of entries or more.
+    fn entry(&self, k: usize) -> Option<EntryRef<'_>>
+        ensures { option_map entry_lent result ≡ slice_get (rows self.now).entries k };
+
+    /// The item at a place. There is none exactly where the place is the number of items or more.
+    fn item(&self, k: usize) -> Option<&Wfn>
+        ensures { option_copied result ≡ slice_get (rows self.now).items k };
+
+    /// The statement at a place. There is none exactly where the place is the number of statements or more.
+    fn statement(&self, k: usize) -> Option<&Statement>
+        ensures { option_copied result ≡ slice_get (rows self.now).statements k };
+
+    /// The check at a place whose result is kept, and the result. There is none exactly where the place is the number of kept results
+    /// or more.
+    fn check(&self, k: usize) -> Option<(&CheckKey, Truth)>
+        ensures { option_map (λ row. (row.0.now, row.1)) result ≡ slice_get (rows self.now).checks k };
+
+    /// The statement of an id, if there is one.
+    fn statement_of(&self, id: &Text) -> Option<&Statement>
+        ensures { option_copied result ≡ find (has_id id.now) (rows self.now).statements }
+    {
+        self.lawful();
+        for k in 0..MOST_STATEMENTS {
+            match self.statement(k) {
+                Some(statement) => {
+                    if statement.id == *id {
+                        return Some(statement);
+                    }
+                }
+                None => return None,
+            }
+        }
+        None
+    }
+
+    /// What is kept for a check, or UNKNOWN.
+    fn result_of(&self, key: &CheckKey) -> Truth
+        ensures { result ≡ check_truth (rows self.now) key.now }
+    {
+        self.lawful();
+        for k in 0..MOST_CHECKS {
+            match self.check(k) {
+                Some((kept, truth)) => {
+                    if is_key(key, kept) {
+                        return truth;
+                    }
+                }
+                None => return Truth::Unknown,
+            }
+        }
+        Truth::Unknown
+    }
+
+    /// Whether an item has this name.
+    fn has_item(&self, name: &Wfn) -> bool
+        ensures { result ≡ list_any (is_same name.now) (rows self.now).items }
+    {
+        self.lawful();
+        for k in 0..MOST_ITEMS {
+            match self.item(k) {
+                Some(item) => {
+                    if is_same(name, item) {
+                        return true;
+                    }
+                }
+                None => return false,
+            }
+        }
+        false
+    }
+
+    /// The deprecation of the entry of a name, if there is one, and it is deprecated.
+    fn deprecation_of(&self, name: &Wfn) -> Option<&Deprecation>
+        ensures { option_copied result ≡ deprecation_of (rows self.now).entries name.now }
+    {
+        self.lawful();
+        for k in 0..MOST_ENTRIES {
+            match self.entry(k) {
+                Some(entry) => {
+                    if is_same(name, entry.name) {
+                        return entry.deprecation;
+                    }
+                }
+                None => return None,
+            }
+        }
+        None
+    }
+
+    /// The truth of a fact reference.
+    ///
+    /// # Errors
+    /// Only that memory ran out.
+    fn find_fact(&self, alloc: Global, mode: Mode, name: &Wfn) -> Result<Truth, Memory>
+        ensures { IfOk result (λ truth. truth ≡ fact_truth (rows self.now) mode name.now) }
+    {
+        self.lawful();
+        let mut items = Vec::new(alloc);
+        let mut place = 0;
+        while let Some(item) = self.item(place) {
+            items.push(item)?;
+            place += 1;
+        }
+        let mut entries = Vec::new(alloc);
+        let mut k = 0;
+        while let Some(entry) = self.entry(k) {
+            entries.push(entry)?;
+            k += 1;
+        }
+        truth_in(alloc, mode, &entries, &items, name)
+    }
+}
