@@ -13,9 +13,9 @@ use Rattle.cpe_members.specs.declared.member.RecordFault.{RecordFault}
 use Rattle.cpe_records.specs.Edited.{edited, line_edited}
 use Rattle.cpe_records.specs.Reading.{record_of}
 use Rattle.cpe_records.specs.Taken.{IsFormedRecord, is_valid_record}
-use Rattle.cpe_records.specs.WrittenRecord.{record_json, record_text}
+use Rattle.written_records.specs.WrittenRecord.{record_json, record_text}
 use Rattle.cpe_records.specs.declared.read.Record.{Record}
-use Rattle.cpe_records.proofs.RecordForms.{record_fits}
+use Rattle.written_records.proofs.RecordForms.{record_fits}
 use Rattle.cpe_records.proofs.ValidRecords.{read_valid}
 use Rattle.cpe_replies.specs.Reasons.{record_fault_text}
 use Rattle.cpe_convert.specs.Convert.{as_line, converted, convert_session, reason_text}

@@ -9,7 +9,7 @@ use Rattle.json.specs.Json as json
 use Rattle.json.specs.Tree.{json_tokens, items_tokens, members_tokens}
 use Rattle.json.specs.Print.{begins, ends, escape, escape_byte, escape_letter, print, print_from, quoted, separator, token_text}
 use Rattle.serde_json.specs.Read.{max_depth}
-use Rattle.cpe_records.proofs.ReadBack.{fits, fit_items, fit_members}
+use Rattle.written_records.proofs.ReadBack.{fits, fit_items, fit_members}
 use Rattle.cpe_convert.proofs.Clean.{Clean, clean-append, clean-cons}
 
 -- ---- texts

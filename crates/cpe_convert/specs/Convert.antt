@@ -3,7 +3,7 @@ use Rattle.std.specs.Prelude.{ℕ, nat_le, List, ◌++◌, length, Result, Ok, E
 use Rattle.cpe_io.specs.declared.line.TheConstants.{LONGEST}
 use Rattle.cpe_members.specs.declared.member.RecordFault.{RecordFault}
 use Rattle.cpe_records.specs.Reading.{record_of}
-use Rattle.cpe_records.specs.WrittenRecord.{record_text}
+use Rattle.written_records.specs.WrittenRecord.{record_text}
 use Rattle.cpe_records.specs.declared.read.Record.{Record}
 use Rattle.cpe_replies.specs.Reasons.{record_fault_text}
 use Rattle.cpe_session.specs.Session.{Session, printed, stateless}

@@ -4,7 +4,7 @@ use Rattle.std.specs.declared.option.Option.{Option}
 use Rattle.std.specs.Str.{IsUtf8}
 use Rattle.cpe_records.specs.Reading.{record_of}
 use Rattle.cpe_records.specs.Taken.{IsFormedRecord}
-use Rattle.cpe_records.specs.WrittenRecord.{record_text}
+use Rattle.written_records.specs.WrittenRecord.{record_text}
 use Rattle.cpe_records.specs.declared.read.Record.{Record}
 use Rattle.cpe_convert.specs.declared.reason.ConvertReason.TheVariants.{Grown}
 use Rattle.cpe_convert.specs.Convert.{converted}

@@ -3,15 +3,16 @@ ghost use Rattle.std.specs.Prelude.{◌≡◌, true, IfOk};
 ghost use Rattle.cpe_session.specs.Pages.{Puts};
 ghost use Rattle.cpe_records.specs.Reading.{record_of};
 ghost use Rattle.cpe_records.specs.Taken.{is_valid_record};
-ghost use Rattle.cpe_records.specs.WrittenRecord.{record_text};
+ghost use Rattle.written_records.specs.WrittenRecord.{record_text};
 ghost use Rattle.cpe_convert.specs.Convert.{as_line, converted};
 
 use crate::reason::ConvertReason;
 use cpe_io::LONGEST;
 use cpe_members::RecordFault;
-use cpe_records::{Record, read_record, write_record};
+use cpe_records::{Record, read_record};
 use cpe_session::{Page, Stateless};
 use std::alloc::{AllocError, Global};
+use written_records::write_record;
 
 /// Each line is a record, which is written in the second format, in the one form that records have there. Nothing is applied.
 #[derive(Clone, Copy, Debug, PartialEq, Eq)]

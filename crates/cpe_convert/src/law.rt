@@ -9,7 +9,7 @@ ghost use Rattle.cpe_records.specs.Edited.{line_edited};
 ghost use Rattle.cpe_convert.specs.Convert.{convert_session};
 ghost use Rattle.cpe_convert.specs.Growing.{IsGrown, IsWhole};
 
-use cpe_records::written_is_read;
+use written_records::written_is_read;
 
 /// Where no line is refused since its form grew too long, the lines that are written leave the rows that the lines themselves do, whatever
 /// rows there were: each record is read from its form again, and a refusal is no record. That records are whole is so of every

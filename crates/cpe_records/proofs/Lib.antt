@@ -1,13 +1,2 @@
 pub mod ValidLemmas
 pub mod ValidRecords
-pub mod Pieces
-pub mod Printed
-pub mod ReadBack
-pub mod NameObjects
-pub mod TestForms
-pub mod RecordForms
-pub mod WordForms
-pub mod ProvenanceForms
-pub mod NamesRead
-pub mod FormsRead
-pub mod RecordsRead

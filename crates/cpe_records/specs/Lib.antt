@@ -3,7 +3,3 @@ pub mod Kinds
 pub mod Reading
 pub mod Taken
 pub mod Edited
-pub mod Written
-pub mod Puts
-pub mod NameObject
-pub mod WrittenRecord

@@ -24,19 +24,13 @@
 //! | `verdict` | `id` |
 //!
 //! The `id` of a statement has 1 to 256 visible characters of ASCII; `system`, `href` and `id` of a check are any texts. The form
-//! of `test`, the test of a statement, stands at `cpe_members`.
+//! of `test`, the test of a statement, stands at `cpe_members`, and the written form of a record at `written_records`.
 #![tactic(auto)]
 
-mod ascii;
-mod form;
 mod kinds;
-mod object;
 mod read;
 mod record_kind;
-mod test;
-mod write;
 
 pub use cpe_members::{Format, Member, NameSpot, RecordFault};
-pub use form::{append_record, write_record, written_is_read};
 pub use read::{Record, read_record};
-pub use write::{append_entry, put, put_names, write_entry};
+pub use record_kind::RecordKind;

@@ -4,28 +4,44 @@ ghost use Rattle.cpe_records.specs.RecordKinds.{record_word, record_kind_of};
 
 /// The kind of a record, as its member `do` says it.
 #[derive(Clone, Copy)]
-pub(crate) enum RecordKind {
+pub enum RecordKind {
+    /// Adds an entry.
     Entry,
+    /// Gives an active entry a deprecation.
     Deprecate,
+    /// Replaces the deprecation of an entry.
     Amend,
+    /// Takes the deprecation of an entry away.
     Restore,
+    /// Adds an item.
     Item,
+    /// Drops an item.
     DropItem,
+    /// Adds a statement.
     Statement,
+    /// Drops a statement.
     DropStatement,
+    /// Keeps the result of a check.
     Check,
+    /// Drops the result of a check.
     DropCheck,
+    /// Asks whether an entry has a name.
     Lookup,
+    /// Asks for the entries that a name covers.
     Search,
+    /// Asks for the items that a name covers.
     Items,
+    /// Asks for the entries to which successors lead from an entry.
     Chain,
+    /// Asks for a whole entry.
     Show,
+    /// Asks for the verdict of a statement.
     Verdict,
 }
 
 impl RecordKind {
     /// How it is written.
-    pub(crate) fn word(self) -> &'static str
+    pub fn word(self) -> &'static str
         ensures { result.now ≡ record_word self }
     {
         match self {

@@ -20,7 +20,7 @@ use Rattle.cpe_rows.specs.declared.reply.Row.{Row}
 use Rattle.cpe_rows.specs.declared.reply.Reply.{Reply}
 use Rattle.cpe_rows.specs.declared.reply.Reply.TheVariants.{Lookup, Search, Items, Chain, Show, Verdict}
 use Rattle.cpe_members.specs.Words.{kind_word, truth_word}
-use Rattle.cpe_records.specs.Written.{entry_text}
+use Rattle.written_records.specs.Written.{entry_text}
 
 -- `active`, or the kind of the deprecation
 abbrev pub state_word : State → List ℕ

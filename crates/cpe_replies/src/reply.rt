@@ -1,15 +1,15 @@
 // The answers to queries as lines.
 ghost use Rattle.std.specs.Prelude.{◌≡◌, ◌++◌, OnOk, codes, option_map};
 ghost use Rattle.cpe_replies.specs.Replies.{state_word, name_text, count_line, chain_line, found_line, shown, verdict_line, reply_text};
-ghost use Rattle.cpe_records.specs.Written.{entry_text};
+ghost use Rattle.written_records.specs.Written.{entry_text};
 
 use crate::row::{push_name, push_names, push_rows, push_state};
 use cpe_members::truth_word;
 use cpe_name::Wfn;
-use cpe_records::append_entry;
 use cpe_rows::{Entry, Reply, State, Truth};
 use cpe_session::Page;
 use std::alloc::{AllocError, Global};
+use written_records::append_entry;
 
 /// Puts the lines of an answer after what is gathered.
 ///

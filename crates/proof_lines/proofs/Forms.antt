@@ -7,8 +7,8 @@ use Rattle.serde_json.specs.Read.{max_depth}
 use Rattle.cpe_name.specs.Eleven.{Values}
 use Rattle.cpe_rows.specs.Shape.{largest}
 use Rattle.cpe_rows.specs.declared.truth.Truth.{Truth}
-use Rattle.cpe_records.specs.Written.{items_by, name_json}
-use Rattle.cpe_records.proofs.ReadBack.{fits, fit_items}
+use Rattle.written_records.specs.Written.{items_by, name_json}
+use Rattle.written_records.proofs.ReadBack.{fits, fit_items}
 use Rattle.checked_certificates.specs.declared.proof.Proof.{Proof}
 use Rattle.checked_certificates.specs.declared.proof.Why.{Why, Logic, Pair, Plain, roll-Why}
 use Rattle.checked_certificates.specs.declared.proof.Why.TheOpen.{Why-F}

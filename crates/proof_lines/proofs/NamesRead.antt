@@ -15,8 +15,8 @@ use Rattle.cpe_rows.proofs.NameTests.{is_lower_is}
 use Rattle.cpe_members.specs.FirstFault.{◌>>=◌, all_from}
 use Rattle.cpe_members.specs.Forms.{list_of}
 use Rattle.cpe_members.specs.Names.{lowered}
-use Rattle.cpe_records.specs.Written.{items_by, name_json}
-use Rattle.cpe_records.proofs.ReadBack.{data_of, data_items}
+use Rattle.written_records.specs.Written.{items_by, name_json}
+use Rattle.written_records.proofs.ReadBack.{data_of, data_items}
 use Rattle.proof_lines.specs.Reading.{formed, named, name_in, some_of, names_at}
 use Rattle.proof_lines.specs.Whole.{are_named}
 

@@ -9,7 +9,7 @@ use Rattle.cpe_rows.specs.declared.limits.TheConstants.{MOST_LEVELS}
 use Rattle.cpe_members.specs.FirstFault.{◌>>=◌}
 use Rattle.cpe_members.specs.Forms.{tested}
 use Rattle.cpe_members.proofs.LineLemmas.{line_read}
-use Rattle.cpe_records.proofs.ReadBack.{data_of, read-printed}
+use Rattle.written_records.proofs.ReadBack.{data_of, read-printed}
 use Rattle.checked_certificates.specs.declared.proof.Proof.{Proof}
 use Rattle.proof_lines.specs.declared.fault.ProofFault.TheVariants as fault
 use Rattle.proof_lines.specs.Levels.{levels}

@@ -8,9 +8,9 @@ use Rattle.cpe_name.specs.Eleven.{Values}
 use Rattle.cpe_name.specs.Names.{IsName}
 use Rattle.cpe_rows.specs.declared.truth.Truth.{Truth}
 use Rattle.cpe_members.specs.FirstFault.{◌>>=◌}
-use Rattle.cpe_records.specs.Written.{items_by}
-use Rattle.cpe_records.proofs.ReadBack.{data_of, data_items}
-use Rattle.cpe_records.proofs.WordForms.{truth_read}
+use Rattle.written_records.specs.Written.{items_by}
+use Rattle.written_records.proofs.ReadBack.{data_of, data_items}
+use Rattle.written_records.proofs.WordForms.{truth_read}
 use Rattle.checked_certificates.specs.declared.proof.Why.{Why, Logic, Pair, Plain, roll-Why}
 use Rattle.checked_certificates.specs.declared.proof.Why.TheOpen.{Why-F}
 use Rattle.checked_certificates.specs.declared.proof.Why.TheVariants.{rolls-Logic, rolls-Pair, rolls-Plain}

@@ -7,7 +7,7 @@ use Rattle.json.specs.Print.{print}
 use Rattle.cpe_name.specs.Eleven.{Values}
 use Rattle.cpe_rows.specs.declared.truth.Truth.{Truth}
 use Rattle.cpe_members.specs.Words.{truth_word}
-use Rattle.cpe_records.specs.Written.{items_by, name_json}
+use Rattle.written_records.specs.Written.{items_by, name_json}
 use Rattle.checked_certificates.specs.declared.proof.Proof.{Proof}
 use Rattle.checked_certificates.specs.declared.proof.Why.{Why}
 use Rattle.checked_certificates.specs.declared.proof.Why.TheOpen.{Why-F}

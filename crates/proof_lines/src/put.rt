@@ -1,16 +1,16 @@
 // Certificates as JSON, a token at a time.
 ghost use Rattle.json.specs.Tree.{json_tokens};
-ghost use Rattle.cpe_records.specs.Puts.{Puts};
+ghost use Rattle.written_records.specs.Puts.{Puts};
 ghost use Rattle.proof_lines.specs.Written.{truth_end, pair_json, plain_json, why_json, proof_json};
 
 use checked_certificates::{Proof, Why};
 use cpe_members::truth_word;
 use cpe_name::Wfn;
-use cpe_records::{put, put_names};
 use cpe_rows::Truth;
 use cpe_values::Memory;
 use json::{Token, Writer};
 use std::alloc::Global;
+use written_records::{put, put_names};
 
 // The truth, which is the last member, and the object's end.
 fn put_truth(writer: &mut Writer, truth: Truth) -> Result<(), Memory>

@@ -1,9 +1,10 @@
 // Rows that lines give. A record is let go by one call: at the end of a scope each of its names would be let go in place, value by
 // value, which proves slowly.
 use cpe_name::Wfn;
-use cpe_records::{Record, read_record, write_entry};
+use cpe_records::{Record, read_record};
 use cpe_rows::{CheckKey, Edit, Entry, Facts, Statement, Truth, evaluate};
 use std::alloc::Global;
+use written_records::write_entry;
 
 // ---- an entry
 

@@ -1,8 +1,8 @@
 use Rattle.std.proofs.Common.{List, [], ◌∷◌, ◌++◌, option_map, codes, ap, subst, sym, ◌∙◌}
 use Rattle.json.specs.Token.{Token, key, begin_object, begin_array, end_array}
 use Rattle.json.specs.Tree.{json_tokens}
-use Rattle.cpe_records.specs.Puts.{Puts}
-use Rattle.cpe_records.proofs.Pieces.{looped, two}
+use Rattle.written_records.specs.Puts.{Puts}
+use Rattle.written_records.proofs.Pieces.{looped, two}
 use Rattle.proof_lines.specs.Written.{or_null, pair_json, truth_end, why_json}
 use Rattle.proof_lines.proofs.Forms.{json-logic, json-pair, json-plain}
 use Rattle.proof_lines.proofs.put.+put_why.Goals as goal

@@ -1,8 +1,8 @@
 use Rattle.std.proofs.Common.{List, [], ◌∷◌, ◌++◌, codes}
 use Rattle.json.specs.Token.{Token, key, begin_object, begin_array, end_array}
 use Rattle.json.specs.Tree.{items_tokens}
-use Rattle.cpe_records.specs.Written.{items_by, name_json}
-use Rattle.cpe_records.proofs.Pieces.{listed, two}
+use Rattle.written_records.specs.Written.{items_by, name_json}
+use Rattle.written_records.proofs.Pieces.{listed, two}
 use Rattle.proof_lines.specs.Written.{truth_end}
 use Rattle.proof_lines.proofs.put.put_pair.Goals as goal
 

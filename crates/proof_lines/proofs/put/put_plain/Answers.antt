@@ -1,6 +1,6 @@
 use Rattle.std.proofs.Common.{[], ◌∷◌}
 use Rattle.json.specs.Token.{begin_object}
-use Rattle.cpe_records.proofs.Pieces.{two}
+use Rattle.written_records.proofs.Pieces.{two}
 use Rattle.proof_lines.specs.Written.{truth_end}
 use Rattle.proof_lines.proofs.put.put_plain.Goals as goal
 

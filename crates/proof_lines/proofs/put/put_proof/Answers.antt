@@ -1,7 +1,7 @@
 use Rattle.std.proofs.Common.{◌≡◌, List, [], ◌∷◌, ◌++◌, codes}
 use Rattle.json.specs.Token.{Token, string, key, begin_object, end_object}
 use Rattle.json.specs.Tree.{json_tokens}
-use Rattle.cpe_records.proofs.Pieces.{three}
+use Rattle.written_records.proofs.Pieces.{three}
 use Rattle.proof_lines.specs.Written.{why_json}
 use Rattle.proof_lines.proofs.put.put_proof.Goals as goal
 
