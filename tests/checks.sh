@@ -18,8 +18,9 @@ trap 'exit 130' HUP INT TERM
 
 has() { command -v "$1" > /dev/null 2>&1; }
 
-# A program that hangs is stopped, where the system can, after a minute or so many seconds as `most` tells.
-limited() { if has timeout; then timeout "${most:-60}" "$@"; else "$@"; fi; }
+# A program that hangs is stopped, where the system can, after four minutes, which a busy machine doesn't take for what takes seconds, or
+# after so many seconds as `most` tells.
+limited() { if has timeout; then timeout "${most:-240}" "$@"; else "$@"; fi; }
 
 pass() { passed=$((passed + 1)); echo "ok: $1"; }
 fail() { failed=$((failed + 1)); echo "FAILED: $1: $2"; }

@@ -279,7 +279,7 @@ answers_at_once() {
     needs "$what" mkfifo timeout || return
     rm -f "$room/to" "$room/from"
     mkfifo "$room/to" "$room/from"
-    timeout 60 "$program" "$@" < "$room/to" > "$room/from" 2> "$room/error" &
+    timeout 240 "$program" "$@" < "$room/to" > "$room/from" 2> "$room/error" &
     child=$!
     exec 3> "$room/to" 4< "$room/from"
     : > "$room/out"
@@ -287,10 +287,10 @@ answers_at_once() {
     while IFS= read -r line; do
         # (where the program is gone, the answer that lacks tells it)
         (trap '' PIPE; printf '%s\n' "$line" >&3) 2> /dev/null
-        timeout 10 head -n 1 <&4 >> "$room/out"
+        timeout 60 head -n 1 <&4 >> "$room/out"
     done < "$room/sent"
     exec 3>&-
-    timeout 10 cat <&4 >> "$room/out"
+    timeout 60 cat <&4 >> "$room/out"
     exec 4<&-
     wait "$child"
     status=$?

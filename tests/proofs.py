@@ -253,7 +253,7 @@ def changed(text, others, dice):
 
 
 def answers(program, word, lines):
-    ended = subprocess.run([program, word], input=''.join(f'{one}\n' for one in lines), capture_output=True, text=True, timeout=50, check=False)
+    ended = subprocess.run([program, word], input=''.join(f'{one}\n' for one in lines), capture_output=True, text=True, timeout=100, check=False)
     return ended.stdout.splitlines()
 
 

@@ -31,7 +31,7 @@ class Heard(Said):
 
 
 def run(program, word, data):
-    ended = subprocess.run([program, word], input=data, capture_output=True, timeout=20, check=False)
+    ended = subprocess.run([program, word], input=data, capture_output=True, timeout=100, check=False)
     return ended.returncode, ended.stdout
 
 
