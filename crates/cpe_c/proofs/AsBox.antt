@@ -6,8 +6,8 @@ use Rattle.std.proofs.BoxSteps.Form.{Bx}
 use Rattle.std.specs.contracts.alloc.Global as Heap
 use Rattle.std.specs.contracts.impls.GlobalAllocator.TheImpl.{ghosts, dict}
 use Rattle.std.proofs.alloc.Global.TheLaws as heap
-use Rattle.cpe_c.specs.contracts.talk.Talk as talk
-use Rattle.cpe_c.proofs.talk.Talk.TheLaws as talk_laws
+use Rattle.talks.specs.contracts.talk.Talk as talk
+use Rattle.talks.proofs.talk.Talk.TheLaws as talk_laws
 use Rattle.cpe_c.specs.contracts.parts.Parts as parts
 use Rattle.cpe_c.specs.contracts.kept.KeptTalk as kept
 

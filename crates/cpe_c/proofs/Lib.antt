@@ -1,4 +1,1 @@
 mod AsBox
-mod Joining
-mod Opening
-mod Saying

@@ -8,7 +8,7 @@ use denote.RawPtr.{Ptr}
 use Rattle.std.specs.Box.Ownership.{box_owns}
 use Rattle.std.specs.Global.{Global}
 use Rattle.std.specs.contracts.impls.GlobalAllocator.TheImpl.{ghosts}
-use Rattle.cpe_c.specs.contracts.talk.Talk.{the_row}
+use Rattle.talks.specs.contracts.talk.Talk.{the_row}
 
 -- a box's content and its block; or nothing
 abbrev pub kept_owns : Global → Ptr → Option the_row.Denot → Fml

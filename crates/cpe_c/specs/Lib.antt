@@ -1,10 +1,1 @@
-pub mod Told
-pub mod Forms
-pub mod Pairs
-pub mod Compared
-pub mod Talks
-pub mod Talk
 pub mod Keeping
-pub mod Beginning
-pub mod Holding
-pub mod Joined

@@ -1,13 +1,13 @@
 // What C keeps of a session.
 ghost use Rattle.std.specs.Prelude.{◌≡◌, Some, None, IsSome, Option};
+ghost use Rattle.talks.specs.declared.talk.Talk.{Talk};
 ghost use Rattle.cpe_c.specs.Keeping.{kept_coded};
-ghost use Rattle.cpe_c.specs.declared.talk.Talk.{Talk};
 
 use crate::parts::Parts;
-use crate::talk::Talk;
 use std::alloc::Global;
 use std::marker::Model;
 use std::ptr::null_mut;
+use talks::Talk;
 
 /// What C keeps of a session: the pointer to it, or none.
 #[repr(C)]

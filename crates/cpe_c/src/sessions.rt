@@ -1,19 +1,18 @@
 // Sessions that C holds. C gives back what these calls left in `kept`, and nothing else.
 ghost use Rattle.std.specs.Prelude.{◌≡◌, ◌<◌, IsSome, None};
-ghost use Rattle.cpe_c.specs.Holding.{Begins, IsKept, Moves};
-ghost use Rattle.cpe_c.specs.Talk.{Repeats, TakesEnd, TakesLine};
-ghost use Rattle.cpe_c.specs.Told.{Tells};
+ghost use Rattle.name_calls.specs.Told.{Tells};
+ghost use Rattle.talks.specs.Holding.{Begins, IsKept, Moves};
+ghost use Rattle.talks.specs.Talk.{Repeats, TakesEnd, TakesLine};
 
-use crate::begin::begin;
 use crate::kept::KeptTalk;
 use crate::parts::boxed;
-use crate::talk::{Talk, end, repeat, say};
-use crate::told::{Answer, Told};
 use cpe_steps::Steps;
+use name_calls::{Answer, Told};
 use std::alloc::Global;
 use std::marker::Brand;
 use std::mem::replace;
 use std::sync::ledger::{Blank, Ledger};
+use talks::{Talk, begin, end, repeat, say};
 
 /// Begins a session of the command that a word names, or two; the second is empty where there is one alone. It answers lines as
 /// a run of this command does. Where it doesn't begin, `kept` stays as it was. It keeps none before, since a session that it kept

@@ -1,0 +1,4 @@
+pub mod Told
+pub mod Forms
+pub mod Pairs
+pub mod Compared

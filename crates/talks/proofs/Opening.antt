@@ -1,0 +1,82 @@
+-- Who speaks before the first line says what a run of the command says.
+use Rattle.std.proofs.Common.{◌≡◌, ℕ, Bool, true, false, List, [], Option, Some, None, refl, sym, ap, ◌∙◌}
+use Rattle.std.specs.Prelude.{if◌then◌else◌, is_some}
+use Rattle.std.proofs.lemmas.Bool.{true≢false}
+use Rattle.cpe_io.specs.Lines.{lines}
+use Rattle.cpe_session.specs.Session.{Session}
+use Rattle.cpe_session.specs.Task.{Says, speech, spoken}
+use Rattle.cpe_session.specs.Pages.{stage_of}
+use Rattle.cpe_session.specs.declared.progress.Progress.{Progress}
+use Rattle.cpe_command.specs.declared.command.Command.{Command}
+use Rattle.cpe_command.specs.declared.command.Command.TheVariants as command
+use Rattle.cpe_command.specs.Command.{with_count}
+use Rattle.cpe_command.specs.Meaning.{meaning_of}
+use Rattle.name_lines.specs.Names.{name_session}
+use Rattle.name_lines.specs.Pairs.{pair_session}
+use Rattle.cpe_command.specs.Records.{record_session}
+use Rattle.cpe_convert.specs.Convert.{convert_session}
+use Rattle.cpe_advise.specs.Records.{advice_session}
+use Rattle.cover_lines.specs.Lines.{cover_session}
+use Rattle.cpe_rows.specs.Rows.{no_rows}
+use Rattle.cpe_ranges.specs.Rows.{no_rows as no_advice}
+use Rattle.talks.specs.declared.speaking.Speaking.{Speaking}
+use Rattle.talks.specs.declared.speaking.Speaking.TheVariants as speaking
+use Rattle.talks.specs.Beginning.{answers_lines, begins}
+use Rattle.talks.specs.Talks.{goes_on, spoken_from}
+
+-- what generates lines answers none
+by_tests : (make drill : Bool) (count : ℕ) → begins (if make then Some (command.Make count) else (if drill then Some (command.Drill count) else None)) ≡ None
+by_tests true drill count = refl
+by_tests false true count = refl
+by_tests false false count = refl
+
+pub counted_begins : (word : List ℕ) (count : Option ℕ) → begins (with_count word count) ≡ None
+counted_begins word None = refl
+counted_begins word (Some count) = by_tests _ _ count
+
+abbrev or_this : Speaking → Option Speaking → Speaking
+or_this other None = other
+or_this other (Some who) = who
+
+module _ (progress : Progress) (number : progress.number ≡ 0) (refused : progress.refused ≡ false) (bytes : List ℕ) where
+  from_start : {State : Type 0} (session : Session State) (first : State) → spoken_from session (stage_of progress first) (lines bytes) ≡ spoken (speech session first) (lines bytes)
+  from_start session first = λ i. spoken_from session (record { number = number i; refused = refused i; state = first }) (lines bytes)
+
+  is_this : (who first : Speaking) → Some who ≡ Some first → goes_on who progress (lines bytes) ≡ goes_on first progress (lines bytes)
+  is_this who first same = ap (λ (o : Option Speaking). goes_on (or_this who o) progress (lines bytes)) same
+
+  pub begins_says : (it : Option Command) (who : Speaking) → Some who ≡ begins it → Says (meaning_of it).task bytes (goes_on who progress (lines bytes))
+  begins_says (Some (command.Name name)) who same = is_this who (speaking.Name name) same ∙ from_start (name_session name) tt
+  begins_says (Some command.Compare) who same = is_this who speaking.Compare same ∙ from_start pair_session tt
+  begins_says (Some (command.Records c)) who same = is_this who (speaking.Records c no_rows) same ∙ from_start (record_session c) no_rows
+  begins_says (Some command.Convert) who same = is_this who speaking.Convert same ∙ from_start convert_session tt
+  begins_says (Some command.Advise) who same = is_this who (speaking.Advise no_advice) same ∙ from_start advice_session no_advice
+  begins_says (Some command.Load) who same = absurd (true≢false (ap is_some same))
+  begins_says (Some command.Cover) who same = is_this who (speaking.Cover []) same ∙ from_start cover_session []
+  begins_says (Some (command.Make count)) who same = absurd (true≢false (ap is_some same))
+  begins_says (Some (command.Drill count)) who same = absurd (true≢false (ap is_some same))
+  begins_says None who same = absurd (true≢false (ap is_some same))
+
+pub begins_lines : (it : Option Command) (who : Speaking) → Some who ≡ begins it → answers_lines (meaning_of it).task ≡ true
+begins_lines (Some (command.Name name)) who same = refl
+begins_lines (Some command.Compare) who same = refl
+begins_lines (Some (command.Records c)) who same = refl
+begins_lines (Some command.Convert) who same = refl
+begins_lines (Some command.Advise) who same = refl
+begins_lines (Some command.Load) who same = absurd (true≢false (ap is_some same))
+begins_lines (Some command.Cover) who same = refl
+begins_lines (Some (command.Make count)) who same = absurd (true≢false (ap is_some same))
+begins_lines (Some (command.Drill count)) who same = absurd (true≢false (ap is_some same))
+begins_lines None who same = absurd (true≢false (ap is_some same))
+
+pub begins_none : (it : Option Command) → None ≡ begins it → answers_lines (meaning_of it).task ≡ false
+begins_none (Some (command.Name name)) same = absurd (true≢false (sym (ap is_some same)))
+begins_none (Some command.Compare) same = absurd (true≢false (sym (ap is_some same)))
+begins_none (Some (command.Records c)) same = absurd (true≢false (sym (ap is_some same)))
+begins_none (Some command.Convert) same = absurd (true≢false (sym (ap is_some same)))
+begins_none (Some command.Advise) same = absurd (true≢false (sym (ap is_some same)))
+begins_none (Some command.Load) same = refl
+begins_none (Some command.Cover) same = absurd (true≢false (sym (ap is_some same)))
+begins_none (Some (command.Make count)) same = refl
+begins_none (Some (command.Drill count)) same = refl
+begins_none None same = refl

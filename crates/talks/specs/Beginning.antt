@@ -1,0 +1,44 @@
+-- How a session begins.
+use Rattle.std.specs.Prelude.{◌≡◌, ℕ, Bool, true, false, List, [], ◌∷◌, Some, None}
+use Rattle.std.specs.declared.option.Option.{Option}
+use Rattle.cpe_io.specs.Lines.{lines}
+use Rattle.cpe_session.specs.Task.{Task, Fixed, Lines, Whole, Says}
+use Rattle.cpe_rows.specs.Rows.{no_rows}
+use Rattle.cpe_ranges.specs.Rows.{no_rows as no_advice}
+use Rattle.cpe_command.specs.declared.command.Command.{Command}
+use Rattle.cpe_command.specs.declared.command.Command.TheVariants as command
+use Rattle.cpe_command.specs.Meaning.{meaning}
+use Rattle.talks.specs.declared.speaking.Speaking.{Speaking}
+use Rattle.talks.specs.declared.speaking.Speaking.TheVariants as speaking
+use Rattle.talks.specs.declared.talk.Talk.{Talk}
+use Rattle.talks.specs.declared.talk.Phase.TheVariants.{Open}
+use Rattle.talks.specs.Talks.{goes_on}
+
+-- the words of a command line: one, or two where there is a second
+abbrev pub words_of : List ℕ → List ℕ → List (List ℕ)
+words_of word [] = word ∷ []
+words_of word (x ∷ xs) = word ∷ (x ∷ xs) ∷ []
+
+-- whether each line is answered by itself
+abbrev pub answers_lines : Task → Bool
+answers_lines (Fixed all) = false
+answers_lines (Lines speech) = true
+answers_lines (Whole says) = false
+
+-- who speaks before the first line, where a command answers lines
+abbrev pub begins : Option Command → Option Speaking
+begins (Some (command.Name name)) = Some (speaking.Name name)
+begins (Some command.Compare) = Some speaking.Compare
+begins (Some (command.Records record_command)) = Some (speaking.Records record_command no_rows)
+begins (Some command.Convert) = Some speaking.Convert
+begins (Some command.Advise) = Some (speaking.Advise no_advice)
+begins (Some command.Load) = None
+begins (Some command.Cover) = Some (speaking.Cover [])
+begins (Some (command.Make count)) = None
+begins (Some (command.Drill count)) = None
+begins None = None
+
+-- it is open, and writes for any lines what a run of these words writes for them
+pub record Opens (words : List (List ℕ)) (talk : Talk) : Type 0 where
+  pub phase : talk.phase ≡ Open
+  pub says : (bytes : List ℕ) → Says (meaning words).task bytes (goes_on talk.speaking talk.progress (lines bytes))

@@ -1,0 +1,27 @@
+-- Lines that were given, each with its answer.
+use Rattle.std.specs.Prelude.{◌≡◌, ℕ, false, List, [], ◌∷◌, ◌++◌}
+use Rattle.std.specs.declared.option.Option.{Option}
+use Rattle.std.specs.List.{flat_map}
+use Rattle.cpe_io.specs.Lines.{has_newline, line_of}
+use Rattle.cpe_session.specs.Task.{Transcript}
+use Rattle.talks.specs.Talks.{behind}
+
+-- none has a newline
+abbrev pub AreLines : List (List ℕ × List ℕ) → Type 0
+AreLines [] = Unit {0}
+AreLines (both ∷ more) = (has_newline both.0 ≡ false) × AreLines more
+
+-- the bytes of a run that reads them: after each a newline
+abbrev pub bytes_of : List (List ℕ × List ℕ) → List ℕ
+bytes_of = flat_map (λ both. both.0 ++ 10 ∷ [])
+
+-- all answers, one after the other
+abbrev pub answers : List (List ℕ × List ℕ) → List ℕ
+answers = flat_map (λ both. both.1)
+
+-- What a session says at first and at last, where these lines were given and so answered: for each there is what it says next, and whatever
+-- follows the line, it said the answer and then that.
+abbrev pub IsAnswered : List (List ℕ × List ℕ) → (List (Option (List ℕ)) → Transcript) → (List (Option (List ℕ)) → Transcript) → Type 0
+IsAnswered [] first last = (more : List (Option (List ℕ))) → first more ≡ last more
+IsAnswered (both ∷ later) first last =
+    (next : List (Option (List ℕ)) → Transcript) × ((more : List (Option (List ℕ))) → first (line_of both.0 ∷ more) ≡ behind both.1 (next more)) × IsAnswered later next last

@@ -1,0 +1,5 @@
+pub mod Talks
+pub mod Talk
+pub mod Beginning
+pub mod Holding
+pub mod Joined

@@ -1,0 +1,18 @@
+//! Sessions that are given their lines one by one.
+//!
+//! A session ([`Talk`]) is begun for the words of a command that answers lines ([`begin`]), and answers each line as a run of this command
+//! does ([`say`]), and what stands at the end ([`end`]). It keeps who speaks ([`Speaking`]) and how far it has come, but no input: whoever
+//! holds it hands in a line, and room for the answer. An answer that has no room is given again ([`repeat`]).
+//!
+//! All answers, one after the other, are what a run writes for the lines ([`law::joined_answers`]). How a session is kept between the calls of C
+//! is said where these are (`cpe_c`).
+#![tactic(auto)]
+
+mod begin;
+pub mod law;
+mod speaking;
+mod talk;
+
+pub use begin::begin;
+pub use speaking::Speaking;
+pub use talk::{Phase, Talk, end, repeat, say};

@@ -1,0 +1,94 @@
+// Who speaks in a session, and what its lines have left.
+ghost use Rattle.std.specs.Prelude.{◌≡◌, ◌∷◌, [], ℕ, List, IfOk, OnOk, Option};
+ghost use Rattle.cpe_io.specs.Lines.{line_of};
+ghost use Rattle.talks.specs.Talks.{behind, goes_on};
+
+use cover_lines::Cover;
+use cpe_advise::Advise;
+use cpe_command::{Compare, NameCommand, RecordCommand};
+use cpe_convert::Convert;
+use cpe_cover::Names;
+use cpe_engine::Engine;
+use cpe_ranges::Advisories;
+use cpe_session::{Each, Progress, Status, answer_given, end_given};
+use cpe_steps::Steps;
+use std::alloc::{AllocError, Global};
+use std::sync::ledger::Ledger;
+
+/// Who answers the lines of a session, and the state that they change.
+#[derive(Drop)]
+pub enum Speaking {
+    /// Each line is one name, which is written in another form.
+    Name(NameCommand),
+    /// Each line is a source and a target.
+    Compare,
+    /// Each line is a record, which edits these rows or asks about them.
+    Records(RecordCommand, Engine),
+    /// Each line is a record, which is written in the second format.
+    Convert,
+    /// Each line is a record, which edits these items and advisories or asks about them.
+    Advise(Advisories),
+    /// Each line is a name, and at the end those are written that no other covers.
+    Cover(Names),
+}
+
+/// Answers a line: the page has what a run would have written for it.
+///
+/// # Errors
+/// That memory ran out. The session can't go on then.
+pub(crate) fn speak<L: Ledger>(
+    alloc: Global,
+    speaking: &mut Speaking,
+    progress: &mut Progress,
+    piece: &[u8],
+    steps: &mut Steps<L>,
+) -> Result<(), AllocError>
+    ensures { OnOk result ((more : List (Option (List ℕ)))
+        → goes_on speaking.old progress.old (line_of piece.now ∷ more) ≡ behind progress.new.page (goes_on speaking.new progress.new more)) }
+{
+    match speaking {
+        Speaking::Name(command) => answer_given(
+            alloc,
+            &Each(*command),
+            &mut (),
+            progress,
+            piece,
+            steps,
+        ),
+        Speaking::Compare => {
+            answer_given(alloc, &Each(Compare), &mut (), progress, piece, steps)
+        }
+        Speaking::Records(command, engine) => {
+            answer_given(alloc, command, engine, progress, piece, steps)
+        }
+        Speaking::Convert => {
+            answer_given(alloc, &Each(Convert), &mut (), progress, piece, steps)
+        }
+        Speaking::Advise(advisories) => {
+            answer_given(alloc, &Advise, advisories, progress, piece, steps)
+        }
+        Speaking::Cover(names) => answer_given(alloc, &Cover, names, progress, piece, steps),
+    }
+}
+
+/// Ends a session: the page has what a run would have written at the end, and the status is that of the run.
+///
+/// # Errors
+/// That memory ran out.
+pub(crate) fn fall_silent<L: Ledger>(
+    alloc: Global,
+    speaking: &Speaking,
+    progress: &mut Progress,
+    steps: &mut Steps<L>,
+) -> Result<Status, AllocError>
+    ensures { IfOk result (λ status. goes_on speaking.now progress.old [] ≡ record { text = progress.new.page; status = status }) }
+{
+    match speaking {
+        Speaking::Name(command) => end_given(alloc, &Each(*command), &(), progress, steps),
+        Speaking::Compare => end_given(alloc, &Each(Compare), &(), progress, steps),
+        Speaking::Records(command, engine) => end_given(alloc, command, engine, progress, steps),
+        Speaking::Convert => end_given(alloc, &Each(Convert), &(), progress, steps),
+        Speaking::Advise(advisories) => end_given(alloc, &Advise, advisories, progress, steps),
+        Speaking::Cover(names) => end_given(alloc, &Cover, names, progress, steps),
+    }
+}
