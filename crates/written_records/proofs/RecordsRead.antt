@@ -13,7 +13,6 @@ use Rattle.cpe_rows.specs.Date.{is_date}
 use Rattle.cpe_rows.specs.Valid.{is_id, is_statement_test, is_valid_edit, is_valid_query}
 use Rattle.cpe_rows.specs.Formed.{IsDated, IsFormed, IsFormedEntry, IsFormedStatement}
 use Rattle.cpe_rows.specs.declared.entry.Entry.{Entry}
-use Rattle.cpe_rows.specs.declared.entry.Provenance.{Provenance}
 use Rattle.cpe_rows.specs.declared.statement.Statement.{Statement}
 use Rattle.cpe_rows.specs.declared.test.CheckKey.{CheckKey}
 use Rattle.cpe_rows.specs.declared.truth.Truth.{Truth}
@@ -35,8 +34,6 @@ use Rattle.written_records.specs.NameObject.{name_object}
 use Rattle.cpe_records.specs.Reading.{record_by, record_of}
 use Rattle.cpe_records.specs.Taken.{is_valid_record, IsFormedQuery, IsFormedRecord}
 use Rattle.cpe_records.specs.RecordKinds.{record_kind_of}
-use Rattle.cpe_records.specs.declared.kinds.Description.{Description}
-use Rattle.cpe_records.specs.declared.kinds.Remark.{Remark}
 use Rattle.written_records.specs.WrittenRecord.{change_json, edit_json, query_json, record_json, record_text}
 use Rattle.cpe_records.specs.declared.read.Record.{Record}
 use Rattle.cpe_records.specs.declared.read.Record.TheVariants as of_kind
@@ -56,21 +53,15 @@ no_deprecation : (o : Option Deprecation) → is_none o ≡ true → None ≡ o
 no_deprecation None h = refl
 no_deprecation (Some d) h = let wrong : ⊥ = cc in absurd wrong
 
-abbrev described : List ℕ → Provenance → Description
-described title provenance = record { title = title; provenance = provenance }
-
-abbrev remarked : List ℕ → List ℕ → Remark
-remarked date comment = record { date = date; comment = comment }
-
-remark_read : (date comment : List ℕ) → IsTrue (is_date date) → (d : Data) → get (codes "date") d ≡ Some (string date) → get (codes "comment") d ≡ Some (string comment) → remark_in d ≡ Ok (remarked date comment)
+remark_read : (date comment : List ℕ) → IsTrue (is_date date) → (d : Data) → get (codes "date") d ≡ Some (string date) → get (codes "comment") d ≡ Some (string comment) → remark_in d ≡ Ok (record { date = date; comment = comment })
 unfolding remark_in
 remark_read date comment h d there said =
-    (λ i. required member.Date (option_and_then (tested is_date) (option_and_then as_str (there i))) >>= λ at. required member.Comment (or_default [] as_str (said i)) >>= λ text. Ok (remarked at text))
-    ∙ ap (λ o. required member.Date o >>= λ at. Ok (remarked at comment)) (dated date h)
+    let is_dated = ap (λ o. option_and_then (tested is_date) (option_and_then as_str o)) there ∙ dated date h in
+    λ i. required member.Date (is_dated i) >>= λ at. required member.Comment (or_default [] as_str (said i)) >>= λ text. Ok (record { date = at; comment = text })
 
-description_read : (e : Entry) → All IsDated e.provenance.notes → description_in (data_of (edit_json (edit.Entry e))) ≡ Ok (described e.title e.provenance)
+description_read : (e : Entry) → All IsDated e.provenance.notes → description_in (data_of (edit_json (edit.Entry e))) ≡ Ok (record { title = e.title; provenance = e.provenance })
 unfolding description_in
-description_read e h = ap (λ r. r >>= λ provenance. Ok (described e.title provenance)) (provenance_read e.provenance h)
+description_read e h = λ i. provenance_read e.provenance h i >>= λ provenance. Ok (record { title = e.title; provenance = provenance })
 
 module _ (reads : ReadsComponents) where
   name_there : (w : Values) → IsName w → is_lower w ≡ true → (d : Data) → member_at member.Name d ≡ Some (data_of (name_object w)) → name_at Two d ≡ Ok w
@@ -91,7 +82,7 @@ module _ (reads : ReadsComponents) where
       Ok (record { name = name; title = rest.title; provenance = rest.provenance; deprecation = no_deprecation e.deprecation none i })
 
   change_read : (v : RecordKind) (n : Values) (d : Deprecation) (date comment : List ℕ) → All IsName d.successors → list_all is_lower d.successors ≡ true → IsTrue (is_date date)
-      → change_in Two (data_of (change_json v n d date comment)) ≡ Ok (record { deprecation = d; remark = remarked date comment })
+      → change_in Two (data_of (change_json v n d date comment)) ≡ Ok (record { deprecation = d; remark = record { date = date; comment = comment } })
   unfolding change_in successors_at
   change_read v n d date comment names lower h = λ i.
       required member.Kind (kind_read d.kind i) >>= λ kind. names_read reads spot.Successor member.Successors d.successors names lower i >>= λ successors.
