@@ -1,5 +1,5 @@
 -- What an edit that was applied says, and one that was refused.
-use Rattle.std.proofs.Common.{◌≡◌, List, ◌∷◌, Option, Some, None, refl, sym, ap, subst, ◌∙◌}
+use Rattle.std.proofs.Common.{◌≡◌, true, List, ◌∷◌, Option, Some, None, refl, sym, ap, subst, ◌∙◌}
 use Rattle.std.specs.Prelude.{IfErr, IsErrAnd, Result, Ok, Err}
 use Rattle.std.proofs.lemmas.Result.{err_from_is_err_and}
 use Rattle.cpe_rows.specs.After.{after}
@@ -7,6 +7,7 @@ use Rattle.cpe_rows.specs.Applied.{Refuses}
 use Rattle.cpe_rows.specs.Faults.{faults}
 use Rattle.cpe_rows.specs.Rows.{Rows}
 use Rattle.cpe_rows.specs.Step.{first_some, step, unless}
+use Rattle.cpe_rows.specs.Valid.{is_valid_edit}
 use Rattle.cpe_rows.specs.declared.edit.Edit.{Edit}
 use Rattle.cpe_rows.specs.declared.fault.EditFault.{EditFault}
 use Rattle.cpe_rows.specs.declared.fault.EditFault.TheVariants as fault
@@ -19,6 +20,10 @@ unrefused None left next e = cc
 
 pub applied_is : (rows next : Rows) (e : Edit) → step rows e ≡ Ok next → next ≡ after rows e
 applied_is rows next e stepped = unrefused (first_some (faults rows e)) (after rows e) next stepped
+
+-- one that was made is in order and has no fault
+pub applied_taken : (rows next : Rows) (e : Edit) → is_valid_edit e ≡ true → step rows e ≡ Ok next → IsTaken rows e
+applied_taken rows next e valid stepped = record { valid = valid; taken = stepped ∙ ap Ok (applied_is rows next e stepped) }
 
 both_ways : (f : EditFault) (rows next : Rows) → ◌≡◌ {A = Result Rows EditFault} (Err f) (Ok next) → ⊥
 both_ways f rows next e = cc

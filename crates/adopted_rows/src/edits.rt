@@ -45,6 +45,7 @@ pub fn make_valid<L: Ledger>(
     steps: &mut Steps<L>,
 ) -> Result<(), AdoptFault>
     requires { is_valid_edit edit ≡ true }
+    ensures taken { OnOk result (IsTaken engine.old edit) }
     ensures ok { OnOk result (engine.new ≡ after engine.old edit) }
     ensures err { OnErr result (engine.new ≡ engine.old) }
     ensures unlawful { IfErr result (λ f. f ≡ AdoptFault.Unlawful → IsTaken engine.old edit → ⊥) }
@@ -67,6 +68,7 @@ pub fn make<L: Ledger>(
     edit: Edit,
     steps: &mut Steps<L>,
 ) -> Result<(), AdoptFault>
+    ensures taken { OnOk result (IsTaken engine.old edit) }
     ensures ok { OnOk result (engine.new ≡ after engine.old edit) }
     ensures err { OnErr result (engine.new ≡ engine.old) }
     ensures unlawful { IfErr result (λ f. f ≡ AdoptFault.Unlawful → IsTaken engine.old edit → ⊥) }
