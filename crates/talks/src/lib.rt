@@ -8,11 +8,11 @@
 //! is said where these are (`cpe_c`).
 #![tactic(auto)]
 
-mod begin;
+mod beginning;
 pub mod law;
 mod speaking;
 mod talk;
 
-pub use begin::begin;
+pub use beginning::begin;
 pub use speaking::Speaking;
 pub use talk::{Phase, Talk, end, repeat, say};

@@ -2,7 +2,7 @@ use Rattle.std.proofs.Common.{refl, sym, ◌∙◌}
 use Rattle.cpe_command.specs.Command.{command_of}
 use Rattle.talks.specs.Beginning.{words_of}
 use Rattle.talks.proofs.Opening.{begins_lines, begins_says}
-use Rattle.talks.proofs.begin.begin.Goals as goal
+use Rattle.talks.proofs.beginning.begin.Goals as goal
 
 pub returns-in-Some : goal.returns-in-Some
 returns-in-Some c =
