@@ -12,7 +12,6 @@ use std::marker::Brand;
 use std::sync::ledger::{Blank, Ledger};
 
 // A record, and the verdicts of all statements after it, in their order.
-#[derive(Clone, Copy)]
 struct Said(&'static [u8], &'static [u8]);
 
 // Three statements, two of them in mode follow, and a name that is deprecated, amended and restored.
