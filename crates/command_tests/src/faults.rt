@@ -20,7 +20,6 @@ use std::sync::ledger::{Blank, Ledger};
 const ALL: usize = 65_536;
 
 // How a run ends in which nothing fails, and what it writes.
-#[derive(Clone, Copy)]
 struct Told<'t> {
     words: &'t [&'t str],
     // The words under which lines are answered as they are before a read that fails, with no table after them; none where the run
@@ -32,7 +31,7 @@ struct Told<'t> {
 }
 
 // The same with its words as a run has them.
-#[derive(Clone, Copy)]
+#[derive(Drop)]
 struct Session<'s> {
     words: &'s [String],
     before: &'s [String],
@@ -40,7 +39,7 @@ struct Session<'s> {
 }
 
 // How bytes come and go, and the numbers of the calls that fail.
-#[derive(Clone, Copy)]
+#[derive(Drop)]
 struct Ends<'e> {
     pieces: &'e [usize],
     reads: &'e [u64],
