@@ -1,18 +1,16 @@
 // Sessions that C holds. C gives back what these calls left in `kept`, and nothing else.
 ghost use Rattle.std.specs.Prelude.{◌≡◌, ◌<◌, IsSome, None};
 ghost use Rattle.name_calls.specs.Told.{Tells};
-ghost use Rattle.talks.specs.Holding.{Begins, IsKept, Moves};
+ghost use Rattle.talks.specs.Holding.{Begins, Moves};
 ghost use Rattle.talks.specs.Talk.{Repeats, TakesEnd, TakesLine};
 
-use crate::kept::KeptTalk;
-use crate::parts::boxed;
 use cpe_steps::Steps;
 use name_calls::{Answer, Told};
 use std::alloc::Global;
 use std::marker::Brand;
 use std::mem::replace;
 use std::sync::ledger::{Blank, Ledger};
-use talks::{Talk, begin, end, repeat, say};
+use talks::{KeptTalk, Talk, end, keep_begun, let_go, repeat, say};
 
 /// Begins a session of the command that a word names, or two; the second is empty where there is one alone. It answers lines as
 /// a run of this command does. Where it doesn't begin, `kept` stays as it was. It keeps none before, since a session that it kept
@@ -28,27 +26,6 @@ pub extern "C" fn cpe_c_begin(
     ensures { Tells (Begins word.now second.now kept.old.value kept.new.value) result }
 {
     keep_begun(alloc, word, second, kept).in_c()
-}
-
-fn keep_begun(alloc: Global, word: &[u8], second: &[u8], kept: &mut KeptTalk) -> Told
-    ensures { Begins word.now second.now kept.old.value kept.new.value result }
-{
-    match begin(alloc, word, second) {
-        Some(talk) => keep(alloc, talk, kept),
-        None => Told::NoCommand,
-    }
-}
-
-fn keep(alloc: Global, talk: Talk, kept: &mut KeptTalk) -> Told
-    ensures { IsKept talk kept.old.value kept.new.value result }
-{
-    match boxed(alloc, talk) {
-        Some(parts) => {
-            *kept = KeptTalk::of_parts(parts);
-            Told::Done(0)
-        }
-        None => Told::Memory,
-    }
 }
 
 /// Answers a line: `out` has the bytes that a run would have written for it. Where they are more than `out` has room for, none
@@ -140,9 +117,4 @@ pub extern "C" fn cpe_c_close(alloc: Global, kept: &mut KeptTalk)
     ensures { kept.new.value ≡ None }
 {
     let_go(replace(kept, KeptTalk::none(alloc)).into_box());
-}
-
-// By one call: in place each field would split the proof.
-fn let_go(whole: Box<Talk>) {
-    drop(whole);
 }

@@ -1,3 +1,4 @@
+mod AsBox
 mod Joining
 mod Opening
 mod Saying

@@ -1,13 +1,16 @@
 // What C keeps of a session.
 ghost use Rattle.std.specs.Prelude.{◌≡◌, Some, None, IsSome, Option};
+ghost use Rattle.talks.specs.Holding.{Begins, IsKept};
+ghost use Rattle.talks.specs.Keeping.{kept_coded};
 ghost use Rattle.talks.specs.declared.talk.Talk.{Talk};
-ghost use Rattle.cpe_c.specs.Keeping.{kept_coded};
 
-use crate::parts::Parts;
+use crate::beginning::begin;
+use crate::parts::{Parts, boxed};
+use crate::talk::Talk;
+use name_calls::Told;
 use std::alloc::Global;
 use std::marker::Model;
 use std::ptr::null_mut;
-use talks::Talk;
 
 /// What C keeps of a session: the pointer to it, or none.
 #[repr(C)]
@@ -15,25 +18,25 @@ use talks::Talk;
 pub struct KeptTalk {
     at: *mut u8,
     alloc: Global,
-    pub(crate) ghost value: { Option Talk } by { kept_coded },
+    pub ghost value: { Option Talk } by { kept_coded },
 }
 
 impl Model for KeptTalk {
-    ghost use Rattle.cpe_c.specs.Keeping.{kept_owns};
+    ghost use Rattle.talks.specs.Keeping.{kept_owns};
 
     ghost also_owns = { λ k. kept_owns k.alloc k.at k.value };
 }
 
 impl KeptTalk {
     /// Keeps what the box has.
-    pub(crate) fn of(whole: Box<Talk>) -> KeptTalk
+    pub fn of(whole: Box<Talk>) -> KeptTalk
         ensures { result.value ≡ Some whole.value }
     {
         KeptTalk::of_parts(Parts::of(whole))
     }
 
     /// The box again.
-    pub(crate) fn into_box(self) -> Box<Talk>
+    pub fn into_box(self) -> Box<Talk>
         requires { IsSome self.value }
         ensures { Some result.value ≡ self.value }
     {
@@ -41,7 +44,7 @@ impl KeptTalk {
     }
 
     /// Keeps nothing.
-    pub(crate) fn none(alloc: Global) -> KeptTalk
+    pub fn none(alloc: Global) -> KeptTalk
         ensures { result.value ≡ None }
     {
         KeptTalk {
@@ -71,4 +74,32 @@ impl KeptTalk {
             alloc,
         }
     }
+}
+
+/// Begins a session of the command that a word names, or two, and keeps it; the second is empty where there is one alone. Where it doesn't begin,
+/// `kept` stays as it was. A session that it kept before would not be let go.
+pub fn keep_begun(alloc: Global, word: &[u8], second: &[u8], kept: &mut KeptTalk) -> Told
+    ensures { Begins word.now second.now kept.old.value kept.new.value result }
+{
+    match begin(alloc, word, second) {
+        Some(talk) => keep(alloc, talk, kept),
+        None => Told::NoCommand,
+    }
+}
+
+fn keep(alloc: Global, talk: Talk, kept: &mut KeptTalk) -> Told
+    ensures { IsKept talk kept.old.value kept.new.value result }
+{
+    match boxed(alloc, talk) {
+        Some(parts) => {
+            *kept = KeptTalk::of_parts(parts);
+            Told::Done(0)
+        }
+        None => Told::Memory,
+    }
+}
+
+/// Lets a session go, by one call: in place each field would split the proof.
+pub fn let_go(whole: Box<Talk>) {
+    drop(whole);
 }

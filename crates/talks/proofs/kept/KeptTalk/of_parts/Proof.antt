@@ -25,11 +25,11 @@ use denote.Triple.Table.{entered}
 use denote.Triple.Walked.{says, Stays, stay_dropped, walk_of, ends_at, Goes-dropped, walk_Meets}
 use Rattle.std.proofs.BoxSteps.Form.{D, B, word, box_typed}
 use Rattle.std.proofs.BoxSteps.Steps.{box_out, box_in}
-use Rattle.cpe_c.proofs.AsBox.{E, FromParts as From}
-use Rattle.cpe_c.specs.contracts.kept.KeptTalk.of_parts as F
-use Rattle.cpe_c.specs.contracts.kept.KeptTalk.of_parts.Key.{name as #self}
-use Rattle.cpe_c.proofs.kept.KeptTalk.of_parts.Statement as stated
-use Rattle.cpe_c.proofs.kept.KeptTalk.of_parts.Code as code
+use Rattle.talks.proofs.AsBox.{E, FromParts as From}
+use Rattle.talks.specs.contracts.kept.KeptTalk.of_parts as F
+use Rattle.talks.specs.contracts.kept.KeptTalk.of_parts.Key.{name as #self}
+use Rattle.talks.proofs.kept.KeptTalk.of_parts.Statement as stated
+use Rattle.talks.proofs.kept.KeptTalk.of_parts.Code as code
 
 abbrev stayed : Stays (F.ended).signature.params (F.ended).kept
 stayed = (stay_dropped From yes, tt)

@@ -32,11 +32,11 @@ use denote.Triple.Spec.{triple_of}
 use denote.Triple.Table.{entered}
 use denote.Triple.Walked.{says, Stays, stay_dropped, walk_of, ends_at, Goes-dropped, walk_Meets}
 use Rattle.std.proofs.BoxSteps.Form.{P, box_ty, owning}
-use Rattle.cpe_c.proofs.AsBox.{E, FromGlobal as From}
-use Rattle.cpe_c.specs.contracts.kept.KeptTalk.none as F
-use Rattle.cpe_c.specs.contracts.kept.KeptTalk.none.Key.{name as #self}
-use Rattle.cpe_c.proofs.kept.KeptTalk.none.Statement as stated
-use Rattle.cpe_c.proofs.kept.KeptTalk.none.Code as code
+use Rattle.talks.proofs.AsBox.{E, FromGlobal as From}
+use Rattle.talks.specs.contracts.kept.KeptTalk.none as F
+use Rattle.talks.specs.contracts.kept.KeptTalk.none.Key.{name as #self}
+use Rattle.talks.proofs.kept.KeptTalk.none.Statement as stated
+use Rattle.talks.proofs.kept.KeptTalk.none.Code as code
 
 abbrev stayed : Stays (F.ended).signature.params (F.ended).kept
 stayed = (stay_dropped From yes, tt)

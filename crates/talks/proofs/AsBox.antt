@@ -8,8 +8,8 @@ use Rattle.std.specs.contracts.impls.GlobalAllocator.TheImpl.{ghosts, dict}
 use Rattle.std.proofs.alloc.Global.TheLaws as heap
 use Rattle.talks.specs.contracts.talk.Talk as talk
 use Rattle.talks.proofs.talk.Talk.TheLaws as talk_laws
-use Rattle.cpe_c.specs.contracts.parts.Parts as parts
-use Rattle.cpe_c.specs.contracts.kept.KeptTalk as kept
+use Rattle.talks.specs.contracts.parts.Parts as parts
+use Rattle.talks.specs.contracts.kept.KeptTalk as kept
 
 abbrev pub E : Bx
 E = record { row = talk.the_row; laws = talk_laws.the_row_laws; al = record { row = Heap.the_row; laws = heap.the_row_laws; g = ghosts; d = dict; drops = impl [] tnil dnil } }

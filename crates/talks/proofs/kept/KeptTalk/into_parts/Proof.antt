@@ -27,12 +27,12 @@ use denote.Triple.Table.{entered}
 use denote.Triple.Walked.{says, Stays, stay_dropped, walk_of, ends_at, Goes-dropped, walk_Meets}
 use Rattle.std.proofs.BoxSteps.Form.{X, D, B, word, box_typed}
 use Rattle.std.proofs.BoxSteps.Steps.{box_out, box_in}
-use Rattle.cpe_c.proofs.AsBox.{E, FromKept as From}
-use Rattle.cpe_c.specs.contracts.kept.KeptTalk as kept
-use Rattle.cpe_c.specs.contracts.kept.KeptTalk.into_parts as F
-use Rattle.cpe_c.specs.contracts.kept.KeptTalk.into_parts.Key.{name as #self}
-use Rattle.cpe_c.proofs.kept.KeptTalk.into_parts.Statement as stated
-use Rattle.cpe_c.proofs.kept.KeptTalk.into_parts.Code as code
+use Rattle.talks.proofs.AsBox.{E, FromKept as From}
+use Rattle.talks.specs.contracts.kept.KeptTalk as kept
+use Rattle.talks.specs.contracts.kept.KeptTalk.into_parts as F
+use Rattle.talks.specs.contracts.kept.KeptTalk.into_parts.Key.{name as #self}
+use Rattle.talks.proofs.kept.KeptTalk.into_parts.Statement as stated
+use Rattle.talks.proofs.kept.KeptTalk.into_parts.Code as code
 
 abbrev stayed : Stays (F.ended).signature.params (F.ended).kept
 stayed = (stay_dropped From yes, tt)
