@@ -44,9 +44,9 @@ pub(crate) fn is_match(pattern: &TextRef, text: &[u8]) -> bool
     stands_within(text, body, low, high)
 }
 
-// Whether two texts are the same in lower case.
+// Whether two texts are the same in lower case. Most that are, are so byte for byte, which is told by words of bytes.
 pub(crate) fn is_same(text: &[u8], other: &[u8]) -> bool
     ensures { result ≡ same_lower text.now other.now }
 {
-    text.eq_ignore_ascii_case(other)
+    text == other || text.eq_ignore_ascii_case(other)
 }
