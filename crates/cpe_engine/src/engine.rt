@@ -9,7 +9,6 @@ ghost use Rattle.cpe_rows.specs.Lent.{entry_lent};
 ghost use Rattle.cpe_steps.specs.Within.{StepsWithin};
 ghost use Rattle.cpe_engine.specs.Looks.{edit_looks, looks};
 
-use crate::made::{commit, foresee};
 use cpe_inventory::ItemSlots;
 use cpe_name::Wfn;
 use cpe_rows::{
@@ -19,6 +18,7 @@ use cpe_rows::{
 use cpe_steps::Steps;
 use cpe_values::Memory;
 use engine_parts::Parts;
+use made_edits::{commit, foresee};
 use std::alloc::Global;
 use std::marker::Model;
 use std::sync::ledger::Ledger;

@@ -9,7 +9,6 @@
 mod adopting;
 mod engine;
 mod explained;
-mod made;
 
 pub use adopting::AdoptFault;
 pub use engine::Engine;

@@ -18,11 +18,11 @@ use engine_parts::{Numbered, Parts};
 use std::alloc::Global;
 use std::sync::ledger::Ledger;
 
-/// Makes an edit that has no fault, and answers which verdicts it changes. It leaves the weight.
-///
-/// # Errors
-/// Only that memory ran out; the rows are then as they were.
-pub fn make<L: Ledger>(
+// Makes an edit that has no fault, and answers which verdicts it changes. It leaves the weight.
+//
+// # Errors
+// Only that memory ran out; the rows are then as they were.
+pub(crate) fn make<L: Ledger>(
     parts: &mut Parts,
     alloc: Global,
     numbered: Numbered,

@@ -8,11 +8,11 @@ ghost use Rattle.engine_parts.specs.Parts.{AreBeside, AreKept, edit_in, rows_in}
 ghost use Rattle.made_edits.specs.Looks.{edit_looks};
 ghost use Rattle.made_edits.specs.Ready.{places};
 
+use crate::made::make;
 use cpe_rows::{Changed, EditFault, List, Room};
 use cpe_steps::Steps;
 use cpe_values::Memory;
 use engine_parts::{Checked, Numbered, Parts};
-use made_edits::make;
 use std::alloc::Global;
 use std::sync::ledger::Ledger;
 
@@ -20,7 +20,7 @@ use std::sync::ledger::Ledger;
 ///
 /// # Errors
 /// The first fault of the edit, or that memory ran out.
-pub(crate) fn foresee(
+pub fn foresee(
     parts: &Parts,
     alloc: Global,
     numbered: &Numbered,
@@ -63,7 +63,7 @@ fn places(parts: &Parts, numbered: &Numbered) -> usize
 ///
 /// # Errors
 /// Only that memory ran out; the rows are then as they were.
-pub(crate) fn commit<L: Ledger>(
+pub fn commit<L: Ledger>(
     parts: &mut Parts,
     alloc: Global,
     numbered: Numbered,
