@@ -383,6 +383,13 @@ def loaded(program, parts):
         return [session.accepts(it) for it in parts] + [session.refuses(it, b"exists") for it in parts]
 
 
+def loaded_alone(program, parts):
+    """The seconds of each part in a session of its own, in which no item meets a statement."""
+    for it in parts:
+        with Session(program, "evaluate") as session:
+            yield session.accepts(it)
+
+
 def load_parts():
     """Items and statements: of products that have many, and of a product each."""
     lines = list(make_lines.evaluated_lines(LOADED))
@@ -396,7 +403,10 @@ def measure_load(program, rounds):
     for what, parts in load_parts():
         found = best(rounds, lambda parts=parts: loaded(program, parts))
         load, again = sum(found[: len(parts)]), sum(found[len(parts) :])
+        alone = sum(best(rounds, lambda parts=parts: list(loaded_alone(program, parts))))
         yield f"load of evaluate: {what}", "s", load, None
+        yield "the items and the statements each in a session of their own", "s", alone, None
+        yield "the load by that", "", load / alone, None
         yield "the same lines again, each refused since it is there", "s", again, None
         yield "the load by that", "", load / again, 1.3
 
