@@ -1,5 +1,5 @@
 -- Rows that are written one after the other, by their places.
-use Rattle.std.proofs.Common.{◌≡◌, refl, sym, ap, subst, ◌∙◌, ℕ, zero, suc, ◌+◌, ◌<◌, ◌||◌, Bool, true, false, cond, List, [], ◌∷◌, ◌++◌, length, take, get_or, Option, Some, None, slice_get, arith, append_assoc, add-one, position}
+use Rattle.std.proofs.Common.{◌≡◌, refl, sym, ap, subst, ◌∙◌, ℕ, zero, suc, ◌+◌, ◌<◌, ◌||◌, Bool, true, false, cond, List, [], ◌∷◌, ◌++◌, length, take, get_or, Option, Some, None, slice_get, append_assoc, add-one, position}
 use Rattle.std.specs.Prelude.{IfOk, IfSome, Result, Ok, Err, filter_map}
 use Rattle.std.specs.List.{AllByRecursion, flat_map, list_any, list_all, position_from}
 use Rattle.std.specs.Option.{option_map_or}
