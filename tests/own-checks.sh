@@ -3,8 +3,6 @@
 # The status is 0 where no check failed.
 . "$(dirname "$0")/checks.sh"
 
-usage='usage: cpe bind fs|bind uri|unbind|compare|resolve|evaluate|watch|make N|drill N|convert|explain|check|advise|save|load|cover'
-
 # bounds WHAT: whether the address space can be bounded here, as the check of this name needs.
 bounds() {
     (ulimit -v 65536) 2> /dev/null || { skip "$1" 'the address space can not be bounded'; return 1; }
@@ -214,7 +212,7 @@ watches_vectors() {
 
 # Words that are no command leave the input unread.
 answers_usage() {
-    echo "$usage" > "$room/usage.out"
+    cat tests/vectors/usage/wrong-words.out > "$room/usage.out"
     answers 'no words' examples/names.txt "$room/usage.out" 2
     answers 'a wrong word' examples/names.txt "$room/usage.out" 2 unbound
     answers 'a word in capitals' examples/names.txt "$room/usage.out" 2 Compare
@@ -408,6 +406,25 @@ fails_where_the_reader_goes() {
     } | head -n 1 > "$room/out"
     head -n 1 "$output" > "$room/wanted"
     judge "$what" "$(cat "$room/status")" 4 "$room/wanted"
+}
+
+# fails_at_each_call: short sessions of each command in which each read fails in turn, and each write, a check each.
+fails_at_each_call() {
+    what='each read and each write that fails'
+    needs "$what" python3 cc || return
+    limited python3 tests/failing_calls.py "$program" > "$room/told" 2> "$room/error"
+    status=$?
+    failed_before=$failed
+    while IFS= read -r line; do
+        said=${line#*: }
+        case $line in
+            'ok: '*) pass "$what: $said" ;;
+            'FAILED: '*) fail "$what: ${said%%: *}" "${said#*: }" ;;
+            'SKIPPED: '*) skip "${said%%: *}" "${said#*: }" ;;
+        esac
+    done < "$room/told"
+    # (a program that breaks off has told nothing of the sessions that are left)
+    if [ "$status" != 0 ] && [ "$failed" = "$failed_before" ]; then fail "$what" "status $status: $(tail -n 1 "$room/error")"; fi
 }
 
 fails_on_words_that_are_no_text() {
@@ -1331,6 +1348,10 @@ checks_of_snapshots() {
     printf 'refused snapshot\n' > "$room/no_snapshot"
     answers 'the snapshot of no rows' /dev/null "$room/empty.snapshot" 0 save
     answers 'no rows, from their snapshot' "$room/empty.snapshot" "$room/empty.told" 0 load
+    for word in save load; do
+        answers_vectors "$word" "$word"
+        answers_vectors_in_pieces "$word" "$word"
+    done
     answers 'the snapshot of an item; a question and a refused line write nothing' "$room/item.jsonl" "$room/item.snapshot" 1 save
     loads 'an item, from its snapshot' "$room/item.jsonl" "$room/item.told" 1
     refuses_cut_snapshots
@@ -1573,6 +1594,7 @@ fails_on_a_full_device examples/pairs.txt compare
 fails_on_a_full_device /dev/null unbound
 each fails_in_mid_write
 each fails_in_mid_read
+fails_at_each_call
 answers 'a read that fails ends with status 3: unbind' . /dev/null 3 unbind
 answers 'a read that fails ends with status 3: bind fs' . /dev/null 3 bind fs
 answers 'a read that fails ends with status 3: bind uri' . /dev/null 3 bind uri

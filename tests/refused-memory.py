@@ -15,12 +15,14 @@ import concurrent.futures
 import itertools
 import os
 import pathlib
-import shutil
 import subprocess
 import sys
 import tempfile
 
-TOP = pathlib.Path(__file__).resolve().parent.parent
+sys.dont_write_bytecode = True
+
+from preloaded import TOP, compiled, run  # noqa: E402
+
 # The program and the tests where none are named.
 FOUND = (TOP / "build" / "cpe", TOP / "crates" / "engine_tests" / "out" / "engine_tests_tests")
 # Between them they have each kind of edit and question, the table of verdicts, and edits that are refused.
@@ -37,25 +39,8 @@ SESSIONS = (
 # The test of an engine that gets each record once more for which it found no memory.
 GOES_ON = "again::an_engine_goes_on_after_memory_ran_out"
 SOME_REFUSED, MEMORY, NO_WORDS = 1, 5, 7
-LONGEST = 60
 READS = {"as they come": {}, "in single bytes": {"READ_MOST": "1"}}
 MODES = {"alone": {}, "and all behind it": {"REFUSE_ON": "1"}}
-
-Ended = collections.namedtuple("Ended", "status output error seen refused")
-
-
-def run(words, shim, lines, told):
-    """How a run over these lines ends, of which the shim is told this."""
-    source, end = os.pipe()
-    with open(source, "rb") as counts:
-        environment = {"LD_PRELOAD": shim, "REFUSE_TELL": str(end), **told}
-        try:
-            child = subprocess.Popen(words, stdin=lines, stdout=subprocess.PIPE, stderr=subprocess.PIPE, pass_fds=[end], env=environment)
-        finally:
-            os.close(end)
-        output, error = child.communicate(timeout=LONGEST)
-        seen, refused = (counts.read().split() + [b"0", b"0"])[:2]
-    return Ended(child.returncode, output, error, int(seen), int(refused))
 
 
 class Session:
@@ -72,7 +57,7 @@ class Session:
 
     def kind(self, ended, whole):
         """How a run ended of which something was refused; none of the ways in which it may is None."""
-        if ended.error or not ended.refused:
+        if not ended.refused:
             return None
         if ended.status == MEMORY and self.wanted.startswith(ended.output) and (not ended.output or ended.output.endswith(b"\n")):
             return "out of memory"
@@ -86,7 +71,7 @@ class Session:
 def judge_whole(session, whole):
     """What is wrong with a run of which nothing is refused, or None."""
     wanted = SOME_REFUSED if any(line.startswith(b"refused ") for line in session.wanted.splitlines()) else 0
-    if (whole.status, whole.output, whole.error) != (wanted, session.wanted, b""):
+    if (whole.status, whole.output) != (wanted, session.wanted):
         return f"with all memory it ends with status {whole.status} and other output"
     return None
 
@@ -98,9 +83,9 @@ def tried(session, pool):
         whole = session.run(**most)
         found = judge_whole(session, whole)
         if found:
-            return kinds, fronts, [found], whole.seen
-        count = max(count, whole.seen)
-        runs = pool.map(lambda number, most=most, stays=stays: session.run(REFUSE_AT=str(number), **most, **stays), range(1, whole.seen + 1))
+            return kinds, fronts, [found], whole.allocations
+        count = max(count, whole.allocations)
+        runs = pool.map(lambda number, most=most, stays=stays: session.run(REFUSE_AT=str(number), **most, **stays), range(1, whole.allocations + 1))
         for number, ended in enumerate(runs, 1):
             kind = session.kind(ended, whole)
             kinds[kind] += 1
@@ -125,28 +110,18 @@ def goes_on(tests, shim, pool):
         return True
     words = [tests, GOES_ON]
     whole = run(words, shim, subprocess.DEVNULL, {})
-    runs = pool.map(lambda number: run(words, shim, subprocess.DEVNULL, {"REFUSE_AT": str(number)}), range(1, whole.seen + 1))
+    runs = pool.map(lambda number: run(words, shim, subprocess.DEVNULL, {"REFUSE_AT": str(number)}), range(1, whole.allocations + 1))
     failed = [number for number, ended in enumerate(runs, 1) if ended.status or ended.refused != 1]
-    if whole.status or not whole.seen or failed:
+    if whole.status or not whole.allocations or failed:
         print(f"FAILED: {GOES_ON}: status {whole.status} with all memory; allocations whose refusal it doesn't pass: {failed[:10]}")
         return False
-    print(f"ok: {GOES_ON}: {whole.seen} allocations, each refused alone", flush=True)
+    print(f"ok: {GOES_ON}: {whole.allocations} allocations, each refused alone", flush=True)
     return True
 
 
 def skip(why):
     print(f"REFUSED MEMORY SKIPPED, all of it: {why}")
     sys.exit(0)
-
-
-def compiled(room):
-    """The shim that refuses allocations."""
-    compiler = shutil.which(os.environ.get("CC", "cc"))
-    if not compiler:
-        skip("there is no C compiler")
-    shim = os.path.join(room, "refuse_allocation.so")
-    subprocess.run([compiler, "-O2", "-shared", "-fPIC", "-o", shim, TOP / "tests" / "refuse_allocation.c"], check=True)
-    return shim
 
 
 def main(words):
@@ -159,9 +134,11 @@ def main(words):
     is_wrong = False
     with tempfile.TemporaryDirectory(dir=TOP / "build") as room, concurrent.futures.ThreadPoolExecutor(os.cpu_count()) as pool:
         shim = compiled(room)
+        if not shim:
+            skip("there is no C compiler")
         for vector in SESSIONS:
             session = Session(program, shim, vector)
-            if not session.run().seen:
+            if not session.run().allocations:
                 skip("the program's allocations are not those of the GNU C library")
             kinds, fronts, wrong, count = tried(session, pool)
             tell(vector, kinds, fronts, wrong, count)
