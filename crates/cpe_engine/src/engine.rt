@@ -18,7 +18,7 @@ use cpe_rows::{
 use cpe_steps::Steps;
 use cpe_values::Memory;
 use engine_parts::Parts;
-use made_edits::{commit, foresee};
+use made_edits::apply_numbered;
 use std::alloc::Global;
 use std::marker::Model;
 use std::sync::ledger::Ledger;
@@ -192,12 +192,7 @@ impl Engine {
     {
         self.parts.forget_changes();
         let numbered = self.parts.number(self.alloc, edit)?;
-        match foresee(&self.parts, self.alloc, &numbered) {
-            Ok((checked, room)) => {
-                Ok(commit(&mut self.parts, self.alloc, numbered, checked, room, steps)?)
-            }
-            Err(fault) => Err(self.parts.refuse(numbered, fault)),
-        }
+        apply_numbered(&mut self.parts, self.alloc, numbered, steps)
     }
 
     /// The answer to a query. That there is no entry or statement of a name or id is an answer too. The name or id is moved

@@ -2,7 +2,7 @@ use Rattle.std.proofs.Common.{[], refl}
 use Rattle.cpe_rows.specs.After.{after}
 use Rattle.engine_parts.specs.Parts.{edit_in, rows_in}
 use Rattle.engine_parts.proofs.PartsLemmas.{rows_are, stay_kept}
-use Rattle.made_edits.proofs.foreseen.commit.Goals as goal
+use Rattle.made_edits.proofs.applied.commit.Goals as goal
 
 pub make-requires : goal.make-requires
 make-requires g c = record {

@@ -1,7 +1,7 @@
-// Edits that are foreseen, with room for what they change of the verdicts, and made.
+// Edits that have their numbers: they are foreseen, with room for what they change of the verdicts, and made, or refused.
 ghost use Rattle.std.specs.Prelude.{◌≡◌, ◌≤◌, [], IfErr, IfOk, OnErr, OnOk, map};
 ghost use Rattle.cpe_steps.specs.Within.{StepsWithin};
-ghost use Rattle.cpe_rows.specs.Prelude.{after, changes, Refuses, step, verdict};
+ghost use Rattle.cpe_rows.specs.Prelude.{after, Applied, changes, Refuses, step, verdict};
 ghost use Rattle.kept_verdicts.specs.Kept.{known_in};
 ghost use Rattle.engine_parts.specs.Checked.{IsChecked};
 ghost use Rattle.engine_parts.specs.Parts.{AreBeside, AreKept, edit_in, rows_in};
@@ -16,11 +16,34 @@ use engine_parts::{Checked, Numbered, Parts};
 use std::alloc::Global;
 use std::sync::ledger::Ledger;
 
-/// Looks at an edit, and makes room for the changes that it makes; it changes nothing.
+/// Looks at an edit, and makes it where it has no fault; else it is let go. It answers which verdicts the edit changes.
 ///
 /// # Errors
-/// The first fault of the edit, or that memory ran out.
-pub fn foresee(
+/// The first fault of the edit, or that memory ran out. The rows are then as they were, and no name is held for it any more.
+pub fn apply_numbered<L: Ledger>(
+    parts: &mut Parts,
+    alloc: Global,
+    numbered: Numbered,
+    steps: &mut Steps<L>,
+) -> Result<List<Changed>, EditFault>
+    requires beside { AreBeside parts.old numbered }
+    requires known { known_in parts.old.verdicts ≡ map (verdict (rows_in parts.old)) (rows_in parts.old).statements }
+    ensures kept { AreKept parts.new }
+    ensures applied { Applied (rows_in parts.old) (rows_in parts.new) (edit_in parts.old numbered) result }
+    ensures changes { IfOk result (λ cs. cs ≡ changes (rows_in parts.old) (edit_in parts.old numbered)) }
+    ensures steps { StepsWithin steps.old steps.new (edit_looks (rows_in parts.old) (edit_in parts.old numbered)) }
+{
+    match foresee(parts, alloc, &numbered) {
+        Ok((checked, room)) => Ok(commit(parts, alloc, numbered, checked, room, steps)?),
+        Err(fault) => Err(parts.refuse(numbered, fault)),
+    }
+}
+
+// Looks at an edit, and makes room for the changes that it makes; it changes nothing.
+//
+// # Errors
+// The first fault of the edit, or that memory ran out.
+fn foresee(
     parts: &Parts,
     alloc: Global,
     numbered: &Numbered,
@@ -59,11 +82,11 @@ fn places(parts: &Parts, numbered: &Numbered) -> usize
     }
 }
 
-/// Makes an edit that has no fault, and answers which verdicts it changes.
-///
-/// # Errors
-/// Only that memory ran out; the rows are then as they were.
-pub fn commit<L: Ledger>(
+// Makes an edit that has no fault, and answers which verdicts it changes.
+//
+// # Errors
+// Only that memory ran out; the rows are then as they were.
+fn commit<L: Ledger>(
     parts: &mut Parts,
     alloc: Global,
     numbered: Numbered,
