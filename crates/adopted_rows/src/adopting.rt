@@ -23,7 +23,7 @@ use std::sync::ledger::Ledger;
 fn let_go(engine: Engine, fault: AdoptFault) -> AdoptFault
     ensures { result ≡ fault }
 {
-    drop(engine);
+    engine.let_go();
     fault
 }
 

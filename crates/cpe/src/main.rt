@@ -9,7 +9,6 @@ use cpe_io::{StdSink, StdSource};
 use cpe_steps::Steps;
 use std::env;
 use std::marker::Brand;
-use std::mem::forget;
 use std::process::ExitCode;
 use std::sync::ledger::{Blank, Ledger};
 
@@ -45,6 +44,6 @@ fn status_of<L: Ledger>(rt: &HostRuntime, words: &[String], blank: Blank) -> u8
         &mut steps,
     );
     // The process ends here: to give back the memory of each row would take a tenth of the time of a long load.
-    forget(engine);
+    engine.leave();
     status.number()
 }

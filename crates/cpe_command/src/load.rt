@@ -71,7 +71,7 @@ impl Listener for Load {
 fn put(state: &mut Engine, engine: Engine)
     ensures { state.new ≡ engine }
 {
-    drop(replace(state, engine));
+    replace(state, engine).let_go();
 }
 
 // Steps are counted in a ledger of its own: no bound on those of a load is said.

@@ -86,7 +86,7 @@ pub fn drill<K: Sink, L: Ledger>(
 fn put_back(engine: &mut Engine, kept: Engine)
     ensures { engine.new ≡ kept }
 {
-    drop(replace(engine, kept));
+    replace(engine, kept).let_go();
 }
 
 fn drill_records<K: Sink, L: Ledger>(

@@ -21,6 +21,7 @@ use engine_parts::Parts;
 use made_edits::apply_numbered;
 use std::alloc::Global;
 use std::marker::Model;
+use std::mem::forget;
 use std::sync::ledger::Ledger;
 
 /// An engine. Contracts see it as the rows that it keeps.
@@ -55,6 +56,16 @@ impl Engine {
             alloc,
             parts: Parts::new(alloc),
         }
+    }
+
+    /// Lets the engine go, with all that it keeps. A crate that lets one go in place proves anew how each of its parts goes.
+    pub fn let_go(self) {
+        drop(self);
+    }
+
+    /// Leaves in memory what the engine keeps, for a process that ends.
+    pub fn leave(self) {
+        forget(self);
     }
 
     /// What is so of every engine: its rows are lawful. It does nothing, and tells a proof so.

@@ -125,7 +125,7 @@ fn named(
 fn let_go(engine: Engine, fault: LoadFault) -> LoadFault
     ensures { result ≡ fault }
 {
-    drop(engine);
+    engine.let_go();
     fault
 }
 

@@ -22,7 +22,7 @@ pub const MOST_BYTES: usize = 536_870_936;
 fn let_go(engine: Engine, fault: LoadFault) -> LoadFault
     ensures { result ≡ fault }
 {
-    drop(engine);
+    engine.let_go();
     fault
 }
 

@@ -9,7 +9,6 @@ use cpe_rows::{Counts, Truth};
 use cpe_steps::Steps;
 use std::alloc::Global;
 use std::marker::Brand;
-use std::mem::forget;
 use std::sync::ledger::{Blank, Ledger};
 
 // A record, and the verdicts of all statements after it, in their order.
@@ -243,7 +242,7 @@ fn is_told(drilled: &Drilled) -> bool {
     drilled.refused == 5 && drilled.found == 8 && counts_of(&drilled.engine) == LEFT
 }
 
-// (The engine is forgotten: to let go what it owns would be proved anew here.)
+// (The engine is left where it is: to let go what it owns would be proved anew here.)
 fn goes_on_over<L: Ledger>(alloc: Global, blank: Blank) -> bool
     requires name { blank.name ≡ L.name }
     requires parts { blank.parts ≡ L.parts }
@@ -255,7 +254,7 @@ fn goes_on_over<L: Ledger>(alloc: Global, blank: Blank) -> bool
         && reads_all(alloc, &mut drilled, &ASKED, &mut steps)
         && reads_all(alloc, &mut drilled, &DROPPED, &mut steps)
         && is_told(&drilled);
-    forget(drilled);
+    drilled.into_engine().leave();
     goes_on
 }
 
