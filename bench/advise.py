@@ -20,7 +20,8 @@ MOST_MICROSECONDS, MOST_RATIO, LEAST_SPEED = 10, 1.5, 0.7
 MOST_ITEMS, MOST_ADVISORIES = 1_000_000, 100_000
 # How many items are of one product, and how many questions are asked beside advisories of a pattern.
 VERSIONS, QUESTIONS = 5, 5_000
-COMMAND, TWIN = "cpe advise", "advise_tuned"
+COMMAND = run.ADVISE
+(TWIN,) = run.TWINS[COMMAND]
 # What a session has, one after the other; the words of its lines, and what a line of it is called.
 PARTS = {"item": "an item", "advisory": "an advisory", "affected": "affected", "advisories": "advisories"}
 # Of ten ranges so many have both bounds, and so many the end alone.
@@ -101,18 +102,6 @@ def write(path, lines):
     half.replace(path)
 
 
-def check_twin(programs, paths):
-    """Ends this run where the twin doesn't answer as our program does: its times would tell nothing."""
-    if TWIN not in programs:
-        return
-    found = [(it, run.difference(programs[COMMAND], programs[TWIN], it)) for it in paths]
-    for path, difference in found:
-        if difference:
-            print(f"{TWIN} and {COMMAND} differ on {path.name}: {difference}")
-    if any(it for _, it in found):
-        sys.exit(1)
-
-
 def best_times(programs, paths, rounds):
     """The best time of each program for each input; all take turns, since differences of these times are told."""
     turns = [[run.best_times(programs, it, 1) for it in paths] for _ in range(rounds)]
@@ -157,7 +146,7 @@ def measure_patterns(programs, size, rounds):
         paths = [run.BUILD / f"advise-patterns-{count}{it}.txt" for it in ("", "-asked")]
         for path, asked in zip(paths, (0, QUESTIONS), strict=True):
             write(path, itertools.chain(items_of(size), advisories_of(size), patterns, itertools.islice(asked_of(size), asked)))
-        check_twin(programs, paths[1:])
+        run.check_twins(COMMAND, programs, paths[1:])
         for name, (none, behind) in best_times(programs, paths, rounds).items():
             print(f"{name:<14}{count:>10}{(behind - none) / QUESTIONS * 1e6:>13.1f}", flush=True)
 
@@ -201,10 +190,10 @@ def main():
     if not run.knows(words):
         print(f"the program has no command {COMMAND}: nothing is measured")
         return
-    programs = {COMMAND: words, **run.built_twins([TWIN])}
+    programs = {COMMAND: words, **run.built_twins(run.TWINS[COMMAND])}
     counts = [(given.items // 10, given.items // 20), (given.items, given.items // 2), (10 * given.items, 5 * given.items)]
     sizes = [Size(min(items, MOST_ITEMS), min(advisories, MOST_ADVISORIES)) for items, advisories in counts]
-    check_twin(programs, [*sorted((run.VECTORS / "advise").glob("*.in")), *(it.paths[-1] for it in sizes)])
+    run.check_twins(COMMAND, programs, [*run.vectors_of(COMMAND), *(it.paths[-1] for it in sizes)])
     print(f"load before: {os.getloadavg()[0]:.1f} on {os.cpu_count()} processors")
     found = measure(programs, sizes, given.rounds)
     measure_patterns(programs, sizes[1], min(3, given.rounds))

@@ -22,7 +22,7 @@ MOST_NAMES = 1_000_000
 ONE_PATTERN, ONE_PRODUCT = 50, 20
 # How many names are of one product.
 VERSIONS = 5
-COMMAND, TWIN = "cpe cover", "cover_tuned"
+COMMAND = run.COVER
 
 
 def listed(count):
@@ -73,18 +73,6 @@ def made(name, lines):
     return path
 
 
-def check_twin(programs, paths):
-    """Ends this run where the twin doesn't answer as our program does: its times would tell nothing."""
-    if TWIN not in programs:
-        return
-    found = [(it, run.difference(programs[COMMAND], programs[TWIN], it)) for it in paths]
-    for path, difference in found:
-        if difference:
-            print(f"{TWIN} and {COMMAND} differ on {path.name}: {difference}")
-    if any(it for _, it in found):
-        sys.exit(1)
-
-
 def measure(programs, lists, rounds):
     """The seconds of a name of each list; they are told on the way."""
     print(f"\n{COMMAND}, best of {rounds}")
@@ -118,7 +106,7 @@ def main():
     if not run.knows(words):
         print(f"the program has no command {COMMAND}: nothing is measured")
         return
-    programs = {COMMAND: words, **run.built_twins([TWIN])}
+    programs = {COMMAND: words, **run.built_twins(run.TWINS[COMMAND])}
     few, many = given.names, 10 * given.names
     usual = [("as lists are", count, made(f"listed-{count}", listed(count))) for count in (few, many)]
     slow = [
@@ -126,7 +114,7 @@ def main():
         ("of 127 shapes", few, made(f"shapes-{few}", of_many_shapes(few))),
         ("100 patterns for one product", few, made(f"patterns-{few}", beside_patterns(few, 100))),
     ]
-    check_twin(programs, [*sorted((run.VECTORS / "cover").glob("*.in")), *(path for _, _, path in usual + slow)])
+    run.check_twins(COMMAND, programs, [*run.vectors_of(COMMAND), *(path for _, _, path in usual + slow)])
     print(f"load before: {os.getloadavg()[0]:.1f} on {os.cpu_count()} processors")
     found = measure(programs, usual + slow, given.rounds)
     most = found[COMMAND, "as lists are", many] * 1e6

@@ -31,6 +31,8 @@ UNBIND, BIND_FS, BIND_URI, COMPARE = "cpe unbind", "cpe bind fs", "cpe bind uri"
 RESOLVE = "cpe resolve"
 EVALUATE = "cpe evaluate"
 WATCH = "cpe watch"
+ADVISE = "cpe advise"
+COVER = "cpe cover"
 BIND_TWINS = ["bind_tuned", "bind_plain"]
 TWINS = {
     UNBIND: ["unbind_tuned", "unbind_plain"],
@@ -40,6 +42,8 @@ TWINS = {
     RESOLVE: ["resolve_tuned"],
     EVALUATE: ["resolve_tuned"],
     WATCH: ["resolve_tuned"],
+    ADVISE: ["advise_tuned"],
+    COVER: ["cover_tuned"],
 }
 COPIES = ["lines"]
 # (it reads records as JSON and writes them again)
@@ -336,8 +340,8 @@ def parts_of(program, others, lines):
 
 
 def vectors_of(*commands):
-    """The vectors of these commands in the first format of records, which is the one that the twins read."""
-    return [path for it in commands for path in sorted((VECTORS / it.split()[1]).glob("*.in")) if "second-format" not in path.name]
+    """The inputs that show what these commands write."""
+    return [path for it in commands for path in sorted((VECTORS / "-".join(it.split()[1:])).glob("*.in"))]
 
 
 def sizes_of(lines):

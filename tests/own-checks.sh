@@ -1556,6 +1556,17 @@ checks_of_generated() {
     judge 'a closed standard output ends with status 4: make' "$status" 4 /dev/null
 }
 
+# The unproved programs beside which bench/ measures it write the same on the vectors.
+agrees_with_twins() {
+    what='the twins of bench/ write what the program writes'
+    needs "$what" rustc python3 || return
+    limited python3 bench/agree.py "$program" > "$room/said" 2> "$room/error"
+    status=$?
+    : > "$room/out"
+    judge "$what" "$status" 0 /dev/null
+    [ "$status" = 0 ] || cat "$room/said"
+}
+
 # each CHECK: the check under each command, on its example; under resolve on lines that may be repeated, since they
 # change nothing, and under watch and advise on lines after which nothing is left.
 each() {
@@ -1611,5 +1622,6 @@ checks_of_advise
 checks_of_snapshots
 checks_of_cover
 checks_of_generated
+agrees_with_twins
 
 end_of_checks 'own checks'

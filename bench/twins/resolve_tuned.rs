@@ -279,7 +279,18 @@ struct Buffers {
     /// The numbers of the successors that were read, where they are entries.
     to: Vec<Option<u32>>,
     marks: Marks,
+    /// Whether the record is of the second format, in which a name may be an object.
+    is_second: bool,
 }
+
+/// Where a name goes wrong: at a byte of its text, or at an attribute of its object.
+enum Place {
+    Byte(usize),
+    Attribute(&'static str),
+}
+
+const ATTRIBUTES: [&str; 11] =
+    ["part", "vendor", "product", "version", "update", "edition", "language", "sw_edition", "target_sw", "target_hw", "other"];
 
 impl Buffers {
     /// Reads a name in either binding, or gives the place where it goes wrong.
@@ -298,6 +309,34 @@ impl Buffers {
             self.name.extend_from_slice(text);
             self.name.make_ascii_lowercase();
         }
+        Ok(())
+    }
+
+    /// Whether a value has the form of a name in a record of this format.
+    fn is_name(&self, value: &Value) -> bool {
+        matches!(value, Value::Text(_)) || self.is_second && matches!(value, Value::Object(_))
+    }
+
+    /// Reads what has the form of a name, or gives the place where it goes wrong.
+    fn read_value(&mut self, value: &Value) -> Result<(), Place> {
+        match value.text() {
+            Some(text) => self.read(text.as_bytes()).map_err(Place::Byte),
+            None => self.read_object(value).map_err(Place::Attribute),
+        }
+    }
+
+    /// Reads a name that is an object of attributes, or gives the first that is none. Each is read alone, as a name that has no other.
+    fn read_object(&mut self, object: &Value) -> Result<(), &'static str> {
+        let mut name = b"cpe:2.3".to_vec();
+        for (n, key) in ATTRIBUTES.into_iter().enumerate() {
+            let text = object.get(key).map_or(Some("*"), Value::text).ok_or(key)?;
+            let alone = format!("cpe:2.3{}:{text}{}", ":*".repeat(n), ":*".repeat(10 - n));
+            self.wfn.clear();
+            unbind(alone.as_bytes(), &mut self.wfn).map_err(|_| key)?;
+            name.push(b':');
+            name.extend_from_slice(text.to_ascii_lowercase().as_bytes());
+        }
+        self.name = name;
         Ok(())
     }
 }
@@ -452,8 +491,8 @@ fn has_wildcards(name: &[u8], ends: &[u32; 11]) -> bool {
 
 /// Reads the name of a record into the buffer.
 fn read_name(record: &Value, buffers: &mut Buffers) -> Result<(), Refusal> {
-    let text = record.get("name").and_then(Value::text).ok_or(For(b" member name"))?;
-    buffers.read(text.as_bytes()).map_err(|place| At(b" name name ", place))
+    let value = record.get("name").filter(|it| buffers.is_name(it)).ok_or(For(b" member name"))?;
+    buffers.read_value(value).map_err(Name)
 }
 
 // ---- rows
@@ -540,15 +579,17 @@ enum Refusal {
     For(&'static [u8]),
     /// With a place.
     At(&'static [u8], usize),
-    /// The name of a successor, by its number, and the place where it goes wrong.
-    Successor(usize, usize),
+    /// The name of the record, and where it goes wrong.
+    Name(Place),
+    /// The name of a successor, by its number, likewise.
+    Successor(usize, Place),
     /// The name of a fact, likewise.
-    Fact(usize, usize),
+    Fact(usize, Place),
     /// With the entry that would have too many ends.
     TooWide(u32),
 }
 
-use Refusal::{At, Fact, For, Successor, TooWide};
+use Refusal::{At, Fact, For, Name, Successor, TooWide};
 
 const KINDS: [&str; 4] = ["ORIGINAL_RECORD", "AUTHORITY_CHANGE", "DEPRECATION", "DEPRECATION_MODIFICATION"];
 const CORRECTION: &str = "NAME_CORRECTION";
@@ -830,12 +871,11 @@ impl Dictionary {
         buffers.to.clear();
         let items = match record.get("successors") {
             None => &[][..],
-            Some(Value::Array(items)) if items.iter().all(|it| it.text().is_some()) => items,
+            Some(Value::Array(items)) if items.iter().all(|it| buffers.is_name(it)) => items,
             Some(_) => return Err(For(b" member successors")),
         };
         for (n, item) in items.iter().enumerate() {
-            let text = item.text().unwrap_or_default();
-            buffers.read(text.as_bytes()).map_err(|place| Successor(n + 1, place))?;
+            buffers.read_value(item).map_err(|place| Successor(n + 1, place))?;
             let number = self.find(&buffers.name).map(|it| it as u32);
             buffers.to.push(number);
         }
@@ -939,18 +979,9 @@ impl Dictionary {
                 out.extend_from_slice(word);
                 decimal(out, place as u64);
             }
-            Successor(number, place) => {
-                out.extend_from_slice(b" name successor ");
-                decimal(out, number as u64);
-                out.push(b' ');
-                decimal(out, place as u64);
-            }
-            Fact(number, place) => {
-                out.extend_from_slice(b" name fact ");
-                decimal(out, number as u64);
-                out.push(b' ');
-                decimal(out, place as u64);
-            }
+            Name(place) => put_place(b"name", place, out),
+            Successor(number, place) => put_place(format!("successor {number}").as_bytes(), place, out),
+            Fact(number, place) => put_place(format!("fact {number}").as_bytes(), place, out),
             TooWide(number) => {
                 out.extend_from_slice(b" too-wide ");
                 out.extend_from_slice(self.name_at(number));
@@ -973,6 +1004,20 @@ const TRUTHS: [&str; 4] = ["FALSE", "ERROR", "UNKNOWN", "TRUE"];
 const FALSE: Truth = 0;
 const UNKNOWN: Truth = 2;
 const TRUE: Truth = 3;
+
+/// Puts which name it is, and where it goes wrong.
+fn put_place(which: &[u8], place: Place, out: &mut Vec<u8>) {
+    let (word, at) = match place {
+        Place::Byte(place) => ("name", place.to_string()),
+        Place::Attribute(name) => ("attribute", name.to_string()),
+    };
+    out.push(b' ');
+    out.extend_from_slice(word.as_bytes());
+    out.push(b' ');
+    out.extend_from_slice(which);
+    out.push(b' ');
+    out.extend_from_slice(at.as_bytes());
+}
 
 fn not(truth: Truth) -> Truth {
     match truth {
@@ -1019,19 +1064,19 @@ fn id_of(record: &Value) -> Result<Box<str>, Refusal> {
     id.map(Box::from).ok_or(For(b" member id"))
 }
 
-fn is_logic(value: &Value) -> bool {
+fn is_logic(value: &Value, buffers: &Buffers) -> bool {
     let is_negate = matches!(value.get("negate"), None | Some(Value::Bool(_)));
     let is_of = match value.get("of") {
-        Some(Value::Array(of)) => !of.is_empty() && of.iter().all(is_child),
+        Some(Value::Array(of)) => !of.is_empty() && of.iter().all(|it| is_child(it, buffers)),
         _ => false,
     };
     matches!(text_at(value, "op"), Some("AND" | "OR")) && is_negate && is_of
 }
 
-fn is_child(value: &Value) -> bool {
+fn is_child(value: &Value, buffers: &Buffers) -> bool {
     match (value.get("op"), value.get("fact"), value.get("check")) {
-        (Some(_), _, _) => is_logic(value),
-        (_, Some(fact), _) => fact.text().is_some(),
+        (Some(_), _, _) => is_logic(value, buffers),
+        (_, Some(fact), _) => buffers.is_name(fact),
         (_, _, Some(check)) => key_of(check).is_ok(),
         _ => false,
     }
@@ -1054,9 +1099,9 @@ fn test_of(value: &Value, buffers: &mut Buffers, facts: &mut usize) -> Result<Te
         let of = children(value).iter().map(|it| test_of(it, buffers, facts)).collect::<Result<_, _>>()?;
         return Ok(Test::Logic { is_or: op == "OR", negate: matches!(value.get("negate"), Some(Value::Bool(true))), of });
     }
-    if let Some(fact) = text_at(value, "fact") {
+    if let Some(fact) = value.get("fact") {
         *facts += 1;
-        buffers.read(fact.as_bytes()).map_err(|place| Fact(*facts, place))?;
+        buffers.read_value(fact).map_err(|place| Fact(*facts, place))?;
         return Ok(Test::Fact(Box::from(&buffers.name[..])));
     }
     value.get("check").ok_or(For(b" member test")).and_then(key_of).map(Test::Check)
@@ -1073,7 +1118,7 @@ fn statement_of(record: &Value, buffers: &mut Buffers) -> Result<Statement, Refu
             _ => return Err(For(b" member mode")),
         },
     };
-    let value = record.get("test").filter(|it| is_logic(it)).ok_or(For(b" member test"))?;
+    let value = record.get("test").filter(|it| is_logic(it, buffers)).ok_or(For(b" member test"))?;
     if depth_of(value) > DEEPEST_TEST {
         return Err(For(b" deep"));
     }
@@ -1429,6 +1474,12 @@ fn refuse(out: &mut Vec<u8>, number: u64, reason: &[u8]) {
     out.extend_from_slice(reason);
 }
 
+/// The kinds of records.
+const VERBS: [&str; 16] = [
+    "entry", "deprecate", "amend", "restore", "lookup", "search", "chain", "show", "item", "drop-item", "items", "statement",
+    "drop-statement", "verdict", "check", "drop-check",
+];
+
 #[derive(Default)]
 struct Kept {
     dictionary: Dictionary,
@@ -1451,6 +1502,11 @@ impl Kept {
     }
 
     fn resolve(&mut self, verb: &str, record: &Value, buffers: &mut Buffers, out: &mut Vec<u8>) -> Result<(), Refusal> {
+        let format = record.get("v");
+        buffers.is_second = format.is_some();
+        if format.is_some_and(|it| it.text() != Some("2")) {
+            return Err(For(if VERBS.contains(&verb) { b" member v" } else { b" member do" }));
+        }
         match verb {
             "entry" | "deprecate" | "amend" | "restore" | "lookup" | "search" | "chain" | "show" => {
                 self.dictionary.resolve(verb, record, buffers, out)

@@ -1,5 +1,0 @@
-//! Tests of the order of versions.
-#![tactic(auto)]
-
-#[cfg(test)]
-mod versions;
