@@ -14,26 +14,32 @@ ZSH_COMPLETIONS = $(PREFIX)/share/zsh/site-functions
 take_program = mkdir -p build && { cmp -s crates/cpe/out/cpe build/cpe || \
 	{ cp crates/cpe/out/cpe build/cpe.new && mv -f build/cpe.new build/cpe; }; }
 
-.PHONY: help build library demo test limits install install-library deb bench clean need_rt need_python3
+.PHONY: help build program release library demo test limits install install-library deb bench clean need_rt need_python3
 
 help:
+	@echo 'make demo     reads examples/names.txt, and goes the whole way from feeds to the advisories of two machines (that needs'
+	@echo '              python3): with the program in release/, if the gate built it from exactly the sources here, or else with'
+	@echo '              the one that make build makes. So do all targets below that need the program; with PROVE=1 they always prove it'
 	@echo 'make build    proves the program, and builds it into build/cpe'
 	@echo 'make library  proves the library for C, and builds it into build/libcpe.a and build/libcpe.so (needs cc and binutils)'
-	@echo 'make demo     builds it, reads examples/names.txt with it, and goes the whole way from feeds to the advisories of two'
-	@echo '              machines (that needs python3)'
-	@echo 'make test     the gate: rt ci, what each crate took, then checks of the program as rt ci built it, of the manual'
-	@echo '              page, of the recipes, of the library for C where make library was run before, and of the package and the'
-	@echo '              completions'
-	@echo 'make limits   builds it, fills it up to its limits, and refuses each allocation of short sessions: minutes, and 6 GB of'
+	@echo 'make test     the gate: rt ci, what each crate took, then checks of the program as rt ci built it, of the release, of the'
+	@echo '              manual page, of the recipes, of the library for C where make library was run before, and of the package and'
+	@echo '              the completions'
+	@echo 'make release  makes release/ from what make test built, in a tree without changes'
+	@echo 'make limits   fills the program up to its limits, and refuses each allocation of short sessions: minutes, and 6 GB of'
 	@echo '              memory; not in the gate'
-	@echo 'make install  builds it, and puts it into PREFIX/bin, and its manual page, its completions for bash and zsh and the recipes'
+	@echo 'make install  puts the program into PREFIX/bin, and its manual page, its completions for bash and zsh and the recipes'
 	@echo '              into PREFIX/share (PREFIX=$(PREFIX))'
 	@echo 'make install-library  builds the library, and puts it into PREFIX/lib, and cpe.h into PREFIX/include'
-	@echo 'make deb      builds it, and puts a package for Debian into PACKAGES, of what make install puts, and of the library where'
-	@echo '              it is built (PACKAGES=$(PACKAGES))'
-	@echo 'make bench    builds it, and measures it against unproved Rust and OpenSCAP, and edits and the whole way by themselves'
+	@echo 'make deb      puts a package for Debian into PACKAGES, of what make install puts, and of the library where it is built'
+	@echo '              (PACKAGES=$(PACKAGES))'
+	@echo 'make bench    measures the program against unproved Rust and OpenSCAP, and edits and the whole way by themselves'
 	@echo '              (needs python3)'
 	@echo 'make clean    removes all that was built'
+
+# The program in build/cpe: the one in release/, if it is of exactly these sources, or else the one that is proved here.
+program:
+	@{ [ -z '$(PROVE)' ] && sh release/release.sh take; } || $(MAKE) --no-print-directory build
 
 # rt has no command that builds a program without running it. Over an empty input this one writes
 # nothing and ends with status 0, so the status is that of the proof and the build.
@@ -54,7 +60,7 @@ ranges = recipes/samples/ranges
 whole_way = CPE=build/cpe python3 recipes/scan.py --dictionary $(ranges)/dictionary.json --advisories $(ranges)/advisories.json \
 	--matches $(ranges)/matches.json --lists $(ranges)/web-1.cdx.json $(ranges)/web-2.cdx.json
 
-demo: build
+demo: program
 	build/cpe unbind < examples/names.txt
 	@if command -v python3 > /dev/null; then \
 	echo '$(whole_way)'; $(whole_way) || [ $$? = 1 ] || exit 1; \
@@ -64,6 +70,8 @@ demo: build
 test: need_rt
 	sh tests/gate.sh
 	@$(take_program)
+	sh release/release.sh compare build/cpe
+	sh tests/release-checks.sh build/cpe
 	sh tests/own-checks.sh build/cpe
 	sh tests/manual-checks.sh build/cpe
 	sh tests/recipe-checks.sh build/cpe
@@ -71,7 +79,11 @@ test: need_rt
 	sh tests/library-checks.sh build/cpe
 	sh tests/package-checks.sh build/cpe
 
-limits: build
+# The last step of a change to a crate that the program stands on.
+release: need_rt
+	@sh release/release.sh make '$(VERSION)'
+
+limits: program
 	sh tests/limits.sh build/cpe
 	@if command -v python3 > /dev/null; then \
 	for it in 'tests/snapshots.py build/cpe --all' 'tests/refused-memory.py build/cpe' 'bench/memory.py build/cpe --most 3' 'bench/deprecations.py build/cpe' \
@@ -80,7 +92,7 @@ limits: build
 	done; \
 	else echo 'SKIPPED: each allocation refused in turn, what rows take of memory, how what edits cost grows: there is no python3'; fi
 
-install: build
+install: program
 	mkdir -p '$(DESTDIR)$(PREFIX)/bin'
 	install -m 755 build/cpe '$(DESTDIR)$(PREFIX)/bin/cpe'
 	mkdir -p '$(DESTDIR)$(PREFIX)/share/man/man1'
@@ -98,10 +110,10 @@ install-library: library
 	ln -sf libcpe.so.0 '$(DESTDIR)$(PREFIX)/lib/libcpe.so'
 	sed -e 's|@PREFIX@|$(PREFIX)|' -e 's|@VERSION@|$(VERSION)|' library/cpe.pc.in > '$(DESTDIR)$(PREFIX)/lib/pkgconfig/cpe.pc'
 
-deb: build
+deb: program
 	sh package/deb.sh '$(VERSION)' '$(MAINTAINER)' '$(PACKAGES)'
 
-bench: need_python3 build
+bench: need_python3 program
 	python3 bench/run.py build/cpe
 	python3 bench/index.py build/cpe
 	python3 bench/convert.py build/cpe

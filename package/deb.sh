@@ -21,7 +21,7 @@ puts() {
     MAKEFLAGS='' make -s -o "$2" "$1" DESTDIR="$root" PREFIX=/usr VERSION="$version" ZSH_COMPLETIONS=/usr/share/zsh/vendor-completions
 }
 
-puts install build
+puts install program
 linked=$root/usr/bin/cpe
 if [ -f build/libcpe.a ] && [ -f build/libcpe.so ]; then
     puts install-library library

@@ -172,7 +172,7 @@ installs_page() {
     what='make install puts the manual page where man finds it'
     needs "$what" make install || return
     [ -x build/cpe ] || { skip "$what" 'there is no build/cpe'; return; }
-    MAKEFLAGS='' limited make -s -o build install DESTDIR="$room/installed" PREFIX=/usr > "$room/out" 2> "$room/error"
+    MAKEFLAGS='' limited make -s -o program install DESTDIR="$room/installed" PREFIX=/usr > "$room/out" 2> "$room/error"
     status=$?
     : > "$room/out"
     judge "$what" "$status" 0 /dev/null

@@ -12,7 +12,7 @@ unpacks() {
     what='the package for Debian'
     needs "$what" dpkg dpkg-deb make install gzip md5sum find sort tail awk || return
     [ -x build/cpe ] || { skip "$what" 'there is no build/cpe'; return 1; }
-    MAKEFLAGS='' limited make -s -o build deb PACKAGES="$room/packages" > "$room/said" 2> "$room/error" ||
+    MAKEFLAGS='' limited make -s -o program deb PACKAGES="$room/packages" > "$room/said" 2> "$room/error" ||
         { fail "$what" "$(tail -n 1 "$room/error")"; return 1; }
     package=$room/packages/cpe_${version}_$(dpkg --print-architecture).deb
     mkdir "$fresh"
