@@ -3,7 +3,7 @@
 ghost use Rattle.std.specs.Prelude.{◌≡◌, ◌+◌, ◌≤◌, [], ◌∷◌};
 ghost use Rattle.name_index.specs.Prelude.{IsLower, kept_at};
 ghost use Rattle.name_index.specs.Index.{Fits};
-ghost use Rattle.index_tests.specs.Tried.{plain};
+ghost use Rattle.library_tests.specs.Tried.{plain};
 
 use cpe_name::{Wfn, read_wfn};
 use cpe_steps::Steps;

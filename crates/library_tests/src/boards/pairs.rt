@@ -4,7 +4,7 @@ ghost use Rattle.name_index.specs.Prelude.{IsLive, kept_at, SameElements};
 ghost use Rattle.level_board.specs.Rows.{number_at};
 ghost use Rattle.level_board.specs.Board.{FitsBoard, covers_at, maybe_at, target_times, probe_times};
 ghost use Rattle.level_board.specs.declared.level.Level.TheVariants.{Covered, Maybe, Free};
-ghost use Rattle.board_tests.specs.Tried.{plain};
+ghost use Rattle.library_tests.specs.Tried.{plain};
 
 use cpe_steps::Steps;
 use level_board::{Level, LevelBoard};

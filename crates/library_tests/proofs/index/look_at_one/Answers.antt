@@ -5,8 +5,8 @@ use Rattle.cpe_relation.specs.Near.{near}
 use Rattle.product_orders.specs.declared.products.Side.TheVariants as side
 use Rattle.name_index.specs.Table.{kept_at}
 use Rattle.name_index.specs.Index.{ids, is_near}
-use Rattle.index_tests.specs.Tried.{plain}
-use Rattle.index_tests.proofs.tests.look_at_one.Goals as goal
+use Rattle.library_tests.specs.Tried.{plain}
+use Rattle.library_tests.proofs.index.look_at_one.Goals as goal
 
 abbrev one_if : Bool → ℕ
 one_if b = if b then 1 else 0

@@ -5,8 +5,8 @@ use Rattle.level_board.specs.Rows.{differs, level_now, level_of}
 use Rattle.level_board.specs.declared.level.Level.TheVariants.{Covered, Free}
 use Rattle.level_board.specs.Board.{Board, HasLevel, probe_times, target_times, was_in, find_times, or_none}
 use Rattle.kept_facts.proofs.Answers.{seen_there}
-use Rattle.board_tests.proofs.Levels.{is_covered, is_free}
-use Rattle.board_tests.proofs.tests.pairs.drop_two_targets.Goals as goal
+use Rattle.library_tests.proofs.Levels.{is_covered, is_free}
+use Rattle.library_tests.proofs.boards.pairs.drop_two_targets.Goals as goal
 
 same_times : (a b : Board) → b.targets ≡ a.targets → (t : ℕ) → target_times b t ≡ target_times a t
 same_times a b e t = ap (λ (ts : List (ℕ × ℕ)). or_none (find_times ts t)) e
