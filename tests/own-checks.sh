@@ -1595,7 +1595,7 @@ answers_vectors bind-uri bind uri
 answers_vectors compare compare
 answers_usage
 answers_pages README.md docs/*.md
-answers_table README.md
+answers_table docs/RECORDS.md
 answers_at_once examples/names.txt examples/names.out 0 unbind
 each answers_at_volume
 fails_on_a_full_device examples/names.txt unbind

@@ -84,18 +84,18 @@ has_fields() {
     judge "$what" 0 0 /dev/null
 }
 
-# sessions_of HEADING: the sessions in a part of README.md.
-sessions_of() { awk -v wanted="## $1" '/^## / { is_part = $0 == wanted } is_part' "$here/README.md"; }
+# sessions_of PAGE HEADING: the sessions in a part of a page.
+sessions_of() { awk -v wanted="$2" '/^#+ / { is_part = $0 == wanted } is_part' "$here/$1"; }
 
-# The first examples of the README, where nothing but the package is.
+# The first examples of the pages, where nothing but the package is.
 answers_unpacked() {
     mkdir -p "$room/try/build"
     ln -s "$fresh/usr/share/cpe/recipes" "$room/try/recipes"
     program=$fresh/usr/bin/cpe
     cd "$room/try" || exit 2
-    sessions_of 'The words' > "$room/sessions"
-    answers_sessions 'the README, by the program of the package' < "$room/sessions"
-    sessions_of 'Which of my machines is affected' > "$room/sessions"
+    sessions_of docs/RECORDS.md '## The words' > "$room/sessions"
+    answers_sessions 'the words, by the program of the package' < "$room/sessions"
+    sessions_of README.md '## Which of my machines is affected' > "$room/sessions"
     if needs 'the README, by the recipes of the package' python3; then
         answers_sessions 'the README, by the recipes of the package' < "$room/sessions"
     fi
