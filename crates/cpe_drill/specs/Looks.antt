@@ -7,7 +7,7 @@ use Rattle.cpe_records.specs.declared.read.Record.TheVariants.{Edit, Query}
 use Rattle.cpe_members.specs.declared.member.RecordFault.{RecordFault}
 use Rattle.cpe_engine.specs.Looks.{edit_looks, looks}
 
--- as many as its edit takes, accepted or refused, or its query, in these rows; what is no record takes none
+-- as many as its edit takes in these rows, which is none if it is refused, or as its query; what is no record takes none
 abbrev pub record_looks : Rows → Result Record RecordFault → ℕ
 record_looks rows (Ok (Edit e)) = edit_looks rows e
 record_looks rows (Ok (Query query)) = looks rows query

@@ -185,7 +185,7 @@ impl Engine {
     ///
     /// A step is a look at a name through an index. An edit takes those that keep the verdicts: an item, or a fact reference of a
     /// statement that is put, looks for what is near it and its ends, a change of a deprecation for what is near the ends, before and
-    /// after it, of all that leads to the entry, and each other edit for nothing.
+    /// after it, of all that leads to the entry, and each other edit for nothing. An edit that has a fault takes no step.
     ///
     /// The edit is in order ([`Edit::valid`]), so the rows stay lawful ([`rows_stay_lawful`]).
     ///

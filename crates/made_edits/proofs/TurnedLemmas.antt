@@ -9,7 +9,7 @@ use Rattle.cpe_rows.specs.declared.entry.Note.{Note}
 use Rattle.cpe_changes.specs.Touching.{deprecation_changed}
 use Rattle.cpe_dictionary.specs.Kept.{rewritten, with_entries, written}
 use Rattle.told_facts.specs.Looks.{lead_looks}
-use Rattle.made_edits.specs.Looks.{edit_looks}
+use Rattle.made_edits.specs.Looks.{made_looks}
 use Rattle.engine_parts.specs.Numbered.{given, note_of, turned}
 use Rattle.engine_parts.specs.declared.numbered.Turn.{Turn}
 use Rattle.engine_parts.specs.declared.numbered.Turn.TheVariants.{Give, Replace, TakeAway}
@@ -40,7 +40,7 @@ module _ (rows : Rows) (n : Values) (date comment : List ℕ) where
   changes_turned (Replace d) = refl
   changes_turned TakeAway = refl
 
-  pub looks_turned : (t : Turn) → edit_looks rows (turned n t date comment) ≡ lead_looks rows (after rows (turned n t date comment)) n
+  pub looks_turned : (t : Turn) → made_looks rows (turned n t date comment) ≡ lead_looks rows (after rows (turned n t date comment)) n
   looks_turned (Give d) = refl
   looks_turned (Replace d) = refl
   looks_turned TakeAway = refl

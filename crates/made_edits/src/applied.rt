@@ -5,7 +5,7 @@ ghost use Rattle.cpe_rows.specs.Prelude.{after, Applied, changes, Refuses, step,
 ghost use Rattle.kept_verdicts.specs.Kept.{known_in};
 ghost use Rattle.engine_parts.specs.Checked.{IsChecked};
 ghost use Rattle.engine_parts.specs.Parts.{AreBeside, AreKept, edit_in, rows_in};
-ghost use Rattle.made_edits.specs.Looks.{edit_looks};
+ghost use Rattle.made_edits.specs.Looks.{edit_looks, made_looks};
 ghost use Rattle.made_edits.specs.Ready.{places};
 
 use crate::made::make;
@@ -16,7 +16,8 @@ use engine_parts::{Checked, Numbered, Parts};
 use std::alloc::Global;
 use std::sync::ledger::Ledger;
 
-/// Looks at an edit, and makes it where it has no fault; else it is let go. It answers which verdicts the edit changes.
+/// Looks at an edit, and makes it where it has no fault; else it is let go. It answers which verdicts the edit changes. An edit that has
+/// a fault takes no step.
 ///
 /// # Errors
 /// The first fault of the edit, or that memory ran out. The rows are then as they were, and no name is held for it any more.
@@ -103,7 +104,7 @@ fn commit<L: Ledger>(
     ensures err { OnErr result (rows_in parts.new ≡ rows_in parts.old) }
     ensures kept { AreKept parts.new }
     ensures changes { IfOk result (λ cs. cs ≡ changes (rows_in parts.old) (edit_in parts.old numbered)) }
-    ensures steps { StepsWithin steps.old steps.new (edit_looks (rows_in parts.old) (edit_in parts.old numbered)) }
+    ensures steps { StepsWithin steps.old steps.new (made_looks (rows_in parts.old) (edit_in parts.old numbered)) }
 {
     cpe_rows::law::rows_stay_lawful();
     let changes = make(parts, alloc, numbered, &checked.plan, room, steps)?;

@@ -4,7 +4,7 @@ ghost use Rattle.cpe_steps.specs.Within.{StepsWithin};
 ghost use Rattle.cpe_rows.specs.Prelude.{after, changes, IsLawful};
 ghost use Rattle.engine_parts.specs.Prelude.{AreOf, edit_in, given, HasPlan, IsLead, IsLive, known_in, name_in, rows_in};
 ghost use Rattle.cpe_dictionary.specs.Plans.{IsPlan};
-ghost use Rattle.made_edits.specs.Looks.{edit_looks};
+ghost use Rattle.made_edits.specs.Looks.{made_looks};
 ghost use Rattle.made_edits.specs.Ready.{IsReady};
 
 use cpe_dictionary::{Plan, edits_by_number};
@@ -67,7 +67,7 @@ pub(crate) fn change_entry<L: Ledger>(
     ensures err { OnErr result (AreOf parts.new.registry parts.new.verdicts (rows_in parts.old) []) }
     ensures weight { parts.new.weight ≡ parts.old.weight }
     ensures changes { IfOk result (λ cs. cs ≡ changes (rows_in parts.old) (edit_in parts.old (Numbered.Change change))) }
-    ensures steps { StepsWithin steps.old steps.new (edit_looks (rows_in parts.old) (edit_in parts.old (Numbered.Change change))) }
+    ensures steps { StepsWithin steps.old steps.new (made_looks (rows_in parts.old) (edit_in parts.old (Numbered.Change change))) }
 {
     cpe_rows::law::rows_stay_lawful();
     let Some(plan) = plan else {
@@ -99,7 +99,7 @@ fn make_change<L: Ledger>(
     ensures err { OnErr result (AreOf parts.new.registry parts.new.verdicts (rows_in parts.old) []) }
     ensures known { known_in parts.new.verdicts ≡ known_in parts.old.verdicts }
     ensures weight { parts.new.weight ≡ parts.old.weight }
-    ensures steps { StepsWithin steps.old steps.new (edit_looks (rows_in parts.old) (edit_in parts.old (Numbered.Change change))) }
+    ensures steps { StepsWithin steps.old steps.new (made_looks (rows_in parts.old) (edit_in parts.old (Numbered.Change change))) }
 {
     edits_by_number();
     match parts
@@ -131,7 +131,7 @@ fn lead_change<L: Ledger>(
     ensures err { OnErr result (AreOf parts.new.registry parts.new.verdicts (rows_in parts.old) []) }
     ensures known { known_in parts.new.verdicts ≡ known_in parts.old.verdicts }
     ensures weight { parts.new.weight ≡ parts.old.weight }
-    ensures steps { StepsWithin steps.old steps.new (edit_looks (rows_in parts.old) (edit_in parts.old (Numbered.Change change))) }
+    ensures steps { StepsWithin steps.old steps.new (made_looks (rows_in parts.old) (edit_in parts.old (Numbered.Change change))) }
 {
     edits_by_number();
     cpe_changes::law::deprecations_touch();

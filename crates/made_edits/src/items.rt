@@ -6,7 +6,7 @@ ghost use Rattle.cpe_rows.specs.Prelude.{after, changes, is_same, IsLawful};
 ghost use Rattle.cpe_rows.specs.declared.edit.Edit.TheVariants as edit;
 ghost use Rattle.engine_parts.specs.Prelude.{AreOf, edit_in, IsLive, known_in, name_in, rows_in};
 ghost use Rattle.told_facts.specs.Looks.{item_looks};
-ghost use Rattle.made_edits.specs.Looks.{edit_looks};
+ghost use Rattle.made_edits.specs.Looks.{made_looks};
 ghost use Rattle.made_edits.specs.Ready.{IsReady};
 
 use cpe_rows::{Changed, List, Room};
@@ -33,7 +33,7 @@ pub(crate) fn add_item<L: Ledger>(
     ensures err { OnErr result (AreOf parts.new.registry parts.new.verdicts (rows_in parts.old) []) }
     ensures weight { parts.new.weight ≡ parts.old.weight }
     ensures changes { IfOk result (λ cs. cs ≡ changes (rows_in parts.old) (edit_in parts.old (Numbered.Item id))) }
-    ensures steps { StepsWithin steps.old steps.new (edit_looks (rows_in parts.old) (edit_in parts.old (Numbered.Item id))) }
+    ensures steps { StepsWithin steps.old steps.new (made_looks (rows_in parts.old) (edit_in parts.old (Numbered.Item id))) }
 {
     match bring_item(parts, alloc, id, steps) {
         Ok(()) => Ok(parts.verdicts.changes(room)),
@@ -91,7 +91,7 @@ pub(crate) fn drop_item<L: Ledger>(
     ensures err { OnErr result (AreOf parts.new.registry parts.new.verdicts (rows_in parts.old) []) }
     ensures weight { parts.new.weight ≡ parts.old.weight }
     ensures changes { IfOk result (λ cs. cs ≡ changes (rows_in parts.old) (edit_in parts.old (Numbered.DropItem id))) }
-    ensures steps { StepsWithin steps.old steps.new (edit_looks (rows_in parts.old) (edit_in parts.old (Numbered.DropItem id))) }
+    ensures steps { StepsWithin steps.old steps.new (made_looks (rows_in parts.old) (edit_in parts.old (Numbered.DropItem id))) }
 {
     match take_item(parts, alloc, id, steps) {
         Ok(()) => Ok(parts.verdicts.changes(room)),

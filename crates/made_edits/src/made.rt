@@ -3,7 +3,7 @@ ghost use Rattle.std.specs.Prelude.{◌≡◌, [], IfOk, OnErr, OnOk};
 ghost use Rattle.cpe_steps.specs.Within.{StepsWithin};
 ghost use Rattle.cpe_rows.specs.Prelude.{after, changes};
 ghost use Rattle.engine_parts.specs.Parts.{AreOf, edit_in, rows_in};
-ghost use Rattle.made_edits.specs.Looks.{edit_looks};
+ghost use Rattle.made_edits.specs.Looks.{made_looks};
 ghost use Rattle.made_edits.specs.Ready.{MayBeMade};
 
 use crate::checks::{drop_check, set_check};
@@ -35,7 +35,7 @@ pub(crate) fn make<L: Ledger>(
     ensures err { OnErr result (AreOf parts.new.registry parts.new.verdicts (rows_in parts.old) []) }
     ensures weight { parts.new.weight ≡ parts.old.weight }
     ensures changes { IfOk result (λ cs. cs ≡ changes (rows_in parts.old) (edit_in parts.old numbered)) }
-    ensures steps { StepsWithin steps.old steps.new (edit_looks (rows_in parts.old) (edit_in parts.old numbered)) }
+    ensures steps { StepsWithin steps.old steps.new (made_looks (rows_in parts.old) (edit_in parts.old numbered)) }
 {
     match numbered {
         Numbered::Entry {

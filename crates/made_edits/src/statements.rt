@@ -6,7 +6,7 @@ ghost use Rattle.cpe_rows.specs.Prelude.{after, change, changes, has_id, IsLawfu
 ghost use Rattle.cpe_rows.specs.declared.edit.Edit.TheVariants as edit;
 ghost use Rattle.kept_verdicts.specs.Kept.{Stands};
 ghost use Rattle.engine_parts.specs.Parts.{AreOf, edit_in, rows_in};
-ghost use Rattle.made_edits.specs.Looks.{edit_looks};
+ghost use Rattle.made_edits.specs.Looks.{made_looks};
 ghost use Rattle.made_edits.specs.Ready.{IsReady};
 ghost use Rattle.made_edits.specs.Told.{dropped_by, put_by};
 
@@ -37,7 +37,7 @@ pub(crate) fn put_statement<L: Ledger>(
     ensures err { OnErr result (AreOf parts.new.registry parts.new.verdicts (rows_in parts.old) []) }
     ensures weight { parts.new.weight ≡ parts.old.weight }
     ensures changes { IfOk result (λ cs. cs ≡ changes (rows_in parts.old) (edit_in parts.old (Numbered.PutStatement statement ids))) }
-    ensures steps { StepsWithin steps.old steps.new (edit_looks (rows_in parts.old) (edit_in parts.old (Numbered.PutStatement statement ids))) }
+    ensures steps { StepsWithin steps.old steps.new (made_looks (rows_in parts.old) (edit_in parts.old (Numbered.PutStatement statement ids))) }
 {
     asked_names::law::statements_ask();
     cpe_rows::law::statements_stand_alone();
@@ -73,7 +73,7 @@ pub(crate) fn drop_statement<L: Ledger>(
     ensures err { OnErr result (AreOf parts.new.registry parts.new.verdicts (rows_in parts.old) []) }
     ensures weight { parts.new.weight ≡ parts.old.weight }
     ensures changes { IfOk result (λ cs. cs ≡ changes (rows_in parts.old) (edit_in parts.old (Numbered.DropStatement id))) }
-    ensures steps { StepsWithin steps.old steps.new (edit_looks (rows_in parts.old) (edit_in parts.old (Numbered.DropStatement id))) }
+    ensures steps { StepsWithin steps.old steps.new (made_looks (rows_in parts.old) (edit_in parts.old (Numbered.DropStatement id))) }
 {
     cpe_rows::law::statements_stand_alone();
     let place = parts.verdicts.place_of(&id);
