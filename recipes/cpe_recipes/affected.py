@@ -46,11 +46,12 @@ class Hangs(Protocol):
 
 @dataclass
 class About:
-    """What is known of advisories beside their verdicts."""
+    """What is known of advisories beside their verdicts; `doubts` are reasons why what is FALSE could be another verdict."""
 
     details: dict[str, Json]
     suppressed: Suppressed
     hanging: Hangs
+    doubts: list[str] = field(default_factory=list)
     accepted: list[tuple[str | None, str, str, str]] = field(default_factory=list)
 
     def score(self, id: str) -> float:
@@ -124,7 +125,7 @@ def _rows(machine: Machine, about: About) -> Iterator[list[str]]:
             continue
         detail = about.details.get(id, {})
         score, title = detail.get("score"), detail.get("title")
-        hangs = about.hanging.on(id, machine.name) if truth == "UNKNOWN" else []
+        hangs = about.hanging.on(id, machine.name) if truth == "UNKNOWN" else about.doubts if truth == "FALSE" else []
         yield [name, truth, id, "" if score is None else str(score), cut(str(title or ""), _TITLE_WIDTH), _some(hangs)]
 
 

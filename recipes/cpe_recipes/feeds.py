@@ -6,12 +6,12 @@ import json
 import re
 import sys
 import zlib
-from collections.abc import Callable, Iterator, Sequence
-from dataclasses import dataclass
+from collections.abc import Callable, Iterator, Mapping, Sequence
+from dataclasses import dataclass, field
 from pathlib import Path
-from typing import Any
+from typing import Any, NamedTuple
 
-from .said import Fatal, Said, why
+from .said import Fatal, Said, quoted, why
 
 Json = Any
 
@@ -19,6 +19,10 @@ _GZIP = b"\x1f\x8b"
 _SPACE = re.compile(r"\s*")
 _SURROGATE = re.compile("[\ud800-\udfff]")
 _COMPACT = json.JSONEncoder(ensure_ascii=False, separators=(",", ":")).encode
+# What pages of NVD's API 2.0 say that they are, and what each tells of its place in its feed.
+_FORMATS = {"products": "NVD_CPE", "vulnerabilities": "NVD_CVE", "matchStrings": "NVD_CPEMatchString"}
+_VERSION = re.compile(r"2\.0(\.\d+)?")
+COUNTS = ("totalResults", "startIndex", "resultsPerPage")
 
 
 class FeedFault(Exception):
@@ -29,22 +33,53 @@ class FormFault(Exception):
     """A record of a feed isn't of the published form."""
 
 
+@dataclass(frozen=True, slots=True)
+class Source:
+    """Where records come from: what one of them is called, and the file."""
+
+    word: str
+    name: str
+
+    def place(self, number: int) -> str:
+        return f"{self.word} {number} of {self.name}"
+
+
+class Placed(NamedTuple):
+    """A record of a page with its id, and its number there; one without an id is called by its place."""
+
+    id: str
+    record: Json
+    source: Source
+    number: int
+
+
 @dataclass(frozen=True)
 class Page:
-    """A page of a feed: the name of its file, the member that has its records, and these."""
+    """A page of a feed: the name of its file, the member that has its records, these, and what it tells of its place in its feed.
+
+    `numbers` has the places of the records in the file, where some of them were taken out.
+    """
 
     name: str
     kind: str
     records: list[Json]
+    counts: Mapping[str, int] = field(default_factory=dict)
+    numbers: Sequence[int] | None = None
 
-    def each(self, word: str, id_of: Callable[[Json], Json]) -> Iterator[tuple[str, Json]]:
+    def each(self, word: str, id_of: Callable[[Json], Json]) -> Iterator[Placed]:
         """The records with their ids; one that has none is told by its place, as `word`."""
-        for place, record in enumerate(self.records, 1):
+        source = Source(word, self.name)
+        for number, record in zip(self.numbers or range(1, len(self.records) + 1), self.records):
             try:
                 id = id_of(record)
             except FormFault:
                 id = None
-            yield (id if isinstance(id, str) and id else f"{word} {place} of {self.name}"), record
+            yield Placed(id if isinstance(id, str) and id else source.place(number), record, source, number)
+
+    def only(self, kept: Sequence[int]) -> Page:
+        """The page with the records at these places of its list alone."""
+        numbers = self.numbers or range(1, len(self.records) + 1)
+        return Page(self.name, self.kind, [self.records[k] for k in kept], self.counts, [numbers[k] for k in kept])
 
 
 def name_of(path: str | None) -> str:
@@ -137,8 +172,31 @@ def _page(name: str, value: Json, kinds: Sequence[str]) -> Page:
     if isinstance(value, dict):
         for kind in kinds:
             if isinstance(value.get(kind), list):
-                return Page(name, kind, value[kind])
+                _check_format(value, kind)
+                return Page(name, kind, value[kind], _counts(value))
+    if isinstance(value, dict) and "CVE_Items" in value:
+        raise FeedFault("a feed of NVD's format 1.1, which isn't read: take that of 2.0")
     raise FeedFault(f"no {kinds[0]}" if len(kinds) == 1 else f"neither {' nor '.join(kinds)}")
+
+
+def _check_format(value: Json, kind: str) -> None:
+    """Whether a page is of the format that is read, where it says which it is."""
+    wanted = _FORMATS.get(kind)
+    given = value.get("format", wanted)
+    if given != wanted:
+        raise FeedFault(f"its format is {quoted(given)}, and that of {kind} is {wanted}")
+    version = value.get("version", "2.0")
+    if wanted and not (isinstance(version, str) and _VERSION.fullmatch(version)):
+        raise FeedFault(f"its version is {quoted(version)}, and 2.0 is what is read")
+
+
+def _counts(value: Json) -> dict[str, int]:
+    """What a page tells of its place in its feed."""
+    found = {key: value[key] for key in COUNTS if value.get(key) is not None}
+    for key, count in found.items():
+        if isinstance(count, bool) or not isinstance(count, int) or count < 0:
+            raise FeedFault(f"its {key} is {quoted(count)}, which is no count")
+    return found
 
 
 def member(value: Json, key: str) -> Json:

@@ -6,9 +6,9 @@ import json
 from collections.abc import Iterator
 from dataclasses import dataclass, replace
 
-from . import decide, matches, unlisted
+from . import decide, matches, unlisted, whole
 from .advisories import Range
-from .feeds import FeedFault, name_of, pages, read_feed
+from .feeds import FeedFault, name_of, read_feed
 from .machines import Machine, read_machines
 from .program import Program
 from .said import Fatal, Said
@@ -190,7 +190,7 @@ def _decided(
         return {name: (decided, decided, decided) for name, decided in before.items()}
     if not ranges:
         return {}
-    feed = pages(words.many("--matches"), said, matches.KINDS, strict=True) if words.has("--matches") else []
+    feed = whole.pages(words.many("--matches"), said, matches.KINDS, strict=True) if words.has("--matches") else []
     lists = decide.Lists(program, matches.listed(feed, ranges.keys(), said))
     letters = read_letters(words.one("--letters") or decide.LETTERS)
     items = [item for machine in machines for item in names.items(machine)]

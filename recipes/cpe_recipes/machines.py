@@ -6,8 +6,8 @@ from collections.abc import Callable, Sequence
 from dataclasses import dataclass, field
 
 from .feeds import FeedFault, name_of, read_feed
-from .program import Candidate, prefix_of
-from .said import Fatal, Said
+from .program import Candidate
+from .said import Fatal, Said, quoted
 
 _ENDINGS = (".gz", ".json", ".txt", ".cdx", ".spdx")
 
@@ -61,7 +61,7 @@ def read_lists(paths: Sequence[str], reader: Reader, said: Said) -> list[Machine
             if isinstance(name, str):
                 machine.items.append(name)
             else:
-                said.left_out(f"{called} {one.id}", one.reason or f"no text as its name: {prefix_of(one.record)}")
+                said.left_out(f"{called} {one.id}", one.reason or f"no text as its name: {quoted(one.record)}")
         _put(machines, machine, said)
     if not machines:
         raise Fatal("no software list was given")

@@ -10,20 +10,31 @@ from collections.abc import Iterable, Iterator, Sequence
 from dataclasses import dataclass
 from typing import IO
 
-from .said import Fatal, Said, why
+from .feeds import Placed, Source
+from .said import Fatal, Said, quoted, why
 
 # Lines are handed over in pieces of about so many bytes.
 _PIECE = 1 << 16
-_MOST_SHOWN = 100
 
 
-@dataclass(frozen=True)
+@dataclass(frozen=True, slots=True)
 class Candidate:
-    """What became of a record of a feed, which has an id there: a record for cpe, or else the reason why there is none."""
+    """What became of a record of a feed, which has an id there: a record for cpe, or else the reason why there is none. It may be known
+    where it stands."""
 
     id: str
     record: str = ""
     reason: str = ""
+    source: Source | None = None
+    number: int = 0
+
+    def place(self) -> str:
+        return "" if self.source is None else self.source.place(self.number)
+
+
+def candidate_at(placed: Placed, id: str, record: str = "", reason: str = "") -> Candidate:
+    """What became of a record that stands there."""
+    return Candidate(id, record, reason, placed.source, placed.number)
 
 
 class Program:
@@ -61,6 +72,16 @@ class Program:
         """What the program writes under these words over these lines."""
         return list(self.lines(words, records))
 
+    def answers(self, words: Sequence[str], questions: Iterable[str], count: int) -> list[str]:
+        """The answers to so many questions, each of one line, in their order. Fatal where one is missing, or another's."""
+        found = self.run(words, questions)
+        if len(found) != count:
+            raise Fatal(f"{self.path} {' '.join(words)} answered {len(found):,} of {count:,} lines")
+        for number, line in enumerate(found, 1):
+            if line.startswith("refused ") and line.split(" ", 2)[1] != str(number):
+                raise Fatal(f"{self.path} {' '.join(words)} answered line {number:,} with {quoted(line)}")
+        return found
+
     def bytes(self, words: Sequence[str], data: bytes) -> bytes:
         """What the program writes under these words over these bytes."""
         try:
@@ -80,11 +101,11 @@ class Program:
         records = []
         for number, one in enumerate(kept, 1):
             if not one.record:
-                said.left_out(one.id, one.reason)
+                said.left_out(one.id, one.reason, one.place())
             elif number not in reasons:
                 records.append(one.record)
             elif reasons[number] != unsaid:
-                said.left_out(one.id, f"{reasons[number]}: {prefix_of(one.record)}")
+                said.left_out(one.id, f"{reasons[number]}: {quoted(one.record)}", one.place())
         return records
 
 
@@ -135,8 +156,3 @@ def refusals(lines: Iterable[str]) -> dict[int, str]:
             _, number, reason = line.split(" ", 2)
             found[int(number)] = reason
     return found
-
-
-def prefix_of(record: str) -> str:
-    """A record, or its beginning where it is long."""
-    return record if len(record) <= _MOST_SHOWN else f"{record[:_MOST_SHOWN]}..."

@@ -19,6 +19,8 @@ from typing import NoReturn
 DONE, LEFT_OUT, NO_RESULT, STOPPED = 0, 1, 2, 130
 # Where this variable is set, a fault of a recipe is told with all that led to it.
 TRACEBACK = "CPE_TRACEBACK"
+# How many bytes of what was read stand in a message.
+MOST_QUOTED = 200
 
 if sys.version_info < (3, 11):
     print(f"{sys.argv[0]}: this python3 is {sys.version.split()[0]}, and the recipes need 3.11 or newer", file=sys.stderr)
@@ -39,6 +41,15 @@ def shown(text: str) -> str:
 def _by_number(one: str) -> str:
     number = ord(one)
     return f"\\u{number:04x}" if number < 0x10000 else f"\\U{number:08x}"
+
+
+def quoted(value: object, most: int = MOST_QUOTED) -> str:
+    """What a message quotes, cut where it has more bytes than this."""
+    text = value if isinstance(value, str) else str(value)
+    if len(text) * 4 <= most:
+        return text
+    data = text.encode(errors="backslashreplace")
+    return text if len(data) <= most else f"{data[:most].decode(errors='ignore')}..."
 
 
 def why(fault: OSError) -> str:
@@ -69,10 +80,11 @@ class Said:
         self.left = 0
         self.remarks = 0
 
-    def left_out(self, id: str, reason: str) -> None:
-        """Something was not read, or is no record."""
+    def left_out(self, id: str, reason: str, place: str = "") -> None:
+        """Something was not read, or is no record; it stands at this place of a file, where it isn't called by that."""
         self.left += 1
-        self._say_some(f"left out {id}: {reason}", f"left out {{}} more: {reason}")
+        where = f", {place}" if place and place != id else ""
+        self._say_some(f"left out {quoted(id)}{where}: {reason}", f"left out {{}} more: {reason}")
 
     def remark(self, text: str, id: str = "") -> None:
         """Worth knowing, and nothing is lost."""
@@ -101,15 +113,21 @@ class Said:
 
 
 class Noting(Said):
-    """What is told, where the result has what was left out too: all of it, with ids and reasons."""
+    """What is told, where the result has what was left out too: all of it, with ids, reasons and places."""
 
     def __init__(self, descriptor: int = 2, before: Callable[[], None] | None = None, most_alike: int | None = None) -> None:
         super().__init__(descriptor, before, most_alike)
-        self.noted: list[tuple[str, str]] = []
+        self.noted: list[tuple[str, str, str]] = []
 
-    def left_out(self, id: str, reason: str) -> None:
-        self.noted.append((id, reason))
-        super().left_out(id, reason)
+    def left_out(self, id: str, reason: str, place: str = "") -> None:
+        self.noted.append((id, reason, place))
+        super().left_out(id, reason, place)
+
+    def json(self) -> list[dict[str, str]]:
+        """What was left out, as it stands in the result."""
+        return [
+            {"id": id, "reason": reason} | ({"place": place} if place and place != id else {}) for id, reason, place in self.noted
+        ]
 
 
 class Output:

@@ -62,7 +62,7 @@ class Runs(unittest.TestCase):
         said = Heard()
         candidates = [Candidate("a", "{1}"), Candidate("b", "{2}"), Candidate("c", reason="rejected"), Candidate("d", "{" + "4" * 200)]
         self.assertEqual(program.accepted(candidates, said), ["{1}"])
-        told = ["left out b: exists: {2}", "left out c: rejected", "left out d: name name 9: {" + "4" * 99 + "..."]
+        told = ["left out b: exists: {2}", "left out c: rejected", "left out d: name name 9: {" + "4" * 199 + "..."]
         self.assertEqual(said.told, told)
         said = Heard()
         self.assertEqual(program.accepted(candidates, said, "exists"), ["{1}"])

@@ -59,7 +59,7 @@ class Lines(unittest.TestCase):
         here.remark("rejected", "CVE-0")
         for id in ("CVE-1", "CVE-2"):
             here.left_out(id, "no configurations")
-        self.assertEqual(here.noted, [("CVE-1", "no configurations"), ("CVE-2", "no configurations")])
+        self.assertEqual(here.noted, [("CVE-1", "no configurations", ""), ("CVE-2", "no configurations", "")])
         self.assertEqual((here.left, self.told()), (2, "remark CVE-0: rejected\nleft out CVE-1: no configurations\n"))
 
     def test_a_line_stays_one_line_and_no_terminal_obeys_it(self):
