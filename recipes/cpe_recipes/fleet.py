@@ -8,8 +8,9 @@ from dataclasses import dataclass, replace
 
 from . import decide, matches, unlisted
 from .advisories import Range
+from .components import Machine
 from .feeds import FeedFault, name_of, pages, read_feed
-from .machines import Machine, read_machines
+from .machines import read_machines
 from .program import Program
 from .said import Fatal, Said
 from .session import Asked, Known

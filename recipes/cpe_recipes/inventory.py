@@ -21,6 +21,7 @@ import re
 from collections.abc import Iterable, Iterator, Sequence
 
 from . import machines
+from .components import Machine
 from .feeds import FeedFault, FormFault, Json, members, name_of, read_feed, record_text, text_at, values_of
 from .program import Candidate, Program
 from .said import Fatal, Output, Said
@@ -49,7 +50,7 @@ def run(words: Sequence[str]) -> int:
     return said.status()
 
 
-def machine_lines(program: Program, found: Iterable[machines.Machine], said: Said) -> Iterator[str]:
+def machine_lines(program: Program, found: Iterable[Machine], said: Said) -> Iterator[str]:
     """Lines of machines, with what cpe takes as an item."""
     for machine in found:
         if any(one.isspace() for one in machine.name):
@@ -58,7 +59,7 @@ def machine_lines(program: Program, found: Iterable[machines.Machine], said: Sai
         names = [json.loads(record)["name"] for record in program.accepted(items, said, unsaid="exists")]
         if not names:
             said.left_out(machine.name, "no items")
-        yield " ".join([machine.name, *names])
+        yield Machine(machine.name, names).line()
 
 
 def _all_candidates(feed: str, data: bytes) -> list[Candidate]:

@@ -6,9 +6,9 @@ from dataclasses import dataclass, field
 
 from . import advisories, affected, names, verdicts
 from .cases import Known, Product
+from .components import Machine
 from .decide import Decided, Lead
 from .feeds import Json
-from .machines import Machine
 from .perhaps import Pairs
 from .said import Said
 from .table import counted

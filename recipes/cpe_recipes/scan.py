@@ -34,10 +34,11 @@ from dataclasses import dataclass, field
 
 from . import advisories, affected, dictionary, inventory, matches, products, suppressed, unlisted, verdicts
 from .cases import Cases, Index, Known, Product, items_by_product, lines_of, verdicts_of
+from .components import Machine
 from .decide import LETTERS, Decider, Lead, Leads, Lists, decide, leads_of
 from .deciding import Deciding
 from .feeds import FeedFault, Page, name_of, pages, read_feed, text_lines
-from .machines import Machine, read_lists, read_machines
+from .machines import read_lists, read_machines
 from .outcome import MOST_ALIKE, Found, Hanging, json_of, machines_with_verdicts, perhaps, tell_items, tell_perhaps
 from .partly import Partly
 from .perhaps import Pairs, facts_of

@@ -15,9 +15,10 @@ import json
 from collections.abc import Collection, Iterable, Iterator, Mapping, Sequence
 
 from . import names
+from .components import Machine
 from .decide import Lead, Leads, leads_of, read_entries
 from .feeds import record_text
-from .machines import Machine, read_machines
+from .machines import read_machines
 from .program import Program, refusals
 from .said import Fatal, Output, Said
 from .words import read_words
