@@ -10,7 +10,8 @@ between them. Where that can't say all that is known, the line is an object of J
      {"id":"openssl","names":["cpe:2.3:a:..","cpe:2.3:a:.."],"kind":"deb","purl":"pkg:deb/debian/openssl@3.0.11-1"}]}
 
 (here in two lines). A component with nothing but one name may be that text. `platform` is missing where the list says nothing of
-it; it has no names where the list says which operating system it is, and gives no name for it.
+it; it has no names where the list says which operating system it is, and gives no name for it. In a plain line a platform is the
+first name.
 """
 from __future__ import annotations
 
@@ -85,7 +86,7 @@ class Machine:
     def line(self) -> str:
         """The line of the machine."""
         is_plain = not self.name.startswith("{") and not any(one.isspace() for one in self.name)
-        if is_plain and self.platform is None and all(one.is_name_alone() for one in self.components):
+        if is_plain and all(one.is_name_alone() for one in self.all()):
             return " ".join([self.name, *self.items])
         record: dict[str, Json] = {"machine": self.name}
         if self.platform is not None:

@@ -1,20 +1,16 @@
 """What the machines have, from a file with a line for each, or from a software list of each. components.py says what a machine is."""
 from __future__ import annotations
 
-import json
-from collections.abc import Callable, Sequence
+from collections.abc import Sequence
 
-from .components import Component, Machine, machine_of
+from . import lists
+from .components import Machine, machine_of
 from .feeds import FeedFault, FormFault, name_of, read_feed, values_of
-from .program import Candidate, prefix_of
 from .said import Fatal, Said
 
 NO_NAME = "no CPE name"
 
 _ENDINGS = (".gz", ".json", ".txt", ".cdx", ".spdx")
-
-# What the names of a software list are read by: its base name and its bytes to candidates of records `item`.
-Reader = Callable[[str, bytes], Sequence[Candidate]]
 
 
 def read_machines(path: str, said: Said) -> list[Machine]:
@@ -34,7 +30,7 @@ def read_machines(path: str, said: Said) -> list[Machine]:
         if machine is not None:
             _put(machines, machine, said)
     for machine in machines.values():
-        for one in machine.components:
+        for one in machine.all():
             if not one.names:
                 said.left_out(f"{machine.name} {one.called()}", NO_NAME)
     if not machines:
@@ -56,26 +52,25 @@ def _machine(line: bytes, where: str) -> Machine | None:
     return Machine(words[0], words[1:]) if words else None
 
 
-def read_lists(paths: Sequence[str], reader: Reader, said: Said) -> list[Machine]:
-    """A machine for each software list, which is called as its file is. What has no name of its own there is said. Fatal
-    where one can't be read, or has nothing in it."""
+def read_lists(paths: Sequence[str], said: Said) -> list[Machine]:
+    """A machine for each software list, which is called as its file is. What was not read of it, and what has no name there, is
+    said. Fatal where a list can't be read, or has nothing in it."""
     machines: dict[str, Machine] = {}
     for path, called in zip(paths, _names_of_lists(paths)):
         feed = name_of(path)
-        machine = Machine(called)
         try:
-            candidates = list(reader(feed, read_feed(path)))
+            listed = lists.read(feed, read_feed(path))
         except FeedFault as fault:
             raise Fatal(f"{feed}: {fault}") from fault
-        if not candidates:
+        parts = list(listed.all())
+        if not parts:
             raise Fatal(f"{feed}: nothing is in it")
-        for one in candidates:
-            name = json.loads(one.record)["name"] if one.record else None
-            if isinstance(name, str):
-                machine.components.append(Component(one.id, (name,)))
-            else:
-                said.left_out(f"{called} {one.id}", one.reason or f"no text as its name: {prefix_of(one.record)}")
-        _put(machines, machine, said)
+        for one in parts:
+            if isinstance(one, lists.Odd):
+                said.left_out(f"{called} {one.id}", one.reason)
+            elif not one.names:
+                said.left_out(f"{called} {one.called()}", NO_NAME)
+        _put(machines, Machine(called, listed.components(), listed.platform), said)
     if not machines:
         raise Fatal("no software list was given")
     return list(machines.values())

@@ -32,7 +32,7 @@ import json
 from collections.abc import Collection, Iterable, Iterator, Sequence
 from dataclasses import dataclass, field
 
-from . import advisories, affected, dictionary, inventory, matches, products, suppressed, unlisted, verdicts
+from . import advisories, affected, dictionary, matches, products, suppressed, unlisted, verdicts
 from .cases import Cases, Index, Known, Product, items_by_product, lines_of, verdicts_of
 from .components import Machine
 from .decide import LETTERS, Decider, Lead, Leads, Lists, decide, leads_of
@@ -285,7 +285,7 @@ def _records(paths: Sequence[str]) -> list[Candidate]:
 def read_asked(read: Words, said: Said) -> list[Machine]:
     if read.has("--machines"):
         return read_machines(read.one("--machines") or "", said)
-    return read_lists(read.many("--lists"), lambda feed, data: list(inventory.candidates_of(feed, data)), said)
+    return read_lists(read.many("--lists"), said)
 
 
 def run(words: Sequence[str]) -> int:

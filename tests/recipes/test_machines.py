@@ -9,22 +9,10 @@ sys.path.insert(0, str(Path(__file__).resolve().parents[2] / "recipes"))
 sys.path.insert(0, str(Path(__file__).resolve().parent))
 
 from cpe_recipes.components import Component, Machine, machine_of  # noqa: E402
-from cpe_recipes.feeds import FeedFault, FormFault, record_text  # noqa: E402
+from cpe_recipes.feeds import FormFault  # noqa: E402
 from cpe_recipes.machines import read_lists, read_machines  # noqa: E402
-from cpe_recipes.program import Candidate  # noqa: E402
 from cpe_recipes.said import Fatal  # noqa: E402
 from stand_in import Heard  # noqa: E402
-
-
-def reader(feed, data):
-    """A list of names, a line each; `-` has none, `7` is a number, and `{` is no list."""
-    if data.startswith(b"{"):
-        raise FeedFault("no list")
-    for number, line in enumerate(data.decode().splitlines(), 1):
-        if line == "-":
-            yield Candidate(f"line {number}", reason="no CPE name")
-        else:
-            yield Candidate(f"line {number}", record_text({"do": "item", "name": [7] if line == "7" else line}))
 
 
 class Machines(unittest.TestCase):
@@ -66,22 +54,25 @@ class Machines(unittest.TestCase):
             Machine("{odd", ["cpe:/a:v:p"]),
             Machine("of two words", []),
             Machine("bare"),
+            Machine("plain-too", ["cpe:/a:v:p"], Component("os", ("cpe:/o:v:o",))),
         ]
         lines = [one.line() for one in machines]
         self.assertEqual(lines[0], "plain cpe:/a:v:p cpe:/a:v:q")
         self.assertEqual(lines[2], '{"machine":"nameless","platform":{"id":"alpine 3.18","names":[]},'
                          '"components":[{"id":"left-pad","names":[],"kind":"npm","purl":"pkg:npm/left-pad@1"}]}')
+        self.assertEqual(lines.pop(), "plain-too cpe:/o:v:o cpe:/a:v:p")
         path = self.file("machines.txt", "".join(f" {line}\r\n" for line in lines).encode())
-        self.assertEqual(read_machines(path, self.said), machines)
-        self.assertEqual(self.said.told, ["left out nameless left-pad: no CPE name"])
+        self.assertEqual(read_machines(path, self.said), machines[:-1])
+        self.assertEqual(self.said.told, ["left out nameless alpine 3.18: no CPE name", "left out nameless left-pad: no CPE name"])
         self.assertEqual(machines[1].items, [*platform.names, *several.names, "cpe:/a:v:p", "cpe:/a:v:q"])
 
     def test_machines_of_two_lists_have_what_both_say(self):
-        debian, other = Component("debian 12", ("cpe:/o:debian:debian_linux:12",)), Component("alpine 3", ("cpe:/o:alpinelinux:alpine_linux:3",))
+        debian, other = Component("debian 12", ("cpe:/o:debian:debian_linux:12", "cpe:/o:debian:debian_linux:12.0")), Component("alpine 3")
         lines = [Machine("a", ["cpe:/a:v:p"]), Machine("a", ["cpe:/a:v:q"], debian), Machine("a", ["cpe:/a:v:r"], other), Machine("a", (), debian)]
         path = self.file("machines.txt", "".join(f"{one.line()}\n" for one in lines).encode())
         self.assertEqual(read_machines(path, self.said), [Machine("a", ["cpe:/a:v:p", "cpe:/a:v:q", other, "cpe:/a:v:r"], debian)])
-        self.assertEqual(self.said.told, ["remark a comes more than once, and has the items of each"] * 3)
+        remark, nameless = "remark a comes more than once, and has the items of each", "left out a alpine 3: no CPE name"
+        self.assertEqual(self.said.told, [remark, remark, remark, nameless])
 
     def test_objects_that_are_no_machine(self):
         bad = {
@@ -115,19 +106,21 @@ class Machines(unittest.TestCase):
         self.assertEqual([one.name for one in read_machines(path, self.said)], ["m\\xe4", "m\\xf6"])
 
     def test_a_machine_for_each_list(self):
-        paths = [self.file("web.example.org.json", b"cpe:/a:v:p\n-\n"), self.file("nameless.cdx.json.gz", b"7\n")]
-        self.assertEqual(read_lists(paths, reader, self.said), [Machine("web.example.org", [Component("line 1", ("cpe:/a:v:p",))]), Machine("nameless")])
-        self.assertEqual(self.said.told, ["left out web.example.org line 2: no CPE name", 'left out nameless line 1: no text as its name: {"do":"item","name":[7]}'])
+        spdx = {"spdxVersion": "SPDX-2.3", "packages": [{"SPDXID": "p"}, {"SPDXID": "q", "externalRefs": [{"referenceType": "cpe22Type", "referenceLocator": 7}]}]}
+        paths = [self.file("web.example.org.json", b"cpe:/a:v:p\n"), self.file("nameless.spdx.json", json.dumps(spdx).encode())]
+        wanted = [Machine("web.example.org", [Component("line 1 of web.example.org.json", ("cpe:/a:v:p",))]), Machine("nameless", [Component("p")])]
+        self.assertEqual(read_lists(paths, self.said), wanted)
+        self.assertEqual(self.said.told, ["left out nameless p: no CPE name", "left out nameless q: the locator of a reference is no text"])
 
     def test_lists_of_the_same_name_in_other_folders_are_other_machines(self):
-        paths = [self.file("web/bom.json", b"cpe:/a:v:p\n"), self.file("db/bom.json", b"cpe:/a:v:q\n"), self.file("db/bare.txt", b"-\n")]
-        self.assertEqual([one.name for one in read_lists(paths, reader, self.said)], [f"{self.folder}/web/bom", f"{self.folder}/db/bom", "bare"])
+        paths = [self.file("web/bom.json", b"cpe:/a:v:p\n"), self.file("db/bom.json", b"cpe:/a:v:q\n"), self.file("db/bare.txt", b"cpe:/a:v:r\n")]
+        self.assertEqual([one.name for one in read_lists(paths, self.said)], [f"{self.folder}/web/bom", f"{self.folder}/db/bom", "bare"])
 
     def test_a_list_that_can_not_be_read_is_fatal(self):
         good = self.file("web.json", b"cpe:/a:v:p\n")
-        for path in (self.file("other.json", b"{}"), self.file("empty.json", b""), str(self.folder / "none.json")):
+        for path in (self.file("other.json", b"{}"), self.file("empty.json", b""), self.file("bare.txt", b"# none\n"), str(self.folder / "none.json")):
             with self.subTest(path), self.assertRaises(Fatal):
-                read_lists([good, path], reader, self.said)
+                read_lists([good, path], self.said)
 
 
 if __name__ == "__main__":
