@@ -105,7 +105,7 @@ class Program:
             elif number not in reasons:
                 records.append(one.record)
             elif reasons[number] != unsaid:
-                said.left_out(one.id, f"{reasons[number]}: {quoted(one.record)}", one.place())
+                said.left_out(one.id, f"{reasons[number]}: {prefix_of(one.record)}", one.place())
         return records
 
 
@@ -156,3 +156,8 @@ def refusals(lines: Iterable[str]) -> dict[int, str]:
             _, number, reason = line.split(" ", 2)
             found[int(number)] = reason
     return found
+
+
+def prefix_of(record: str) -> str:
+    """A record, or its beginning where it is long."""
+    return quoted(record)
