@@ -34,6 +34,7 @@ from . import latest, whole
 from .feeds import FormFault, Json, Page, Placed, member, members, record_text, text_at
 from .program import Candidate, Program, candidate_at, refusals
 from .said import Fatal, Output, Said, quoted, write_file
+from .scores import score_of
 from .unanalysed import States
 from .words import ONE, read_words
 
@@ -466,9 +467,10 @@ def _score(cve: Json) -> dict[str, Json]:
     for place, version in enumerate(_SCORES):
         for metric in _found(lambda: members(member(cve, "metrics") or {}, version)) or []:
             data = _found(lambda: member(metric, "cvssData"))
-            if isinstance(data, dict) and isinstance(data.get("baseScore"), (int, float)):
+            score = score_of(data.get("baseScore")) if isinstance(data, dict) else None
+            if score is not None:
                 severity = data.get("baseSeverity") or metric.get("baseSeverity")
-                found.append((metric.get("type") != "Primary", place, data["baseScore"], severity))
+                found.append((metric.get("type") != "Primary", place, score, severity))
     if not found:
         return {}
     _, _, score, severity = min(found, key=lambda one: one[:2])

@@ -34,8 +34,8 @@ def run(words: list[str]) -> int:
     if before.has_machines != after.has_machines:
         bare, other = paths if after.has_machines else reversed(paths)
         raise Fatal(f"{name_of(other)} has machines, and {name_of(bare)} has none")
-    output.lines([shown(line) for line in changes(before, after, said)])
-    output.end()
+    output.lines(list(changes(before, after, said)))
+    output.end(shown)
     return said.status()
 
 

@@ -227,5 +227,11 @@ def text_at(value: Json, key: str) -> str | None:
 def record_text(record: Json) -> str:
     """A record as the compact JSON of its line."""
     text = _COMPACT(record)
+    return text if text.isprintable() else json_shown(text)
+
+
+def json_shown(text: str) -> str:
+    """A text of JSON as a terminal shows it: what can't be printed is spelled by its number, as JSON has it. Ends of lines stay."""
     # (half a character of two, which JSON can spell, has no bytes)
-    return text if text.isascii() else _SURROGATE.sub("\ufffd", text)
+    whole = text if text.isascii() else _SURROGATE.sub("\ufffd", text)
+    return "".join(one if one.isprintable() or one == "\n" else json.dumps(one)[1:-1] for one in whole)

@@ -89,7 +89,7 @@ def cut(program: Program, page: Page, wanted: set[Product]) -> list[int]:
     named = [_vulnerable(record) for record in page.records]
     asked = list(dict.fromkeys(name for found in named if found is not None for name in found))
     lookups = (record_text({"do": "lookup", "name": name}) for name in asked)
-    answers = program.answers(["resolve"], lookups, len(asked)) if asked else []
+    answers = program.answers(["resolve"], lookups) if asked else []
     # (one that is refused is no name)
     goes_on = {name for name, line in zip(asked, answers) if _concerns(line, wanted)}
     return [place for place, found in enumerate(named) if found is None or not goes_on.isdisjoint(found)]

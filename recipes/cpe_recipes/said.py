@@ -7,6 +7,7 @@ from __future__ import annotations
 
 import contextlib
 import os
+import re
 import signal
 import sys
 import tempfile
@@ -21,6 +22,8 @@ DONE, LEFT_OUT, NO_RESULT, STOPPED = 0, 1, 2, 130
 TRACEBACK = "CPE_TRACEBACK"
 # How many bytes of what was read stand in a message.
 MOST_QUOTED = 200
+_WORD = re.compile(r"\S{50,}")
+_MOST_BEHIND = 8
 
 if sys.version_info < (3, 11):
     print(f"{sys.argv[0]}: this python3 is {sys.version.split()[0]}, and the recipes need 3.11 or newer", file=sys.stderr)
@@ -50,6 +53,17 @@ def quoted(value: object, most: int = MOST_QUOTED) -> str:
         return text
     data = text.encode(errors="backslashreplace")
     return text if len(data) <= most else f"{data[:most].decode(errors='ignore')}..."
+
+
+def cut_words(text: str, most: int = MOST_QUOTED) -> str:
+    """A message whose words, such as names that it quotes, are cut where they are longer than this."""
+    return text if len(text) * 4 <= most else _WORD.sub(lambda found: _cut_word(found[0], most), text)
+
+
+def _cut_word(word: str, most: int) -> str:
+    # (what stands behind a name belongs to the message; the end of one that is cut already too)
+    name = word.rstrip(".,;:)")
+    return quoted(name, most) + word[len(name) :] if len(word) - len(name) <= _MOST_BEHIND else quoted(word, most)
 
 
 def why(fault: OSError) -> str:
@@ -109,7 +123,7 @@ class Said:
     def _say(self, line: str) -> None:
         if self._before is not None:
             self._before()
-        write_all(self._descriptor, f"{shown(line)}\n".encode(errors="replace"), "what was left out")
+        write_all(self._descriptor, f"{shown(cut_words(line))}\n".encode(errors="replace"), "what was left out")
 
 
 class Noting(Said):
@@ -143,9 +157,10 @@ class Output:
     def lines(self, texts: Iterator[str] | list[str]) -> None:
         self._lines.extend(texts)
 
-    def end(self) -> None:
-        """Writes all that was gathered; the result is whole after this."""
-        data = "".join(f"{line}\n" for line in self._lines).encode(errors="replace")
+    def end(self, as_shown: Callable[[str], str] | None = None) -> None:
+        """Writes all that was gathered, each line perhaps as it is shown; the result is whole after this."""
+        lines = self._lines if as_shown is None else map(as_shown, self._lines)
+        data = "".join(f"{line}\n" for line in lines).encode(errors="replace")
         self._lines.clear()
         write_all(self._descriptor, data, "the output")
 
@@ -197,7 +212,7 @@ def _fault(fault: Exception) -> str:
 
 def _end(name: str, reason: str) -> int:
     with contextlib.suppress(OSError, Fatal):
-        write_all(2, f"{name}: {shown(reason)}\n".encode(errors="replace"), "the reason")
+        write_all(2, f"{name}: {shown(cut_words(reason))}\n".encode(errors="replace"), "the reason")
     return NO_RESULT
 
 

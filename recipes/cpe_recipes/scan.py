@@ -39,7 +39,7 @@ from .cases import Cases, Index, Known, Product, items_by_product, lines_of, ver
 from .components import Machine
 from .decide import LETTERS, Decider, Lead, Leads, Lists, decide, leads_of
 from .deciding import Deciding
-from .feeds import FeedFault, Page, name_of, read_feed, text_lines
+from .feeds import FeedFault, Page, json_shown, name_of, read_feed, text_lines
 from .machines import read_lists, read_machines
 from .outcome import MOST_ALIKE, Found, Hanging, json_of, machines_with_verdicts, perhaps, tell_items, tell_perhaps
 from .partly import Partly
@@ -355,7 +355,7 @@ def _result(read: Words, program: Program, said: Noting, progress: Progress) -> 
         value = reading.mark(json_of(known, found, machines, about, rows))
         value |= states.json(verdicts.Statements([statement.id for statement in known.statements]).advisories)
         value["leftOut"] = said.json()
-        lines = [json.dumps(value, ensure_ascii=False, indent=1)]
+        lines = [json_shown(json.dumps(value, ensure_ascii=False, indent=1))]
     else:
         lines = list(affected.table_of(verdicts.Verdicts(machines), about))
         lines += [*reading.lines(), *(states.lines() if read.has("--all") else ())]

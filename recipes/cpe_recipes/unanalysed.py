@@ -10,7 +10,7 @@ from collections.abc import Iterable, Iterator
 from dataclasses import dataclass, field
 
 from .feeds import Json, Page
-from .said import Said, quoted
+from .said import Said, quoted, shown
 
 REJECTED = "Rejected"
 # Of an advisory that doesn't tell its status.
@@ -70,7 +70,7 @@ class States:
 
     def lines(self) -> Iterator[str]:
         """Each that isn't analysed, for people."""
-        return (f"not analysed {quoted(id)}: {quoted(status)}" for id, status in self.unanalysed.items())
+        return (shown(f"not analysed {quoted(id)}: {quoted(status)}") for id, status in self.unanalysed.items())
 
     def json(self, asked: Iterable[str]) -> dict[str, Json]:
         """The ids of those that have a verdict, and of those that have none, by their statuses."""
