@@ -1,21 +1,18 @@
-"""How the recipes read feeds: files or standard input, packed by gzip or not, as pages of JSON, each with a list of records."""
+"""How the recipes read feeds: files or standard input, packed or not (unpack.py), as pages of JSON, each with a list of records."""
 from __future__ import annotations
 
-import gzip
 import json
 import re
-import sys
-import zlib
 from collections.abc import Callable, Iterator, Mapping, Sequence
 from dataclasses import dataclass, field
 from pathlib import Path
 from typing import Any, NamedTuple
 
-from .said import Fatal, Said, quoted, why
+from .said import Fatal, Said, quoted
+from .unpack import LIMITS, FeedFault, Limits, Unpacked, read_feed
 
 Json = Any
 
-_GZIP = b"\x1f\x8b"
 _SPACE = re.compile(r"\s*")
 _SURROGATE = re.compile("[\ud800-\udfff]")
 _COMPACT = json.JSONEncoder(ensure_ascii=False, separators=(",", ":")).encode
@@ -23,10 +20,6 @@ _COMPACT = json.JSONEncoder(ensure_ascii=False, separators=(",", ":")).encode
 _FORMATS = {"products": "NVD_CPE", "vulnerabilities": "NVD_CVE", "matchStrings": "NVD_CPEMatchString"}
 _VERSION = re.compile(r"2\.0(\.\d+)?")
 COUNTS = ("totalResults", "startIndex", "resultsPerPage")
-
-
-class FeedFault(Exception):
-    """Why a feed can't be read, as words that stand after its name."""
 
 
 class FormFault(Exception):
@@ -87,20 +80,6 @@ def name_of(path: str | None) -> str:
     return "standard input" if path is None else Path(path).name
 
 
-def read_feed(path: str | None) -> bytes:
-    """The bytes of a feed, of standard input where there is no path; those that gzip packed are unpacked."""
-    try:
-        data = sys.stdin.buffer.read() if path is None else Path(path).read_bytes()
-    except OSError as fault:
-        raise FeedFault(f"can not be read: {why(fault)}") from fault
-    if not data.startswith(_GZIP):
-        return data
-    try:
-        return gzip.decompress(data)
-    except (OSError, EOFError, zlib.error) as fault:
-        raise FeedFault(f"can not be unpacked: {fault}") from fault
-
-
 def whole(path: str | None) -> bytes:
     """The bytes of a feed; Fatal where it can not be read."""
     try:
@@ -145,27 +124,49 @@ def _no_constant(word: str) -> None:
     raise ValueError(f"{word} is no number")
 
 
-def pages(paths: Sequence[str], said: Said, kinds: Sequence[str], strict: bool = False) -> Iterator[Page]:
+def pages(
+    paths: Sequence[str], said: Said, kinds: Sequence[str], strict: bool = False, limits: Limits = LIMITS
+) -> Iterator[Page]:
     """The pages at these paths, of standard input where there is none.
 
-    A page is an object in which one of `kinds` is a list. Where a page is none, or can't be read, the others still come out,
-    and that is said; where there is no page at all, or `strict` is asked for, it is Fatal.
+    A page is an object in which one of `kinds` is a list, in a file or a member of an archive. Where a page is none, or can't be read,
+    the others still come out, and that is said; where there is no page at all, or `strict` is asked for, it is Fatal.
     """
     good, faults = 0, []
     feeds: Sequence[str | None] = list(paths) or [None]
     for path in feeds:
         name = name_of(path)
-        try:
-            for value in values_of(read_feed(path)):
-                yield _page(name, value, kinds)
+        for one in _pages_of(path, said, kinds, limits):
+            if isinstance(one, Page):
                 good += 1
-        except FeedFault as fault:
-            if strict or len(paths) <= 1 and not good:
-                raise Fatal(f"{name}: {fault}") from fault
-            faults.append(name)
-            said.left_out(name, str(fault))
+                yield one
+            elif strict or len(paths) <= 1 and not good:
+                raise Fatal(f"{one[0]}: {one[1]}")
+            else:
+                faults.append(one[0])
+                said.left_out(*one)
     if not good:
         raise Fatal(f"none of these can be read: {', '.join(faults)}")
+
+
+def _pages_of(path: str | None, said: Said, kinds: Sequence[str], limits: Limits) -> Iterator[Page | tuple[str, str]]:
+    """The pages of a file; of what is none its name and the reason."""
+    name, unpacked = name_of(path), Unpacked(limits)
+    parts = unpacked.parts(path)
+    while True:
+        place = name
+        try:
+            part = next(parts, None)
+            if part is None:
+                break
+            place = f"{name}/{part[0]}" if part[0] else name
+            for value in values_of(part[1]):
+                yield _page(place, value, kinds)
+        except FeedFault as fault:
+            yield place, str(fault)
+    if unpacked.passed:
+        some = f"{len(unpacked.passed):,} {'member is' if len(unpacked.passed) == 1 else 'members are'} no page by the name"
+        said.remark(f"{name}: {some}, such as {quoted(unpacked.passed[0])}")
 
 
 def _page(name: str, value: Json, kinds: Sequence[str]) -> Page:

@@ -13,9 +13,10 @@ from dataclasses import dataclass, field
 from . import feeds
 from .feeds import Json, Page
 from .said import Fatal, Said
+from .unpack import LARGE, LIMITS, Limits
 from .words import FLAG, Words
 
-OPTIONS = {"--partial": FLAG}
+OPTIONS = {"--partial": FLAG, "--large": FLAG}
 # What the records of a page are called.
 CALLED = {"products": "products", "vulnerabilities": "advisories", "matchStrings": "match strings"}
 # The members in which records have their ids.
@@ -48,14 +49,15 @@ class Missing:
 
 @dataclass(frozen=True)
 class Reading:
-    """How feeds are read: whether parts of them may be missing, and which are."""
+    """How feeds are read: whether parts of them may be missing, and which are; and to how much a page may unpack."""
 
     is_partial: bool = False
+    limits: Limits = LIMITS
     missing: list[Missing] = field(default_factory=list)
 
     @staticmethod
     def of(words: Words) -> Reading:
-        return Reading(words.has("--partial"))
+        return Reading(words.has("--partial"), LARGE if words.has("--large") else LIMITS)
 
     def doubts(self) -> list[str]:
         """Why a verdict that is FALSE could be another one: names may lead elsewhere, and matches may list more. (An advisory that is
@@ -104,7 +106,7 @@ def pages(
     how = reading or Reading()
     spans: dict[str, list[_Span]] = {}
     unsaid: list[str] = []
-    for page in feeds.pages(paths, said, kinds, strict):
+    for page in feeds.pages(paths, said, kinds, strict, how.limits):
         if page.kind in _IDS:
             if "totalResults" in page.counts:
                 spans.setdefault(page.kind, []).append(_span(page))
