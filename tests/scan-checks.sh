@@ -172,6 +172,17 @@ reads_pages() {
     scans_pages "$room/out" "$room/error" --partial --all --dictionary "$pages/dictionary-0.json" "$pages/dictionary-6.json" \
         --advisories "$year" "$modified"
     judge 'a feed of which a page may be missing' $? 1 "$pages/partial.out" "$pages/partial.said"
+    scans_pages "$room/scan.json" "$room/error" --json --dictionary "$pages"/dictionary-?.json --advisories "$pages"/CVE-*.json "$year" "$modified"
+    python3 tests/recipes/truths.py "$pages/truths-records.txt" < "$room/scan.json" > "$room/out"
+    judge 'CVE records beside feeds, and their truths' $? 0 "$pages/truths-records.out" "$pages/records.said"
+    if needs 'feeds in archives' tar gzip; then
+        tar -czf "$room/nvdcpe-2.0.tar.gz" -C "$pages" dictionary-6.json dictionary-0.json dictionary-3.json
+        gzip -c "$year" > "$room/nvdcve-2.0-2024.json.gz"
+        tar -cf "$room/cves.tar" -C "$pages" CVE-2024-97005.json CVE-2024-97006.json
+        scans_pages "$room/out" "$room/error" --dictionary "$room/nvdcpe-2.0.tar.gz" --advisories "$room/cves.tar" "$modified" \
+            "$room/nvdcve-2.0-2024.json.gz"
+        judge 'feeds in archives' $? 0 "$pages/records.out" "$pages/records.said"
+    fi
     scans_pages "$room/after.json" "$room/error" --json --dictionary "$pages"/dictionary-?.json --advisories "$pages/nvdcve-2.0-later.json"
     limited sh recipes/changes.sh "$room/before.json" "$room/after.json" > "$room/out" 2> "$room/error"
     judge "what isn't analysed any more, or isn't there, is gone and not FALSE" $? 1 "$pages/changes.out" "$pages/changes.said"

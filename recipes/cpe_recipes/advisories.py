@@ -30,7 +30,7 @@ import re
 from collections.abc import Callable, Iterable, Iterator, Mapping, Sequence
 from dataclasses import dataclass, field
 
-from . import latest, whole
+from . import cve5, latest, whole
 from .feeds import FormFault, Json, Page, Placed, member, members, record_text, text_at
 from .program import Candidate, Program, candidate_at, refusals
 from .said import Fatal, Output, Said, quoted, write_file
@@ -101,23 +101,25 @@ class Range:
 
 @dataclass(frozen=True)
 class Match:
-    """A match of a node: a name, perhaps with bounds of its version."""
+    """A match of a node: a name, perhaps with bounds of its version, or with a doubt about it, which stays UNKNOWN."""
 
     id: str | None
     criteria: str | None
     is_vulnerable: bool
     bounds: dict[str, str]
+    doubt: str = ""
 
     @staticmethod
     def of(match: Json) -> Match:
         bounds = {word: text_at(match, name) for name, word in _BOUNDS.items()}
         given = {word: bound for word, bound in bounds.items() if bound is not None}
-        return Match(text_at(match, "matchCriteriaId"), text_at(match, "criteria"), _flag(match, "vulnerable"), given)
+        criteria, doubt = text_at(match, "criteria"), text_at(match, cve5.DOUBT) or ""
+        return Match(text_at(match, "matchCriteriaId"), criteria, _flag(match, "vulnerable"), given, doubt)
 
     def text(self) -> str:
         """The match in words, which is the id of its check where it has no id."""
         bounds = ", ".join(f"{word} {bound}" for word, bound in self.bounds.items())
-        return " ".join(part for part in (self.criteria or "a match without a name", bounds) if part)
+        return " ".join(part for part in (self.criteria or "a match without a name", bounds, self.doubt) if part)
 
     def fault(self) -> str | None:
         """Why its bounds are no range."""
@@ -333,7 +335,7 @@ class _Converter:
     def _match(self, id: str, match: Match, is_told: bool = False) -> Test:
         """The test of a match: its name, with a check where it has bounds; a check alone where the name is none."""
         bad = "no name" if match.criteria is None else self._bad_names.get(match.criteria)
-        if not bad and not match.bounds:
+        if not bad and not match.bounds and not match.doubt:
             return {"fact": match.criteria}
         key = self._key(match)
         if not is_told:
@@ -348,7 +350,10 @@ class _Converter:
 
     def _tell(self, id: str, match: Match, key: str, bad: str | None) -> None:
         fault = match.fault()
-        if bad or fault:
+        if match.doubt and not bad:
+            # (it was read, and is UNKNOWN since it says so)
+            self.found.stand_ins[key] = f"{quoted(match.criteria)}: {match.doubt}"
+        elif bad or fault:
             self._stand_in(id, f"{bad or fault}: {quoted(match.text())}", key)
         else:
             self.found.ranges[key] = match.range(key)
@@ -371,7 +376,7 @@ class _Converter:
 
 
 def _same(one: Match, other: Match) -> bool:
-    return one.criteria == other.criteria and one.bounds == other.bounds
+    return (one.criteria, one.bounds, one.doubt) == (other.criteria, other.bounds, other.doubt)
 
 
 def _statement(id: str, test: Test) -> dict[str, Json]:

@@ -4,7 +4,7 @@ from __future__ import annotations
 import json
 import re
 from collections.abc import Callable, Iterator, Mapping, Sequence
-from dataclasses import dataclass, field
+from dataclasses import dataclass, field, replace
 from pathlib import Path
 from typing import Any, NamedTuple
 
@@ -19,6 +19,10 @@ _COMPACT = json.JSONEncoder(ensure_ascii=False, separators=(",", ":")).encode
 # What pages of NVD's API 2.0 say that they are, and what each tells of its place in its feed.
 _FORMATS = {"products": "NVD_CPE", "vulnerabilities": "NVD_CVE", "matchStrings": "NVD_CPEMatchString"}
 _VERSION = re.compile(r"2\.0(\.\d+)?")
+ADVISORIES = "vulnerabilities"
+# What pages of CVE records are called, which are no part of a feed that tells how many it has.
+RECORDS = "CVE records"
+_RECORD_VERSION = re.compile(r"5(\.\d+)*")
 COUNTS = ("totalResults", "startIndex", "resultsPerPage")
 
 
@@ -50,7 +54,8 @@ class Placed(NamedTuple):
 class Page:
     """A page of a feed: the name of its file, the member that has its records, these, and what it tells of its place in its feed.
 
-    `numbers` has the places of the records in the file, where some of them were taken out.
+    `numbers` has the places of the records in the file, where some of them were taken out. CVE records that were put in NVD's form are
+    known by `is_of_records`.
     """
 
     name: str
@@ -58,6 +63,7 @@ class Page:
     records: list[Json]
     counts: Mapping[str, int] = field(default_factory=dict)
     numbers: Sequence[int] | None = None
+    is_of_records: bool = False
 
     def each(self, word: str, id_of: Callable[[Json], Json]) -> Iterator[Placed]:
         """The records with their ids; one that has none is told by its place, as `word`."""
@@ -72,7 +78,8 @@ class Page:
     def only(self, kept: Sequence[int]) -> Page:
         """The page with the records at these places of its list alone."""
         numbers = self.numbers or range(1, len(self.records) + 1)
-        return Page(self.name, self.kind, [self.records[k] for k in kept], self.counts, [numbers[k] for k in kept])
+        records, numbers = [self.records[k] for k in kept], [numbers[k] for k in kept]
+        return replace(self, records=records, numbers=numbers)
 
 
 def name_of(path: str | None) -> str:
@@ -175,9 +182,23 @@ def _page(name: str, value: Json, kinds: Sequence[str]) -> Page:
             if isinstance(value.get(kind), list):
                 _check_format(value, kind)
                 return Page(name, kind, value[kind], _counts(value))
+    if ADVISORIES in kinds and (records := _records(value)):
+        return Page(name, RECORDS, records)
     if isinstance(value, dict) and "CVE_Items" in value:
         raise FeedFault("a feed of NVD's format 1.1, which isn't read: take that of 2.0")
     raise FeedFault(f"no {kinds[0]}" if len(kinds) == 1 else f"neither {' nor '.join(kinds)}")
+
+
+def _records(value: Json) -> list[Json]:
+    """The CVE records of format 5 that a value is, or has as a list."""
+    found = value if isinstance(value, list) else [value]
+    if not all(isinstance(one, dict) and (one.get("dataType") == "CVE_RECORD" or "cveMetadata" in one) for one in found):
+        return []
+    for one in found:
+        version = one.get("dataVersion", "5.1")
+        if not isinstance(version, str) or not _RECORD_VERSION.fullmatch(version):
+            raise FeedFault(f"a CVE record of version {quoted(version)}, and 5 is what is read")
+    return found
 
 
 def _check_format(value: Json, kind: str) -> None:

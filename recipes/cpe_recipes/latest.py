@@ -8,7 +8,8 @@ from __future__ import annotations
 from collections.abc import Iterable, Sequence
 from datetime import datetime, timezone
 
-from .feeds import Json, Page
+from . import cve5
+from .feeds import ADVISORIES, RECORDS, Json, Page
 from .said import Said
 
 _NEVER = datetime.min.replace(tzinfo=timezone.utc)
@@ -55,6 +56,13 @@ class Latest:
                 self._older.add(id)
         return kept
 
+    def ids(self) -> set[str]:
+        return set(self._found)
+
+    def of(self, id: str) -> list[tuple[Json, Place]]:
+        """The records of an id that count, with their places."""
+        return [(record, place) for record, _, place in self._found[id]]
+
     def tell(self, said: Said) -> None:
         if self._older:
             said.remark(told(len(self._older), "advisory", "advisories"))
@@ -66,16 +74,35 @@ def told(count: int, one: str, more: str) -> str:
 
 
 def advisories(pages: Iterable[Page], said: Said) -> list[Page]:
-    """The pages with those advisories alone that count; how many have older ones is remarked."""
-    found = list(pages)
-    latest = Latest()
+    """The pages with those advisories alone that count, CVE records among them in NVD's form; how many have older ones is remarked.
+
+    Where NVD has analysed an advisory, its record doesn't count, and else NVD's doesn't where the record tells names.
+    """
+    found = [_in_form(page) if page.kind == RECORDS else page for page in pages]
+    latest, records = Latest(), Latest()
     for number, page in enumerate(found):
+        of_page = records if page.is_of_records else latest
         for place, record in enumerate(page.records):
             cve = record.get("cve") if isinstance(record, dict) else None
             if isinstance(cve, dict):
-                latest.put(cve.get("id"), cve.get("lastModified"), record, (number, place))
+                of_page.put(cve.get("id"), cve.get("lastModified"), record, (number, place))
     latest.tell(said)
-    return _without(found, latest.dropped)
+    records.tell(said)
+    return _without(found, latest.dropped | records.dropped | _passed_over(latest, records))
+
+
+def _in_form(page: Page) -> Page:
+    return Page(page.name, ADVISORIES, [cve5.vulnerability(record) for record in page.records], is_of_records=True)
+
+
+def _passed_over(latest: Latest, records: Latest) -> set[Place]:
+    """Of advisories that both have, the places of those that don't count."""
+    passed: set[Place] = set()
+    for id in records.ids() & latest.ids():
+        is_analysed = any(record["cve"].get("configurations") for record, _ in latest.of(id))
+        has_names = any(record["cve"].get("configurations") for record, _ in records.of(id))
+        passed.update(place for _, place in (records if is_analysed or not has_names else latest).of(id))
+    return passed
 
 
 def _without(pages: Sequence[Page], dropped: set[Place]) -> list[Page]:
