@@ -1,6 +1,6 @@
 """From NVD's API 2.0 to advisories: the JSON of /rest/json/cves/2.0 (vulnerabilities) to records `statement`.
 
-    sh advisories.sh [--ranges FILE] [--details FILE] [--partial] [FILE..] > records
+    sh advisories.sh [--ranges FILE] [--details FILE] [--partial] [--large] [FILE..] > records
 
 A statement has the id of its CVE, follows deprecations, and is TRUE where one of the configurations holds with a vulnerable
 product there.
@@ -38,7 +38,7 @@ from .scores import score_of
 from .unanalysed import States
 from .words import ONE, read_words
 
-USAGE = "advisories.sh [--ranges FILE] [--details FILE] [--partial] [FILE..]"
+USAGE = "advisories.sh [--ranges FILE] [--details FILE] [--partial] [--large] [FILE..]"
 KINDS = ("vulnerabilities",)
 SYSTEM, MATCH, CONFIGURATION = "NVD", "cpeMatch", "configuration"
 MOST_BYTES = 65_536

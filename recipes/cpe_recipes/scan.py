@@ -1,13 +1,15 @@
 """The whole way, from feeds and what machines have to the advisories that concern each machine.
 
     python3 scan.py --dictionary FILE.. | --records FILE.. --advisories FILE.. [--matches FILE..]
-        --machines FILE | --lists FILE.. [--suppress FILE] [--letters FILE] [--partial] [--all] [--json [--why]]
+        --machines FILE | --lists FILE.. [--suppress FILE] [--letters FILE] [--partial] [--large] [--all] [--json [--why]]
 
-- --dictionary, --advisories, --matches: pages of NVD's API 2.0, as they come or packed by gzip. --records: what dictionary.sh
+- --dictionary, --advisories, --matches: pages of NVD's API 2.0, or its feeds, as they come, packed or in archives; advisories may be CVE
+  records of format 5 too (cve5.py). --records: what dictionary.sh
   made of such pages before.
 - --machines: a line a machine, its name and names of items; --lists: software lists (CycloneDX, SPDX, plain), each a machine.
 - --suppress: accepted advisories, lines `ID MACHINE REASON`, where * is every machine. They are told below the table.
 - --letters: the products of which letters in versions count upward, in place of letters.txt.
+- --large: pages may unpack to as much as they do; unpack.py says what they else may.
 - --partial: pages of a feed may be missing. What is, is said, and each FALSE that could be another verdict by it is marked.
 - --all: the table and the JSON have the verdicts that are FALSE too, and below the table stands what isn't analysed.
 - --json: the same as one value of JSON, with what was left out (`leftOut`). report.py makes a page of it.
@@ -53,7 +55,7 @@ from .words import FLAG, MANY, ONE, Words, read_words
 
 USAGE = (
     "scan.py --dictionary FILE.. | --records FILE.. --advisories FILE.. [--matches FILE..] "
-    "--machines FILE | --lists FILE.. [--suppress FILE] [--letters FILE] [--partial] [--all] [--json [--why]]"
+    "--machines FILE | --lists FILE.. [--suppress FILE] [--letters FILE] [--partial] [--large] [--all] [--json [--why]]"
 )
 OPTIONS = {
     "--dictionary": MANY,
