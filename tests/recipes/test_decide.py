@@ -11,7 +11,7 @@ sys.path.insert(0, str(Path(__file__).resolve().parent))
 from stand_in import Heard  # noqa: E402 (it knows where the recipes are)
 from cpe_recipes import matches  # noqa: E402
 from cpe_recipes.advisories import Range  # noqa: E402
-from cpe_recipes.decide import Decider, Lists, check_record, decide, drop_record, leads_of, read_entries, read_ranges  # noqa: E402
+from cpe_recipes.decide import Decider, Lists, check_record, decide, drop_record, leads_of, led, read_entries, read_ranges  # noqa: E402
 from cpe_recipes.feeds import Page, record_text  # noqa: E402
 from cpe_recipes.program import Program  # noqa: E402
 from cpe_recipes.said import Fatal  # noqa: E402
@@ -40,8 +40,9 @@ class Decisions(unittest.TestCase):
         """The truths and reasons of a machine with these items."""
         program = Program()
         leads = leads_of(program, list(records), items, [one.criteria for one in ranges])
-        decider = Decider(program, ranges, leads, items, LETTERS)
-        found = decide([leads.found[item] for item in items if item in leads.found], decider, Lists(program, listed or {}))
+        called = [one for item in items if item in leads.found for one in led(leads.found[item])]
+        decider = Decider(program, ranges, leads, [one.name for one in called], LETTERS)
+        found = decide(called, decider, Lists(program, listed or {}))
         return found.truths, {key: one.reason for key, one in found.unsure.items()}
 
     def one(self, version, start=None, end=None, product="p", update="*", **excluded):
@@ -93,12 +94,12 @@ class Decisions(unittest.TestCase):
         self.assertEqual(self.decided([old], one), ({}, {}))
         self.assertEqual(self.decided([old], one, records=[entry(old), deprecate(old)]), ({}, {}))
 
-    def test_criteria_that_lead_elsewhere_have_no_answer(self):
+    def test_criteria_that_lead_elsewhere_are_asked_as_they_stand(self):
         old, new, item = name("old"), name("new"), name("new", "1.0")
         records = [entry(old), entry(new), deprecate(old, new)]
-        truths, unsure = self.decided([item, name("old", "1.0")], Range("KEY", old, None, "2.0"), records=records)
-        self.assertEqual((truths, unsure), ({}, {"KEY": f"{old} leads to {new} by the dictionary"}))
-        self.assertEqual(self.decided([name("old", "1.0")], Range("KEY", old, None, "2.0"), records=records), ({}, {}))
+        one = Range("KEY", old, None, "2.0")
+        self.assertEqual(self.decided([item, name("old", "1.0")], one, records=records), ({"KEY": True}, {}))
+        self.assertEqual(self.decided([item], one, records=records), ({}, {}))
 
     def test_criteria_with_a_version_have_no_answer(self):
         truths, unsure = self.decided([name("p", "1.5")], Range("KEY", name("p", "1.*"), None, "2.0"))
@@ -158,9 +159,6 @@ class Decisions(unittest.TestCase):
     def test_ranges_that_are_not_asked_for_may_be_of_items_that_are_known_in_part(self):
         odd = Range("KEY", "cpe:2.3:a:acme:*:1*:*:*:*:*:*:*:*", None, "2.0")
         self.assertEqual(self.decided([name("p", "1.*")], odd), ({}, {"KEY": "it is known in part"}))
-        old, new = name("old"), name("p")
-        records = [entry(old), entry(new), deprecate(old, new)]
-        self.assertEqual(self.decided([name("p", "1.*")], Range("KEY", old, "1.0"), records=records), ({}, {"KEY": "it is known in part"}))
 
     def test_this_recipe_orders_versions_as_cpe_does(self):
         draw = random.Random(18)
