@@ -134,7 +134,7 @@ def read_fleet(program: Program, words: Words, said: Said) -> Fleet:
         for item in removed:
             said.remark(f"under a removed name {machine.name} {item}")
         new = dict.fromkeys(name for found in supposed.values() for name in found)
-        asked.append(Asked(machine.name, machine.items, own, list(new), beside, restored if removed else None, ids))
+        asked.append(Asked(machine.name, names.put(machine), own, list(new), beside, restored if removed else None, ids))
     restores = "".join(f"{record}\n" for record in names.restores).encode()
     return Fleet(replace(records.known, restores=restores), asked)
 
@@ -162,6 +162,11 @@ class _Names:
     def items(self, machine: Machine) -> dict[str, decide.Lead]:
         """Where its items lead; what is no item is said where it is put."""
         return {item: self.leads.found[item] for item in dict.fromkeys(machine.items) if item not in self.leads.refused}
+
+    def put(self, machine: Machine) -> list[str]:
+        """The names that are put as its items: all, or those of its components where none of these is an item."""
+        own = machine.own_items()
+        return machine.items if any(item in self.leads.found for item in own) else own
 
     def removed(self, machine: Machine) -> list[str]:
         """Its items under removed names."""

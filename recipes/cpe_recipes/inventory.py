@@ -59,7 +59,7 @@ def machine_lines(program: Program, found: Sequence[Machine], said: Said) -> Ite
             if taken.names or not one.names:
                 kept.setdefault(_key(taken, leads), taken)
         written = Machine(machine.name, kept.values(), platform)
-        if not written.items:
+        if not written.own_items():
             said.left_out(machine.name, "no items")
         yield written.line()
 

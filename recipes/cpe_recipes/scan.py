@@ -88,7 +88,9 @@ class Scan:
         return found
 
     def _found(self, machine: Machine) -> Found:
-        """Where the names of a machine lead."""
+        """Where the names of a machine lead. It has no items where none of its components has a name, be its platform known."""
+        if not any(name in self._leads.found for name in machine.own_items()):
+            return Found(machine, [])
         components = {tuple(lead.name for lead in leads): leads for one in machine.all() if (leads := _leads_in(self._leads, one.names))}
         leads = {lead.name: lead for of_one in components.values() for lead in of_one}
         unlisted = [of_one for of_one in components.values() if not any(lead.is_entry for lead in of_one)]

@@ -50,7 +50,7 @@ def say_items(machines: Iterable[Machine], leads: Leads, said: Said) -> None:
         for item in machine.items:
             if item in leads.refused:
                 said.left_out(f"{machine.name} {item}", leads.refused[item])
-        if all(item in leads.refused for item in machine.items):
+        if all(item in leads.refused for item in machine.own_items()):
             said.left_out(machine.name, "no items")
 
 
