@@ -54,9 +54,8 @@ class Called:
         """The same where something is negated, so that it isn't sure unless the name stands so and leads nowhere else."""
         if not self.is_sure() or self.sure is Sure.OWN:
             return self
-        why = f"{self.item} is {self.meant} too by the dictionary, and what is asked for is negated"
-        if self.item == self.meant:
-            why = f"{self.item} is another by the dictionary, and what is asked for is negated"
+        why = self.why or "it leads elsewhere in the dictionary" if self.item == self.meant else f"it is {self.meant} by the dictionary"
+        why = f"{self.item}: {why}, and what is asked for is negated"
         return Called(names.marked(self.meant, (OTHER,)), self.item, self.meant, Sure.PERHAPS, why)
 
 

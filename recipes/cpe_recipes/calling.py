@@ -16,7 +16,7 @@ says what hangs on it, under a negation too:
 from __future__ import annotations
 
 from collections.abc import Iterable, Iterator, Mapping, Sequence
-from dataclasses import dataclass
+from dataclasses import dataclass, replace
 
 from . import names, unlisted
 from .advisories import Range
@@ -137,6 +137,19 @@ class Calling:
         self._before = Before(old, {names.product_of(name) for lead in own for name in (lead.name, *lead.ends)})
         self._moved, self._all_moved = _moves(old)
         self._beside = self._ask(program, entries, own)
+
+    def of_components(self, components: Iterable[Sequence[Lead]]) -> list[Called]:
+        """The names of components, of which each perhaps has several in its list. Each of these is the component's, and which is the
+        right one isn't known, so none is its own alone."""
+        found: dict[str, Called] = {}
+        for leads in components:
+            why = f"its list calls it by each of these names: {', '.join(lead.name for lead in leads)}"
+            for one in (one for lead in leads for one in self.of(lead)):
+                is_own = one.sure is Sure.OWN and len(leads) == 1
+                known = one if is_own or one.sure is not Sure.OWN else replace(one, sure=Sure.ALSO, why=why)
+                if is_own or one.name not in found:
+                    found[one.name] = known
+        return list(found.values())
 
     def of(self, lead: Lead) -> tuple[Called, ...]:
         """The names of an item that leads so, those that are sure first."""

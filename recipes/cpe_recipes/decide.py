@@ -25,8 +25,9 @@ from pathlib import Path
 from . import matches, names
 from .advisories import MATCH, SYSTEM, Range, is_bound
 from .called import Called, Sure
+from .components import Machine
 from .feeds import FeedFault, FormFault, name_of, pages, read_feed, record_text, text_lines, values_of
-from .machines import Machine, read_machines
+from .machines import read_machines
 from .program import Program
 from .said import Fatal, Output, Said
 from .versions import Letters, Standing, is_outside_from, read_letters, standing, sure_beginning

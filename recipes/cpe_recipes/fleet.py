@@ -4,15 +4,16 @@ from __future__ import annotations
 
 import json
 from collections.abc import Iterator, Sequence
-from dataclasses import dataclass, field
+from dataclasses import dataclass, field, replace
 
 from . import decide, matches, unlisted
 from .advisories import Range
 from .asked import asked_of, facts_of, is_negated
 from .called import Called, Sure
 from .calling import Calling, Wanted, listed_by_name
+from .components import Component, Machine
 from .feeds import FeedFault, name_of, pages, read_feed, record_text
-from .machines import Machine, read_machines
+from .machines import read_machines
 from .program import Program
 from .said import Fatal, Said
 from .session import Asked, Known
@@ -165,7 +166,7 @@ def read_fleet(program: Program, words: Words, said: Said) -> Fleet:
         asked.append(
             Asked(
                 machine.name,
-                machine.items,
+                names.put(machine),
                 _without(records.results, results),
                 list(dict.fromkeys(one.name for one in called if one.name not in own)),
                 None if is_same else list(dict.fromkeys(one.name for one in doubted)),
@@ -208,11 +209,9 @@ class _Names:
         own = {lead.name: lead for item in items if (lead := self.leads.found.get(item))}
         by_feed = listed_by_name(self._lists, ranges, self.leads)
         calling = Calling(program, entries, self.leads, own.values(), by_feed, Wanted(named))
-        is_strict = words.has("--strict")
-        self._called = {
-            name: [one for one in calling.of(lead) if not is_strict or one.sure is not Sure.LESS] for name, lead in own.items()
-        }
-        ends = dict.fromkeys(one.name for of in self._called.values() for it in of for one in (it, it.doubted()))
+        self._is_strict, self._calling = words.has("--strict"), calling
+        ends = dict.fromkeys(one.name for lead in own.values() for it in calling.of(lead) for one in (it, it.doubted()))
+        ends.update(dict.fromkeys(replace(it, sure=Sure.ALSO).doubted().name for lead in own.values() for it in calling.of(lead)))
         letters = read_letters(words.one("--letters") or decide.LETTERS)
         self._decider = decide.Decider(program, ranges.values(), self.leads, ends, letters)
 
@@ -220,8 +219,17 @@ class _Names:
         """Where its items lead; what is no item is said where it is put."""
         return {item: self.leads.found[item] for item in dict.fromkeys(machine.items) if item not in self.leads.refused}
 
+    def put(self, machine: Machine) -> list[str]:
+        """The names that are put as its items: all, or those of its components where none of these is an item."""
+        own = machine.own_items()
+        return machine.items if any(item in self.leads.found for item in own) else own
+
     def called(self, machine: Machine) -> list[Called]:
-        return [one for name in dict.fromkeys(lead.name for lead in self.items(machine).values()) for one in self._called[name]]
+        found = self._calling.of_components(self._leads_of(one) for one in machine.all())
+        return [one for one in found if not self._is_strict or one.sure is not Sure.LESS]
+
+    def _leads_of(self, component: Component) -> list[decide.Lead]:
+        return list({lead.name: lead for name in component.names if (lead := self.leads.found.get(name))}.values())
 
     def decided(self, called: Sequence[Called]) -> decide.Decided:
         return decide.decide(called, self._decider, self._lists)

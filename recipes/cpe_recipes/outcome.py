@@ -7,9 +7,9 @@ from dataclasses import dataclass, field
 from . import advisories, affected, names, verdicts
 from .called import Called
 from .cases import Known, Product, Statement
+from .components import Machine
 from .decide import Decided, Lead
 from .feeds import Json
-from .machines import Machine
 from .said import Said
 from .table import counted
 
@@ -39,10 +39,13 @@ class Found:
     """What came of a machine: where its items lead, and how they are called; what its verdicts come from where nothing is negated
     (False) and where something is (True); the verdicts that were asked for by the places of statements; those that are others where
     items say less than is asked for (`less`), and which these are; which items may be meant where it is UNKNOWN (`partly`); and where
-    it was asked for which items make others TRUE."""
+    it was asked for which items make others TRUE. `leads` are those of all names, `items` is how many components have a name that cpe
+    takes, and `unlisted` has the leads of those of which no name is in the dictionary."""
 
     machine: Machine
     leads: list[Lead]
+    items: int = 0
+    unlisted: list[list[Lead]] = field(default_factory=list)
     called: list[Called] = field(default_factory=list)
     sides: dict[bool, Side] = field(default_factory=dict)
     truths: dict[int, str] = field(default_factory=dict)
@@ -134,13 +137,15 @@ def tell_items(
                 said.left_out(name, f"{refused[item]}: {item}")
         if not one.has_items():
             said.left_out(name, "no items")
+        unlisted = {lead.name for leads in one.unlisted for lead in leads}
+        firsts = {leads[0].name for leads in one.unlisted}
         for lead in one.leads:
             goes_on = successors.get(names.product_of(lead.name))
             if lead.is_removed():
                 said.remark(f"under a removed name {name} {lead.name}")
-            elif not lead.is_entry and goes_on:
+            elif lead.name in unlisted and goes_on:
                 said.remark(f"not in the dictionary {name} {lead.name} goes on as {' '.join(map(':'.join, goes_on))}")
-            elif not lead.is_entry:
+            elif lead.name in firsts:
                 strange.add(lead.name)
                 where.add(name)
     if strange:
@@ -162,7 +167,7 @@ def _machine_json(
     about: affected.About,
     parts: Mapping[str, Sequence[int]],
 ) -> Json:
-    row: dict[str, Json] = {"name": machine.name, "items": len(one.leads)}
+    row: dict[str, Json] = {"name": machine.name, "items": one.items}
     if machine.has_items:
         row["verdicts"] = [
             _verdict_json(id, truth, machine, about) | _decided_json(one, truth, parts.get(id, ()))
@@ -171,7 +176,7 @@ def _machine_json(
         row["perhaps"] = [
             {"id": id, "item": it.item, "fact": it.fact} for it in one.perhaps if (id := machine.whole(it.id)) in machine.perhaps
         ]
-        row["notInDictionary"] = [lead.name for lead in one.leads if not lead.is_entry]
+        row["notInDictionary"] = [leads[0].name for leads in one.unlisted]
         row["underRemovedName"] = one.removed()
     return row
 

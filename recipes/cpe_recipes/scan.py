@@ -32,14 +32,15 @@ import json
 from collections.abc import Collection, Iterable, Iterator, Mapping, Sequence
 from dataclasses import dataclass, field
 
-from . import advisories, affected, dictionary, inventory, matches, products, suppressed, unlisted, verdicts
+from . import advisories, affected, dictionary, matches, products, suppressed, unlisted, verdicts
 from .called import Sure
 from .calling import Calling, Wanted, listed_by_name
 from .cases import Cases, Index, Items, Known, Product, Results, lines_of, verdicts_of
+from .components import Machine
 from .decide import LETTERS, Decider, Lead, Leads, Lists, decide, leads_of
 from .deciding import Deciding
 from .feeds import FeedFault, Page, name_of, pages, read_feed, text_lines
-from .machines import Machine, read_lists, read_machines
+from .machines import read_lists, read_machines
 from .outcome import MOST_ALIKE, Found, Hanging, Side, json_of, machines_with_verdicts, tell_items
 from .program import Candidate, Program
 from .progress import Progress
@@ -91,11 +92,18 @@ class Scan:
     def machines(self, machines: Sequence[Machine], is_all_asked: bool = False) -> list[Found]:
         """What comes of the machines. Where all statements are asked of each, that is the same, and takes longer."""
         calling = self._lead(dict.fromkeys(item for machine in machines for item in machine.items))
-        found = [Found(machine, _leads_in(self._leads, machine.items)) for machine in machines]
-        for one in found:
-            one.called = [called for lead in one.leads for called in calling.of(lead)]
+        found = [self._found(machine, calling) for machine in machines]
         self._decide(found, is_all_asked)
         return found
+
+    def _found(self, machine: Machine, calling: Calling) -> Found:
+        """Where the names of a machine lead. It has no items where none of its components has a name, be its platform known."""
+        if not any(name in self._leads.found for name in machine.own_items()):
+            return Found(machine, [])
+        components = {tuple(lead.name for lead in leads): leads for one in machine.all() if (leads := _leads_in(self._leads, one.names))}
+        leads = {lead.name: lead for of_one in components.values() for lead in of_one}
+        unlisted = [of_one for of_one in components.values() if not any(lead.is_entry for lead in of_one)]
+        return Found(machine, list(leads.values()), len(components), unlisted, calling.of_components(components.values()))
 
     def tell_items(self, found: Sequence[Found], said: Said) -> None:
         tell_items(found, self._leads.refused, self.successors, said)
@@ -251,7 +259,7 @@ def _records(paths: Sequence[str]) -> list[Candidate]:
 def read_asked(read: Words, said: Said) -> list[Machine]:
     if read.has("--machines"):
         return read_machines(read.one("--machines") or "", said)
-    return read_lists(read.many("--lists"), lambda feed, data: list(inventory.candidates_of(feed, data)), said)
+    return read_lists(read.many("--lists"), said)
 
 
 def run(words: Sequence[str]) -> int:
