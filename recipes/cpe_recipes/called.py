@@ -11,15 +11,12 @@ from enum import Enum
 
 from . import names
 
-OTHER = names.ATTRIBUTES.index("other")
-
 
 class Sure(Enum):
     """How sure it is that an item has a name."""
 
-    OWN = "it stands in the list, and nothing leads it elsewhere"
-    ALSO = "by the dictionary or the match feed"
-    RENAMED = "the same, and its version is another there"
+    SURELY = "by its list, the dictionary or the match feed"
+    RENAMED = "by the dictionary, with another version"
     PERHAPS = "perhaps"
     LESS = "the item says less"
 
@@ -37,7 +34,7 @@ class Called:
     lacks: frozenset[int] = frozenset()
 
     def is_sure(self) -> bool:
-        return self.sure in (Sure.OWN, Sure.ALSO, Sure.RENAMED)
+        return self.sure in (Sure.SURELY, Sure.RENAMED)
 
     def asks_for_more(self, fact: str) -> bool:
         """Whether a fact says something of what the item doesn't."""
@@ -49,14 +46,6 @@ class Called:
             return self.why
         lacks = ", ".join(f"{attribute}: {text}?" for attribute, text in unsaid(self.meant, fact))
         return "; ".join(part for part in (f"{self.item}: {lacks}" if lacks else "", self.why) if part)
-
-    def doubted(self) -> Called:
-        """The same where something is negated, so that it isn't sure unless the name stands so and leads nowhere else."""
-        if not self.is_sure() or self.sure is Sure.OWN:
-            return self
-        why = self.why or "it leads elsewhere in the dictionary" if self.item == self.meant else f"it is {self.meant} by the dictionary"
-        why = f"{self.item}: {why}, and what is asked for is negated"
-        return Called(names.marked(self.meant, (OTHER,)), self.item, self.meant, Sure.PERHAPS, why)
 
 
 def unsaid(name: str, fact: str) -> Iterator[tuple[str, str]]:

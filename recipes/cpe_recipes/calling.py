@@ -16,18 +16,18 @@ says what hangs on it, under a negation too:
 from __future__ import annotations
 
 from collections.abc import Iterable, Iterator, Mapping, Sequence
-from dataclasses import dataclass, replace
+from dataclasses import dataclass
 
 from . import names, unlisted
 from .advisories import Range
-from .called import OTHER, Called, Sure
+from .called import Called, Sure
 from .decide import Lead, Leads, Lists, leads_of
 from .program import Program
 
 Product = tuple[str, str]
 # The attributes behind the product, of which an item may say less than a fact.
 _SAID = range(names.VERSION, len(names.ATTRIBUTES))
-_LANGUAGE = names.ATTRIBUTES.index("language")
+_LANGUAGE, OTHER = map(names.ATTRIBUTES.index, ("language", "other"))
 
 
 class Wanted:
@@ -139,17 +139,8 @@ class Calling:
         self._beside = self._ask(program, entries, own)
 
     def of_components(self, components: Iterable[Sequence[Lead]]) -> list[Called]:
-        """The names of components, of which each perhaps has several in its list. Each of these is the component's, and which is the
-        right one isn't known, so none is its own alone."""
-        found: dict[str, Called] = {}
-        for leads in components:
-            why = f"its list calls it by each of these names: {', '.join(lead.name for lead in leads)}"
-            for one in (one for lead in leads for one in self.of(lead)):
-                is_own = one.sure is Sure.OWN and len(leads) == 1
-                known = one if is_own or one.sure is not Sure.OWN else replace(one, sure=Sure.ALSO, why=why)
-                if is_own or one.name not in found:
-                    found[one.name] = known
-        return list(found.values())
+        """The names of components, of which each perhaps has several in its list."""
+        return list({one.name: one for leads in components for lead in leads for one in self.of(lead)}.values())
 
     def of(self, lead: Lead) -> tuple[Called, ...]:
         """The names of an item that leads so, those that are sure first."""
@@ -167,27 +158,26 @@ class Calling:
                 shadow = names.marked(name, (OTHER,))
                 found.setdefault(shadow, Called(shadow, lead.name, name, Sure.PERHAPS, why))
             elif not why:
-                found.setdefault(name, Called(name, lead.name, name, Sure.ALSO))
+                found.setdefault(name, Called(name, lead.name, name, Sure.SURELY))
         yield from found.values()
         for one in list(found.values()):
             for name, lacks in self._wanted.unsaid(one.name, one.meant):
                 yield Called(name, lead.name, one.meant, Sure.LESS, one.why, lacks)
 
     def _sure(self, lead: Lead) -> Iterator[tuple[str, Sure]]:
-        is_own = lead.ends == (lead.name,)
-        yield lead.name, Sure.OWN if is_own else Sure.ALSO
+        yield lead.name, Sure.SURELY
         known = dict.fromkeys((lead.name, *lead.ends, *lead.steps))
         version = names.components(lead.name)[names.VERSION]
         for name in known:
             if name != lead.name:
-                yield name, Sure.ALSO
+                yield name, Sure.SURELY
         for name in known:
             for criteria in self._feed.get(name, ()):
-                yield _filled(criteria, name), Sure.ALSO
+                yield _filled(criteria, name), Sure.SURELY
         for name in dict.fromkeys((lead.name, *lead.ends)):
             for old, is_renamed in self._before.names_of(name):
                 is_other = is_renamed and names.components(old)[names.VERSION] != version
-                yield old, Sure.RENAMED if is_other else Sure.ALSO
+                yield old, Sure.RENAMED if is_other else Sure.SURELY
 
     def _supposed(self, lead: Lead, sure: Mapping[str, Called]) -> Iterator[tuple[str, str]]:
         """The names that it may have, each in words why, or with none where it surely has it."""

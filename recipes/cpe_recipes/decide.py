@@ -412,7 +412,7 @@ def decide(called: Iterable[Called], decider: Decider, lists: Lists) -> Decided:
             else:
                 decided.unsure.setdefault(key, Unsure(key, "", one.why))
         stands = decider.stands(one.name)
-        if one.sure in (Sure.OWN, Sure.ALSO):
+        if one.sure is Sure.SURELY:
             _put_sure(decided, one, stands)
         else:
             _put_doubted(decided, one, stands, decider.criteria)
@@ -453,7 +453,7 @@ def _put_doubted(decided: Decided, one: Called, stands: Mapping[str, Stand], cri
 
 def led(lead: Lead) -> list[Called]:
     """An item by its name as it stands, and as it leads on."""
-    return [Called(name, lead.name, name, Sure.ALSO) for name in dict.fromkeys((lead.name, *lead.ends))]
+    return [Called(name, lead.name, name, Sure.SURELY) for name in dict.fromkeys((lead.name, *lead.ends))]
 
 
 def check_record(key: str, is_true: bool) -> str:

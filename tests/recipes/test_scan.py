@@ -229,7 +229,7 @@ class Verdicts(unittest.TestCase):
         made, found = scanned(known, [Machine("a", [gone, new]), Machine("b", [new]), Machine("c", [name("v", "gone", "1.5")])])
         wanted = {"NAME": "TRUE", "RANGE": "TRUE", "OTHER": "TRUE", "NOT": "UNKNOWN", "LEADS": "TRUE"}
         self.assertEqual(truths(known, made, found[0]), wanted)
-        why = f"{gone}: it leads elsewhere in the dictionary, and what is asked for is negated"
+        why = f"{gone} may have another name than {gone}, and {name('v', 'gone')} is negated"
         self.assertEqual(Hanging(known, found).on("NOT", "a"), [why])
         wanted = {"NAME": "FALSE", "RANGE": "FALSE", "OTHER": "TRUE", "NOT": "TRUE", "LEADS": "FALSE"}
         self.assertEqual(truths(known, made, found[1]), wanted)
