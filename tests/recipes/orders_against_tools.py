@@ -4,8 +4,9 @@
     cpe advise (PROGRAM, or what CPE names); dpkg --compare-versions, and Dpkg::Version of the same source; Python's rpm, packaging
     and semver; golang.org/x/mod/semver and go-apk-version, by Go; ComparableVersion of maven-artifact, by Java
 
-It prints for each how many pairs were compared, how many texts are no version there, and those where the two differ. What isn't
-installed is skipped, and said. The status is 1 where one differs.
+It prints for each how many pairs were compared, how many are of versions, and those where the two differ. Then it asks the tools
+about versions of which no kind is told, and prints how many of their answers aren't among those that versions.py has for possible.
+What isn't installed is skipped, and said. The status is 1 where anything differs or lacks.
 """
 import os
 import pathlib
@@ -19,9 +20,11 @@ import tempfile
 HERE = pathlib.Path(__file__).resolve().parent
 sys.path.insert(0, str(HERE.parents[1] / "recipes"))
 
-from cpe_recipes import names, orders  # noqa: E402
+from cpe_recipes import names  # noqa: E402
 from cpe_recipes.feeds import record_text  # noqa: E402
 from cpe_recipes.orders import apk, dpkg, golang, maven, pep440, plain, rpm, semver  # noqa: E402
+from cpe_recipes.readings import without_epoch  # noqa: E402
+from cpe_recipes.versions import orders as possible  # noqa: E402
 
 SEED = 54
 # A process for each pair takes long, so of so many pairs dpkg itself is asked for one.
@@ -223,12 +226,14 @@ def by_maven(pairs):
 
 
 def begins_with_a_digit(pair):
-    """Whether Dpkg::Version takes both for versions; dpkg itself warns, and compares them."""
-    return all(text.rpartition(":")[2][:1].isdigit() for text in pair)
+    """Whether Dpkg::Version takes both for versions; dpkg itself warns, and compares them. (It takes -1 for an option, and +1:0 for
+    an epoch.)"""
+    return all(text[0].isdigit() and text.rpartition(":")[2][:1].isdigit() for text in pair)
 
 
 def versions_here(pairs, order):
-    """Those that the order reads. (go-apk-version reads numbers of no digit too.)"""
+    """Those that the order reads. (go-apk-version reads numbers of no digit too, and none of more than 18.)"""
+    pairs = [pair for pair in pairs if not any(re.search("[0-9]{19}", text) for text in pair)]
     return [(one, other) for one, other in pairs if order.compare(one, other) is not None]
 
 
@@ -246,8 +251,9 @@ def trials(count):
     java = Drawn(count, [*plain_bits, "final", "ga", "sp", "milestone", "m", "cr", "release", "snapshot"], ("1", "", "1.0"), ("", "-1"))
     lower = Drawn(count, plain_bits)
     yield "cpe advise", plain.ORDER, by_cpe, [pair for pair in lower.pairs if "-" not in pair]
-    yield "dpkg", dpkg.ORDER, by_dpkg, debian.pairs[:: PAIRS_OF_DPKG]
-    yield "Dpkg::Version", dpkg.ORDER, by_dpkgs_source, list(filter(begins_with_a_digit, debian.pairs))
+    of_debian = list(filter(begins_with_a_digit, debian.pairs))
+    yield "dpkg", dpkg.ORDER, by_dpkg, of_debian[::PAIRS_OF_DPKG]
+    yield "Dpkg::Version", dpkg.ORDER, by_dpkgs_source, of_debian
     yield "rpm", rpm.ORDER, by_rpm, packages.pairs
     yield "packaging", pep440.ORDER, by_packaging, python.pairs
     yield "python3-semver", semver.ORDER, by_semver, three.pairs
@@ -258,6 +264,44 @@ def trials(count):
     without_zeros = [pair for pair in alpine.pairs if not any(".0" in text for text in pair)]
     yield "go-apk-version, without zeros", apk.THIRD, by_go_apk, versions_here(without_zeros, apk.THIRD)
     yield "Maven", maven.ORDER, by_maven, java.pairs
+
+
+def of_no_kind(count):
+    """Each tool with pairs that it may be asked for, of versions of which no kind is told. An epoch or a v that only one has is
+    dropped, since that decides nothing."""
+    bits = [*NUMBERS, *WORDS, "~", "+", "-", "k", "-1", "-24.el9", "_", "^"]
+    fronts = ["", "1", "1.0.0", "2.1.0-", "1:1", "32:2", "v1", "1.0.0-rc."]
+    pairs = [without_epoch(one, other) for one, other in Drawn(count, bits, fronts, ("", "", "-1", "+b1", ".post1")).pairs]
+    pairs = [pair for pair in pairs if all(pair)]
+    spelled = [pair for pair in pairs if all(re.fullmatch(r"[0-9][A-Za-z0-9.+~:-]*", text) for text in pair)]
+    yield "Dpkg::Version", by_dpkgs_source, list(filter(begins_with_a_digit, spelled))
+    yield "rpm", by_rpm, [pair for pair in pairs if all(re.fullmatch(r"([0-9]+:)?[^:-]+(-[^:-]+)?", text) for text in pair)]
+    yield "packaging", by_packaging, pairs
+    yield "python3-semver", by_semver, pairs
+    yield "Maven", by_maven, pairs
+
+
+def lacks(count):
+    """Whether the possible orders lack an answer of a tool."""
+    is_lacking = False
+    for name, tool, pairs in of_no_kind(count):
+        try:
+            wanted = tool(pairs)
+        except Missing as fault:
+            print(f"SKIPPED: possible orders, {name}: {fault}", flush=True)
+            continue
+        lacking = [
+            (pair, answer)
+            for pair, answer in zip(pairs, wanted, strict=True)
+            if answer is not None and answer not in possible(*pair).answers
+        ]
+        both = sum(one is not None for one in wanted)
+        print(f"{'differs' if lacking else 'the same'}: possible orders, {name}, {len(pairs)} pairs, {both} of versions, "
+              f"{len(lacking)} lack its answer", flush=True)
+        for (one, other), answer in lacking[:8]:
+            print(f"  {one} and {other}: {answer} isn't among {sorted(possible(one, other).answers)}")
+        is_lacking = is_lacking or bool(lacking)
+    return is_lacking
 
 
 def main():
@@ -278,7 +322,8 @@ def main():
         for (one, other), ours, theirs in differ[:8]:
             print(f"  {one} and {other}: {ours} here, {theirs} there")
         is_wrong = is_wrong or bool(differ)
-    sys.exit(is_wrong)
+    # (both, so that both are printed)
+    sys.exit(lacks(count) or is_wrong)
 
 
 if __name__ == "__main__":

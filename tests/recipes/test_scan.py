@@ -136,7 +136,7 @@ class Verdicts(unittest.TestCase):
         machines = [Machine("old", [name("v", "p", "1.5")]), Machine("new", [name("v", "p", "2.0")]), Machine("odd", [name("v", "p", "1.0b")])]
         made, found = scanned(known, machines)
         self.assertEqual([truths(known, made, it)["CVE-1"] for it in found], ["TRUE", "FALSE", "UNKNOWN"])
-        self.assertEqual(Hanging(known, found).on("CVE-1", "odd"), [f"{name('v', 'p', '1.0b')}: a letter decides between 1.0b and 1.0"])
+        self.assertEqual(Hanging(known, found).on("CVE-1", "odd"), [f"{name('v', 'p', '1.0b')}: dpkg and PEP 440 differ between 1.0b and 1.0"])
         made, found = scanned(known, machines, {"KEY": [name("v", "p", "1.0b")]})
         self.assertEqual([truths(known, made, it)["CVE-1"] for it in found], ["TRUE", "FALSE", "TRUE"])
 

@@ -7,10 +7,10 @@ from typing import Any
 from . import apk, dpkg, golang, maven, pep440, plain, rpm, semver
 from .order import EQUAL, GREATER, LESS, Order
 
-# The orders that a version may have of which nothing is known, that of `cpe advise` first. (Go's is SemVer's, but for what it leaves
+# The orders that a version may have of which nothing is known, that of `cpe advise` last. (Go's is SemVer's, but for what it leaves
 # out.)
 ALL: tuple[Order[Any], ...] = (
-    plain.ORDER, dpkg.ORDER, rpm.ORDER, pep440.ORDER, semver.ORDER, maven.ORDER, apk.SECOND, apk.THIRD, golang.ORDER
+    dpkg.ORDER, rpm.ORDER, pep440.ORDER, semver.ORDER, maven.ORDER, golang.ORDER, apk.SECOND, apk.THIRD, plain.ORDER
 )
 
 # The orders of what a list says a component is: the type of a package URL.
