@@ -26,8 +26,9 @@ from pathlib import Path
 
 from . import matches, names
 from .advisories import MATCH, SYSTEM, Range, is_bound
+from .components import Machine
 from .feeds import FeedFault, FormFault, name_of, pages, read_feed, record_text, text_lines, values_of
-from .machines import Machine, read_machines
+from .machines import read_machines
 from .program import Program
 from .readings import without_v
 from .said import Fatal, Output, Said

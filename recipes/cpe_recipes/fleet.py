@@ -6,10 +6,11 @@ import json
 from collections.abc import Iterator
 from dataclasses import dataclass, replace
 
-from . import decide, matches, unlisted
+from . import alternatives, decide, matches, unlisted
 from .advisories import Range
+from .components import Machine
 from .feeds import FeedFault, name_of, pages, read_feed
-from .machines import Machine, read_machines
+from .machines import read_machines
 from .program import Program
 from .said import Fatal, Said
 from .session import Asked, Known
@@ -123,8 +124,9 @@ def read_fleet(program: Program, words: Words, said: Said) -> Fleet:
     ranges = decide.read_ranges(words.many("--ranges"), said)
     names = _Names(program, decide.read_entries([records_path]), machines, [one.criteria for one in ranges.values()])
     decided = _decided(program, words, ranges, names, machines, said)
+    doubtful = _doubtful(program, records.known, names.entries, machines)
     asked = []
-    for machine in machines:
+    for machine, ids in zip(machines, doubtful):
         own, beside, restored = (_without(records.results, found) for found in decided.get(machine.name, ([], [], [])))
         supposed, removed = names.supposed(machine), names.removed(machine)
         for item in supposed:
@@ -132,7 +134,7 @@ def read_fleet(program: Program, words: Words, said: Said) -> Fleet:
         for item in removed:
             said.remark(f"under a removed name {machine.name} {item}")
         new = dict.fromkeys(name for found in supposed.values() for name in found)
-        asked.append(Asked(machine.name, machine.items, own, list(new), beside, restored if removed else None))
+        asked.append(Asked(machine.name, names.put(machine), own, list(new), beside, restored if removed else None, ids))
     restores = "".join(f"{record}\n" for record in names.restores).encode()
     return Fleet(replace(records.known, restores=restores), asked)
 
@@ -148,6 +150,7 @@ class _Names:
 
     def __init__(self, program: Program, entries: list[str], machines: list[Machine], criteria: list[str]) -> None:
         items = dict.fromkeys(item for machine in machines for item in machine.items)
+        self.entries = entries
         self.leads = decide.leads_of(program, entries, items, criteria)
         own = [self.leads.found[item] for item in items if item not in self.leads.refused]
         self._successors = unlisted.successors_of(program, entries, own)
@@ -160,6 +163,11 @@ class _Names:
         """Where its items lead; what is no item is said where it is put."""
         return {item: self.leads.found[item] for item in dict.fromkeys(machine.items) if item not in self.leads.refused}
 
+    def put(self, machine: Machine) -> list[str]:
+        """The names that are put as its items: all, or those of its components where none of these is an item."""
+        own = machine.own_items()
+        return machine.items if any(item in self.leads.found for item in own) else own
+
     def removed(self, machine: Machine) -> list[str]:
         """Its items under removed names."""
         return [item for item, lead in self.items(machine).items() if lead.is_removed()]
@@ -171,6 +179,36 @@ class _Names:
 
     def goes_on(self, item: str) -> str:
         return unlisted.goes_on(self.leads.found[item], self._successors)
+
+
+def _doubtful(program: Program, known: Known, entries: list[str], machines: list[Machine]) -> list[list[str]]:
+    """Of each machine the ids of statements that aren't surely FALSE, since they negate a test and a component has several names.
+    (Whether its versions are in a range isn't looked at here.)"""
+    nothing: list[list[str]] = [[] for _ in machines]
+    if all(len(one.names) < 2 for machine in machines for one in machine.all()):
+        return nothing
+    statements = list(_negated_statements(known))
+    if not statements:
+        return nothing
+    facts = alternatives.Alternatives(program, statements, {}, decide.Leads()).facts()
+    leads = decide.leads_of(program, entries, dict.fromkeys(item for machine in machines for item in machine.items), facts)
+    found = alternatives.Alternatives(program, statements, {}, leads).of(machines, lambda _: decide.Decided())
+    ids = [json.loads(statement)["id"] for statement in statements]
+    return [[ids[place] for place in places] for places in found]
+
+
+def _negated_statements(known: Known) -> Iterator[str]:
+    """The records of statements that negate a test."""
+    asked = set(known.statements)
+    for line in known.lines.split(b"\n"):
+        if b'"statement"' in line and b'"negate"' in line:
+            try:
+                record = json.loads(line)
+            except (ValueError, RecursionError):
+                continue
+            # (what cpe refused is none of them)
+            if isinstance(record, dict) and record.get("do") == "statement" and record.get("id") in asked and "test" in record:
+                yield line.decode(errors="replace")
 
 
 # What is decided of machines by name: with their own items, with those beside that they may have, and where no name is removed.

@@ -6,9 +6,9 @@ from dataclasses import dataclass, field
 
 from . import advisories, affected, names, verdicts
 from .cases import Known, Product
+from .components import Machine
 from .decide import Decided, Lead
 from .feeds import Json
-from .machines import Machine
 from .perhaps import Pairs
 from .said import Said
 from .table import counted
@@ -21,10 +21,13 @@ MOST_ALIKE = 20
 class Found:
     """What came of a machine: where its items lead, what is decided of its ranges, the verdicts that were asked for by the
     places of statements, why some are UNKNOWN, as which items that are known in part may be meant (`partly`), and where it was asked
-    for which items make others TRUE."""
+    for which items make others TRUE. `leads` are those of all names, `items` is how many components have a name that cpe takes, and
+    `unlisted` has the leads of those of which no name is in the dictionary."""
 
     machine: Machine
     leads: list[Lead]
+    items: int = 0
+    unlisted: list[list[Lead]] = field(default_factory=list)
     decided: Decided = field(default_factory=Decided)
     truths: dict[int, str] = field(default_factory=dict)
     supposed: dict[int, str] = field(default_factory=dict)
@@ -37,6 +40,12 @@ class Found:
     def places_of(self, truth: str) -> list[int]:
         """The places of the statements that were asked for and are so, in order."""
         return sorted(place for place, one in self.truths.items() if one == truth)
+
+    def doubt(self, reasons: Mapping[int, str]) -> None:
+        """Puts UNKNOWN in place of FALSE, for these reasons by the places of statements."""
+        for place, reason in reasons.items():
+            if self.truths.get(place) == "FALSE":
+                self.truths[place], self.supposed[place] = "UNKNOWN", reason
 
     def removed(self) -> list[str]:
         """Its items under removed names, which lead nowhere."""
@@ -107,13 +116,15 @@ def tell_items(
                 said.left_out(name, f"{refused[item]}: {item}")
         if not one.has_items():
             said.left_out(name, "no items")
+        unlisted = {lead.name for leads in one.unlisted for lead in leads}
+        firsts = {leads[0].name for leads in one.unlisted}
         for lead in one.leads:
             goes_on = successors.get(names.product_of(lead.name))
             if lead.is_removed():
                 said.remark(f"under a removed name {name} {lead.name}")
-            elif not lead.is_entry and goes_on:
+            elif lead.name in unlisted and goes_on:
                 said.remark(f"not in the dictionary {name} {lead.name} goes on as {' '.join(map(':'.join, goes_on))}")
-            elif not lead.is_entry:
+            elif lead.name in firsts:
                 strange.add(lead.name)
                 where.add(name)
     if strange:
@@ -165,14 +176,14 @@ def _machine_json(
     maybe: Mapping[str, list[Json]],
     parts: Mapping[str, Sequence[int]],
 ) -> Json:
-    row: dict[str, Json] = {"name": machine.name, "items": len(one.leads)}
+    row: dict[str, Json] = {"name": machine.name, "items": one.items}
     if machine.has_items:
         row["verdicts"] = [
             _verdict_json(id, truth, machine, about) | _decided_json(one, truth, parts.get(id, ()))
             for id, truth in _in_order(machine, about)
         ]
         row["perhaps"] = maybe.get(one.machine.name, [])
-        row["notInDictionary"] = [lead.name for lead in one.leads if not lead.is_entry]
+        row["notInDictionary"] = [leads[0].name for leads in one.unlisted]
         row["underRemovedName"] = one.removed()
     return row
 

@@ -23,10 +23,11 @@ from dataclasses import dataclass
 
 from . import names
 from .advisories import MATCH, SYSTEM, Range, base_id
+from .components import Machine
 from .decide import LETTERS, Decider, Lead, Leads, leads_of, read_entries, read_ranges
 from .feeds import Json
 from .fleet import read_text
-from .machines import Machine, read_machines
+from .machines import read_machines
 from .program import Program
 from .said import Fatal, Output, Said
 from .unlisted import say_items

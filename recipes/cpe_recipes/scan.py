@@ -32,12 +32,14 @@ import json
 from collections.abc import Collection, Iterable, Iterator, Sequence
 from dataclasses import dataclass, field
 
-from . import advisories, affected, dictionary, inventory, matches, products, suppressed, unlisted, verdicts
+from . import advisories, affected, dictionary, matches, products, suppressed, unlisted, verdicts
+from .alternatives import Alternatives
 from .cases import Cases, Index, Known, Product, items_by_product, lines_of, verdicts_of
+from .components import Machine
 from .decide import LETTERS, Decider, Lead, Leads, Lists, decide, leads_of
 from .deciding import Deciding
 from .feeds import FeedFault, Page, name_of, pages, read_feed, text_lines
-from .machines import Machine, read_lists, read_machines
+from .machines import read_lists, read_machines
 from .outcome import MOST_ALIKE, Found, Hanging, json_of, machines_with_verdicts, perhaps, tell_items, tell_perhaps
 from .partly import Partly
 from .perhaps import Pairs, facts_of
@@ -81,9 +83,18 @@ class Scan:
     def machines(self, machines: Sequence[Machine], is_all_asked: bool = False) -> list[Found]:
         """What comes of the machines. Where all statements are asked of each, that is the same, and takes longer."""
         self._lead(dict.fromkeys(item for machine in machines for item in machine.items))
-        found = [Found(machine, _leads_in(self._leads, machine.items)) for machine in machines]
+        found = [self._found(machine) for machine in machines]
         self._decide(found, is_all_asked)
         return found
+
+    def _found(self, machine: Machine) -> Found:
+        """Where the names of a machine lead. It has no items where none of its components has a name, be its platform known."""
+        if not any(name in self._leads.found for name in machine.own_items()):
+            return Found(machine, [])
+        components = {tuple(lead.name for lead in leads): leads for one in machine.all() if (leads := _leads_in(self._leads, one.names))}
+        leads = {lead.name: lead for of_one in components.values() for lead in of_one}
+        unlisted = [of_one for of_one in components.values() if not any(lead.is_entry for lead in of_one)]
+        return Found(machine, list(leads.values()), len(components), unlisted)
 
     def tell_items(self, found: Sequence[Found], said: Said) -> None:
         tell_items(found, self._leads.refused, self.successors, said)
@@ -131,6 +142,7 @@ class Scan:
         self._ask([here] if restored is None else [here, restored])
         for one, of_machine in zip(found, asked):
             self._put(one, of_machine)
+        self._doubt(found, here.decider)
         Partly(self._program, self._known, self._leads).put(found)
         for done, one in enumerate(found):
             if self._deciding is not None:
@@ -138,6 +150,13 @@ class Scan:
                 one.deciding = self._deciding.reasons([lead.name for lead in one.leads], one.decided, one.places_of("TRUE"))
             # (what is decided is in the verdicts, and would be much beside them)
             one.decided.clear()
+
+    def _doubt(self, found: Sequence[Found], decider: Decider) -> None:
+        """Puts UNKNOWN in place of FALSE where that hangs on which of its names a component has."""
+        alternatives = Alternatives(self._program, self._known.records, self._known.ranges, self._leads)
+        doubts = alternatives.of([one.machine for one in found], lambda leads: decide(leads, decider, self._lists))
+        for one, reasons in zip(found, doubts):
+            one.doubt(reasons)
 
     def _asked_so(self, state: _State, leads: list[Lead], reasons: dict[str, str]) -> _Asked:
         """What is asked of a machine where its items lead so, and in words why they may."""
@@ -284,7 +303,7 @@ def _records(paths: Sequence[str]) -> list[Candidate]:
 def read_asked(read: Words, said: Said) -> list[Machine]:
     if read.has("--machines"):
         return read_machines(read.one("--machines") or "", said)
-    return read_lists(read.many("--lists"), lambda feed, data: list(inventory.candidates_of(feed, data)), said)
+    return read_lists(read.many("--lists"), said)
 
 
 def run(words: Sequence[str]) -> int:

@@ -30,7 +30,8 @@ class Asked:
     """A machine, the names of its items, and what was decided of the ranges for it: keys of checks, with TRUE or FALSE.
 
     `supposed` are names that items of it may have which no dictionary has, and `beside` is what is decided with them too. Where
-    items of it are under removed names, `restored` is what is decided where these lead to themselves.
+    items of it are under removed names, `restored` is what is decided where these lead to themselves. `doubtful` are the ids of
+    statements that aren't surely FALSE, since a component of it has several names.
     """
 
     name: str
@@ -39,6 +40,7 @@ class Asked:
     supposed: list[str] = field(default_factory=list)
     beside: list[tuple[str, str]] = field(default_factory=list)
     restored: list[tuple[str, str]] | None = None
+    doubtful: list[str] = field(default_factory=list)
 
 
 @dataclass(frozen=True)
@@ -86,7 +88,7 @@ class Session:
 
     def ask(self, machine: Asked) -> Told:
         """The verdicts of a machine. One that would be another with the supposed items, or where names weren't removed, is
-        UNKNOWN."""
+        UNKNOWN, and so is a doubtful one that is FALSE."""
         if not machine.items:
             return _without_items(machine.name, [])
         told = self._ask_with(machine.name, machine.items, machine.decided)
@@ -96,6 +98,8 @@ class Session:
         if told.has_items and machine.restored is not None:
             others.append(self._with_restores()._ask_with(machine.name, machine.items, machine.restored).lines)
         lines = [one if {one}.issuperset(more) else _unknown(one) for one, *more in zip(told.lines, *others)]
+        doubtful = {f"{machine.name} {id} FALSE" for id in machine.doubtful}
+        lines = [_unknown(one) if one in doubtful else one for one in lines]
         return Told(told.machine, told.left_out, lines, told.has_items)
 
     def _with_restores(self) -> Session:

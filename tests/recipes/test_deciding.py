@@ -9,7 +9,7 @@ from cpe_recipes.advisories import Range
 from cpe_recipes.cases import Known
 from cpe_recipes.decide import Decided
 from cpe_recipes.deciding import Told
-from cpe_recipes.machines import Machine
+from cpe_recipes.components import Machine
 
 
 def explains():

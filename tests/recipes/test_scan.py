@@ -15,9 +15,9 @@ from stand_in import Heard  # noqa: E402 (it knows where the recipes are)
 from cpe_recipes import affected, scan  # noqa: E402
 from cpe_recipes.advisories import Range  # noqa: E402
 from cpe_recipes.cases import Known  # noqa: E402
+from cpe_recipes.components import Component, Machine  # noqa: E402
 from cpe_recipes.decide import Lists  # noqa: E402
 from cpe_recipes.feeds import record_text  # noqa: E402
-from cpe_recipes.machines import Machine  # noqa: E402
 from cpe_recipes.program import Program  # noqa: E402
 from cpe_recipes.progress import Progress  # noqa: E402
 from cpe_recipes.said import Fatal, Said  # noqa: E402
@@ -107,7 +107,7 @@ class Drawn:
         machines = [Machine(f"m{k}", [self.name(versions) for _ in range(self.draw.randint(1, 4))]) for k in range(6)]
         # (one whose product or vendor is known in part)
         if "1.*" in versions:
-            machines[0].items.append(self.draw.choice([name("v", "p*", "1.0"), name("?w", "q", "1.*")]))
+            machines[0].components.append(Component(names=(self.draw.choice([name("v", "p*", "1.0"), name("?w", "q", "1.*")]),)))
         return machines
 
 
