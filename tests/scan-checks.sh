@@ -30,6 +30,21 @@ runs_unit_tests() {
     done
 }
 
+# The orders of versions against the tools whose orders they are, those that are here. (Python's modules are Debian's.)
+compares_orders() {
+    python=python3
+    if /usr/bin/python3 -c 'import sys; sys.exit(sys.version_info < (3, 11))' 2> /dev/null; then python=/usr/bin/python3; fi
+    limited "$python" -B tests/recipes/orders_against_tools.py 10000 "$program" > "$room/tried" 2> "$room/error" ||
+        [ -s "$room/tried" ] || fail 'orders of versions against the tools' "$(tail -n 1 "$room/error")"
+    while read -r line; do
+        case $line in
+            'the same: '*) pass "the order of versions of ${line#the same: }" ;;
+            'SKIPPED: '*) line=${line#SKIPPED: }; skip "the order of versions of ${line%%:*}" "${line#*: }" ;;
+            *) fail 'orders of versions against the tools' "$line" ;;
+        esac
+    done < "$room/tried"
+}
+
 # What the vendors mean, by hand, beside what comes out: no affected pair FALSE, no other one TRUE, few UNKNOWN.
 counts_truths() {
     what='ranges of versions against their truths'
@@ -185,6 +200,7 @@ shows_pages() {
 
 if needs 'the recipes in Python' python3; then
     runs_unit_tests
+    compares_orders
     counts_truths
     shows_tables
     shows_pages

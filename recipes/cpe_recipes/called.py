@@ -23,8 +23,9 @@ class Sure(Enum):
 
 @dataclass(frozen=True, slots=True)
 class Called:
-    """A name of an item: as it is put, the item, the name that is meant, how sure that is, in words why it isn't, and the attributes
-    of which nothing is said, by their places."""
+    """A name of an item: as it is put, the item, the name that is meant, how sure that is, in words why it isn't, the attributes of
+    which nothing is said, by their places, and the kind of the component. `is_spelled` is one whose version is only spelled as a fact
+    spells it, and ranges are decided without that."""
 
     name: str
     item: str
@@ -32,6 +33,8 @@ class Called:
     sure: Sure
     why: str = ""
     lacks: frozenset[int] = frozenset()
+    kind: str = ""
+    is_spelled: bool = False
 
     def is_sure(self) -> bool:
         return self.sure in (Sure.SURELY, Sure.RENAMED)

@@ -3,8 +3,11 @@
 For each range and machine, where the name of the range covers an item of the machine or an end that the item leads to:
 
 1. TRUE where the match feed's own list for that match has the item or an end of it;
-2. else TRUE where the version of some end is in the range, by the order of `cpe advise`, and FALSE where that of none is;
-3. where the order can't be trusted (versions.py says when), there is no answer, and it is said: the check stays UNKNOWN.
+2. else TRUE where the version of some end is in the range, by all orders that it may have, and FALSE where that of none is;
+3. where not all orders lead to the same (versions.py), there is no answer, and it is said: the check stays UNKNOWN.
+
+Which order a version has is told by the kind of the component, if its list says it. The order of `cpe advise` is one of those that are
+possible where nothing is said, and what it makes of a range is asked of cpe.
 
 An end that is known in part, since its name has a pattern, may be covered by the name of the range. Then the answer is FALSE where
 all versions that its pattern begins with are outside, and else there is none.
@@ -29,8 +32,9 @@ from .components import Machine
 from .feeds import FeedFault, FormFault, name_of, pages, read_feed, record_text, text_lines, values_of
 from .machines import read_machines
 from .program import Program
+from .readings import without_v
 from .said import Fatal, Output, Said
-from .versions import Letters, Standing, is_outside_from, read_letters, standing, sure_beginning
+from .versions import Letters, Standing, Upward, is_outside_from, plain_standing, read_letters, standing, sure_beginning
 from .words import MANY, ONE, read_words
 
 USAGE = "decide.py --ranges FILE.. --records FILE.. --machines FILE [--matches FILE..] [--letters FILE]"
@@ -45,12 +49,13 @@ Stand = bool | str
 @dataclass(frozen=True)
 class Lead:
     """What the dictionary makes of a name: how cpe writes it, whether it is an entry there, the ends it leads to, and the names on
-    the way, itself among them."""
+    the way, itself among them; and of an item the kind of its component, if its list says it."""
 
     name: str
     is_entry: bool
     ends: tuple[str, ...]
     steps: tuple[str, ...] = ()
+    kind: str = ""
 
     def is_removed(self) -> bool:
         """Whether it leads nowhere, since a name was removed from the dictionary."""
@@ -131,23 +136,29 @@ class Unsure:
 @dataclass
 class Decided:
     """What is decided of a machine: the truths of checks by their ids, those that have none, and of each that is TRUE the first item
-    that makes it so."""
+    that makes it so. Where only packages of distributions do, which may be mended without a new version, each is in `backported`."""
 
     truths: dict[str, bool] = field(default_factory=dict)
     unsure: dict[str, Unsure] = field(default_factory=dict)
     inside: dict[str, str] = field(default_factory=dict)
+    backported: dict[str, dict[str, None]] = field(default_factory=dict)
 
-    def put(self, key: str, is_inside: bool, item: str) -> None:
-        """Puts how an item stands to the range of a check."""
-        self.truths[key] = self.truths.get(key, False) or is_inside
+    def put(self, key: str, is_inside: bool, item: str, release: str = "") -> None:
+        """Puts how an item stands to the range of a check, and of a distribution's package that is inside its release."""
         if is_inside:
+            is_first = key not in self.inside
             self.inside.setdefault(key, item)
+            if release and (is_first or key in self.backported):
+                self.backported.setdefault(key, {})[f"backported? {item}: release {release}"] = None
+            else:
+                self.backported.pop(key, None)
+        self.truths[key] = self.truths.get(key, False) or is_inside
 
     def joined(self, other: Decided) -> Decided:
         """What is decided where both hold: TRUE if one says so, else without an answer if one has none."""
         unsure = {key: one for key, one in {**other.unsure, **self.unsure}.items() if not self.truths.get(key)}
         truths = {key: truth for key, truth in {**other.truths, **self.truths}.items() if key not in unsure}
-        return Decided(truths, unsure, self.inside)
+        return Decided(truths, unsure, self.inside, self.backported)
 
     def clear(self) -> None:
         """Lets go of what the verdicts have too."""
@@ -160,7 +171,11 @@ class Decider:
 
     def __init__(self, program: Program, ranges: Collection[Range], leads: Leads, ends: Iterable[str], letters: Letters) -> None:
         self._program, self._letters = program, letters
-        self._stands: dict[str, dict[str, Stand]] = {}
+        # (of each end the ranges of plain criteria that cover it, and whether it is inside by cpe)
+        self._covering: dict[str, tuple[_End, list[tuple[Range, bool]]]] = {}
+        self._others: dict[str, dict[str, Stand]] = {}
+        self._stands: dict[tuple[str, str], dict[str, Stand]] = {}
+        self._releases: dict[tuple[str, str, str], str] = {}
         self.criteria: dict[str, str] = {}
         sure: list[str] = []
         in_part: list[str] = []
@@ -192,15 +207,26 @@ class Decider:
         if asked_of_patterns:
             self._ask_items(in_part, asked_of_patterns)
 
-    def stands(self, end: str) -> Mapping[str, Stand]:
-        """How this end stands to the ranges that cover it, by the ids of their checks."""
-        return self._stands.get(end, {})
+    def stands(self, end: str, kind: str = "") -> Mapping[str, Stand]:
+        """How this end, as a component of this kind, stands to the ranges that cover it, by the ids of their checks."""
+        found = self._stands.get((end, kind))
+        if found is None:
+            found = self._stands[end, kind] = {**self._others.get(end, {})}
+            covered = self._covering.get(end)
+            if covered is not None:
+                for one, is_inside in covered[1]:
+                    found[one.key] = self._stand(covered[0], kind, one, is_inside)
+        return found
+
+    def release(self, end: str, kind: str, key: str) -> str:
+        """The release of a distribution's package, where that is inside the range of this check; else nothing."""
+        return self._releases.get((end, kind, key), "")
 
     def _put(self, end: str, key: str, stand: Stand) -> None:
-        self._stands.setdefault(end, {})[key] = stand
+        self._others.setdefault(end, {})[key] = stand
 
     def _ask_advise(self, ends: Sequence[str], ranges: Sequence[Range]) -> None:
-        """Puts how the ends stand to ranges of plain criteria."""
+        """Puts which ranges of plain criteria cover the ends, and what cpe says of their versions."""
         asked: dict[str, list[_End]] = {}
         for name in ends:
             end = _End.of(name, self._letters)
@@ -209,18 +235,22 @@ class Decider:
         for one, (covered, inside) in zip(ranges, _pairs(answers, len(ranges))):
             for item in covered:
                 for end in asked[item]:
-                    self._put(end.name, one.key, self._stand(end, one, item in inside))
+                    self._covering.setdefault(end.name, (end, []))[1].append((one, item in inside))
 
-    def _stand(self, end: _End, one: Range, is_inside: bool) -> Stand:
+    def _stand(self, end: _End, kind: str, one: Range, is_inside: bool) -> Stand:
         if end.version is None:
             return "its version isn't known"
-        if self._letters.has(end.product) and names.product_of(one.criteria) != end.product:
+        if end.upward and names.product_of(one.criteria) != end.product:
             return "letters count upward in its versions, and the range is of more than its product"
-        found, reason = standing(end.version, end.update, one)
-        if found is Standing.UNSURE:
-            return f"{reason}, letters that count upward being numbers" if self._letters.has(end.product) else reason
-        # (both orders are one; where they weren't, neither could be trusted)
-        return is_inside if is_inside == (found is Standing.INSIDE) else "cpe orders its version otherwise than this recipe"
+        found = standing(end.version, end.update, one, kind, end.upward)
+        # (its own order may lead to another answer than the one of cpe; but of that this recipe thinks as cpe does)
+        if is_inside != (found.standing is Standing.INSIDE) and is_inside != plain_standing(end.asked_version(), one):
+            return "cpe orders its version otherwise than this recipe"
+        if found.standing is Standing.UNSURE:
+            return found.why
+        if found.release:
+            self._releases[end.name, kind, one.key] = found.release
+        return found.standing is Standing.INSIDE
 
     def _ask_compare(self, near: _Near, odd: Sequence[tuple[Range, str]]) -> None:
         """Puts the reasons of ranges that can't be asked for, where their facts cover an end."""
@@ -244,7 +274,8 @@ class Decider:
             return False
         version = _End.of(end, self._letters).version
         if version is not None:
-            return standing(version, parts[names.UPDATE], one)[0] is Standing.OUTSIDE
+            upward = Upward(self._letters, product) if self._letters.has(product) else None
+            return standing(version, parts[names.UPDATE], one, upward=upward).standing is Standing.OUTSIDE
         text = names.beginning(parts[names.VERSION])
         if text is None:
             return False
@@ -300,34 +331,42 @@ class _Near:
 
 @dataclass(frozen=True)
 class _End:
-    """An end: its name, how it is asked for, its vendor and product, and its version and update where they are plain."""
+    """An end: its name, how it is asked for, its vendor and product, its version and update where they are plain, and whether letters
+    count upward there."""
 
     name: str
     asked: str
     product: tuple[str, str]
     version: str | None
     update: str | None
+    upward: Upward | None = None
 
     @staticmethod
     def of(name: str, letters: Letters) -> _End:
         parts = names.components(name)
         product = parts[names.VENDOR], parts[names.PRODUCT]
         version, update = names.body(parts[names.VERSION]), names.body(parts[names.UPDATE])
-        if version is None or not letters.has(product):
+        if version is None:
             return _End(name, name, product, version, update)
-        version, update = letters.with_update(product, version, update)
-        version = letters.rewritten(product, version)
-        parts[names.VERSION] = names.spelled(version)
-        return _End(name, names.joined(parts), product, version, update)
+        upward = Upward(letters, product) if letters.has(product) else None
+        if upward:
+            version, update = letters.with_update(product, version, update)
+        asked = upward.rewritten(version) if upward else without_v(version)
+        if asked != version:
+            parts[names.VERSION] = names.spelled(asked)
+        return _End(name, names.joined(parts) if asked != version else name, product, version, update, upward)
+
+    def asked_version(self) -> str:
+        """The version in the name that is asked for."""
+        return names.body(names.components(self.asked)[names.VERSION]) or ""
 
 
 def _asked(one: Range, letters: Letters) -> Range:
     """The range with its bounds as its product's versions are asked for."""
     product = names.product_of(one.criteria)
-    if not letters.has(product):
-        return one
-    start, end = (bound and letters.rewritten(product, bound) for bound in (one.start, one.end))
-    return replace(one, start=start, end=end)
+    spell = Upward(letters, product).rewritten if letters.has(product) else without_v
+    start, end = (bound and spell(bound) for bound in (one.start, one.end))
+    return one if (start, end) == (one.start, one.end) else replace(one, start=start, end=end)
 
 
 def _oddness(asked: Range) -> str:
@@ -406,14 +445,16 @@ def decide(called: Iterable[Called], decider: Decider, lists: Lists) -> Decided:
     """What is decided of a machine whose items are called so."""
     decided = Decided()
     for one in called:
+        if one.is_spelled:
+            continue
         for key in lists.keys(one.meant) if one.sure is not Sure.LESS else ():
             if one.is_sure():
                 decided.put(key, True, one.item)
             else:
                 decided.unsure.setdefault(key, Unsure(key, "", one.why))
-        stands = decider.stands(one.name)
+        stands = decider.stands(one.name, one.kind)
         if one.sure is Sure.SURELY:
-            _put_sure(decided, one, stands)
+            _put_sure(decided, one, stands, decider)
         else:
             _put_doubted(decided, one, stands, decider.criteria)
     for key in [key for key in decided.unsure if decided.truths.get(key)]:
@@ -423,13 +464,12 @@ def decide(called: Iterable[Called], decider: Decider, lists: Lists) -> Decided:
     return decided
 
 
-def _put_sure(decided: Decided, one: Called, stands: Mapping[str, Stand]) -> None:
+def _put_sure(decided: Decided, one: Called, stands: Mapping[str, Stand], decider: Decider) -> None:
     """Puts how an item that surely is called so stands to ranges."""
     truths = decided.truths
     for key, stand in stands.items():
         if stand is True:
-            truths[key] = True
-            decided.inside.setdefault(key, one.item)
+            decided.put(key, True, one.item, decider.release(one.name, one.kind, key))
         elif stand is False:
             truths.setdefault(key, False)
         else:
@@ -453,7 +493,7 @@ def _put_doubted(decided: Decided, one: Called, stands: Mapping[str, Stand], cri
 
 def led(lead: Lead) -> list[Called]:
     """An item by its name as it stands, and as it leads on."""
-    return [Called(name, lead.name, name, Sure.SURELY) for name in dict.fromkeys((lead.name, *lead.ends))]
+    return [Called(name, lead.name, name, Sure.SURELY, kind=lead.kind) for name in dict.fromkeys((lead.name, *lead.ends))]
 
 
 def check_record(key: str, is_true: bool) -> str:

@@ -4,7 +4,7 @@ from __future__ import annotations
 
 import json
 from collections.abc import Iterator, Sequence
-from dataclasses import dataclass, field
+from dataclasses import dataclass, field, replace
 
 from . import decide, matches, unlisted
 from .advisories import Range
@@ -191,11 +191,13 @@ class _Names:
         named = [self.leads.found[fact].name for fact in facts if fact in self.leads.found]
         own = {lead.name: lead for item in items if (lead := self.leads.found.get(item))}
         by_feed = listed_by_name(self._lists, ranges, self.leads)
-        calling = Calling(program, entries, self.leads, own.values(), by_feed, Wanted(named))
-        self._is_strict, self._calling = words.has("--strict"), calling
-        called = [one for lead in own.values() for one in calling.of(lead)]
         letters = read_letters(words.one("--letters") or decide.LETTERS)
-        self._decider = decide.Decider(program, ranges.values(), self.leads, (one.name for one in called), letters)
+        calling = Calling(program, entries, self.leads, own.values(), by_feed, Wanted(named), letters)
+        self._is_strict, self._calling = words.has("--strict"), calling
+        self._components = {machine.name: list(self._leads_of(machine)) for machine in machines}
+        called = calling.of_components(leads for of in self._components.values() for leads in of)
+        ends = (one.name for one in called if not one.is_spelled)
+        self._decider = decide.Decider(program, ranges.values(), self.leads, ends, letters)
         self._negations = Negations(program, records.negated, self.leads, called, self._decider, self._lists)
 
     def items(self, machine: Machine) -> dict[str, decide.Lead]:
@@ -208,13 +210,14 @@ class _Names:
         return machine.items if any(item in self.leads.found for item in own) else own
 
     def called(self, machine: Machine) -> list[Called]:
-        found = self._calling.of_components(self._components(machine))
+        found = self._calling.of_components(self._components[machine.name])
         return [one for one in found if not self._is_strict or one.sure is not Sure.LESS]
 
-    def _components(self, machine: Machine) -> list[list[decide.Lead]]:
+    def _leads_of(self, machine: Machine) -> Iterator[list[decide.Lead]]:
         """Where the names of its components lead."""
-        found = self.leads.found
-        return [list({found[name].name: found[name] for name in one.names if name in found}.values()) for one in machine.all()]
+        for one in machine.all():
+            leads = {lead.name: lead for name in one.names if (lead := self.leads.found.get(name))}
+            yield [replace(lead, kind=one.kind) for lead in leads.values()]
 
     def decided(self, machine: Machine, called: Sequence[Called], before: Decided | None) -> decide.Decided:
         """What is decided of a machine; of its ranges what decide.py wrote before, where that is given."""
@@ -222,7 +225,7 @@ class _Names:
             decided = decide.decide(called, self._decider, self._lists)
         else:
             decided = decide.Decided({key: result == "TRUE" for key, result in before.get(machine.name, ())})
-        self._negations.put(self._components(machine), called, decided)
+        self._negations.put(self._components[machine.name], called, decided)
         return decided
 
     def say(self, machine: Machine, said: Said) -> None:

@@ -52,21 +52,21 @@ class Negations:
 
     def _is_met(self, one: Negated, lead: Lead) -> bool:
         """Whether a name surely meets it, both as it stands and as it leads on."""
-        return self._meets(one, lead.name) and any(self._meets(one, end) for end in lead.ends)
+        return self._meets(one, lead.name, lead.kind) and any(self._meets(one, end, lead.kind) for end in lead.ends)
 
-    def _meets(self, one: Negated, name: str) -> bool:
+    def _meets(self, one: Negated, name: str, kind: str) -> bool:
         if name not in self._covered[self._facts[one.key]]:
             return False
-        return one.range is None or self._in_range(one.range, name, name) is True
+        return one.range is None or self._in_range(one.range, name, name, kind) is True
 
     def _stand(self, one: Negated, called: Called) -> Stand:
         """How a name stands to the range; True where there is none."""
-        return True if one.range is None else self._in_range(one.range, called.name, called.meant)
+        return True if one.range is None else self._in_range(one.range, called.name, called.meant, called.kind)
 
-    def _in_range(self, key: str, name: str, meant: str) -> Stand:
+    def _in_range(self, key: str, name: str, meant: str, kind: str) -> Stand:
         if key in self._lists.keys(meant):
             return True
-        return self._decider.stands(name).get(key, "nothing is told of its range")
+        return self._decider.stands(name, kind).get(key, "nothing is told of its range")
 
     def _words(self, one: Negated, called: Called) -> str:
         """Why it isn't sure that this name is there."""

@@ -30,10 +30,10 @@ from __future__ import annotations
 
 import json
 from collections.abc import Collection, Iterable, Iterator, Mapping, Sequence
-from dataclasses import dataclass, field
+from dataclasses import dataclass, field, replace
 
 from . import advisories, affected, dictionary, matches, products, suppressed, unlisted, verdicts
-from .called import Sure
+from .called import Called, Sure
 from .calling import Calling, Wanted, listed_by_name
 from .cases import Cases, Index, Items, Known, Product, Results, lines_of, verdicts_of
 from .components import Machine
@@ -101,7 +101,8 @@ class Scan:
         """Where the names of a machine lead. It has no items where none of its components has a name, be its platform known."""
         if not any(name in self._leads.found for name in machine.own_items()):
             return Found(machine, [])
-        components = {tuple(lead.name for lead in leads): leads for one in machine.all() if (leads := _leads_in(self._leads, one.names))}
+        found = [(one.kind, _leads_in(self._leads, one.names, one.kind)) for one in machine.all()]
+        components = {(kind, tuple(lead.name for lead in leads)): leads for kind, leads in found if leads}
         leads = {lead.name: lead for of_one in components.values() for lead in of_one}
         unlisted = [of_one for of_one in components.values() if not any(lead.is_entry for lead in of_one)]
         of_components = list(components.values())
@@ -118,7 +119,7 @@ class Scan:
         self.successors = unlisted.successors(entries, self._leads)
         feed = listed_by_name(self._lists, self._known.ranges, self._leads)
         wanted = Wanted(self._leads.found[fact].name for fact in dict.fromkeys(facts))
-        return Calling(self._program, entries, self._leads, _leads_in(self._leads, items), feed, wanted)
+        return Calling(self._program, entries, self._leads, _leads_in(self._leads, items), feed, wanted, self._letters)
 
     def _decide(self, found: Sequence[Found], is_all_asked: bool) -> None:
         """Puts what is decided of the ranges, and the verdicts."""
@@ -126,7 +127,7 @@ class Scan:
         index = Index(self._known, self._leads)
         cases = Cases(self._known, index, is_all_asked)
         called = list({it.name: it for one in found for it in one.called}.values())
-        decider = Decider(self._program, self._known.ranges.values(), self._leads, (it.name for it in called), self._letters)
+        decider = Decider(self._program, self._known.ranges.values(), self._leads, _ends(called), self._letters)
         negated = list(self._known.negated.values())
         negations = Negations(self._program, negated, self._leads, called, decider, self._lists)
         asked = [self._asked(one, decider, negations, cases) for one in found]
@@ -186,9 +187,15 @@ class _Asked:
     beside: dict[int, int] = field(default_factory=dict)
 
 
-def _leads_in(leads: Leads, items: Iterable[str]) -> list[Lead]:
+def _leads_in(leads: Leads, items: Iterable[str], kind: str = "") -> list[Lead]:
     """Where the items lead, each once, however it is spelled."""
-    return list({lead.name: lead for item in items if (lead := leads.found.get(item))}.values())
+    found = {lead.name: lead for item in items if (lead := leads.found.get(item))}.values()
+    return [replace(lead, kind=kind) for lead in found] if kind else list(found)
+
+
+def _ends(called: Iterable[Called]) -> list[str]:
+    """The names that are held against ranges."""
+    return [one.name for one in called if not one.is_spelled]
 
 
 def _next(answers: Iterator[str]) -> str:

@@ -136,7 +136,7 @@ class Verdicts(unittest.TestCase):
         machines = [Machine("old", [name("v", "p", "1.5")]), Machine("new", [name("v", "p", "2.0")]), Machine("odd", [name("v", "p", "1.0b")])]
         made, found = scanned(known, machines)
         self.assertEqual([truths(known, made, it)["CVE-1"] for it in found], ["TRUE", "FALSE", "UNKNOWN"])
-        self.assertEqual(Hanging(known, found).on("CVE-1", "odd"), [f"{name('v', 'p', '1.0b')}: a letter decides between 1.0b and 1.0"])
+        self.assertEqual(Hanging(known, found).on("CVE-1", "odd"), [f"{name('v', 'p', '1.0b')}: dpkg and PEP 440 differ between 1.0b and 1.0"])
         made, found = scanned(known, machines, {"KEY": [name("v", "p", "1.0b")]})
         self.assertEqual([truths(known, made, it)["CVE-1"] for it in found], ["TRUE", "FALSE", "TRUE"])
 
@@ -336,6 +336,20 @@ class Verdicts(unittest.TestCase):
         known = self.known(statement("ANY", {"fact": name("v", "old")}), entries=[*map(entry, olds), entry(new), deprecate(olds[0], new)])
         made, found = scanned(known, [Machine("a", [new]), Machine("b", [name("v", "new", "9")])])
         self.assertEqual([truths(known, made, it)["ANY"] for it in found], ["TRUE", "FALSE"])
+
+    def test_an_exact_fact_is_held_against_a_version_as_a_bound_is(self):
+        wanted = {
+            ("5.6.1-1", "", "5.6.1"): "UNKNOWN", ("5.6.1-1", "deb", "5.6.1"): "TRUE", ("2.0.0", "", "2.0"): "UNKNOWN",
+            ("2.0.0", "pypi", "2.0"): "TRUE", ("v1.2.3", "", "1.2.3"): "TRUE", ("1.2.3", "", "v1.2.3"): "TRUE",
+            (r"1\:5.6.1-1", "deb", "5.6.1"): "TRUE", ("5.6.2-1", "deb", "5.6.1"): "FALSE", ("5.6.10", "", "5.6.1"): "FALSE",
+        }
+        for (version, kind, fact), truth in wanted.items():
+            known = self.known(statement("CVE-1", {"fact": name("v", "p", fact)}), statement("NOT", {"fact": name("v", "p", fact)}, negate=True))
+            made, found = scanned(known, [Machine("a", [Component("p", (name("v", "p", version),), kind)])])
+            self.assertEqual(truths(known, made, found[0])["CVE-1"], truth, (version, kind, fact))
+            self.assertIn(truths(known, made, found[0])["NOT"], ("TRUE",) if truth == "FALSE" else ("FALSE", "UNKNOWN"))
+            if truth == "UNKNOWN":
+                self.assertTrue(Hanging(known, found).on("CVE-1", "a")[0].startswith(f"{name('v', 'p', version)}: "))
 
     def test_what_the_match_feed_lists_is_true_before_anything_else(self):
         one = Range("K", name("mysql", "mysql"), None, "5.5")
