@@ -6,6 +6,7 @@
 CPE=$program
 export CPE
 ranges=recipes/samples/ranges
+doubts=recipes/samples/doubts
 
 # scans WORD..: scan.py over the samples of ranges, with more words.
 scans() {
@@ -54,6 +55,21 @@ counts_truths() {
     status=$?
     cat "$room/out"
     judge "$what" "$status" 0 "$ranges/truths.out" "$ranges/table.said"
+}
+
+# What lists and dictionaries don't say, by hand, beside what comes out; and that less is UNKNOWN where a word says so.
+counts_doubts() {
+    set -- --dictionary "$doubts/dictionary.json" --advisories "$doubts/advisories.json" --lists "$doubts"/*-?.txt "$doubts"/*-db.txt "$doubts/box-1.cdx.json"
+    what="what a list doesn't say against its truths"
+    limited python3 recipes/scan.py "$@" --json < /dev/null > "$room/scan.json" 2> "$room/error"
+    python3 tests/recipes/truths.py "$doubts/truths.txt" < "$room/scan.json" > "$room/out"
+    status=$?
+    cat "$room/out"
+    judge "$what" "$status" 0 "$doubts/truths.out" "$doubts/table.said"
+    limited python3 recipes/scan.py "$@" < /dev/null > "$room/out" 2> "$room/error"
+    judge "the table of what a list doesn't say" $? 0 "$doubts/table.out" "$doubts/table.said"
+    limited python3 recipes/scan.py "$@" --strict --hardware none < /dev/null > "$room/out" 2> "$room/error"
+    judge "the same with --strict and --hardware none" $? 0 "$doubts/strict.out" "$doubts/table.said"
 }
 
 shows_tables() {
@@ -202,6 +218,7 @@ if needs 'the recipes in Python' python3; then
     runs_unit_tests
     compares_orders
     counts_truths
+    counts_doubts
     shows_tables
     shows_pages
     goes_step_by_step
