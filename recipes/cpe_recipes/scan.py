@@ -5,7 +5,8 @@
 
 - --dictionary, --advisories, --matches: pages of NVD's API 2.0, as they come or packed by gzip. --records: what dictionary.sh
   made of such pages before.
-- --machines: a line a machine, its name and names of items; --lists: software lists (CycloneDX, SPDX, plain), each a machine.
+- --machines: a line a machine, as inventory.sh --machines writes it; --lists: software lists (CycloneDX, SPDX, Syft, plain), each a
+  machine.
 - --suppress: accepted advisories, lines `ID MACHINE REASON`, where * is every machine. They are told below the table.
 - --letters: the products of which letters in versions count upward, in place of letters.txt.
 - --all: the table and the JSON have the verdicts that are FALSE too.
@@ -17,6 +18,9 @@ What machines are asked for, cases.py says; all verdicts come from one run of cp
 An item that no entry of the dictionary has leads nowhere, though entries of its product may lead to another product. It is asked
 for under that one too; where the verdict would be another so, it is UNKNOWN. An item under a removed name leads nowhere either;
 where the verdict would be another if it led to itself, it is UNKNOWN.
+
+A component may have several names. One that makes a verdict TRUE is enough, and it is FALSE only if all do; alternatives.py says
+what it is where a test is negated.
 
 An item that is known in part, since its name has a pattern, may be what a fact names; where a verdict hangs on that it is UNKNOWN,
 and the item is told (partly.py). Of a range it is FALSE where all that the item may be is outside; decide.py says when.
