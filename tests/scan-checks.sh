@@ -72,6 +72,28 @@ counts_doubts() {
     judge "the same with --strict and --hardware none" $? 0 "$doubts/strict.out" "$doubts/table.said"
 }
 
+# The same of the lists of tools: all names of a component are read, wherever a tool writes them. What has package URLs alone is
+# no item, and no machine that isn't affected.
+reads_lists() {
+    of=recipes/samples/lists
+    set -- --dictionary "$of/dictionary.json" --advisories "$of/advisories.json" --lists
+    limited python3 recipes/scan.py "$@" "$of"/shop-* "$of"/java-* "$of"/build-* > "$room/out" 2> "$room/error"
+    judge 'the table of the lists of tools' $? 1 "$of/table.out" "$of/table.said"
+    limited python3 recipes/scan.py --json "$@" "$of"/shop-* "$of"/java-* "$of"/build-* > "$room/scan.json" 2> /dev/null
+    python3 tests/recipes/truths.py "$of/truths.txt" < "$room/scan.json" > "$room/out"
+    status=$?
+    cat "$room/out"
+    : > "$room/error"
+    judge 'the lists of tools against their truths' "$status" 0 "$of/truths.out"
+    limited python3 recipes/scan.py "$@" "$of"/trivy-* > "$room/out" 2> "$room/error"
+    judge 'lists of package URLs alone' $? 1 "$of/no-names.out" "$of/no-names.said"
+    limited sh recipes/inventory.sh "$of/trivy-1.json" > "$room/out" 2> "$room/error"
+    status=$?
+    sed -n 's/^left out trivy-1 \(.*: no CPE name\)$/left out \1/p' "$of/no-names.said" > "$room/wanted.said"
+    echo 'inventory.sh: trivy-1.json: no item in it' >> "$room/wanted.said"
+    judge 'no inventory of package URLs alone' "$status" 2 /dev/null "$room/wanted.said"
+}
+
 shows_tables() {
     # shellcheck disable=SC2046
     scans --lists $(lists) > "$room/out" 2> "$room/error"
@@ -219,6 +241,7 @@ if needs 'the recipes in Python' python3; then
     compares_orders
     counts_truths
     counts_doubts
+    reads_lists
     shows_tables
     shows_pages
     goes_step_by_step

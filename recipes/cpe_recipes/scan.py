@@ -5,7 +5,8 @@
 
 - --dictionary, --advisories, --matches: pages of NVD's API 2.0, as they come or packed by gzip. --records: what dictionary.sh
   made of such pages before.
-- --machines: a line a machine, its name and names of items; --lists: software lists (CycloneDX, SPDX, plain), each a machine.
+- --machines: a line a machine, as inventory.sh --machines writes it; --lists: software lists (CycloneDX, SPDX, Syft, plain), each a
+  machine.
 - --suppress: accepted advisories, lines `ID MACHINE REASON`, where * is every machine. They are told below the table.
 - --letters: the products of which letters in versions count upward, in place of letters.txt.
 - --all: the table and the JSON have the verdicts that are FALSE too.
@@ -18,6 +19,9 @@ What machines are asked for, cases.py says; all verdicts come from one run of cp
 
 A statement holds for a machine if it holds of the names as they stand or as the dictionary leads them on, on either side; calling.py
 says which names an item has so, and which it perhaps has. Where something is negated it holds only if it does so in each way.
+
+A component may have several names. One that makes a verdict TRUE is enough, and it is FALSE only if all do; negations.py says what it
+is where a test is negated.
 
 What a list doesn't say is UNKNOWN: an item that is known in part, since its name has a pattern, may be what a fact names, and so may
 one that says less than the fact, as of a plugin without its platform. Such a verdict is told with what isn't said (reasons.py), and
