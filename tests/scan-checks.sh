@@ -6,6 +6,7 @@
 CPE=$program
 export CPE
 ranges=recipes/samples/ranges
+doubts=recipes/samples/doubts
 
 # scans WORD..: scan.py over the samples of ranges, with more words.
 scans() {
@@ -30,6 +31,21 @@ runs_unit_tests() {
     done
 }
 
+# The orders of versions against the tools whose orders they are, those that are here. (Python's modules are Debian's.)
+compares_orders() {
+    python=python3
+    if /usr/bin/python3 -c 'import sys; sys.exit(sys.version_info < (3, 11))' 2> /dev/null; then python=/usr/bin/python3; fi
+    limited "$python" -B tests/recipes/orders_against_tools.py 10000 "$program" > "$room/tried" 2> "$room/error" ||
+        [ -s "$room/tried" ] || fail 'orders of versions against the tools' "$(tail -n 1 "$room/error")"
+    while read -r line; do
+        case $line in
+            'the same: '*) pass "the order of versions of ${line#the same: }" ;;
+            'SKIPPED: '*) line=${line#SKIPPED: }; skip "the order of versions of ${line%%:*}" "${line#*: }" ;;
+            *) fail 'orders of versions against the tools' "$line" ;;
+        esac
+    done < "$room/tried"
+}
+
 # What the vendors mean, by hand, beside what comes out: no affected pair FALSE, no other one TRUE, few UNKNOWN.
 counts_truths() {
     what='ranges of versions against their truths'
@@ -39,6 +55,43 @@ counts_truths() {
     status=$?
     cat "$room/out"
     judge "$what" "$status" 0 "$ranges/truths.out" "$ranges/table.said"
+}
+
+# What lists and dictionaries don't say, by hand, beside what comes out; and that less is UNKNOWN where a word says so.
+counts_doubts() {
+    set -- --dictionary "$doubts/dictionary.json" --advisories "$doubts/advisories.json" --lists "$doubts"/*-?.txt "$doubts"/*-db.txt "$doubts/box-1.cdx.json"
+    what="what a list doesn't say against its truths"
+    limited python3 recipes/scan.py "$@" --json < /dev/null > "$room/scan.json" 2> "$room/error"
+    python3 tests/recipes/truths.py "$doubts/truths.txt" < "$room/scan.json" > "$room/out"
+    status=$?
+    cat "$room/out"
+    judge "$what" "$status" 0 "$doubts/truths.out" "$doubts/table.said"
+    limited python3 recipes/scan.py "$@" < /dev/null > "$room/out" 2> "$room/error"
+    judge "the table of what a list doesn't say" $? 0 "$doubts/table.out" "$doubts/table.said"
+    limited python3 recipes/scan.py "$@" --strict --hardware none < /dev/null > "$room/out" 2> "$room/error"
+    judge "the same with --strict and --hardware none" $? 0 "$doubts/strict.out" "$doubts/table.said"
+}
+
+# The same of the lists of tools: all names of a component are read, wherever a tool writes them. What has package URLs alone is
+# no item, and no machine that isn't affected.
+reads_lists() {
+    of=recipes/samples/lists
+    set -- --dictionary "$of/dictionary.json" --advisories "$of/advisories.json" --lists
+    limited python3 recipes/scan.py "$@" "$of"/shop-* "$of"/java-* "$of"/build-* > "$room/out" 2> "$room/error"
+    judge 'the table of the lists of tools' $? 1 "$of/table.out" "$of/table.said"
+    limited python3 recipes/scan.py --json "$@" "$of"/shop-* "$of"/java-* "$of"/build-* > "$room/scan.json" 2> /dev/null
+    python3 tests/recipes/truths.py "$of/truths.txt" < "$room/scan.json" > "$room/out"
+    status=$?
+    cat "$room/out"
+    : > "$room/error"
+    judge 'the lists of tools against their truths' "$status" 0 "$of/truths.out"
+    limited python3 recipes/scan.py "$@" "$of"/trivy-* > "$room/out" 2> "$room/error"
+    judge 'lists of package URLs alone' $? 1 "$of/no-names.out" "$of/no-names.said"
+    limited sh recipes/inventory.sh "$of/trivy-1.json" > "$room/out" 2> "$room/error"
+    status=$?
+    sed -n 's/^left out trivy-1 \(.*: no CPE name\)$/left out \1/p' "$of/no-names.said" > "$room/wanted.said"
+    echo 'inventory.sh: trivy-1.json: no item in it' >> "$room/wanted.said"
+    judge 'no inventory of package URLs alone' "$status" 2 /dev/null "$room/wanted.said"
 }
 
 shows_tables() {
@@ -229,7 +282,10 @@ shows_pages() {
 
 if needs 'the recipes in Python' python3; then
     runs_unit_tests
+    compares_orders
     counts_truths
+    counts_doubts
+    reads_lists
     shows_tables
     shows_pages
     goes_step_by_step

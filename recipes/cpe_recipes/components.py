@@ -74,6 +74,10 @@ class Machine:
             yield self.platform
         yield from self.components
 
+    def own_items(self) -> list[str]:
+        """The names by which a machine has items at all. Beside components, of which none may have a name, a platform is none."""
+        return [name for component in self.components for name in component.names] if self.components else self.items
+
     def add(self, other: Machine) -> None:
         """Adds what another list says of the same machine. Where both say which platform it is, the first stands, and the other
         one is a component."""

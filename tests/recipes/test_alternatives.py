@@ -51,9 +51,9 @@ class Verdicts(RecipeCase):
         for of, one in enumerate(found, 1):
             wanted = {record[0].split('"id":"')[1].split('"')[0]: record[of] for record in STATEMENTS.values()}
             self.assertEqual(truths(known, made, one), wanted)
-        reason = f"system has one of these names: {', '.join(SYSTEM.names)}"
-        self.assertEqual(Hanging(known, found).on("but-not-on-one", "several"), [reason])
-        self.assertEqual(Hanging(known, found).on("none", "several"), [f"agent has one of these names: {', '.join(AGENT.names)}"])
+        reason = "{0} may have another name than {0}, and {1} is negated"
+        self.assertEqual(Hanging(known, found).on("but-not-on-one", "several"), [reason.format(name("m", "eleven", "1"), name("m", "eleven"))])
+        self.assertEqual(Hanging(known, found).on("none", "several"), [reason.format(AGENT.names[1], name("w", "agent"))])
 
     def test_a_fleet_says_the_same(self):
         records = self.file("records", "".join(f"{record}\n" for record in RECORDS))

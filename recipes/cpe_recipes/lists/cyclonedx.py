@@ -72,6 +72,8 @@ def _put(one: Json, place: int, listed: Listed, is_about: bool = False) -> int:
     if not isinstance(one.get("components", []), list):
         draft.faults.append("its components are no list")
     is_platform = one.get("type") == "operating-system"
+    if is_platform:
+        draft.add_system(one.get("name"), one.get("version"))
     if is_about and not is_platform and not draft.names and not draft.faults:
         return place
     listed.put(draft, is_platform)

@@ -6,7 +6,7 @@ from dataclasses import dataclass
 
 from ..components import Component
 from ..feeds import FeedFault, Json
-from . import kinds
+from . import kinds, systems
 from .unread import Unread, is_name, is_purl
 
 ODD = "not of the published form"
@@ -91,6 +91,11 @@ class Draft:
             return
         self._listed.note(value)
         self.purl = self.purl or value
+
+    def add_system(self, id: Json, version: Json) -> None:
+        """Adds the names of an operating system that a list calls so."""
+        for name in systems.names_of(id, version):
+            self.names[name] = None
 
     def add_text(self, value: Json) -> None:
         """Adds a text that may be anything, where it is a name or a package URL."""

@@ -33,7 +33,10 @@ def read(value: dict[str, Json], listed: Listed) -> None:
         draft = Draft(listed, given if isinstance(given, str) and given else id)
         for reference in draft.each(package, "externalRefs"):
             _add(reference, draft)
-        listed.put(draft, package.get("primaryPackagePurpose") == "OPERATING-SYSTEM")
+        is_platform = package.get("primaryPackagePurpose") == "OPERATING-SYSTEM"
+        if is_platform:
+            draft.add_system(package.get("name"), package.get("versionInfo"))
+        listed.put(draft, is_platform)
 
 
 def _add(reference: dict[str, Json], draft: Draft) -> None:

@@ -50,7 +50,10 @@ def _put(element: dict[str, Json], other: str, by_id: Mapping[str, dict[str, Jso
     found = None if all_of is None else [by_id.get(one, one) if isinstance(one, str) else one for one in all_of]
     for one in draft.each({"externalIdentifier": found}, "externalIdentifier"):
         _add(one, draft)
-    listed.put(draft, str(element.get("software_primaryPurpose")).endswith("operatingSystem"))
+    is_platform = str(element.get("software_primaryPurpose")).endswith("operatingSystem")
+    if is_platform:
+        draft.add_system(element.get("name"), element.get("software_packageVersion"))
+    listed.put(draft, is_platform)
 
 
 def _add(identifier: dict[str, Json], draft: Draft) -> None:

@@ -53,5 +53,6 @@ def _read_distro(distro: Json, listed: Listed) -> None:
         return
     draft = Draft(listed, text_of(distro, ("id", "versionID")) or text_of(distro, ("prettyName",)) or text_of(distro, ("name",)))
     draft.add_name(distro.get("cpeName"), "the cpeName of its distro")
+    draft.add_system(distro.get("id"), distro.get("versionID"))
     if draft.id or draft.names:
         listed.put(draft, is_platform=True)

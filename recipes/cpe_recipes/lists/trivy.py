@@ -1,5 +1,5 @@
 """Trivy's own JSON: of each package of the `Results` its `Identifier.PURL`, its `Type` or that of its result; the platform is
-`Metadata.OS`. Trivy gives no names, so a list of its packages alone has no items, and that is said."""
+`Metadata.OS`. Trivy gives no names of products, so each package is said as one without, and is no item."""
 from __future__ import annotations
 
 from ..feeds import FeedFault, Json
@@ -66,5 +66,6 @@ def _read_system(metadata: Json, listed: Listed) -> None:
         listed.put_odd(listed.feed, "its Metadata.OS is no object")
         return
     draft = Draft(listed, text_of(system, ("Family", "Name")))
+    draft.add_system(system.get("Family"), system.get("Name"))
     if draft.id:
         listed.put(draft, is_platform=True)
