@@ -302,6 +302,8 @@ class _Converter:
         if tests:
             self.found.candidates.extend(self._statements(first.id, tests))
             self.found.details[first.id] = details(first.id, first.record["cve"])
+            if any(score_of(score) is None for _, _, score, _ in _metrics(first.record["cve"])):
+                self._said.remark("a score that is none is left out", first.id)
 
     def _leave_out(self, id: str, reason: str) -> None:
         # (among the candidates, so that it is said in its place between what cpe refuses)
@@ -493,18 +495,21 @@ def _title(cve: Json) -> str | None:
 
 def _score(cve: Json) -> dict[str, Json]:
     """The score of NVD, or else that of another source, by the newest version of CVSS in which there is one."""
-    found = []
-    for place, version in enumerate(_SCORES):
-        for metric in _found(lambda: members(member(cve, "metrics") or {}, version)) or []:
-            data = _found(lambda: member(metric, "cvssData"))
-            score = score_of(data.get("baseScore")) if isinstance(data, dict) else None
-            if score is not None:
-                severity = data.get("baseSeverity") or metric.get("baseSeverity")
-                found.append((metric.get("type") != "Primary", place, score, severity))
+    found = [one for one in _metrics(cve) if score_of(one[2]) is not None]
     if not found:
         return {}
     _, _, score, severity = min(found, key=lambda one: one[:2])
     return {"score": score, "severity": severity if isinstance(severity, str) else None}
+
+
+def _metrics(cve: Json) -> Iterator[tuple[bool, int, Json, Json]]:
+    """Of each metric whether it is of another source than NVD, the place of its version of CVSS, its score and severity."""
+    for place, version in enumerate(_SCORES):
+        for metric in _found(lambda: members(member(cve, "metrics") or {}, version)) or []:
+            data = _found(lambda: member(metric, "cvssData"))
+            if isinstance(data, dict) and "baseScore" in data:
+                severity = data.get("baseSeverity") or metric.get("baseSeverity")
+                yield metric.get("type") != "Primary", place, data["baseScore"], severity
 
 
 def _url(id: str, cve: Json) -> str | None:

@@ -240,8 +240,8 @@ def read_known(
     found.tell_empty_pages(said)
     records = program.accepted(found.candidates, said)
     if not records:
-        none = "" if not states.unanalysed else f", and {len(states.unanalysed):,} aren't analysed"
-        raise Fatal(f"no advisory with a verdict is in {', '.join(map(name_of, read.many('--advisories')))}{none}")
+        none = f"; not analysed: {len(states.unanalysed):,}" if states.unanalysed else ""
+        raise Fatal(f"no advisory that can have a verdict is in {', '.join(map(name_of, read.many('--advisories')))}{none}")
     return Known(entries, records, found.ranges, found.details, found.stand_ins), states
 
 
