@@ -38,9 +38,12 @@ _MOST_HANGING = 3
 
 
 class Hangs(Protocol):
-    """What tells on what an UNKNOWN of a machine hangs, in words."""
+    """What tells on what an UNKNOWN of a machine hangs, and what is remarked of a TRUE, in words."""
 
     def on(self, advisory: str, machine: str | None) -> list[str]:
+        ...
+
+    def remarks(self, advisory: str, machine: str | None) -> list[str]:
         ...
 
 
@@ -116,7 +119,7 @@ def _rows(machine: Machine, about: About) -> Iterator[list[str]]:
     name = machine.name or ""
     if not machine.has_items:
         yield [name, "", "no items", "", "", ""]
-    shown = sorted(machine.shown.items(), key=lambda row: (TRUTHS.index(row[1]), -about.score(row[0])))
+    shown = sorted(machine.shown.items(), key=lambda row: (machine.rank(row[0]), -about.score(row[0])))
     for id, truth in shown:
         reason = about.accepted_for(id, truth, machine.name)
         if reason is not None:
@@ -125,6 +128,7 @@ def _rows(machine: Machine, about: About) -> Iterator[list[str]]:
         detail = about.details.get(id, {})
         score, title = detail.get("score"), detail.get("title")
         hangs = about.hanging.on(id, machine.name) if truth == "UNKNOWN" else []
+        hangs = about.hanging.remarks(id, machine.name) if truth == "TRUE" else hangs
         yield [name, truth, id, "" if score is None else str(score), cut(str(title or ""), _TITLE_WIDTH), _some(hangs)]
 
 
@@ -141,10 +145,14 @@ def _accepted_line(machine: str | None, id: str, truth: str, reason: str) -> str
 def _count(verdicts: Verdicts, about: About) -> str:
     counts: Counter[str] = Counter()
     for machine in verdicts.machines:
-        counts.update(machine.shown.values())
+        counts.update(machine.kind(id) for id in machine.shown)
         counts["FALSE"] += machine.statements.count - len(machine.shown)
-    counts.subtract(truth for _, _, truth, _ in about.accepted)
-    numbers = ", ".join(f"{counts[truth]} {truth}" for truth in TRUTHS if truth != "FALSE") + f", {counts['FALSE']} FALSE"
+        counts["strict"] += sum(machine.kind(id) == "FALSE" for id in machine.perhaps)
+    by_name = {machine.name: machine for machine in verdicts.machines}
+    counts.subtract(by_name[name].kind(id) for name, id, _, _ in about.accepted)
+    numbers = ", ".join(f"{counts[truth]} {truth}" for truth in TRUTHS if truth != "FALSE")
+    numbers += f", {counts['perhaps']} perhaps" if counts["perhaps"] else ""
+    numbers += f", {counts['FALSE']} FALSE" + (f", of which {counts['strict']} perhaps" if counts["strict"] else "")
     accepted = f", {len(about.accepted)} accepted" if about.accepted else ""
     if not verdicts.has_machines:
         return f"{counted(verdicts.machines[0].statements.count, 'statement')}: {numbers}{accepted}"

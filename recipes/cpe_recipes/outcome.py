@@ -1,15 +1,15 @@
 """What came of the machines of a scan, as people and programs read it: the table, the JSON, and what is said beside them."""
 from __future__ import annotations
 
-from collections.abc import Iterable, Mapping, Sequence
+from collections.abc import Iterable, Iterator, Mapping, Sequence
 from dataclasses import dataclass, field
 
 from . import advisories, affected, names, verdicts
-from .cases import Known, Product
+from .called import Called
+from .cases import Known, Product, Statement
 from .components import Machine
-from .decide import Decided, Lead
+from .decide import Decided, Kinds, Lead
 from .feeds import Json
-from .perhaps import Pairs
 from .said import Said
 from .table import counted
 
@@ -17,22 +17,63 @@ from .table import counted
 MOST_ALIKE = 20
 
 
+@dataclass(frozen=True)
+class Side:
+    """What the verdicts of a machine come from: the names of its items, and what is decided of its ranges."""
+
+    called: Sequence[Called]
+    decided: Decided
+
+
+@dataclass(frozen=True)
+class Perhaps:
+    """A statement, an item, and a fact that the item perhaps is, since it says less."""
+
+    id: str
+    item: str
+    fact: str
+
+
 @dataclass
 class Found:
-    """What came of a machine: where its items lead, what is decided of its ranges, the verdicts that were asked for by the
-    places of statements, why some are UNKNOWN, as which items that are known in part may be meant (`partly`), and where it was asked
-    for which items make others TRUE. `leads` are those of all names, `items` is how many components have a name that cpe takes, and
-    `unlisted` has the leads of those of which no name is in the dictionary."""
+    """What came of a machine: where its items lead, how they are called, and of which kinds those are; what its verdicts come from
+    where nothing is negated (False) and where something is (True); the verdicts that were asked for by the places of statements;
+    those that are others where items say less than is asked for (`less`), and which these are; which items may be meant where it is
+    UNKNOWN (`partly`); the packages of distributions that make it TRUE, and may be mended (`backported`); and where it was asked for
+    which items make others TRUE. `leads` are those of all names, `items` is how many
+    components have a name that cpe takes, and `unlisted` has the leads of those of which no name is in the dictionary."""
 
     machine: Machine
     leads: list[Lead]
     items: int = 0
     unlisted: list[list[Lead]] = field(default_factory=list)
-    decided: Decided = field(default_factory=Decided)
+    called: list[Called] = field(default_factory=list)
+    kinds: Kinds = field(default_factory=dict)
+    sides: dict[bool, Side] = field(default_factory=dict)
     truths: dict[int, str] = field(default_factory=dict)
-    supposed: dict[int, str] = field(default_factory=dict)
+    less: set[int] = field(default_factory=set)
+    perhaps: dict[Perhaps, None] = field(default_factory=dict)
     partly: dict[int, list[str]] = field(default_factory=dict)
+    backported: dict[int, list[str]] = field(default_factory=dict)
     deciding: dict[int, list[str]] | None = None
+
+    def side_of(self, statement: Statement) -> Side:
+        return self.sides[statement.is_negated]
+
+    def every_side(self) -> Iterator[Sequence[Called]]:
+        """The names that verdicts come from, or would where less is said."""
+        yield self.called
+        yield from (side.called for side in self.sides.values())
+
+    def note_backported(self, statements: Sequence[Statement]) -> None:
+        """Notes of statements that are TRUE by ranges which packages of distributions alone are in."""
+        if not any(side.decided.backported for side in self.sides.values()):
+            return
+        for place in self.places_of("TRUE"):
+            decided = self.side_of(statements[place]).decided
+            inside = [key for key in statements[place].checks if decided.truths.get(key)]
+            if inside and all(key in decided.backported for key in inside):
+                self.backported[place] = list(dict.fromkeys(remark for key in inside for remark in decided.backported[key]))
 
     def has_items(self) -> bool:
         return bool(self.leads)
@@ -40,12 +81,6 @@ class Found:
     def places_of(self, truth: str) -> list[int]:
         """The places of the statements that were asked for and are so, in order."""
         return sorted(place for place, one in self.truths.items() if one == truth)
-
-    def doubt(self, reasons: Mapping[int, str]) -> None:
-        """Puts UNKNOWN in place of FALSE, for these reasons by the places of statements."""
-        for place, reason in reasons.items():
-            if self.truths.get(place) == "FALSE":
-                self.truths[place], self.supposed[place] = "UNKNOWN", reason
 
     def removed(self) -> list[str]:
         """Its items under removed names, which lead nowhere."""
@@ -65,16 +100,21 @@ class Hanging:
         one = self._found[machine or ""]
         reasons: dict[str, None] = {}
         for place in self._parts.get(advisory, ()):
-            if place in one.supposed:
-                reasons[one.supposed[place]] = None
             reasons.update(dict.fromkeys(one.partly.get(place, ())))
-            for key in self._known.statements[place].checks:
-                if key in one.decided.unsure:
-                    unsure = one.decided.unsure[key]
-                    reasons[f"{unsure.end}: {unsure.reason}"] = None
+            statement = self._known.statements[place]
+            unsure = one.side_of(statement).decided.unsure
+            for key in statement.checks:
+                if key in unsure:
+                    reasons[unsure[key].words()] = None
                 elif key in self._known.stand_ins:
                     reasons[self._known.stand_ins[key]] = None
         return list(reasons)
+
+    def remarks(self, advisory: str, machine: str | None) -> list[str]:
+        """The packages of distributions that alone make it TRUE, each once."""
+        backported = self._found[machine or ""].backported
+        found = [backported.get(place) for place in self._parts.get(advisory, ()) if self._found[machine or ""].truths.get(place) == "TRUE"]
+        return list(dict.fromkeys(remark for remarks in found for remark in remarks or ())) if all(found) else []
 
 
 def _parts(known: Known) -> dict[str, list[int]]:
@@ -98,8 +138,8 @@ def machines_with_verdicts(known: Known, bare: Sequence[str], found: Iterable[Fo
             continue
         machine = verdicts.Machine(one.machine.name, statements)
         for place, truth in sorted({**without_items, **one.truths}.items()):
-            if truth != "FALSE":
-                machine.put(known.statements[place].id, truth)
+            if truth != "FALSE" or place in one.less:
+                machine.put(known.statements[place].id, truth, place in one.less)
         machines.append(machine)
     return machines
 
@@ -132,39 +172,10 @@ def tell_items(
         said.remark(f"not in the dictionary: {items}, on {machines}; unlisted.sh lists them")
 
 
-# A machine, the id of an advisory, an item of the machine, and a fact of the advisory that the item perhaps is.
-Perhaps = tuple[str, str, str, str]
-
-
-def perhaps(pairs: Pairs, found: Sequence[Found], machines: Sequence[verdicts.Machine]) -> list[Perhaps]:
-    """The items that know less than an advisory asks for, which is FALSE there."""
-    # (a name of a machine may have spaces, and its number has none)
-    numbered = [Machine(str(number), one.machine.items) for number, one in enumerate(found)]
-    rows = []
-    for line in pairs.perhaps(numbered):
-        _, number, id, item, fact = line.split(" ", 4)
-        machine = machines[int(number)]
-        if machine.truth(id) == "FALSE":
-            rows.append((machine.name or "", id, item, fact))
-    return rows
-
-
-def tell_perhaps(rows: Sequence[Perhaps], said: Said) -> None:
-    for row in rows[:MOST_ALIKE]:
-        said.remark(f"perhaps {' '.join(row)}")
-    if len(rows) > MOST_ALIKE:
-        said.remark(f"perhaps: {len(rows) - MOST_ALIKE} more, which --json and perhaps.sh list")
-
-
-def json_of(
-    known: Known, found: Sequence[Found], machines: Sequence[verdicts.Machine], about: affected.About, rows: Iterable[Perhaps]
-) -> dict[str, Json]:
+def json_of(known: Known, found: Sequence[Found], machines: Sequence[verdicts.Machine], about: affected.About) -> dict[str, Json]:
     """The result as one value, with the verdicts that the machines show."""
-    maybe: dict[str, list[Json]] = {}
-    for name, id, item, fact in rows:
-        maybe.setdefault(name, []).append({"id": id, "item": item, "fact": fact})
     parts = _parts(known)
-    of_machines = [_machine_json(one, machine, about, maybe, parts) for one, machine in zip(found, machines)]
+    of_machines = [_machine_json(one, machine, about, parts) for one, machine in zip(found, machines)]
     advisories_of = verdicts.Statements([statement.id for statement in known.statements]).advisories
     return {"advisories": len(advisories_of), "machines": of_machines}
 
@@ -173,7 +184,6 @@ def _machine_json(
     one: Found,
     machine: verdicts.Machine,
     about: affected.About,
-    maybe: Mapping[str, list[Json]],
     parts: Mapping[str, Sequence[int]],
 ) -> Json:
     row: dict[str, Json] = {"name": machine.name, "items": one.items}
@@ -182,7 +192,9 @@ def _machine_json(
             _verdict_json(id, truth, machine, about) | _decided_json(one, truth, parts.get(id, ()))
             for id, truth in _in_order(machine, about)
         ]
-        row["perhaps"] = maybe.get(one.machine.name, [])
+        row["perhaps"] = [
+            {"id": id, "item": it.item, "fact": it.fact} for it in one.perhaps if (id := machine.whole(it.id)) in machine.perhaps
+        ]
         row["notInDictionary"] = [leads[0].name for leads in one.unlisted]
         row["underRemovedName"] = one.removed()
     return row
@@ -197,7 +209,7 @@ def _decided_json(one: Found, truth: str, places: Iterable[int]) -> dict[str, Js
 
 def _in_order(machine: verdicts.Machine, about: affected.About) -> list[tuple[str, str]]:
     """What is shown, in the order of the table."""
-    return sorted(machine.shown.items(), key=lambda row: (verdicts.TRUTHS.index(row[1]), -about.score(row[0])))
+    return sorted(machine.shown.items(), key=lambda row: (machine.rank(row[0]), -about.score(row[0])))
 
 
 def _verdict_json(id: str, truth: str, machine: verdicts.Machine, about: affected.About) -> dict[str, Json]:
@@ -205,5 +217,10 @@ def _verdict_json(id: str, truth: str, machine: verdicts.Machine, about: affecte
     row: dict[str, Json] = {"id": id, "verdict": truth, **known}
     if truth == "UNKNOWN":
         row["hangsOn"] = about.hanging.on(id, machine.name)
+    remarks = about.hanging.remarks(id, machine.name) if truth == "TRUE" else []
+    if remarks:
+        row["remarks"] = remarks
+    if id in machine.perhaps:
+        row["perhaps"] = True
     reason = about.accepted_for(id, truth, machine.name)
     return row if reason is None else {**row, "accepted": reason}

@@ -18,16 +18,13 @@ from collections.abc import Collection, Iterable, Iterator, Mapping, Sequence
 from . import names
 from .components import Machine
 from .decide import Lead, Leads, leads_of, read_entries
-from .feeds import record_text
 from .machines import read_machines
-from .program import Program, refusals
+from .program import Program
 from .said import Fatal, Output, Said
 from .words import read_words
 
 USAGE = "unlisted.sh RECORDS MACHINES"
 Product = tuple[str, str]
-# A restore has a date, and nothing hangs on it.
-_ANY_DATE = "2000-01-01"
 
 
 def run(words: Sequence[str]) -> int:
@@ -107,13 +104,6 @@ def supposed_names(lead: Lead, successors: Mapping[Product, Sequence[Product]]) 
         parts[names.VENDOR], parts[names.PRODUCT] = product
         found.append(names.joined(parts))
     return found
-
-
-def restores(program: Program, entries: Sequence[str], removed: Iterable[str]) -> list[str]:
-    """The records by which these names, which were removed, lead to themselves. (One that cpe refuses would change nothing.)"""
-    records = [record_text({"do": "restore", "name": name, "date": _ANY_DATE}) for name in removed]
-    reasons = refusals(program.lines(["resolve"], [*entries, *records])) if records else {}
-    return [record for number, record in enumerate(records, len(entries) + 1) if number not in reasons]
 
 
 def goes_on(lead: Lead, successors: Mapping[Product, Sequence[Product]]) -> str:

@@ -34,20 +34,41 @@ class Statements:
         return self._is_open or advisory in self.advisories
 
 
+def _order(truth: str, is_perhaps: bool) -> int:
+    """In the order of OR; an UNKNOWN that hangs on what an item says too little of comes after the others, and a FALSE before them."""
+    return 2 * _RANK[truth] + (is_perhaps if truth == "UNKNOWN" else not is_perhaps)
+
+
 @dataclass
 class Machine:
     """The verdicts of a machine, which has no name in a table of one inventory. Only those that aren't FALSE are shown, where not
-    all are asked for."""
+    all are asked for. Those in `perhaps` are another where an item says less than is asked for."""
 
     name: str | None
     statements: Statements = field(default_factory=lambda: Statements([]))
     shown: dict[str, str] = field(default_factory=dict)
     has_items: bool = True
+    perhaps: set[str] = field(default_factory=set)
 
-    def put(self, id: str, truth: str) -> None:
-        whole = self.statements.whole.get(id, id)
-        if _RANK[truth] < _RANK[self.shown.get(whole, "FALSE")]:
-            self.shown[whole] = truth
+    def whole(self, id: str) -> str:
+        """The advisory of a statement."""
+        return self.statements.whole.get(id, id)
+
+    def put(self, id: str, truth: str, is_perhaps: bool = False) -> None:
+        whole = self.whole(id)
+        if _order(truth, is_perhaps) < _order(self.shown.get(whole, "FALSE"), whole in self.perhaps):
+            if truth != "FALSE":
+                self.shown[whole] = truth
+            (self.perhaps.add if is_perhaps and truth in ("UNKNOWN", "FALSE") else self.perhaps.discard)(whole)
+
+    def kind(self, advisory: str) -> str:
+        """Its verdict, or `perhaps` where it is UNKNOWN since an item says too little."""
+        truth = self.shown.get(advisory, "FALSE")
+        return "perhaps" if truth == "UNKNOWN" and advisory in self.perhaps else truth
+
+    def rank(self, advisory: str) -> int:
+        """Its place in the order of verdicts."""
+        return _order(self.shown.get(advisory, "FALSE"), advisory in self.perhaps)
 
     def show_all(self) -> None:
         """Keeps those that are FALSE too."""

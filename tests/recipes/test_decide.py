@@ -4,7 +4,6 @@ import random
 import sys
 import tempfile
 import unittest
-from dataclasses import replace
 from pathlib import Path
 
 sys.path.insert(0, str(Path(__file__).resolve().parent))
@@ -12,7 +11,7 @@ sys.path.insert(0, str(Path(__file__).resolve().parent))
 from stand_in import Heard  # noqa: E402 (it knows where the recipes are)
 from cpe_recipes import matches  # noqa: E402
 from cpe_recipes.advisories import Range  # noqa: E402
-from cpe_recipes.decide import Decider, Lists, check_record, decide, drop_record, leads_of, read_entries, read_ranges  # noqa: E402
+from cpe_recipes.decide import Backported, Decider, Lists, check_record, decide, drop_record, leads_of, led, read_entries, read_ranges  # noqa: E402
 from cpe_recipes.feeds import Page, record_text  # noqa: E402
 from cpe_recipes.names import spelled  # noqa: E402
 from cpe_recipes.program import Program  # noqa: E402
@@ -42,8 +41,9 @@ class Decisions(unittest.TestCase):
         """The truths and reasons of a machine with these items."""
         program = Program()
         leads = leads_of(program, list(records), items, [one.criteria for one in ranges])
-        decider = Decider(program, ranges, leads, items, LETTERS)
-        found = decide([leads.found[item] for item in items if item in leads.found], decider, Lists(program, listed or {}))
+        called = [one for item in items if item in leads.found for one in led(leads.found[item])]
+        decider = Decider(program, ranges, leads, [one.name for one in called], LETTERS)
+        found = decide(called, decider, Lists(program, listed or {}))
         return found.truths, {key: one.reason for key, one in found.unsure.items()}
 
     def one(self, version, start=None, end=None, product="p", update="*", **excluded):
@@ -96,12 +96,12 @@ class Decisions(unittest.TestCase):
         self.assertEqual(self.decided([old], one), ({}, {}))
         self.assertEqual(self.decided([old], one, records=[entry(old), deprecate(old)]), ({}, {}))
 
-    def test_criteria_that_lead_elsewhere_have_no_answer(self):
+    def test_criteria_that_lead_elsewhere_are_asked_as_they_stand(self):
         old, new, item = name("old"), name("new"), name("new", "1.0")
         records = [entry(old), entry(new), deprecate(old, new)]
-        truths, unsure = self.decided([item, name("old", "1.0")], Range("KEY", old, None, "2.0"), records=records)
-        self.assertEqual((truths, unsure), ({}, {"KEY": f"{old} leads to {new} by the dictionary"}))
-        self.assertEqual(self.decided([name("old", "1.0")], Range("KEY", old, None, "2.0"), records=records), ({}, {}))
+        one = Range("KEY", old, None, "2.0")
+        self.assertEqual(self.decided([item, name("old", "1.0")], one, records=records), ({"KEY": True}, {}))
+        self.assertEqual(self.decided([item], one, records=records), ({}, {}))
 
     def test_criteria_with_a_version_have_no_answer(self):
         truths, unsure = self.decided([name("p", "1.5")], Range("KEY", name("p", "1.*"), None, "2.0"))
@@ -161,16 +161,13 @@ class Decisions(unittest.TestCase):
     def test_ranges_that_are_not_asked_for_may_be_of_items_that_are_known_in_part(self):
         odd = Range("KEY", "cpe:2.3:a:acme:*:1*:*:*:*:*:*:*:*", None, "2.0")
         self.assertEqual(self.decided([name("p", "1.*")], odd), ({}, {"KEY": "it is known in part"}))
-        old, new = name("old"), name("p")
-        records = [entry(old), entry(new), deprecate(old, new)]
-        self.assertEqual(self.decided([name("p", "1.*")], Range("KEY", old, "1.0"), records=records), ({}, {"KEY": "it is known in part"}))
 
     def decided_of_kind(self, version, kind, start, end, **excluded):
         """What is decided of a range on a machine with one component of this kind."""
         program, item, one = Program(), name("p", spelled(version)), Range("KEY", name("p"), start, end, **excluded)
         leads = leads_of(program, [], [item], [one.criteria])
         decider = Decider(program, [one], leads, [item], LETTERS)
-        return decide([replace(leads.found[item], kind=kind)], decider, Lists(program, {}))
+        return decide(led(leads.found[item]), decider, Lists(program, {}), {item: [kind]})
 
     def test_packages_of_distributions_are_inside_by_the_version_of_their_upstream(self):
         for version, kind, start, end in (
@@ -202,11 +199,19 @@ class Decisions(unittest.TestCase):
         leads = leads_of(program, [], items, [one.criteria for one in ranges])
         decider = Decider(program, ranges, leads, items, LETTERS)
         for order in (items, items[::-1]):
-            found = decide([leads.found[item] for item in order], decider, Lists(program, {}))
+            found = decide([one for item in order for one in led(leads.found[item])], decider, Lists(program, {}))
             self.assertEqual(found.truths, {"KEY": True, "LOW": True})
             self.assertEqual(found.backported, {"LOW": {f"backported? {items[0]}: release 1": None}})
-        listed = decide([leads.found[items[0]]], decider, Lists(program, {"LOW": [items[0]]}))
+        listed = decide(led(leads.found[items[0]]), decider, Lists(program, {"LOW": [items[0]]}))
         self.assertEqual(listed.backported, {"KEY": {f"backported? {items[0]}: release 1": None}})
+
+    def test_components_of_several_kinds_are_asked_for_by_each(self):
+        program, item, one = Program(), name("p", "1.0.0-1"), Range("KEY", name("p"), None, "1.0.0", end_excluded=True)
+        leads = leads_of(program, [], [item], [one.criteria])
+        decider = Decider(program, [one], leads, [item], LETTERS)
+        for kinds, wanted in ((["deb", "npm"], {"KEY": True}), (["npm", "deb"], {"KEY": True}), (["deb", "rpm"], {"KEY": False}), (["deb", ""], {})):
+            found = decide(led(leads.found[item]), decider, Lists(program, {}), {item: kinds})
+            self.assertEqual(found.truths, wanted, kinds)
 
     def test_an_epoch_and_a_v_never_decide(self):
         for version, kind in ((r"32\:9.16.23", ""), (r"32\:9.16.23", "rpm"), ("v9.16.23", ""), ("v9.16.23", "golang"), (r"1\!9.16.23", "pypi")):
@@ -235,7 +240,8 @@ class Decisions(unittest.TestCase):
                 for version, item in items.items():
                     found = standing(version, None, one)
                     wanted = found.why if found.standing is Standing.UNSURE else found.standing is Standing.INSIDE
-                    self.assertEqual(decider.stands(item)["KEY"], wanted, (version, word, bound))
+                    stand = decider.stands(item)["KEY"]
+                    self.assertEqual(True if isinstance(stand, Backported) else stand, wanted, (version, word, bound))
                     sure += found.standing is not Standing.UNSURE
         self.assertGreater(sure, 500)
 

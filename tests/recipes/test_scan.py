@@ -21,7 +21,7 @@ from cpe_recipes.feeds import record_text  # noqa: E402
 from cpe_recipes.program import Program  # noqa: E402
 from cpe_recipes.progress import Progress  # noqa: E402
 from cpe_recipes.said import Fatal, Said  # noqa: E402
-from cpe_recipes.outcome import Hanging, json_of, machines_with_verdicts, perhaps, tell_perhaps  # noqa: E402
+from cpe_recipes.outcome import Hanging, json_of, machines_with_verdicts  # noqa: E402
 from cpe_recipes.scan import Scan  # noqa: E402
 from cpe_recipes.suppressed import Accepted, Suppressed  # noqa: E402
 from cpe_recipes.versions import Letters  # noqa: E402
@@ -51,9 +51,9 @@ def ranged(one):
     return {"op": "AND", "of": [{"fact": one.criteria}, {"check": {"system": "NVD", "href": "cpeMatch", "id": one.key}}]}
 
 
-def scanned(known, machines, listed=None, has_why=False, **more):
+def scanned(known, machines, listed=None, has_why=False, is_strict=False, **more):
     program = Program()
-    made = Scan(program, known, Lists(program, listed or {}), NO_LETTERS, Progress(is_shown=False), has_why)
+    made = Scan(program, known, Lists(program, listed or {}), NO_LETTERS, Progress(is_shown=False), has_why, is_strict)
     return made, made.machines(machines, **more)
 
 
@@ -201,7 +201,7 @@ class Verdicts(unittest.TestCase):
         made, found = scanned(known, [Machine("bare"), Machine("a", [name("v", "q", "1.0")])])
         machines = machines_with_verdicts(known, made.bare, found)
         about = affected.About({}, Suppressed([]), Hanging(known, found))
-        rows = json_of(known, found, machines, about, [])["machines"]
+        rows = json_of(known, found, machines, about)["machines"]
         self.assertEqual(rows[0], {"name": "bare", "items": 0})
         self.assertEqual(rows[1]["verdicts"], [{"id": "CVE-1", "verdict": "TRUE"}])
         self.assertEqual((rows[1]["perhaps"], rows[1]["notInDictionary"]), ([], [name("v", "q", "1.0")]))
@@ -214,12 +214,12 @@ class Verdicts(unittest.TestCase):
         made, found = scanned(known, [Machine("a", [name("v", "p", "1.0")])])
         machines = machines_with_verdicts(known, made.bare, found)
         about = affected.About(known.details, Suppressed([Accepted("it line 1", "CVE-1", "*", "not reachable")]), Hanging(known, found))
-        row = json_of(known, found, machines, about, [])["machines"][0]["verdicts"][0]
+        row = json_of(known, found, machines, about)["machines"][0]["verdicts"][0]
         self.assertEqual(row, {"id": "CVE-1", "verdict": "TRUE", "score": 7.5, "title": "A title", "accepted": "not reachable"})
         table = list(affected.table_of(affected.Verdicts(machines), about))
         self.assertIn("accepted a CVE-1 TRUE: not reachable", table)
 
-    def test_an_item_under_a_removed_name_is_unknown_where_it_would_be_another(self):
+    def test_an_item_under_a_removed_name_is_found_as_it_stands(self):
         old, new, gone = (name("v", product, "1.0") for product in ("old", "new", "gone"))
         one = Range("K", name("v", "gone"), None, "2.0")
         asks = [statement("NAME", {"fact": gone}), statement("RANGE", ranged(one)), statement("OTHER", {"fact": new})]
@@ -227,9 +227,10 @@ class Verdicts(unittest.TestCase):
         entries = [entry(old), entry(new), entry(gone), deprecate(old, gone), deprecate(gone)]
         known = self.known(*asks, entries=entries, ranges=[one])
         made, found = scanned(known, [Machine("a", [gone, new]), Machine("b", [new]), Machine("c", [name("v", "gone", "1.5")])])
-        wanted = {"NAME": "UNKNOWN", "RANGE": "UNKNOWN", "OTHER": "TRUE", "NOT": "UNKNOWN", "LEADS": "UNKNOWN"}
+        wanted = {"NAME": "TRUE", "RANGE": "TRUE", "OTHER": "TRUE", "NOT": "UNKNOWN", "LEADS": "TRUE"}
         self.assertEqual(truths(known, made, found[0]), wanted)
-        self.assertEqual(Hanging(known, found).on("RANGE", "a"), [f"{gone} was removed from the dictionary"])
+        why = f"{gone}: it leads elsewhere in the dictionary, and what is asked for is negated"
+        self.assertEqual(Hanging(known, found).on("NOT", "a"), [why])
         wanted = {"NAME": "FALSE", "RANGE": "FALSE", "OTHER": "TRUE", "NOT": "TRUE", "LEADS": "FALSE"}
         self.assertEqual(truths(known, made, found[1]), wanted)
         # (what no entry has, nothing was removed of)
@@ -244,26 +245,104 @@ class Verdicts(unittest.TestCase):
             machine.show_all()
         accepted = Suppressed([Accepted("it line 1", "CVE-2", "*", "not here")])
         about = affected.About({}, accepted, Hanging(known, found))
-        rows = json_of(known, found, machines, about, [])["machines"]
+        rows = json_of(known, found, machines, about)["machines"]
         self.assertEqual(rows[0]["verdicts"], [{"id": "CVE-1", "verdict": "TRUE"}, {"id": "CVE-2", "verdict": "FALSE"}])
         self.assertNotIn("verdicts", rows[1])
         table = list(affected.table_of(affected.Verdicts(machines), about))
         self.assertEqual([line.split() for line in table[1:4]], [["a", "TRUE", "CVE-1"], ["a", "FALSE", "CVE-2"], ["bare", "no", "items"]])
         self.assertEqual(table[-1], "2 machines, 1 without items: 1 TRUE, 0 ERROR, 0 UNKNOWN, 1 FALSE")
 
-    def test_an_item_that_knows_less_is_told_where_the_verdict_is_false(self):
+    def test_an_item_that_says_less_is_unknown_and_counted_apart(self):
         known = self.known(statement("CVE-1", {"fact": name("v", "p", "1.0")}), statement("CVE-2", {"fact": name("v", "p")}, {"fact": name("v", "p", "2.0")}))
-        made, found = scanned(known, [Machine("a machine", [name("v", "p")]), Machine("b", [name("v", "q", "1.0")])])
-        machines = machines_with_verdicts(known, made.bare, found)
-        rows = perhaps(made.pairs(), found, machines)
-        self.assertEqual(rows, [("a machine", "CVE-1", name("v", "p"), name("v", "p", "1.0"))])
-        about = affected.About({}, Suppressed([]), Hanging(known, found))
-        row = json_of(known, found, machines, about, rows)["machines"][0]
-        self.assertEqual(row["perhaps"], [{"id": "CVE-1", "item": name("v", "p"), "fact": name("v", "p", "1.0")}])
-        said = Heard()
-        tell_perhaps(rows * 30, said)
-        self.assertEqual(said.told[:20], [f"remark perhaps a machine CVE-1 {name('v', 'p')} {name('v', 'p', '1.0')}"] * 20)
-        self.assertEqual(said.told[20:], ["remark perhaps: 10 more, which --json and perhaps.sh list"])
+        machines = [Machine("a machine", [name("v", "p")]), Machine("b", [name("v", "q", "1.0")]), Machine("c", [name("v", "p", "1.0")])]
+        for is_strict, wanted in ((False, "UNKNOWN"), (True, "FALSE")):
+            made, found = scanned(known, machines, is_strict=is_strict)
+            self.assertEqual([truths(known, made, one)["CVE-1"] for one in found], [wanted, "FALSE", "TRUE"])
+            shown = machines_with_verdicts(known, made.bare, found)
+            self.assertEqual([one.perhaps for one in shown], [{"CVE-1"}, set(), set()])
+            about = affected.About({}, Suppressed([]), Hanging(known, found))
+            row = json_of(known, found, shown, about)["machines"][0]
+            self.assertEqual(row["perhaps"], [{"id": "CVE-1", "item": name("v", "p"), "fact": name("v", "p", "1.0")}])
+            last = list(affected.table_of(affected.Verdicts(shown), about))[-1]
+            count = "3 FALSE, of which 1 perhaps" if is_strict else "1 perhaps, 2 FALSE"
+            self.assertEqual(last, f"3 machines: 3 TRUE, 0 ERROR, 0 UNKNOWN, {count}")
+        made, found = scanned(known, machines)
+        self.assertEqual(Hanging(known, found).on("CVE-1", "a machine"), [f"{name('v', 'p')}: version: 1.0?"])
+
+    def less(self, *attributes, version="5.3"):
+        """A name of a form, with what stands in the attributes after its version."""
+        return f"cpe:2.3:a:acme:form:{version}:{':'.join(attributes)}:*"
+
+    def test_each_attribute_of_which_an_item_says_nothing(self):
+        wanted = ["sp1", "pro", "de", "home", "wordpress", "x64"]
+        attributes = ("update", "edition", "language", "sw_edition", "target_sw", "target_hw")
+        for place, (attribute, text) in enumerate(zip(attributes, wanted)):
+            said = [text if k == place else "*" for k in range(6)]
+            one = Range("K", self.less(*said, version="*"), "5.0", "5.5")
+            known = self.known(statement("NAME", {"fact": self.less(*said)}), statement("RANGE", ranged(one)), ranges=[one])
+            bare = self.less(*["*"] * 6)
+            machines = [Machine("less", [bare]), Machine("other", [self.less(*["x" if k == place else "*" for k in range(6)])])]
+            machines += [Machine("same", [bare, self.less(*said)]), Machine("out", [self.less(*["*"] * 6, version="6.0")])]
+            made, found = scanned(known, machines)
+            with self.subTest(attribute):
+                verdicts = [list(truths(known, made, it).values()) for it in found]
+                self.assertEqual(verdicts, [["UNKNOWN"] * 2, ["FALSE"] * 2, ["TRUE"] * 2, ["FALSE"] * 2])
+                for id in ("NAME", "RANGE"):
+                    self.assertEqual(Hanging(known, found).on(id, "less"), [f"{bare}: {attribute}: {text}?"])
+
+    def test_what_is_negated_over_an_item_that_says_less_is_unknown(self):
+        plugin = self.less("*", "*", "*", "*", "wordpress", "*")
+        bare = self.less(*["*"] * 6)
+        known = self.known(statement("NOT", {"fact": plugin}, negate=True), statement("PART", {"fact": name("v", "p", "1.5")}, negate=True))
+        made, found = scanned(known, [Machine("a", [bare, name("v", "p", "1.*")]), Machine("b", [name("v", "q", "1")])])
+        self.assertEqual([truths(known, made, it) for it in found], [dict.fromkeys(("NOT", "PART"), truth) for truth in ("UNKNOWN", "TRUE")])
+        self.assertEqual(Hanging(known, found).on("NOT", "a"), [f"{bare}: target_sw: wordpress?"])
+
+    def test_a_name_is_found_as_it_stands_and_as_it_leads_on(self):
+        old, new = name("mysql", "mysql", "5.1.73"), name("oracle", "mysql", "5.1.73")
+        entries = [entry(old), entry(new), deprecate(old, new)]
+        before, after = Range("OLD", name("mysql", "mysql"), None, "5.5"), Range("NEW", name("oracle", "mysql"), None, "5.5")
+        asks = [statement("ANY", {"fact": name("mysql", "mysql")}), statement("OLD", ranged(before)), statement("NEW", ranged(after))]
+        asks += [statement("NAME", {"fact": old}), statement("NOT", {"fact": name("mysql", "mysql")}, negate=True)]
+        asks += [statement("OTHER", {"fact": name("mysql", "mysql", "5.6")})]
+        known = self.known(*asks, entries=entries, ranges=[before, after])
+        machines = [Machine("old", [old]), Machine("new", [new]), Machine("more", [name("oracle", "mysql", "5.1.73").replace("73:*:*:*:*", "73:*:*:*:community")])]
+        machines += [Machine("unlisted", [name("oracle", "mysql", "5.1.70")]), Machine("out", [name("oracle", "mysql", "5.7")])]
+        made, found = scanned(known, machines)
+        found_so = {"ANY": "TRUE", "OLD": "TRUE", "NEW": "TRUE", "NAME": "TRUE", "NOT": "UNKNOWN", "OTHER": "FALSE"}
+        self.assertEqual(truths(known, made, found[0]), found_so)
+        self.assertEqual(truths(known, made, found[1]), found_so)
+        self.assertEqual(truths(known, made, found[2]), found_so)
+        # (all entries of the old product lead to the new one, in the same version, so the product was renamed)
+        self.assertEqual(truths(known, made, found[3]), {**found_so, "NAME": "FALSE"})
+        self.assertEqual(truths(known, made, found[4]), {**found_so, "NAME": "FALSE", "OLD": "FALSE", "NEW": "FALSE"})
+
+    def test_versions_that_were_renamed_too(self):
+        old, new = name("v", "old", "7"), name("v", "new", "1.7")
+        one = Range("K", name("v", "old"), None, "8")
+        known = self.known(statement("RANGE", ranged(one)), statement("NAME", {"fact": old}), entries=[entry(old), entry(new), deprecate(old, new)], ranges=[one])
+        made, found = scanned(known, [Machine("a", [new]), Machine("b", [name("v", "new", "1.6")]), Machine("c", [old])])
+        self.assertEqual([truths(known, made, it) for it in found], [
+            {"RANGE": "UNKNOWN", "NAME": "TRUE"}, {"RANGE": "UNKNOWN", "NAME": "FALSE"}, {"RANGE": "TRUE", "NAME": "TRUE"},
+        ])
+        hanging = Hanging(known, found)
+        self.assertEqual(hanging.on("RANGE", "a"), [f"{new} is {old} by the dictionary, where its version is another"])
+        why = f"{name('v', 'new', '1.6')} may be {name('v', 'old', '1.6')}, since the dictionary calls others of that product so"
+        self.assertEqual(hanging.on("RANGE", "b"), [why])
+
+    def test_a_product_that_goes_on_is_not_its_successor(self):
+        olds = [name("v", "old", str(k)) for k in range(5)]
+        new = name("v", "new", "0")
+        known = self.known(statement("ANY", {"fact": name("v", "old")}), entries=[*map(entry, olds), entry(new), deprecate(olds[0], new)])
+        made, found = scanned(known, [Machine("a", [new]), Machine("b", [name("v", "new", "9")])])
+        self.assertEqual([truths(known, made, it)["ANY"] for it in found], ["TRUE", "FALSE"])
+
+    def test_what_the_match_feed_lists_is_true_before_anything_else(self):
+        one = Range("K", name("mysql", "mysql"), None, "5.5")
+        item = name("mariadb", "server", "9.9")
+        known = self.known(statement("RANGE", ranged(one)), statement("OTHER", {"fact": name("mysql", "mysql", "9.9")}), ranges=[one])
+        made, found = scanned(known, [Machine("a", [item]), Machine("b", [name("mariadb", "server", "9.8")])], {"K": [item]})
+        self.assertEqual([truths(known, made, it)["RANGE"] for it in found], ["TRUE", "FALSE"])
 
     def test_an_item_that_is_known_in_part_is_what_an_unknown_hangs_on(self):
         part, whole = name("v", "p", "1.*"), name("v", "p", "1.5")
@@ -281,7 +360,7 @@ class Verdicts(unittest.TestCase):
         may_be = [f"{name('v', '?q', '1.0')} is known in part, and may be {name('v', product)}" for product in "qr"]
         self.assertEqual((hanging.on("CVE-2", "e"), hanging.on("CVE-1", "b")), (may_be, []))
         about = affected.About({}, Suppressed([]), hanging)
-        row = json_of(known, found, machines_with_verdicts(known, made.bare, found), about, [])["machines"][0]["verdicts"]
+        row = json_of(known, found, machines_with_verdicts(known, made.bare, found), about)["machines"][0]["verdicts"]
         self.assertEqual(row, [{"id": "CVE-1", "verdict": "UNKNOWN", "hangsOn": [f"{part} is known in part, and may be {whole}"]}])
 
     def test_an_item_that_is_known_in_part_follows_names(self):
@@ -291,8 +370,7 @@ class Verdicts(unittest.TestCase):
         self.assertEqual([truths(known, made, one)["CVE-1"] for one in found], ["UNKNOWN", "UNKNOWN"])
         hanging = Hanging(known, found)
         self.assertEqual(hanging.on("CVE-1", "new"), [f"{name('w', 'p', '1.*')} is known in part, and may be {old}"])
-        why = f"{name('v', 'p', '1.*')} is not in the dictionary, and may be {name('w', 'p', '1.*')}"
-        self.assertEqual(hanging.on("CVE-1", "old"), [why])
+        self.assertEqual(hanging.on("CVE-1", "old"), [f"{name('v', 'p', '1.*')} is known in part, and may be {old}"])
 
     def test_a_range_that_an_item_known_in_part_may_be_in(self):
         one = Range("KEY", name("v", "p"), "1.0", "2.0", end_excluded=True)
