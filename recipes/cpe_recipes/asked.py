@@ -1,19 +1,74 @@
-"""A statement as it is asked: in mode plain, over all names of the items (calling.py), so both as names stand and as they lead on."""
+"""A statement as it is asked: in mode plain, over all names of the items (calling.py), so both as names stand and as they lead on.
+
+Where something is negated that isn't enough, since a name more could hide a machine there. So what is negated, a fact or a range,
+becomes a check, which negations.py decides for each machine: TRUE if it holds whichever name an item has, FALSE if it does by none.
+"""
 from __future__ import annotations
 
 from collections.abc import Iterator
+from dataclasses import dataclass
 
 from . import names
+from .advisories import MATCH, SYSTEM
 from .feeds import Json
 
-_MOST_BYTES = 65_536
+# What the ids of such checks begin with. (No id of a match has a space.)
+_NOT = "not "
 
 
-def asked_of(statement: Json) -> Json:
-    """The statement as it is asked. What is no statement stays as it is, and cpe refuses it."""
+@dataclass(frozen=True)
+class Negated:
+    """What is negated: the id of the check in its place, the name of the fact, and the id of the check of its range, if it has one."""
+
+    key: str
+    fact: str
+    range: str | None
+
+
+def asked_of(statement: Json, negated: dict[str, Negated]) -> Json:
+    """The statement as it is asked; what is negated there is added. What is no statement stays as it is, and cpe refuses it."""
     if statement.get("mode", "plain") not in ("plain", "follow"):
         return statement
-    return {**statement, "mode": "plain"}
+    test = statement.get("test")
+    if is_negated(test):
+        test = _without_negated(test, False, negated)
+    return {**statement, "mode": "plain", "test": test}
+
+
+def _without_negated(test: Json, is_under: bool, negated: dict[str, Negated]) -> Json:
+    """The test with checks in place of what is negated."""
+    if not isinstance(test, dict):
+        return test
+    if is_under and (one := _negated(test)) is not None:
+        negated[one.key] = one
+        return {"check": {"system": SYSTEM, "href": MATCH, "id": one.key}}
+    of = test.get("of")
+    if "op" not in test or not isinstance(of, list):
+        return test
+    is_under = is_under != (test.get("negate") is True)
+    return {**test, "of": [_without_negated(one, is_under, negated) for one in of]}
+
+
+def _negated(test: Json) -> Negated | None:
+    """What stands here, where it is a fact or a range."""
+    key = range_of(test)
+    if key is not None:
+        fact = fact_of(test["of"][0])
+        return None if fact is None else Negated(f"{_NOT}{key}", fact, key)
+    fact = fact_of(test)
+    return None if fact is None else Negated(f"{_NOT}{fact}", fact, None)
+
+
+def range_of(test: Json) -> str | None:
+    """The id of the check where a test is a name and the check of its range."""
+    of = test.get("of", ())
+    if test.get("op") != "AND" or test.get("negate") or len(of) != 2 or "fact" not in of[0] or "check" not in of[1]:
+        return None
+    check = of[1]["check"]
+    if not isinstance(check, dict) or (check.get("system"), check.get("href")) != (SYSTEM, MATCH):
+        return None
+    key = check.get("id")
+    return key if isinstance(key, str) else None
 
 
 def tests_of(test: Json) -> Iterator[Json]:
@@ -33,12 +88,16 @@ def is_negated(test: Json) -> bool:
     return any("op" in one and one.get("negate") is True for one in tests_of(test))
 
 
+def fact_of(test: Json) -> str | None:
+    """The name of a fact, as a formatted string where it is an object; None where the test is none."""
+    if not isinstance(test, dict) or "op" in test or "fact" not in test:
+        return None
+    fact = test["fact"]
+    if isinstance(fact, dict):
+        return names.joined([str(fact.get(attribute, names.ANY)) for attribute in names.ATTRIBUTES])
+    return fact if isinstance(fact, str) else None
+
+
 def facts_of(test: Json) -> Iterator[str]:
-    """The names of its facts; one that is an object, as a formatted string."""
-    for one in tests_of(test):
-        if "op" not in one and "fact" in one:
-            fact = one["fact"]
-            if isinstance(fact, str):
-                yield fact
-            elif isinstance(fact, dict):
-                yield names.joined([str(fact.get(attribute, names.ANY)) for attribute in names.ATTRIBUTES])
+    """The names of the facts of a test."""
+    return (fact for one in tests_of(test) if (fact := fact_of(one)) is not None)

@@ -11,23 +11,21 @@ from enum import Enum
 
 from . import names
 
-OTHER = names.ATTRIBUTES.index("other")
-
 
 class Sure(Enum):
     """How sure it is that an item has a name."""
 
-    OWN = "it stands in the list, and nothing leads it elsewhere"
-    ALSO = "by the dictionary or the match feed"
-    RENAMED = "the same, and its version is another there"
+    SURELY = "by its list, the dictionary or the match feed"
+    RENAMED = "by the dictionary, with another version"
     PERHAPS = "perhaps"
     LESS = "the item says less"
 
 
 @dataclass(frozen=True, slots=True)
 class Called:
-    """A name of an item: as it is put, the item, the name that is meant, how sure that is, in words why it isn't, and the attributes
-    of which nothing is said, by their places."""
+    """A name of an item: as it is put, the item, the name that is meant, how sure that is, in words why it isn't, the attributes of
+    which nothing is said, by their places, and the kind of the component. `is_spelled` is one whose version is only spelled as a fact
+    spells it, and ranges are decided without that."""
 
     name: str
     item: str
@@ -35,9 +33,11 @@ class Called:
     sure: Sure
     why: str = ""
     lacks: frozenset[int] = frozenset()
+    kind: str = ""
+    is_spelled: bool = False
 
     def is_sure(self) -> bool:
-        return self.sure in (Sure.OWN, Sure.ALSO, Sure.RENAMED)
+        return self.sure in (Sure.SURELY, Sure.RENAMED)
 
     def asks_for_more(self, fact: str) -> bool:
         """Whether a fact says something of what the item doesn't."""
@@ -49,14 +49,6 @@ class Called:
             return self.why
         lacks = ", ".join(f"{attribute}: {text}?" for attribute, text in unsaid(self.meant, fact))
         return "; ".join(part for part in (f"{self.item}: {lacks}" if lacks else "", self.why) if part)
-
-    def doubted(self) -> Called:
-        """The same where something is negated, so that it isn't sure unless the name stands so and leads nowhere else."""
-        if not self.is_sure() or self.sure is Sure.OWN:
-            return self
-        why = self.why or "it leads elsewhere in the dictionary" if self.item == self.meant else f"it is {self.meant} by the dictionary"
-        why = f"{self.item}: {why}, and what is asked for is negated"
-        return Called(names.marked(self.meant, (OTHER,)), self.item, self.meant, Sure.PERHAPS, why)
 
 
 def unsaid(name: str, fact: str) -> Iterator[tuple[str, str]]:

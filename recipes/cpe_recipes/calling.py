@@ -20,14 +20,15 @@ from dataclasses import dataclass, replace
 
 from . import names, unlisted
 from .advisories import Range
-from .called import OTHER, Called, Sure
-from .decide import Kinds, Lead, Leads, Lists, leads_of
+from .called import Called, Sure
+from .decide import Lead, Leads, Lists, leads_of
 from .program import Program
+from .versions import Letters, Sameness, Upward, same
 
 Product = tuple[str, str]
 # The attributes behind the product, of which an item may say less than a fact.
 _SAID = range(names.VERSION, len(names.ATTRIBUTES))
-_LANGUAGE = names.ATTRIBUTES.index("language")
+_LANGUAGE, OTHER = map(names.ATTRIBUTES.index, ("language", "other"))
 
 
 class Wanted:
@@ -37,6 +38,7 @@ class Wanted:
         self._by_product: dict[Product, set[int]] = {}
         self._of_all: set[int] = set()
         self._languages: dict[str, None] = {}
+        self._versions: dict[Product, dict[tuple[str, str], None]] = {}
         for fact in facts:
             parts = names.components(fact)
             product = parts[names.VENDOR], parts[names.PRODUCT]
@@ -45,6 +47,8 @@ class Wanted:
                 self._of_all.update(said)
             elif said:
                 self._by_product.setdefault(product, set()).update(said)
+            if names.is_plain(parts[names.VERSION]):
+                self._versions.setdefault(product, {})[parts[names.VERSION], parts[names.UPDATE]] = None
             if _LANGUAGE in said:
                 self._languages[parts[_LANGUAGE]] = None
 
@@ -52,6 +56,25 @@ class Wanted:
         if any(map(names.has_special, product)):
             return frozenset(self._of_all.union(*self._by_product.values()))
         return frozenset(self._by_product.get(product, ())) | self._of_all
+
+    def spelled(self, name: str, kind: str, letters: Letters) -> Iterator[tuple[str, str]]:
+        """The name with each version that facts name and that is the same, or perhaps is, each in words why that isn't sure."""
+        parts = names.components(name)
+        product = parts[names.VENDOR], parts[names.PRODUCT]
+        version, rest = _version(parts[names.VERSION], parts[names.UPDATE], product, letters)
+        if version is None:
+            return
+        upward = Upward(letters, product) if letters.has(product) else None
+        for wanted, update in self._versions.get(product, ()):
+            text, rest_of_fact = _version(wanted, update, product, letters)
+            if text is None or wanted == parts[names.VERSION]:
+                continue
+            found = same(upward.rewritten(version) if upward else version, text, kind, upward)
+            if found.sameness is not Sameness.UNEQUAL:
+                parts_so = [*parts[: names.VERSION], wanted, parts[names.UPDATE], *parts[names.UPDATE + 1 :]]
+                if rest != parts[names.UPDATE] or rest_of_fact != update:
+                    parts_so[names.UPDATE] = update if rest == names.ANY or rest_of_fact != update else rest
+                yield names.joined(parts_so), found.why
 
     def unsaid(self, name: str, meant: str) -> Iterator[tuple[str, frozenset[int]]]:
         """Names of which isn't said what `meant` says nothing of and facts something, and the attributes of which nothing is said.
@@ -69,6 +92,15 @@ class Wanted:
 
     def are_any(self) -> bool:
         return bool(self._by_product or self._of_all)
+
+
+def _version(version: str, update: str, product: Product, letters: Letters) -> tuple[str | None, str]:
+    """The version in these attributes, and what is left of the update where letters of it belong to the version."""
+    text = names.body(version)
+    if text is None or not letters.has(product):
+        return text, update
+    text, rest = letters.with_update(product, text, names.body(update))
+    return text, update if rest is not None or names.body(update) is None else names.ANY
 
 
 class Before:
@@ -110,6 +142,13 @@ def _old_part(there: str, old: str, have: str) -> str:
     return have
 
 
+def _put(found: dict[str, Called], one: Called) -> None:
+    """Puts a name; where something is told against it, as one that is known in part."""
+    if one.why:
+        one = replace(one, name=names.marked(one.meant, (OTHER,)), sure=Sure.PERHAPS)
+    found.setdefault(one.name, one)
+
+
 @dataclass
 class _Moved:
     """How many entries of a product lead to another one, and whether all of them keep what stands behind the product."""
@@ -129,27 +168,19 @@ class Calling:
         items: Iterable[Lead],
         feed: Mapping[str, Sequence[str]],
         wanted: Wanted,
+        letters: Letters,
     ) -> None:
         own = list(items)
         old = [leads.found[name] for name in unlisted.deprecated_names(entries) if name in leads.found]
-        self._feed, self._wanted = feed, wanted
-        self._found: dict[str, tuple[Called, ...]] = {}
+        self._feed, self._wanted, self._letters = feed, wanted, letters
+        self._found: dict[tuple[str, str], tuple[Called, ...]] = {}
         self._before = Before(old, {names.product_of(name) for lead in own for name in (lead.name, *lead.ends)})
         self._moved, self._all_moved = _moves(old)
         self._beside = self._ask(program, entries, own)
 
     def of_components(self, components: Iterable[Sequence[Lead]]) -> list[Called]:
-        """The names of components, of which each perhaps has several in its list. Each of these is the component's, and which is the
-        right one isn't known, so none is its own alone."""
-        found: dict[str, Called] = {}
-        for leads in components:
-            why = f"its list calls it by each of these names: {', '.join(lead.name for lead in leads)}"
-            for one in (one for lead in leads for one in self.of(lead)):
-                is_own = one.sure is Sure.OWN and len(leads) == 1
-                known = one if is_own or one.sure is not Sure.OWN else replace(one, sure=Sure.ALSO, why=why)
-                if is_own or one.name not in found:
-                    found[one.name] = known
-        return list(found.values())
+        """The names of components, of which each perhaps has several in its list."""
+        return list({(one.name, one.kind): one for leads in components for lead in leads for one in self.of(lead)}.values())
 
     def kinds(self, components: Iterable[tuple[Sequence[Lead], str]]) -> Kinds:
         """Of names that components have, each with where its own names lead, the kinds of these components; none where no component
@@ -164,41 +195,42 @@ class Calling:
 
     def of(self, lead: Lead) -> tuple[Called, ...]:
         """The names of an item that leads so, those that are sure first."""
-        found = self._found.get(lead.name)
+        found = self._found.get((lead.name, lead.kind))
         if found is None:
-            found = self._found[lead.name] = tuple(self._called(lead))
+            found = self._found[lead.name, lead.kind] = tuple(self._called(lead))
         return found
 
     def _called(self, lead: Lead) -> Iterator[Called]:
         found: dict[str, Called] = {}
         for name, sure in self._sure(lead):
-            found.setdefault(name, Called(name, lead.name, name, sure))
-        for name, why in self._supposed(lead, found):
-            if why and name not in found:
-                shadow = names.marked(name, (OTHER,))
-                found.setdefault(shadow, Called(shadow, lead.name, name, Sure.PERHAPS, why))
-            elif not why:
-                found.setdefault(name, Called(name, lead.name, name, Sure.ALSO))
-        yield from found.values()
+            found.setdefault(name, Called(name, lead.name, name, sure, kind=lead.kind))
+        for name, why in list(self._supposed(lead, found)):
+            if name not in found:
+                _put(found, Called(name, lead.name, name, Sure.SURELY, why, kind=lead.kind))
         for one in list(found.values()):
+            for name, why in self._wanted.spelled(one.meant, lead.kind, self._letters):
+                if name not in found:
+                    whys = "; ".join(part for part in (one.why, f"{lead.name}: {why}" if why else "") if part)
+                    _put(found, Called(name, lead.name, name, Sure.SURELY, whys, kind=lead.kind, is_spelled=True))
+        yield from found.values()
+        for one in found.values():
             for name, lacks in self._wanted.unsaid(one.name, one.meant):
-                yield Called(name, lead.name, one.meant, Sure.LESS, one.why, lacks)
+                yield replace(one, name=name, sure=Sure.LESS, lacks=lacks)
 
     def _sure(self, lead: Lead) -> Iterator[tuple[str, Sure]]:
-        is_own = lead.ends == (lead.name,)
-        yield lead.name, Sure.OWN if is_own else Sure.ALSO
+        yield lead.name, Sure.SURELY
         known = dict.fromkeys((lead.name, *lead.ends, *lead.steps))
         version = names.components(lead.name)[names.VERSION]
         for name in known:
             if name != lead.name:
-                yield name, Sure.ALSO
+                yield name, Sure.SURELY
         for name in known:
             for criteria in self._feed.get(name, ()):
-                yield _filled(criteria, name), Sure.ALSO
+                yield _filled(criteria, name), Sure.SURELY
         for name in dict.fromkeys((lead.name, *lead.ends)):
             for old, is_renamed in self._before.names_of(name):
                 is_other = is_renamed and names.components(old)[names.VERSION] != version
-                yield old, Sure.RENAMED if is_other else Sure.ALSO
+                yield old, Sure.RENAMED if is_other else Sure.SURELY
 
     def _supposed(self, lead: Lead, sure: Mapping[str, Called]) -> Iterator[tuple[str, str]]:
         """The names that it may have, each in words why, or with none where it surely has it."""

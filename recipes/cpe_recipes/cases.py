@@ -14,7 +14,7 @@ from dataclasses import dataclass, field
 
 from . import names
 from .advisories import Range
-from .asked import asked_of, is_negated
+from .asked import Negated, asked_of, range_of
 from .called import Called, Sure
 from .calling import Wanted
 from .decide import Decided, Leads, check_record, drop_record
@@ -31,14 +31,13 @@ Results = tuple[tuple[str, bool], ...]
 
 @dataclass(frozen=True)
 class Statement:
-    """What is looked at of a statement: its id, its facts but those of ranges, the ranges by the ids of their checks, the ids of all
-    its checks, and whether something in it is negated."""
+    """What is looked at of a statement: its id, its facts but those of ranges, the ranges by the ids of their checks, and the ids of
+    all its checks."""
 
     id: str
     facts: tuple[str, ...]
     ranges: tuple[str, ...]
     checks: tuple[str, ...]
-    is_negated: bool
 
     @staticmethod
     def of(value: Json, ranges: Mapping[str, Range]) -> Statement:
@@ -57,21 +56,13 @@ class Statement:
                 facts[one["fact"]] = None
             else:
                 checks[one["check"]["id"]] = None
-        return Statement(value["id"], tuple(facts), tuple(ranged), tuple(checks), is_negated(value["test"]))
-
-
-def range_of(test: Json) -> str | None:
-    """The id of the check where a test is a name and the check of its range."""
-    of = test.get("of", ())
-    if test.get("op") != "AND" or test.get("negate") or len(of) != 2 or "fact" not in of[0] or "check" not in of[1]:
-        return None
-    key: str = of[1]["check"]["id"]
-    return key
+        return Statement(value["id"], tuple(facts), tuple(ranged), tuple(checks))
 
 
 @dataclass
 class Known:
-    """What the feeds tell, and what is known of the names in them and of the items. `asked` are the statements as they are asked."""
+    """What the feeds tell, and what is known of the names in them and of the items. `asked` are the statements as they are asked, and
+    `negated` is what is negated there."""
 
     entries: list[str]
     records: list[str]
@@ -80,18 +71,19 @@ class Known:
     stand_ins: Mapping[str, str]
     statements: list[Statement] = field(init=False)
     asked: list[str] = field(init=False)
+    negated: dict[str, Negated] = field(init=False)
 
     def __post_init__(self) -> None:
-        self.statements, self.asked = [], []
+        self.statements, self.asked, self.negated = [], [], {}
         for record in self.records:
-            value = asked_of(json.loads(record))
+            value = asked_of(json.loads(record), self.negated)
             self.statements.append(Statement.of(value, self.ranges))
             self.asked.append(record_text(value))
 
     def facts(self) -> list[str]:
         """The names that statements and ranges ask for."""
         facts = [fact for statement in self.statements for fact in statement.facts]
-        return [*facts, *(one.criteria for one in self.ranges.values())]
+        return [*facts, *(one.fact for one in self.negated.values()), *(one.criteria for one in self.ranges.values())]
 
 
 class Index:
@@ -101,7 +93,6 @@ class Index:
         self._by_product: dict[Product, list[int]] = {}
         self._by_range: dict[str, list[int]] = {}
         self._of_all_products: list[int] = []
-        self._negated = {place for place, statement in enumerate(known.statements) if statement.is_negated}
         # (of each statement the products that its facts may fit, and whether these are all)
         self._products: list[tuple[set[Product], bool]] = []
         self._wanted: list[Wanted] = []
@@ -112,31 +103,22 @@ class Index:
                 self._by_product.setdefault(product, []).append(place)
             if is_all:
                 self._of_all_products.append(place)
-            for key in statement.ranges:
+            negated = [known.negated[key] for key in statement.checks if key in known.negated]
+            for key in (*statement.ranges, *(one.key for one in negated)):
                 self._by_range.setdefault(key, []).append(place)
             criteria = [leads.found[known.ranges[key].criteria].name for key in statement.ranges]
             ranged, is_all_ranged = _products(criteria)
             self._products.append((plain | ranged, is_all or is_all_ranged))
-            self._wanted.append(Wanted([*facts, *criteria]))
+            self._wanted.append(Wanted([*facts, *criteria, *(leads.found[one.fact].name for one in negated)]))
 
-    def kinds(self) -> list[bool]:
-        """Whether statements are there in which nothing is negated (False), and in which something is (True)."""
-        return [False, True] if self._negated else [False]
-
-    def concerned(self, products: Iterable[Product], decided: Decided, is_negated: bool) -> list[int]:
-        """The places of the statements, negated or not, that may have another verdict than without items of these products, in order."""
+    def concerned(self, products: Iterable[Product], decided: Decided) -> list[int]:
+        """The places of the statements that may have another verdict than without items of these products, in order."""
         found = set(self._of_all_products)
         for product in products:
             found.update(range(len(self._products)) if product == _OPEN else self._by_product.get(product, ()))
         for key in [*(key for key, is_inside in decided.truths.items() if is_inside), *decided.unsure]:
             found.update(self._by_range.get(key, ()))
-        return self._of_kind(found, is_negated)
-
-    def all_of(self, is_negated: bool) -> list[int]:
-        return self._of_kind(set(range(len(self._products))), is_negated)
-
-    def _of_kind(self, places: set[int], is_negated: bool) -> list[int]:
-        return sorted(places & self._negated if is_negated else places - self._negated)
+        return sorted(found)
 
     def asks_for_more(self, place: int, less: Mapping[Product, frozenset[int]]) -> bool:
         """Whether a fact of this statement says something of what names of these products don't."""
@@ -181,13 +163,13 @@ class Cases:
         self._known, self._index, self._is_all_asked = known, index, is_all_asked
         self._numbers: dict[tuple[Items, Results, int], int] = {}
 
-    def put(self, called: Sequence[Called], decided: Decided, is_negated: bool) -> dict[int, int]:
-        """The cases of a machine whose items are called so, by the places of the statements, negated or not, that are asked of it."""
+    def put(self, called: Sequence[Called], decided: Decided) -> dict[int, int]:
+        """The cases of a machine whose items are called so, by the places of the statements that are asked of it."""
         by_product = _by_product(called)
         if self._is_all_asked:
-            places = self._index.all_of(is_negated)
+            places = list(range(len(self._known.statements)))
         else:
-            places = self._index.concerned(by_product, decided, is_negated)
+            places = self._index.concerned(by_product, decided)
         # (where an item says less, it is asked for beside the others, where a fact says more)
         less = _unsaid(called)
         if less and not self._is_all_asked:
@@ -222,7 +204,10 @@ def lines_of(known: Known, cases: Iterable[tuple[Items, Results, int, int]]) -> 
     """
     yield from known.asked
     asks = [record_text({"do": "verdict", "id": statement.id}) for statement in known.statements]
+    # (where nothing is, nothing is there of what is negated)
+    yield from (check_record(key, False) for key in known.negated)
     yield from asks
+    yield from (drop_record(key) for key in known.negated)
     here: Items = ()
     for items, results, place, _ in cases:
         if items != here:

@@ -63,12 +63,13 @@ _NO_KIND = ("",)
 @dataclass(frozen=True)
 class Lead:
     """What the dictionary makes of a name: how cpe writes it, whether it is an entry there, the ends it leads to, and the names on
-    the way, itself among them."""
+    the way, itself among them; and of an item the kind of its component, if its list says it."""
 
     name: str
     is_entry: bool
     ends: tuple[str, ...]
     steps: tuple[str, ...] = ()
+    kind: str = ""
 
     def is_removed(self) -> bool:
         """Whether it leads nowhere, since a name was removed from the dictionary."""
@@ -191,6 +192,7 @@ class Decider:
         self._covering: dict[str, tuple[_End, list[tuple[Range, bool]]]] = {}
         self._others: dict[str, dict[str, Stand]] = {}
         self._stands: dict[tuple[str, str], dict[str, Stand]] = {}
+        self._releases: dict[tuple[str, str, str], str] = {}
         self.criteria: dict[str, str] = {}
         sure: list[str] = []
         in_part: list[str] = []
@@ -455,17 +457,18 @@ def decide(called: Iterable[Called], decider: Decider, lists: Lists, kinds: Kind
     """What is decided of a machine whose items are called so, and are of these kinds."""
     decided = Decided()
     for one in called:
+        if one.is_spelled:
+            continue
         for key in lists.keys(one.meant) if one.sure is not Sure.LESS else ():
             if one.is_sure():
                 decided.put(key, True, one.item)
             else:
                 decided.unsure.setdefault(key, Unsure(key, "", one.why))
-        for kind in kinds.get(one.name, _NO_KIND):
-            stands = decider.stands(one.name, kind)
-            if one.sure in (Sure.OWN, Sure.ALSO):
-                _put_sure(decided, one, stands)
-            else:
-                _put_doubted(decided, one, stands, decider.criteria)
+        stands = decider.stands(one.name, one.kind)
+        if one.sure is Sure.SURELY:
+            _put_sure(decided, one, stands, decider)
+        else:
+            _put_doubted(decided, one, stands, decider.criteria)
     for key in [key for key in decided.unsure if decided.truths.get(key)]:
         del decided.unsure[key]
     for key in decided.unsure:
@@ -473,14 +476,12 @@ def decide(called: Iterable[Called], decider: Decider, lists: Lists, kinds: Kind
     return decided
 
 
-def _put_sure(decided: Decided, one: Called, stands: Mapping[str, Stand]) -> None:
+def _put_sure(decided: Decided, one: Called, stands: Mapping[str, Stand], decider: Decider) -> None:
     """Puts how an item that surely is called so stands to ranges."""
     truths = decided.truths
     for key, stand in stands.items():
         if stand is True:
-            truths[key] = True
-            decided.inside.setdefault(key, one.item)
-            decided.backported.pop(key, None)
+            decided.put(key, True, one.item, decider.release(one.name, one.kind, key))
         elif stand is False:
             truths.setdefault(key, False)
         elif isinstance(stand, str):
@@ -506,7 +507,7 @@ def _put_doubted(decided: Decided, one: Called, stands: Mapping[str, Stand], cri
 
 def led(lead: Lead) -> list[Called]:
     """An item by its name as it stands, and as it leads on."""
-    return [Called(name, lead.name, name, Sure.ALSO) for name in dict.fromkeys((lead.name, *lead.ends))]
+    return [Called(name, lead.name, name, Sure.SURELY, kind=lead.kind) for name in dict.fromkeys((lead.name, *lead.ends))]
 
 
 def check_record(key: str, is_true: bool) -> str:

@@ -10,8 +10,9 @@ import json
 from collections.abc import Iterable, Iterator, Mapping, Sequence
 
 from .advisories import MATCH, SYSTEM, Range
+from .asked import range_of
 from .called import Called
-from .cases import Known, range_of
+from .cases import Known
 from .decide import Decided, check_record
 from .feeds import Json, record_text
 from .program import Program

@@ -8,12 +8,13 @@ from dataclasses import dataclass, field, replace
 
 from . import decide, matches, unlisted
 from .advisories import Range
-from .asked import asked_of, facts_of, is_negated
+from .asked import Negated, asked_of, facts_of
 from .called import Called, Sure
 from .calling import Calling, Wanted, listed_by_name
-from .components import Component, Machine
+from .components import Machine
 from .feeds import FeedFault, name_of, pages, read_feed, record_text
 from .machines import read_machines
+from .negations import Negations
 from .program import Program
 from .said import Fatal, Said
 from .session import Asked, Known
@@ -36,11 +37,13 @@ def read_text(path: str) -> str:
 
 @dataclass(frozen=True)
 class Records:
-    """The records of a fleet, the keys of NVD's checks that have a result among them, and the facts of the statements."""
+    """The records of a fleet, the keys of NVD's checks that have a result among them, the facts of the statements, and what is negated
+    there."""
 
     known: Known
     results: set[str]
     facts: list[str] = field(default_factory=list)
+    negated: list[Negated] = field(default_factory=list)
 
 
 def read_records(program: Program, path: str, said: Said) -> Records:
@@ -60,19 +63,17 @@ def read_records(program: Program, path: str, said: Said) -> Records:
         raise Fatal(f"{feed}: no statements in it")
     results: set[str] = set()
     facts: dict[str, None] = {}
-    negated: set[str] = set()
+    negated: dict[str, Negated] = {}
     lines: list[str] = []
     for number, line in enumerate(_lines_of(text), 1):
         _note_state(feed, number, line, results)
         lines.append(_asked_line(line, facts, negated))
     data = "".join(f"{line}\n" for line in lines).encode(errors="replace")
-    places = [place for place, id in enumerate(statements) if id in negated]
-    return Records(Known(data, table, statements, places), results, list(facts))
+    return Records(Known(data, table, statements), results, list(facts), list(negated.values()))
 
 
-def _asked_line(line: str, facts: dict[str, None], negated: set[str]) -> str:
-    """A line of the records as the workers are given it: a statement as it is asked. Its facts are noted, and whether something in
-    it is negated."""
+def _asked_line(line: str, facts: dict[str, None], negated: dict[str, Negated]) -> str:
+    """A line of the records as the workers are given it: a statement as it is asked. Its facts are noted, and what is negated."""
     if '"statement"' not in line:
         return line
     try:
@@ -81,11 +82,8 @@ def _asked_line(line: str, facts: dict[str, None], negated: set[str]) -> str:
         return line
     if not isinstance(record, dict) or record.get("do") != "statement":
         return line
-    test = record.get("test")
-    facts.update(dict.fromkeys(facts_of(test)))
-    if is_negated(test):
-        negated.add(str(record.get("id")))
-    return record_text(asked_of(record))
+    facts.update(dict.fromkeys(facts_of(record.get("test"))))
+    return record_text(asked_of(record, negated))
 
 
 def _lines_of(text: str) -> Iterator[str]:
@@ -152,28 +150,12 @@ def read_fleet(program: Program, words: Words, said: Said) -> Fleet:
     asked = []
     for machine in machines:
         called = names.called(machine)
-        doubted = [one.doubted() for one in called]
-        is_same = doubted == called
-        if before is None:
-            kinds = names.kinds(machine)
-            decided = names.decided(called, kinds)
-            _say_unsure(machine, decided, ranges, said)
-            results = _results(decided)
-            results_so = results if is_same else _results(names.decided(doubted, kinds))
-        else:
-            results = results_so = before.get(machine.name, [])
+        decided = names.decided(machine, called, before)
+        _say_unsure(machine, decided, ranges, said)
         names.say(machine, said)
         own = {lead.name for lead in names.items(machine).values()}
-        asked.append(
-            Asked(
-                machine.name,
-                names.put(machine),
-                _without(records.results, results),
-                list(dict.fromkeys(one.name for one in called if one.name not in own)),
-                None if is_same else list(dict.fromkeys(one.name for one in doubted)),
-                [] if is_same else _without(records.results, results_so),
-            )
-        )
+        others = list(dict.fromkeys(one.name for one in called if one.name not in own))
+        asked.append(Asked(machine.name, names.put(machine), _without(records.results, _results(decided)), others))
     return Fleet(records.known, asked)
 
 
@@ -209,12 +191,14 @@ class _Names:
         named = [self.leads.found[fact].name for fact in facts if fact in self.leads.found]
         own = {lead.name: lead for item in items if (lead := self.leads.found.get(item))}
         by_feed = listed_by_name(self._lists, ranges, self.leads)
-        calling = Calling(program, entries, self.leads, own.values(), by_feed, Wanted(named))
-        self._is_strict, self._calling = words.has("--strict"), calling
-        ends = dict.fromkeys(one.name for lead in own.values() for it in calling.of(lead) for one in (it, it.doubted()))
-        ends.update(dict.fromkeys(replace(it, sure=Sure.ALSO).doubted().name for lead in own.values() for it in calling.of(lead)))
         letters = read_letters(words.one("--letters") or decide.LETTERS)
+        calling = Calling(program, entries, self.leads, own.values(), by_feed, Wanted(named), letters)
+        self._is_strict, self._calling = words.has("--strict"), calling
+        self._components = {machine.name: list(self._leads_of(machine)) for machine in machines}
+        called = calling.of_components(leads for of in self._components.values() for leads in of)
+        ends = (one.name for one in called if not one.is_spelled)
         self._decider = decide.Decider(program, ranges.values(), self.leads, ends, letters)
+        self._negations = Negations(program, records.negated, self.leads, called, self._decider, self._lists)
 
     def items(self, machine: Machine) -> dict[str, decide.Lead]:
         """Where its items lead; what is no item is said where it is put."""
@@ -226,17 +210,23 @@ class _Names:
         return machine.items if any(item in self.leads.found for item in own) else own
 
     def called(self, machine: Machine) -> list[Called]:
-        found = self._calling.of_components(self._leads_of(one) for one in machine.all())
+        found = self._calling.of_components(self._components[machine.name])
         return [one for one in found if not self._is_strict or one.sure is not Sure.LESS]
 
-    def _leads_of(self, component: Component) -> list[decide.Lead]:
-        return list({lead.name: lead for name in component.names if (lead := self.leads.found.get(name))}.values())
+    def _leads_of(self, machine: Machine) -> Iterator[list[decide.Lead]]:
+        """Where the names of its components lead."""
+        for one in machine.all():
+            leads = {lead.name: lead for name in one.names if (lead := self.leads.found.get(name))}
+            yield [replace(lead, kind=one.kind) for lead in leads.values()]
 
-    def kinds(self, machine: Machine) -> decide.Kinds:
-        return self._calling.kinds((self._leads_of(one), one.kind) for one in machine.all())
-
-    def decided(self, called: Sequence[Called], kinds: decide.Kinds) -> decide.Decided:
-        return decide.decide(called, self._decider, self._lists, kinds)
+    def decided(self, machine: Machine, called: Sequence[Called], before: Decided | None) -> decide.Decided:
+        """What is decided of a machine; of its ranges what decide.py wrote before, where that is given."""
+        if before is None:
+            decided = decide.decide(called, self._decider, self._lists)
+        else:
+            decided = decide.Decided({key: result == "TRUE" for key, result in before.get(machine.name, ())})
+        self._negations.put(self._components[machine.name], called, decided)
+        return decided
 
     def say(self, machine: Machine, said: Said) -> None:
         """What the dictionary doesn't lead on is remarked."""
@@ -251,10 +241,13 @@ class _Names:
 
 def _say_unsure(machine: Machine, decided: decide.Decided, ranges: dict[str, Range], said: Said) -> None:
     """The ranges that have no answer; what hangs on another name of an item is remarked, once each."""
+    reasons: dict[str, None] = {}
     for key, unsure in decided.unsure.items():
-        if unsure.end:
+        if key in ranges and unsure.end:
             said.left_out(machine.name, f"{unsure.end} in {ranges[key].criteria} {ranges[key].words()}: {unsure.reason}")
-    for reason in dict.fromkeys(unsure.reason for unsure in decided.unsure.values() if not unsure.end):
+        elif key in ranges:
+            reasons[unsure.reason] = None
+    for reason in reasons:
         said.remark(f"{machine.name}: {reason}")
 
 

@@ -1,12 +1,12 @@
 """What came of the machines of a scan, as people and programs read it: the table, the JSON, and what is said beside them."""
 from __future__ import annotations
 
-from collections.abc import Iterable, Iterator, Mapping, Sequence
+from collections.abc import Iterable, Mapping, Sequence
 from dataclasses import dataclass, field
 
 from . import advisories, affected, names, verdicts
 from .called import Called
-from .cases import Known, Product, Statement
+from .cases import Known, Product
 from .components import Machine
 from .decide import Decided, Kinds, Lead
 from .feeds import Json
@@ -15,14 +15,6 @@ from .table import counted
 
 # How many lines that are alike are said before only their number is.
 MOST_ALIKE = 20
-
-
-@dataclass(frozen=True)
-class Side:
-    """What the verdicts of a machine come from: the names of its items, and what is decided of its ranges."""
-
-    called: Sequence[Called]
-    decided: Decided
 
 
 @dataclass(frozen=True)
@@ -36,44 +28,25 @@ class Perhaps:
 
 @dataclass
 class Found:
-    """What came of a machine: where its items lead, how they are called, and of which kinds those are; what its verdicts come from
-    where nothing is negated (False) and where something is (True); the verdicts that were asked for by the places of statements;
-    those that are others where items say less than is asked for (`less`), and which these are; which items may be meant where it is
-    UNKNOWN (`partly`); the packages of distributions that make it TRUE, and may be mended (`backported`); and where it was asked for
-    which items make others TRUE. `leads` are those of all names, `items` is how many
-    components have a name that cpe takes, and `unlisted` has the leads of those of which no name is in the dictionary."""
+    """What came of a machine: where all names of its list lead, those of each component that has a name which cpe takes, and those
+    of which no name is in the dictionary (`unlisted`); how its items are called, and as which they are asked for; what is decided of
+    its ranges; the verdicts that were asked for by the places of statements; those that are others where items say less than is asked
+    for (`less`), and which these are (`perhaps`); which items may be meant where it is UNKNOWN (`partly`); and where it was asked for
+    which items make others TRUE."""
 
     machine: Machine
     leads: list[Lead]
-    items: int = 0
+    components: list[list[Lead]] = field(default_factory=list)
     unlisted: list[list[Lead]] = field(default_factory=list)
     called: list[Called] = field(default_factory=list)
-    kinds: Kinds = field(default_factory=dict)
-    sides: dict[bool, Side] = field(default_factory=dict)
+    asked: list[Called] = field(default_factory=list)
+    decided: Decided = field(default_factory=Decided)
     truths: dict[int, str] = field(default_factory=dict)
     less: set[int] = field(default_factory=set)
     perhaps: dict[Perhaps, None] = field(default_factory=dict)
     partly: dict[int, list[str]] = field(default_factory=dict)
     backported: dict[int, list[str]] = field(default_factory=dict)
     deciding: dict[int, list[str]] | None = None
-
-    def side_of(self, statement: Statement) -> Side:
-        return self.sides[statement.is_negated]
-
-    def every_side(self) -> Iterator[Sequence[Called]]:
-        """The names that verdicts come from, or would where less is said."""
-        yield self.called
-        yield from (side.called for side in self.sides.values())
-
-    def note_backported(self, statements: Sequence[Statement]) -> None:
-        """Notes of statements that are TRUE by ranges which packages of distributions alone are in."""
-        if not any(side.decided.backported for side in self.sides.values()):
-            return
-        for place in self.places_of("TRUE"):
-            decided = self.side_of(statements[place]).decided
-            inside = [key for key in statements[place].checks if decided.truths.get(key)]
-            if inside and all(key in decided.backported for key in inside):
-                self.backported[place] = list(dict.fromkeys(remark for key in inside for remark in decided.backported[key]))
 
     def has_items(self) -> bool:
         return bool(self.leads)
@@ -101,11 +74,9 @@ class Hanging:
         reasons: dict[str, None] = {}
         for place in self._parts.get(advisory, ()):
             reasons.update(dict.fromkeys(one.partly.get(place, ())))
-            statement = self._known.statements[place]
-            unsure = one.side_of(statement).decided.unsure
-            for key in statement.checks:
-                if key in unsure:
-                    reasons[unsure[key].words()] = None
+            for key in self._known.statements[place].checks:
+                if key in one.decided.unsure:
+                    reasons[one.decided.unsure[key].words()] = None
                 elif key in self._known.stand_ins:
                     reasons[self._known.stand_ins[key]] = None
         return list(reasons)
@@ -186,7 +157,7 @@ def _machine_json(
     about: affected.About,
     parts: Mapping[str, Sequence[int]],
 ) -> Json:
-    row: dict[str, Json] = {"name": machine.name, "items": one.items}
+    row: dict[str, Json] = {"name": machine.name, "items": len(one.components)}
     if machine.has_items:
         row["verdicts"] = [
             _verdict_json(id, truth, machine, about) | _decided_json(one, truth, parts.get(id, ()))

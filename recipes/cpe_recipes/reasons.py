@@ -37,7 +37,7 @@ class Reasons:
         asked = [one for one in asked if one.facts]
         if not asked:
             return
-        items = dict.fromkeys(it.name for one in asked for side in one.found.every_side() for it in side)
+        items = dict.fromkeys(it.name for one in asked for it in one.found.called)
         facts = dict.fromkeys(fact for one in asked for of in one.facts.values() for fact, _ in of)
         covered, may_be = items_met(self._program, items, facts)
         for one in asked:
@@ -46,9 +46,7 @@ class Reasons:
     def _put(self, asked: _Asked, covered: Met, may_be: Met) -> None:
         one = asked.found
         for place, facts in asked.facts.items():
-            called = {it.name: it for it in one.side_of(self._known.statements[place]).called}
-            if place in one.less:
-                called.update((it.name, it) for it in one.called if it.sure is Sure.LESS)
+            called = {it.name: it for it in (one.called if place in one.less else one.asked)}
             reasons: dict[str, None] = {}
             for fact, is_told in facts:
                 if any(name in called for name in covered[fact]):
@@ -64,7 +62,7 @@ class Reasons:
     def _facts(self, one: Found) -> dict[int, list[tuple[str, bool]]]:
         """The facts of the statements that hang on what items may be, but those of ranges that are outside."""
         found: dict[int, list[tuple[str, bool]]] = {}
-        if not any(names.is_known_in_part(it.name) for side in one.every_side() for it in side):
+        if not any(names.is_known_in_part(it.name) for it in one.called):
             return found
         for place in sorted({*one.places_of("UNKNOWN"), *one.less}):
             facts = list(self._facts_of(one, place))
@@ -74,7 +72,7 @@ class Reasons:
 
     def _facts_of(self, one: Found, place: int) -> Iterator[tuple[str, bool]]:
         statement = self._known.statements[place]
-        decided = one.side_of(statement).decided
+        decided = one.decided
         for fact in statement.facts:
             yield self._leads.found[fact].name, False
         for key in statement.ranges:

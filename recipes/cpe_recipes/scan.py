@@ -30,10 +30,10 @@ from __future__ import annotations
 
 import json
 from collections.abc import Collection, Iterable, Iterator, Mapping, Sequence
-from dataclasses import dataclass, field
+from dataclasses import dataclass, field, replace
 
 from . import advisories, affected, dictionary, matches, products, suppressed, unlisted, verdicts
-from .called import Sure
+from .called import Called, Sure
 from .calling import Calling, Wanted, listed_by_name
 from .cases import Cases, Index, Items, Known, Product, Results, lines_of, verdicts_of
 from .components import Machine
@@ -41,7 +41,8 @@ from .decide import LETTERS, Decider, Lead, Leads, Lists, decide, leads_of
 from .deciding import Deciding
 from .feeds import FeedFault, Page, name_of, pages, read_feed, text_lines
 from .machines import read_lists, read_machines
-from .outcome import MOST_ALIKE, Found, Hanging, Side, json_of, machines_with_verdicts, tell_items
+from .negations import Negations
+from .outcome import MOST_ALIKE, Found, Hanging, json_of, machines_with_verdicts, tell_items
 from .program import Candidate, Program
 from .progress import Progress
 from .reasons import Reasons
@@ -100,11 +101,12 @@ class Scan:
         """Where the names of a machine lead. It has no items where none of its components has a name, be its platform known."""
         if not any(name in self._leads.found for name in machine.own_items()):
             return Found(machine, [])
-        components = {tuple(lead.name for lead in leads): leads for one in machine.all() if (leads := _leads_in(self._leads, one.names))}
+        found = [(one.kind, _leads_in(self._leads, one.names, one.kind)) for one in machine.all()]
+        components = {(kind, tuple(lead.name for lead in leads)): leads for kind, leads in found if leads}
         leads = {lead.name: lead for of_one in components.values() for lead in of_one}
         unlisted = [of_one for of_one in components.values() if not any(lead.is_entry for lead in of_one)]
-        kinds = calling.kinds((_leads_in(self._leads, one.names), one.kind) for one in machine.all())
-        return Found(machine, list(leads.values()), len(components), unlisted, calling.of_components(components.values()), kinds)
+        of_components = list(components.values())
+        return Found(machine, list(leads.values()), of_components, unlisted, calling.of_components(of_components))
 
     def tell_items(self, found: Sequence[Found], said: Said) -> None:
         tell_items(found, self._leads.refused, self.successors, said)
@@ -117,18 +119,18 @@ class Scan:
         self.successors = unlisted.successors(entries, self._leads)
         feed = listed_by_name(self._lists, self._known.ranges, self._leads)
         wanted = Wanted(self._leads.found[fact].name for fact in dict.fromkeys(facts))
-        return Calling(self._program, entries, self._leads, _leads_in(self._leads, items), feed, wanted)
+        return Calling(self._program, entries, self._leads, _leads_in(self._leads, items), feed, wanted, self._letters)
 
     def _decide(self, found: Sequence[Found], is_all_asked: bool) -> None:
         """Puts what is decided of the ranges, and the verdicts."""
         self._progress.step("deciding ranges of versions")
         index = Index(self._known, self._leads)
         cases = Cases(self._known, index, is_all_asked)
-        ends = dict.fromkeys(called.name for one in found for called in one.called)
-        if True in index.kinds():
-            ends.update(dict.fromkeys(called.doubted().name for one in found for called in one.called))
-        decider = Decider(self._program, self._known.ranges.values(), self._leads, ends, self._letters)
-        asked = [[self._asked(one, decider, cases, is_negated) for is_negated in index.kinds()] for one in found]
+        called = list({it.name: it for one in found for it in one.called}.values())
+        decider = Decider(self._program, self._known.ranges.values(), self._leads, _ends(called), self._letters)
+        negated = list(self._known.negated.values())
+        negations = Negations(self._program, negated, self._leads, called, decider, self._lists)
+        asked = [self._asked(one, decider, negations, cases) for one in found]
         truths = self._ask(cases.in_order())
         for one, of_machine in zip(found, asked):
             self._put(one, of_machine, truths)
@@ -136,23 +138,22 @@ class Scan:
         for done, one in enumerate(found):
             if self._deciding is not None:
                 self._progress.count("asking which items decide", done, len(found))
-                one.deciding = self._reasons(one)
-            one.note_backported(self._known.statements)
+                one.deciding = self._deciding.reasons(one.asked, one.decided, one.places_of("TRUE"))
             # (what is decided is in the verdicts, and would be much beside them)
-            for side in one.sides.values():
-                side.decided.clear()
+            one.decided.clear()
 
-    def _asked(self, one: Found, decider: Decider, cases: Cases, is_negated: bool) -> _Asked:
-        """What is asked of a machine, of the statements in which something is negated, or of the others."""
-        called = [it.doubted() for it in one.called] if is_negated else one.called
-        sure = [it for it in called if it.sure is not Sure.LESS]
-        decided = both = decide(sure, decider, self._lists, one.kinds)
-        asked = _Asked(cases.put(sure, decided, is_negated) if one.has_items() else {})
-        less = [it for it in called if it.sure is Sure.LESS]
+    def _asked(self, one: Found, decider: Decider, negations: Negations, cases: Cases) -> _Asked:
+        """What is asked of a machine."""
+        sure = [it for it in one.called if it.sure is not Sure.LESS]
+        less = [it for it in one.called if it.sure is Sure.LESS]
+        decided = decide(sure, decider, self._lists)
+        both = decided.joined(decide(less, decider, self._lists)) if less else decided
+        negations.put(one.components, sure, decided)
+        asked = _Asked(cases.put(sure, decided) if one.has_items() else {})
         if less:
-            both = decided.joined(decide(less, decider, self._lists, one.kinds))
-            asked.beside.update(cases.put(called, both, is_negated))
-        one.sides[is_negated] = Side(sure, decided) if self._is_strict else Side(called, both)
+            negations.put(one.components, one.called, both)
+            asked.beside.update(cases.put(one.called, both))
+        one.asked, one.decided = (sure, decided) if self._is_strict else (one.called, both)
         return asked
 
     def _ask(self, cases: Sequence[tuple[Items, Results, int, int]]) -> dict[int, str]:
@@ -168,23 +169,14 @@ class Scan:
             raise Fatal(f"cpe answered more than was asked: {answer}")
         return truths
 
-    def _put(self, one: Found, asked: Sequence[_Asked], truths: Mapping[int, str]) -> None:
+    def _put(self, one: Found, asked: _Asked, truths: Mapping[int, str]) -> None:
         """Puts verdicts of a machine. One that is another where items are what they say too little of is UNKNOWN."""
-        for of in asked:
-            one.truths.update((place, truths[number]) for place, number in of.plain.items())
-            for place, number in of.beside.items():
-                truth = one.truths.setdefault(place, self.bare[place])
-                if truths[number] != truth:
-                    one.less.add(place)
-                    one.truths[place] = truth if self._is_strict else truths[number]
-
-    def _reasons(self, one: Found) -> dict[int, list[str]]:
-        """Which items make its verdicts TRUE."""
-        found: dict[int, list[str]] = {}
-        for is_negated, side in one.sides.items():
-            places = [place for place in one.places_of("TRUE") if self._known.statements[place].is_negated is is_negated]
-            found.update(self._deciding.reasons(side.called, side.decided, places) if self._deciding else {})
-        return found
+        one.truths.update((place, truths[number]) for place, number in asked.plain.items())
+        for place, number in asked.beside.items():
+            truth = one.truths.setdefault(place, self.bare[place])
+            if truths[number] != truth:
+                one.less.add(place)
+                one.truths[place] = truth if self._is_strict else truths[number]
 
 
 @dataclass(frozen=True)
@@ -195,9 +187,15 @@ class _Asked:
     beside: dict[int, int] = field(default_factory=dict)
 
 
-def _leads_in(leads: Leads, items: Iterable[str]) -> list[Lead]:
+def _leads_in(leads: Leads, items: Iterable[str], kind: str = "") -> list[Lead]:
     """Where the items lead, each once, however it is spelled."""
-    return list({lead.name: lead for item in items if (lead := leads.found.get(item))}.values())
+    found = {lead.name: lead for item in items if (lead := leads.found.get(item))}.values()
+    return [replace(lead, kind=kind) for lead in found] if kind else list(found)
+
+
+def _ends(called: Iterable[Called]) -> list[str]:
+    """The names that are held against ranges."""
+    return [one.name for one in called if not one.is_spelled]
 
 
 def _next(answers: Iterator[str]) -> str:

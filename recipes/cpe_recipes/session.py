@@ -9,19 +9,16 @@ import json
 import queue
 import subprocess
 import threading
-from collections.abc import Sequence
 from dataclasses import dataclass, field
 
 
 @dataclass(frozen=True)
 class Known:
-    """What every worker of a fleet knows: the records, how many lines cpe answers to them, the ids of the statements, and the places
-    of those in which something is negated."""
+    """What every worker of a fleet knows: the records, how many lines cpe answers to them, and the ids of the statements."""
 
     lines: bytes
     answers: int
     statements: list[str]
-    negated: list[int] = field(default_factory=list)
 
 
 @dataclass(frozen=True)
@@ -29,16 +26,13 @@ class Asked:
     """A machine, the names of its items as its list has them, and what was decided of the ranges for it: keys of checks, with TRUE or
     FALSE.
 
-    `names` are the other names that these items have, or perhaps have. Statements in which something is negated are asked over
-    `doubted` in place of all of them, with what is decided so, where that is another list.
+    `names` are the other names that these items have, or perhaps have.
     """
 
     name: str
     items: list[str]
     decided: list[tuple[str, str]] = field(default_factory=list)
     names: list[str] = field(default_factory=list)
-    doubted: list[str] | None = None
-    decided_so: list[tuple[str, str]] = field(default_factory=list)
 
 
 @dataclass(frozen=True)
@@ -87,35 +81,22 @@ class Session:
         """The verdicts of a machine."""
         if not machine.items:
             return _without_items(machine.name, [])
-        places = range(len(self._ask))
-        refused, verdicts = self._ask_with([*machine.items, *machine.names], machine.decided, places)
-        # (a name that comes twice is one item)
-        own = len(machine.items)
-        named = [*machine.items, *machine.names, *(f"check {key}" for key, _ in machine.decided)]
-        left_out = [(named[place], reason) for place, reason in refused.items() if reason != "exists"]
-        if all(place in refused and refused[place] != "exists" for place in range(own)):
-            return _without_items(machine.name, left_out)
-        if machine.doubted is not None and self._known.negated:
-            _, others = self._ask_with(machine.doubted, machine.decided_so, self._known.negated)
-            for place, verdict in zip(self._known.negated, others):
-                verdicts[place] = verdict
-        return Told(machine.name, left_out, [f"{machine.name} {verdict}" for verdict in verdicts])
-
-    def _ask_with(
-        self, items: list[str], decided: list[tuple[str, str]], places: Sequence[int]
-    ) -> tuple[dict[int, str], list[str]]:
-        """What is refused of these items and results, by their places, and the verdicts of the statements at these places: the former
-        are put, the statements asked, and the former dropped again."""
-        puts = [("item", {"name": item}) for item in items]
-        puts += [("check", {"system": "NVD", "href": "cpeMatch", "id": key, "result": result}) for key, result in decided]
+        puts = [("item", {"name": item}) for item in (*machine.items, *machine.names)]
+        puts += [("check", {"system": "NVD", "href": "cpeMatch", "id": key, "result": result}) for key, result in machine.decided]
         drops = [("drop-" + word, {key: text for key, text in members.items() if key != "result"}) for word, members in puts]
         first = self._last + 1
-        lines = [_record(word, **members) for word, members in puts] + [self._ask[place] for place in places]
+        lines = [_record(word, **members) for word, members in puts] + self._ask
         # (the last first, so that none closes up)
         lines += [_record(word, **members) for word, members in reversed(drops)]
         self._last += len(lines)
         self._waiting.put("".join(lines).encode(errors="replace"))
-        return self._answers(first, len(puts), len(places))
+        refused, verdicts = self._answers(first, len(puts), len(self._ask))
+        named = [*machine.items, *machine.names, *(f"check {key}" for key, _ in machine.decided)]
+        # (a name that comes twice is one item)
+        left_out = [(named[place], reason) for place, reason in refused.items() if reason != "exists"]
+        if all(place in refused and refused[place] != "exists" for place in range(len(machine.items))):
+            return _without_items(machine.name, left_out)
+        return Told(machine.name, left_out, [f"{machine.name} {verdict}" for verdict in verdicts])
 
     def _answers(self, first: int, puts: int, wanted: int) -> tuple[dict[int, str], list[str]]:
         refused: dict[int, str] = {}

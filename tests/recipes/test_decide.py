@@ -167,7 +167,7 @@ class Decisions(unittest.TestCase):
         program, item, one = Program(), name("p", spelled(version)), Range("KEY", name("p"), start, end, **excluded)
         leads = leads_of(program, [], [item], [one.criteria])
         decider = Decider(program, [one], leads, [item], LETTERS)
-        return decide(led(leads.found[item]), decider, Lists(program, {}), {item: [kind]})
+        return decide(led(replace(leads.found[item], kind=kind)), decider, Lists(program, {}))
 
     def test_packages_of_distributions_are_inside_by_the_version_of_their_upstream(self):
         for version, kind, start, end in (

@@ -229,7 +229,7 @@ class Verdicts(unittest.TestCase):
         made, found = scanned(known, [Machine("a", [gone, new]), Machine("b", [new]), Machine("c", [name("v", "gone", "1.5")])])
         wanted = {"NAME": "TRUE", "RANGE": "TRUE", "OTHER": "TRUE", "NOT": "UNKNOWN", "LEADS": "TRUE"}
         self.assertEqual(truths(known, made, found[0]), wanted)
-        why = f"{gone}: it leads elsewhere in the dictionary, and what is asked for is negated"
+        why = f"{gone} may have another name than {gone}, and {name('v', 'gone')} is negated"
         self.assertEqual(Hanging(known, found).on("NOT", "a"), [why])
         wanted = {"NAME": "FALSE", "RANGE": "FALSE", "OTHER": "TRUE", "NOT": "TRUE", "LEADS": "FALSE"}
         self.assertEqual(truths(known, made, found[1]), wanted)
@@ -336,6 +336,20 @@ class Verdicts(unittest.TestCase):
         known = self.known(statement("ANY", {"fact": name("v", "old")}), entries=[*map(entry, olds), entry(new), deprecate(olds[0], new)])
         made, found = scanned(known, [Machine("a", [new]), Machine("b", [name("v", "new", "9")])])
         self.assertEqual([truths(known, made, it)["ANY"] for it in found], ["TRUE", "FALSE"])
+
+    def test_an_exact_fact_is_held_against_a_version_as_a_bound_is(self):
+        wanted = {
+            ("5.6.1-1", "", "5.6.1"): "UNKNOWN", ("5.6.1-1", "deb", "5.6.1"): "TRUE", ("2.0.0", "", "2.0"): "UNKNOWN",
+            ("2.0.0", "pypi", "2.0"): "TRUE", ("v1.2.3", "", "1.2.3"): "TRUE", ("1.2.3", "", "v1.2.3"): "TRUE",
+            (r"1\:5.6.1-1", "deb", "5.6.1"): "TRUE", ("5.6.2-1", "deb", "5.6.1"): "FALSE", ("5.6.10", "", "5.6.1"): "FALSE",
+        }
+        for (version, kind, fact), truth in wanted.items():
+            known = self.known(statement("CVE-1", {"fact": name("v", "p", fact)}), statement("NOT", {"fact": name("v", "p", fact)}, negate=True))
+            made, found = scanned(known, [Machine("a", [Component("p", (name("v", "p", version),), kind)])])
+            self.assertEqual(truths(known, made, found[0])["CVE-1"], truth, (version, kind, fact))
+            self.assertIn(truths(known, made, found[0])["NOT"], ("TRUE",) if truth == "FALSE" else ("FALSE", "UNKNOWN"))
+            if truth == "UNKNOWN":
+                self.assertTrue(Hanging(known, found).on("CVE-1", "a")[0].startswith(f"{name('v', 'p', version)}: "))
 
     def test_what_the_match_feed_lists_is_true_before_anything_else(self):
         one = Range("K", name("mysql", "mysql"), None, "5.5")
