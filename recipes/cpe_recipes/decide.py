@@ -24,7 +24,6 @@ import itertools
 from collections.abc import Collection, Iterable, Iterator, Mapping, Sequence
 from dataclasses import dataclass, field, replace
 from pathlib import Path
-from types import MappingProxyType
 
 from . import matches, names
 from .advisories import MATCH, SYSTEM, Range, is_bound
@@ -55,9 +54,6 @@ class Backported:
 
 # How an end stands to a range: whether it is in it, or the reason why that isn't sure.
 Stand = bool | str | Backported
-# Of names that are put as items the kinds of components that have them on a machine.
-Kinds = Mapping[str, Collection[str]]
-_NO_KIND = ("",)
 
 
 @dataclass(frozen=True)
@@ -192,7 +188,6 @@ class Decider:
         self._covering: dict[str, tuple[_End, list[tuple[Range, bool]]]] = {}
         self._others: dict[str, dict[str, Stand]] = {}
         self._stands: dict[tuple[str, str], dict[str, Stand]] = {}
-        self._releases: dict[tuple[str, str, str], str] = {}
         self.criteria: dict[str, str] = {}
         sure: list[str] = []
         in_part: list[str] = []
@@ -453,8 +448,8 @@ class Lists:
         return self._keys.items()
 
 
-def decide(called: Iterable[Called], decider: Decider, lists: Lists, kinds: Kinds = MappingProxyType({})) -> Decided:
-    """What is decided of a machine whose items are called so, and are of these kinds."""
+def decide(called: Iterable[Called], decider: Decider, lists: Lists) -> Decided:
+    """What is decided of a machine whose items are called so."""
     decided = Decided()
     for one in called:
         if one.is_spelled:
@@ -466,7 +461,7 @@ def decide(called: Iterable[Called], decider: Decider, lists: Lists, kinds: Kind
                 decided.unsure.setdefault(key, Unsure(key, "", one.why))
         stands = decider.stands(one.name, one.kind)
         if one.sure is Sure.SURELY:
-            _put_sure(decided, one, stands, decider)
+            _put_sure(decided, one, stands)
         else:
             _put_doubted(decided, one, stands, decider.criteria)
     for key in [key for key in decided.unsure if decided.truths.get(key)]:
@@ -476,12 +471,12 @@ def decide(called: Iterable[Called], decider: Decider, lists: Lists, kinds: Kind
     return decided
 
 
-def _put_sure(decided: Decided, one: Called, stands: Mapping[str, Stand], decider: Decider) -> None:
+def _put_sure(decided: Decided, one: Called, stands: Mapping[str, Stand]) -> None:
     """Puts how an item that surely is called so stands to ranges."""
     truths = decided.truths
     for key, stand in stands.items():
         if stand is True:
-            decided.put(key, True, one.item, decider.release(one.name, one.kind, key))
+            decided.put(key, True, one.item)
         elif stand is False:
             truths.setdefault(key, False)
         elif isinstance(stand, str):
@@ -570,7 +565,7 @@ def run(words: Sequence[str]) -> int:
             said.left_out(one.key, f"{leads.refused[one.criteria]}: {one.criteria}")
     for machine in machines:
         called = [one for lead in _leads_of_machine(machine, leads, said) for one in led(lead)]
-        _write(machine, decide(called, decider, lists, _kinds(machine, leads)), ranges, output, said)
+        _write(machine, decide(called, decider, lists), ranges, output, said)
     output.end()
     return said.status()
 
@@ -580,17 +575,8 @@ def _leads_of_machine(machine: Machine, leads: Leads, said: Said) -> list[Lead]:
     for item in machine.items:
         if item in leads.refused:
             said.left_out(machine.name, f"{leads.refused[item]}: {item}")
-    return [leads.found[item] for item in machine.items if item in leads.found]
-
-
-def _kinds(machine: Machine, leads: Leads) -> Kinds:
-    """The kinds of components by the names that they have."""
-    found: dict[str, dict[str, None]] = {}
-    for component in machine.all():
-        for lead in (leads.found[name] for name in component.names if name in leads.found):
-            for one in led(lead):
-                found.setdefault(one.name, {})[component.kind] = None
-    return found
+    named = ((name, component.kind) for component in machine.all() for name in component.names)
+    return [replace(leads.found[name], kind=kind) for name, kind in named if name in leads.found]
 
 
 def _write(machine: Machine, decided: Decided, ranges: Mapping[str, Range], output: Output, said: Said) -> None:

@@ -4,6 +4,7 @@ import random
 import sys
 import tempfile
 import unittest
+from dataclasses import replace
 from pathlib import Path
 
 sys.path.insert(0, str(Path(__file__).resolve().parent))
@@ -210,7 +211,8 @@ class Decisions(unittest.TestCase):
         leads = leads_of(program, [], [item], [one.criteria])
         decider = Decider(program, [one], leads, [item], LETTERS)
         for kinds, wanted in ((["deb", "npm"], {"KEY": True}), (["npm", "deb"], {"KEY": True}), (["deb", "rpm"], {"KEY": False}), (["deb", ""], {})):
-            found = decide(led(leads.found[item]), decider, Lists(program, {}), {item: kinds})
+            called = [one for kind in kinds for one in led(replace(leads.found[item], kind=kind))]
+            found = decide(called, decider, Lists(program, {}))
             self.assertEqual(found.truths, wanted, kinds)
 
     def test_an_epoch_and_a_v_never_decide(self):
