@@ -56,6 +56,21 @@ counts_truths() {
     judge "$what" "$status" 0 "$ranges/truths.out" "$ranges/table.said"
 }
 
+# The same where versions are those of packages, of which lists tell the kind, or don't.
+counts_orders() {
+    what='versions of packages against their truths'
+    orders=recipes/samples/orders
+    set -- --dictionary "$orders/dictionary.json" --advisories "$orders/advisories.json" --lists \
+        "$orders/alpine-1.cdx.json" "$orders/bare-1.txt" "$orders/code-1.cdx.json" "$orders/deb-1.cdx.json" "$orders/rpm-1.cdx.json"
+    limited python3 recipes/scan.py --json "$@" > "$room/scan.json" 2> "$room/error" < /dev/null
+    python3 tests/recipes/truths.py "$orders/truths.txt" < "$room/scan.json" > "$room/out"
+    status=$?
+    cat "$room/out"
+    judge "$what" "$status" 0 "$orders/truths.out" "$orders/table.said"
+    limited python3 recipes/scan.py "$@" > "$room/out" 2> "$room/error" < /dev/null
+    judge 'the table of versions of packages' $? 0 "$orders/table.out" "$orders/table.said"
+}
+
 shows_tables() {
     # shellcheck disable=SC2046
     scans --lists $(lists) > "$room/out" 2> "$room/error"
@@ -202,6 +217,7 @@ if needs 'the recipes in Python' python3; then
     runs_unit_tests
     compares_orders
     counts_truths
+    counts_orders
     shows_tables
     shows_pages
     goes_step_by_step
