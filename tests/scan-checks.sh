@@ -6,6 +6,7 @@
 CPE=$program
 export CPE
 ranges=recipes/samples/ranges
+doubts=recipes/samples/doubts
 
 # scans WORD..: scan.py over the samples of ranges, with more words.
 scans() {
@@ -69,6 +70,43 @@ counts_orders() {
     judge "$what" "$status" 0 "$orders/truths.out" "$orders/table.said"
     limited python3 recipes/scan.py "$@" > "$room/out" 2> "$room/error" < /dev/null
     judge 'the table of versions of packages' $? 0 "$orders/table.out" "$orders/table.said"
+}
+
+# What lists and dictionaries don't say, by hand, beside what comes out; and that less is UNKNOWN where a word says so.
+counts_doubts() {
+    set -- --dictionary "$doubts/dictionary.json" --advisories "$doubts/advisories.json" --lists "$doubts"/*-?.txt "$doubts"/*-db.txt "$doubts/box-1.cdx.json"
+    what="what a list doesn't say against its truths"
+    limited python3 recipes/scan.py "$@" --json < /dev/null > "$room/scan.json" 2> "$room/error"
+    python3 tests/recipes/truths.py "$doubts/truths.txt" < "$room/scan.json" > "$room/out"
+    status=$?
+    cat "$room/out"
+    judge "$what" "$status" 0 "$doubts/truths.out" "$doubts/table.said"
+    limited python3 recipes/scan.py "$@" < /dev/null > "$room/out" 2> "$room/error"
+    judge "the table of what a list doesn't say" $? 0 "$doubts/table.out" "$doubts/table.said"
+    limited python3 recipes/scan.py "$@" --strict --hardware none < /dev/null > "$room/out" 2> "$room/error"
+    judge "the same with --strict and --hardware none" $? 0 "$doubts/strict.out" "$doubts/table.said"
+}
+
+# The same of the lists of tools: all names of a component are read, wherever a tool writes them. What has package URLs alone is
+# no item, and no machine that isn't affected.
+reads_lists() {
+    of=recipes/samples/lists
+    set -- --dictionary "$of/dictionary.json" --advisories "$of/advisories.json" --lists
+    limited python3 recipes/scan.py "$@" "$of"/shop-* "$of"/java-* "$of"/build-* > "$room/out" 2> "$room/error"
+    judge 'the table of the lists of tools' $? 1 "$of/table.out" "$of/table.said"
+    limited python3 recipes/scan.py --json "$@" "$of"/shop-* "$of"/java-* "$of"/build-* > "$room/scan.json" 2> /dev/null
+    python3 tests/recipes/truths.py "$of/truths.txt" < "$room/scan.json" > "$room/out"
+    status=$?
+    cat "$room/out"
+    : > "$room/error"
+    judge 'the lists of tools against their truths' "$status" 0 "$of/truths.out"
+    limited python3 recipes/scan.py "$@" "$of"/trivy-* > "$room/out" 2> "$room/error"
+    judge 'lists of package URLs alone' $? 1 "$of/no-names.out" "$of/no-names.said"
+    limited sh recipes/inventory.sh "$of/trivy-1.json" > "$room/out" 2> "$room/error"
+    status=$?
+    sed -n 's/^left out trivy-1 \(.*: no CPE name\)$/left out \1/p' "$of/no-names.said" > "$room/wanted.said"
+    echo 'inventory.sh: trivy-1.json: no item in it' >> "$room/wanted.said"
+    judge 'no inventory of package URLs alone' "$status" 2 /dev/null "$room/wanted.said"
 }
 
 shows_tables() {
@@ -218,6 +256,8 @@ if needs 'the recipes in Python' python3; then
     compares_orders
     counts_truths
     counts_orders
+    counts_doubts
+    reads_lists
     shows_tables
     shows_pages
     goes_step_by_step

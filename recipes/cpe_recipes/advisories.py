@@ -5,8 +5,8 @@
 A statement has the id of its CVE, follows deprecations, and is TRUE where one of the configurations holds with a vulnerable
 product there.
 
-- A configuration has nodes, and a node has matches; `operator` and `negate` of both are those of the test, and each match is a
-  fact. Where the logic of a configuration could hold without any product that is marked as vulnerable, the vulnerable ones
+- A configuration has nodes, and a node has matches, and perhaps nodes as its `children`; `operator` and `negate` of each are those
+  of the test, and each match is a fact. Where the logic of a configuration could hold without any product that is marked as vulnerable, the vulnerable ones
   are asked for beside it.
 - A range of versions is no name: it becomes the product in any version AND a check, whose key is NVD, cpeMatch and the id of
   the match. So the statement is FALSE where the product isn't there and no other fact holds, and UNKNOWN where it is, until a
@@ -37,6 +37,8 @@ SYSTEM, MATCH, CONFIGURATION = "NVD", "cpeMatch", "configuration"
 MOST_BYTES = 65_536
 # An AND of many long ORs would be taken apart into more statements than anyone has room for.
 MOST_PARTS = 1_000
+# Of nodes in one another, so that the tests of a statement aren't more than cpe takes.
+MOST_NODES_DEEP = 20
 
 _BOUNDS = {
     "versionStartIncluding": "from",
@@ -127,12 +129,30 @@ class Match:
 
 @dataclass(frozen=True)
 class Node:
+    """Matches of a configuration, and nodes within it, as older feeds have them."""
+
     operator: str
     is_negated: bool
     matches: list[Match]
+    children: list[Node]
+
+    @staticmethod
+    def of(node: Json, depth: int = 0) -> Node:
+        """The node; FormFault where it isn't of the published form."""
+        if depth > MOST_NODES_DEEP:
+            raise FormFault("nodes that stand too deep in one another")
+        children = [Node.of(child, depth + 1) for child in members(node, "children")]
+        given = members(node, "cpeMatch") if children else _filled(node, "cpeMatch", "a node without matches")
+        return Node(_operator(node), _flag(node, "negate"), [Match.of(match) for match in given], children)
+
+    def all_matches(self) -> Iterator[Match]:
+        yield from self.matches
+        for child in self.children:
+            yield from child.all_matches()
 
     def needs_vulnerable(self) -> bool:
-        return _needs(self, (match.is_vulnerable for match in self.matches))
+        flags = [match.is_vulnerable for match in self.matches]
+        return _needs(self, [*flags, *(child.needs_vulnerable() for child in self.children)])
 
 
 @dataclass(frozen=True)
@@ -144,14 +164,11 @@ class Configuration:
     @staticmethod
     def of(configuration: Json) -> Configuration:
         """The configuration; FormFault where it isn't of the published form."""
-        nodes = []
-        for node in _filled(configuration, "nodes", "a configuration without nodes"):
-            matches = [Match.of(match) for match in _filled(node, "cpeMatch", "a node without matches")]
-            nodes.append(Node(_operator(node), _flag(node, "negate"), matches))
+        nodes = [Node.of(node) for node in _filled(configuration, "nodes", "a configuration without nodes")]
         return Configuration(_operator(configuration), _flag(configuration, "negate"), nodes)
 
     def matches(self) -> Iterator[Match]:
-        return (match for node in self.nodes for match in node.matches)
+        return (match for node in self.nodes for match in node.all_matches())
 
     def needs_vulnerable(self) -> bool:
         """Whether the logic holds only with a vulnerable product."""
@@ -235,8 +252,11 @@ def _all_matches(vulnerability: Json) -> Iterator[Json]:
     """The matches of whatever is of the published form there."""
     try:
         for configuration in members(member(vulnerability, "cve"), "configurations"):
-            for node in members(configuration, "nodes"):
+            waiting = list(members(configuration, "nodes"))
+            while waiting:
+                node = waiting.pop()
                 yield from members(node, "cpeMatch")
+                waiting.extend(members(node, "children"))
     except FormFault:
         return
 
@@ -295,12 +315,15 @@ class _Converter:
         self._leave_out(id, f"{what}: the check {key} stands for it")
 
     def _configuration(self, id: str, configuration: Configuration) -> Test:
-        nodes = [_logic(node, [self._match(id, match) for match in node.matches]) for node in configuration.nodes]
-        test = _logic(configuration, nodes)
+        test = _logic(configuration, [self._node(id, node) for node in configuration.nodes])
         if configuration.needs_vulnerable():
             return test
         vulnerable = [self._match(id, match, True) for match in configuration.matches() if match.is_vulnerable]
         return {"op": "AND", "of": [test, {"op": "OR", "of": vulnerable}]}
+
+    def _node(self, id: str, node: Node) -> Test:
+        matches = [self._match(id, match) for match in node.matches]
+        return _logic(node, [*matches, *(self._node(id, child) for child in node.children)])
 
     def _match(self, id: str, match: Match, is_told: bool = False) -> Test:
         """The test of a match: its name, with a check where it has bounds; a check alone where the name is none."""
@@ -313,10 +336,12 @@ class _Converter:
         return _check(MATCH, key) if bad else {"op": "AND", "of": [{"fact": match.criteria}, _check(MATCH, key)]}
 
     def _key(self, match: Match) -> str:
-        """The id of its check, which no other match has, and which can stand in a line with tabs."""
-        if match.id and match.id.isprintable() and _same(self._matches.setdefault(match.id, match), match):
+        """The id of its check, which no other match has, and which can stand in a line with tabs. (One with a space is of another kind
+        of check, as asked.py has them.)"""
+        if match.id and match.id.isprintable() and " " not in match.id and _same(self._matches.setdefault(match.id, match), match):
             return match.id
-        return match.text()
+        text = match.text()
+        return f"match {text}" if text.startswith(("not ", "part ")) else text
 
     def _tell(self, id: str, match: Match, key: str, bad: str | None) -> None:
         fault = match.fault()

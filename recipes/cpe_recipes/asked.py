@@ -2,6 +2,10 @@
 
 Where something is negated that isn't enough, since a name more could hide a machine there. So what is negated, a fact or a range,
 becomes a check, which negations.py decides for each machine: TRUE if it holds whichever name an item has, FALSE if it does by none.
+
+And where an AND asks for an operating system or for hardware (part `o` or `h`) beside something else, a list that names none of that
+part doesn't say that it isn't there. So a check stands beside such a name, which is FALSE where the list has an item of that part, and
+else is open.
 """
 from __future__ import annotations
 
@@ -13,7 +17,9 @@ from .advisories import MATCH, SYSTEM
 from .feeds import Json
 
 # What the ids of such checks begin with. (No id of a match has a space.)
-_NOT = "not "
+_NOT, _PART = "not ", "part "
+# The parts that a list may be silent of, with the ids of their checks.
+PARTS = {part: f"{_PART}{part}" for part in "oh"}
 
 
 @dataclass(frozen=True)
@@ -29,10 +35,60 @@ def asked_of(statement: Json, negated: dict[str, Negated]) -> Json:
     """The statement as it is asked; what is negated there is added. What is no statement stays as it is, and cpe refuses it."""
     if statement.get("mode", "plain") not in ("plain", "follow"):
         return statement
-    test = statement.get("test")
+    test = _with_parts(statement.get("test"))
     if is_negated(test):
         test = _without_negated(test, False, negated)
     return {**statement, "mode": "plain", "test": test}
+
+
+def _with_parts(test: Json) -> Json:
+    """The test with checks beside the names of parts of which a list may be silent, wherever an AND asks for more than these."""
+    if not _is_logic(test) or test.get("negate") or range_of(test) is not None:
+        return test
+    of = [_with_parts(one) for one in test["of"]]
+    if test["op"] == "OR":
+        return {**test, "of": of}
+    silent = [_if_silent(one) for one in test["of"]]
+    if silent == test["of"]:
+        return {**test, "of": of}
+    # (something of it has to be there; where that isn't asked for beside these parts, it is one of them)
+    sure = [one for one in test["of"] if not is_negated(one)]
+    if any(one == other for one, other in zip(test["of"], silent) if one in sure):
+        return {**test, "of": silent}
+    return {**test, "of": [*silent, {"op": "OR", "of": sure}]} if sure else {**test, "of": of}
+
+
+def _if_silent(test: Json) -> Json:
+    """The test, within an AND, as it is where a list may be silent of a part."""
+    if not isinstance(test, dict) or test.get("negate"):
+        return test
+    part = _part(test)
+    if part is not None:
+        return {"op": "OR", "of": [test, _check(PARTS[part])]}
+    if not _is_logic(test) or range_of(test) is not None:
+        return test
+    if test["op"] == "AND":
+        return {**test, "of": [_if_silent(one) for one in test["of"]]}
+    found = {part: None for one in test["of"] if (part := _part(one)) is not None}
+    of = [one if _part(one) is not None else _if_silent(one) for one in test["of"]]
+    return {**test, "of": [*of, *(_check(PARTS[part]) for part in found)]} if found or of != test["of"] else test
+
+
+def _part(test: Json) -> str | None:
+    """The part of a fact, or of a range, where a list may be silent of that."""
+    if not isinstance(test, dict):
+        return None
+    fact = fact_of(test["of"][0] if range_of(test) is not None else test)
+    part = names.part_of(fact) if fact is not None else ""
+    return part if part in PARTS else None
+
+
+def _is_logic(test: Json) -> bool:
+    return isinstance(test, dict) and test.get("op") in ("AND", "OR") and isinstance(test.get("of"), list)
+
+
+def _check(key: str) -> Json:
+    return {"check": {"system": SYSTEM, "href": MATCH, "id": key}}
 
 
 def _without_negated(test: Json, is_under: bool, negated: dict[str, Negated]) -> Json:
@@ -41,7 +97,7 @@ def _without_negated(test: Json, is_under: bool, negated: dict[str, Negated]) ->
         return test
     if is_under and (one := _negated(test)) is not None:
         negated[one.key] = one
-        return {"check": {"system": SYSTEM, "href": MATCH, "id": one.key}}
+        return _check(one.key)
     of = test.get("of")
     if "op" not in test or not isinstance(of, list):
         return test
@@ -61,8 +117,10 @@ def _negated(test: Json) -> Negated | None:
 
 def range_of(test: Json) -> str | None:
     """The id of the check where a test is a name and the check of its range."""
-    of = test.get("of", ())
-    if test.get("op") != "AND" or test.get("negate") or len(of) != 2 or "fact" not in of[0] or "check" not in of[1]:
+    of = test.get("of")
+    if test.get("op") != "AND" or test.get("negate") or not isinstance(of, list) or len(of) != 2:
+        return None
+    if not all(isinstance(one, dict) for one in of) or "fact" not in of[0] or "check" not in of[1]:
         return None
     check = of[1]["check"]
     if not isinstance(check, dict) or (check.get("system"), check.get("href")) != (SYSTEM, MATCH):

@@ -14,15 +14,15 @@ from .calling import Calling, Wanted, listed_by_name
 from .components import Machine
 from .feeds import FeedFault, name_of, pages, read_feed, record_text
 from .machines import read_machines
-from .negations import Negations
+from .negations import Negations, has_hardware
 from .program import Program
 from .said import Fatal, Said
 from .session import Asked, Known
 from .versions import Letters, read_letters
 from .words import FLAG, MANY, ONE, Words
 
-OPTIONS = {"--ranges": ONE, "--matches": MANY, "--letters": ONE, "--decided": ONE, "--strict": FLAG}
-USAGE = "RECORDS MACHINES [--strict] [--ranges FILE [--letters FILE] [--matches FILE..] | --decided FILE]"
+OPTIONS = {"--ranges": ONE, "--matches": MANY, "--letters": ONE, "--decided": ONE, "--strict": FLAG, "--hardware": ONE}
+USAGE = "RECORDS MACHINES [--strict] [--hardware none] [--ranges FILE [--letters FILE] [--matches FILE..] | --decided FILE]"
 MACHINES_MISSING = 5
 
 
@@ -198,7 +198,7 @@ class _Names:
         called = calling.of_components(leads for of in self._components.values() for leads in of)
         ends = (one.name for one in called if not one.is_spelled)
         self._decider = decide.Decider(program, ranges.values(), self.leads, ends, letters)
-        self._negations = Negations(program, records.negated, self.leads, called, self._decider, self._lists)
+        self._negations = Negations(program, records.negated, self.leads, called, self._decider, self._lists, has_hardware(words))
 
     def items(self, machine: Machine) -> dict[str, decide.Lead]:
         """Where its items lead; what is no item is said where it is put."""

@@ -114,9 +114,14 @@ def read_lists(paths: Sequence[str], said: Said) -> list[Candidate]:
 
 
 def candidates_of(feed: str, data: bytes) -> Iterator[Candidate]:
-    """What the names of a software list become, which has this base name and these bytes."""
-    for one in lists.read(feed, data).all():
+    """What the names of a software list become, which has this base name and these bytes. The names of a platform are none where
+    no component has a name: beside nothing but them all would look as if it weren't affected."""
+    listed = lists.read(feed, data)
+    has_items = bool(Machine("", listed.components(), listed.platform).own_items())
+    for one in listed.all():
         if isinstance(one, lists.Odd):
             yield Candidate(one.id, reason=one.reason)
-        else:
-            yield from [Candidate(one.id, _record(name)) for name in one.names] or [Candidate(one.id, reason=NO_NAME)]
+        elif not one.names:
+            yield Candidate(one.id, reason=NO_NAME)
+        elif has_items:
+            yield from (Candidate(one.id, _record(name)) for name in one.names)

@@ -74,6 +74,14 @@ def marked(name: str, places: Iterable[int]) -> str:
     return joined(parts)
 
 
+def part_of(name: str) -> str:
+    """The part of a name in either binding, in lower case."""
+    text = name.lower()
+    if text.startswith("cpe:/"):
+        return text[len("cpe:/") : len("cpe:/") + 1]
+    return components(text)[0] if text.startswith(PREFIX) else ""
+
+
 def product_of(name: str) -> tuple[str, str]:
     """The vendor and the product of a name, as components."""
     parts = components(name)

@@ -1,23 +1,32 @@
-"""Whether what is negated in statements holds on a machine: the checks that asked.py puts in place of negated facts and ranges.
+"""What is decided of the checks that asked.py puts into statements: what is negated there, and the parts of which a list may be silent.
 
-Such a check is TRUE where a component meets the fact by each name that its list gives for it, both as it stands and as it leads on;
+A check of what is negated, a fact or a range, is TRUE where a component meets the fact by each name that its list gives for it, both as it stands and as it leads on;
 FALSE where no name that an item has or perhaps has may meet it; and else there is no answer, so what it is negated in is UNKNOWN.
+
+A check of a part is FALSE where the list names an item of that part, operating systems or hardware, and else it stays open; so does
+what is negated of such a part. Where it is known that there is no hardware to ask for, the list isn't silent of it.
 """
 from __future__ import annotations
 
-from collections.abc import Collection, Iterable, Sequence
+from collections.abc import Collection, Iterable, Mapping, Sequence
 
-from .asked import Negated
+from . import names
+from .asked import PARTS, Negated
 from .called import Called
 from .decide import Decided, Decider, Lead, Leads, Lists, Stand, Unsure, items_met
 from .program import Program
+from .said import Fatal
+from .words import Words
 
 # Of a machine, where the names of each component lead.
 Components = Sequence[Sequence[Lead]]
 
 
+_SILENT = {"o": "no operating system is listed", "h": "no hardware is listed"}
+
+
 class Negations:
-    """Tells of machines whether what is negated holds there."""
+    """Tells of machines what is decided of these checks."""
 
     def __init__(
         self,
@@ -27,35 +36,57 @@ class Negations:
         called: Iterable[Called],
         decider: Decider,
         lists: Lists,
+        has_hardware: bool = True,
     ) -> None:
         self._decider, self._lists = decider, lists
+        self._parts = [part for part in PARTS if has_hardware or part != "h"]
         # (what cpe refuses as a name stands in no statement that it takes)
         self._facts = {one.key: leads.found[one.fact].name for one in negated if one.fact in leads.found}
+        self._ends = {one.key: leads.found[one.fact].ends for one in negated if one.fact in leads.found}
         self._negated = [one for one in negated if one.key in self._facts]
         items = dict.fromkeys(one.name for one in called) if self._negated else {}
-        covered, may_be = items_met(program, items, dict.fromkeys(self._facts.values())) if self._negated else ({}, {})
+        asked = dict.fromkeys([*self._facts.values(), *(end for ends in self._ends.values() for end in ends)])
+        covered, may_be = items_met(program, items, asked) if self._negated else ({}, {})
         self._covered = {fact: set(found) for fact, found in covered.items()}
         self._near = {fact: [*found, *may_be[fact]] for fact, found in covered.items()}
 
     def put(self, components: Components, called: Sequence[Called], decided: Decided) -> None:
         """Puts what is decided of a machine whose items are called so."""
-        if not self._negated:
-            return
         here = {one.name: one for one in called}
-        for one in self._negated:
-            near = [here[name] for name in self._near[self._facts[one.key]] if name in here and self._stand(one, here[name]) is not False]
-            if near and not any(leads and all(self._is_met(one, lead) for lead in leads) for leads in components):
-                words = "; ".join(dict.fromkeys(self._words(one, it) for it in near))
-                decided.unsure[one.key] = Unsure(one.key, "", words)
+        listed = {names.part_of(name) for name in here}
+        silent = [part for part in self._parts if part not in listed]
+        for part, key in PARTS.items():
+            if part in silent:
+                decided.unsure[key] = Unsure(key, "", _SILENT[part])
             else:
-                decided.truths[one.key] = bool(near)
+                decided.truths[key] = False
+        for one in self._negated:
+            self._put_negated(one, components, here, decided, silent)
+
+    def _put_negated(
+        self, one: Negated, components: Components, here: Mapping[str, Called], decided: Decided, silent: Sequence[str]
+    ) -> None:
+        """Puts what is decided of what is negated, on a machine with these names."""
+        fact = self._facts[one.key]
+        near = [here[name] for name in self._near[fact] if name in here and self._stand(one, here[name]) is not False]
+        if not near and names.part_of(fact) in silent:
+            decided.unsure[one.key] = Unsure(one.key, "", _SILENT[names.part_of(fact)])
+        elif near and not any(leads and all(self._is_met(one, lead) for lead in leads) for leads in components):
+            words = "; ".join(dict.fromkeys(self._words(one, it) for it in near))
+            decided.unsure[one.key] = Unsure(one.key, "", words)
+        else:
+            decided.truths[one.key] = bool(near)
 
     def _is_met(self, one: Negated, lead: Lead) -> bool:
         """Whether a name surely meets it, both as it stands and as it leads on."""
-        return self._meets(one, lead.name, lead.kind) and any(self._meets(one, end, lead.kind) for end in lead.ends)
+        ends = self._ends[one.key]
+        if one.range is not None and ends != (self._facts[one.key],):
+            return False
+        follows = any(self._meets(one, fact, end, lead.kind) for fact in ends for end in lead.ends)
+        return follows and self._meets(one, self._facts[one.key], lead.name, lead.kind)
 
-    def _meets(self, one: Negated, name: str, kind: str) -> bool:
-        if name not in self._covered[self._facts[one.key]]:
+    def _meets(self, one: Negated, fact: str, name: str, kind: str) -> bool:
+        if name not in self._covered[fact]:
             return False
         return one.range is None or self._in_range(one.range, name, name, kind) is True
 
@@ -79,3 +110,11 @@ class Negations:
         if called.name not in self._covered[fact]:
             return f"{called.item} is known in part, and may be {fact}"
         return f"{called.item} may have another name than {called.meant}, and {fact} is negated"
+
+
+def has_hardware(words: Words) -> bool:
+    """Whether there is hardware to ask for, by the words of a recipe."""
+    said = words.one("--hardware")
+    if said not in (None, "none"):
+        raise Fatal(f"--hardware is {said}, and none alone can be said of it")
+    return said is None

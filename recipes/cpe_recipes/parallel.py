@@ -1,6 +1,6 @@
 """An inventory of many machines over the processors of this one, with GNU parallel.
 
-    sh parallel.sh RECORDS MACHINES [--strict] [--ranges FILE [--letters FILE] [--matches FILE..] | --decided FILE]
+    sh parallel.sh RECORDS MACHINES [--strict] [--hardware none] [--ranges FILE [--letters FILE] [--matches FILE..] | --decided FILE]
 
 - RECORDS: entries, deprecations, statements and results of checks, as the recipes write them.
 - MACHINES: a line a machine: its name, and after it the names of its items.

@@ -1,15 +1,17 @@
 """The whole way, from feeds and what machines have to the advisories that concern each machine.
 
     python3 scan.py --dictionary FILE.. | --records FILE.. --advisories FILE.. [--matches FILE..]
-        --machines FILE | --lists FILE.. [--suppress FILE] [--letters FILE] [--strict] [--all] [--json [--why]]
+        --machines FILE | --lists FILE.. [--suppress FILE] [--letters FILE] [--strict] [--hardware none] [--all] [--json [--why]]
 
 - --dictionary, --advisories, --matches: pages of NVD's API 2.0, as they come or packed by gzip. --records: what dictionary.sh
   made of such pages before.
-- --machines: a line a machine, its name and names of items; --lists: software lists (CycloneDX, SPDX, plain), each a machine.
+- --machines: a line a machine, as inventory.sh --machines writes it; --lists: software lists (CycloneDX, SPDX, Syft, plain), each a
+  machine.
 - --suppress: accepted advisories, lines `ID MACHINE REASON`, where * is every machine. They are told below the table.
 - --letters: the products of which letters in versions count upward, in place of letters.txt.
 - --all: the table and the JSON have the verdicts that are FALSE too.
 - --strict: an item that says less than an advisory asks for isn't what that names.
+- --hardware none: there is no hardware to ask for, as of containers; else what a list doesn't say of it is UNKNOWN.
 - --json: the same as one value of JSON, with what was left out (`leftOut`). report.py makes a page of it.
 - --why: the JSON tells of each verdict that is TRUE which items make it so (`decidedBy`); deciding.py says how, and what it takes.
 
@@ -17,6 +19,9 @@ What machines are asked for, cases.py says; all verdicts come from one run of cp
 
 A statement holds for a machine if it holds of the names as they stand or as the dictionary leads them on, on either side; calling.py
 says which names an item has so, and which it perhaps has. Where something is negated it holds only if it does so in each way.
+
+A component may have several names. One that makes a verdict TRUE is enough, and it is FALSE only if all do; negations.py says what it
+is where a test is negated.
 
 What a list doesn't say is UNKNOWN: an item that is known in part, since its name has a pattern, may be what a fact names, and so may
 one that says less than the fact, as of a plugin without its platform. Such a verdict is told with what isn't said (reasons.py), and
@@ -41,7 +46,7 @@ from .decide import LETTERS, Decider, Lead, Leads, Lists, decide, leads_of
 from .deciding import Deciding
 from .feeds import FeedFault, Page, name_of, pages, read_feed, text_lines
 from .machines import read_lists, read_machines
-from .negations import Negations
+from .negations import Negations, has_hardware
 from .outcome import MOST_ALIKE, Found, Hanging, json_of, machines_with_verdicts, tell_items
 from .program import Candidate, Program
 from .progress import Progress
@@ -52,7 +57,7 @@ from .words import FLAG, MANY, ONE, Words, read_words
 
 USAGE = (
     "scan.py --dictionary FILE.. | --records FILE.. --advisories FILE.. [--matches FILE..] "
-    "--machines FILE | --lists FILE.. [--suppress FILE] [--letters FILE] [--strict] [--all] [--json [--why]]"
+    "--machines FILE | --lists FILE.. [--suppress FILE] [--letters FILE] [--strict] [--hardware none] [--all] [--json [--why]]"
 )
 OPTIONS = {
     "--dictionary": MANY,
@@ -67,6 +72,7 @@ OPTIONS = {
     "--json": FLAG,
     "--why": FLAG,
     "--strict": FLAG,
+    "--hardware": ONE,
 }
 
 
@@ -82,10 +88,11 @@ class Scan:
         progress: Progress,
         has_why: bool = False,
         is_strict: bool = False,
+        has_hardware: bool = True,
     ) -> None:
         self._program, self._known, self._lists, self._letters, self._progress = program, known, lists, letters, progress
         self._deciding = Deciding(program, known) if has_why else None
-        self._is_strict = is_strict
+        self._is_strict, self._has_hardware = is_strict, has_hardware
         self.bare: list[str] = []
         self.successors: dict[Product, list[Product]] = {}
         self._leads = Leads()
@@ -129,7 +136,7 @@ class Scan:
         called = list({it.name: it for one in found for it in one.called}.values())
         decider = Decider(self._program, self._known.ranges.values(), self._leads, _ends(called), self._letters)
         negated = list(self._known.negated.values())
-        negations = Negations(self._program, negated, self._leads, called, decider, self._lists)
+        negations = Negations(self._program, negated, self._leads, called, decider, self._lists, self._has_hardware)
         asked = [self._asked(one, decider, negations, cases) for one in found]
         truths = self._ask(cases.in_order())
         for one, of_machine in zip(found, asked):
@@ -290,7 +297,7 @@ def _result(read: Words, program: Program, said: Noting, progress: Progress) -> 
     progress.step("reading the match feed")
     feed = pages(read.many("--matches"), said, matches.KINDS, strict=True) if read.has("--matches") else []
     lists = Lists(program, matches.listed(feed, known.ranges.keys(), said))
-    scan = Scan(program, known, lists, letters, progress, read.has("--why"), read.has("--strict"))
+    scan = Scan(program, known, lists, letters, progress, read.has("--why"), read.has("--strict"), has_hardware(read))
     found = scan.machines(asked)
     scan.tell_items(found, said)
     machines = machines_with_verdicts(known, scan.bare, found)

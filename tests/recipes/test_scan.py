@@ -3,6 +3,7 @@ import io
 import json
 import os
 import random
+import re
 import sys
 import tempfile
 import unittest
@@ -12,7 +13,7 @@ from unittest import mock
 sys.path.insert(0, str(Path(__file__).resolve().parent))
 
 from stand_in import Heard  # noqa: E402 (it knows where the recipes are)
-from cpe_recipes import affected, scan  # noqa: E402
+from cpe_recipes import affected, fleet, scan  # noqa: E402
 from cpe_recipes.advisories import Range  # noqa: E402
 from cpe_recipes.cases import Known  # noqa: E402
 from cpe_recipes.components import Component, Machine  # noqa: E402
@@ -23,8 +24,10 @@ from cpe_recipes.progress import Progress  # noqa: E402
 from cpe_recipes.said import Fatal, Said  # noqa: E402
 from cpe_recipes.outcome import Hanging, json_of, machines_with_verdicts  # noqa: E402
 from cpe_recipes.scan import Scan  # noqa: E402
+from cpe_recipes.session import Session  # noqa: E402
 from cpe_recipes.suppressed import Accepted, Suppressed  # noqa: E402
 from cpe_recipes.versions import Letters  # noqa: E402
+from cpe_recipes.words import read_words  # noqa: E402
 
 NO_LETTERS = Letters({})
 SAMPLES = Path(__file__).resolve().parents[2] / "recipes" / "samples" / "ranges"
@@ -51,15 +54,41 @@ def ranged(one):
     return {"op": "AND", "of": [{"fact": one.criteria}, {"check": {"system": "NVD", "href": "cpeMatch", "id": one.key}}]}
 
 
-def scanned(known, machines, listed=None, has_why=False, is_strict=False, **more):
+def scanned(known, machines, listed=None, has_why=False, is_strict=False, has_hardware=True, **more):
     program = Program()
-    made = Scan(program, known, Lists(program, listed or {}), NO_LETTERS, Progress(is_shown=False), has_why, is_strict)
+    progress = Progress(is_shown=False)
+    made = Scan(program, known, Lists(program, listed or {}), NO_LETTERS, progress, has_why, is_strict, has_hardware)
     return made, made.machines(machines, **more)
 
 
 def truths(known, made, found):
     """All verdicts of a machine, by the ids of statements."""
     return {one.id: found.truths.get(place, made.bare[place]) for place, one in enumerate(known.statements)}
+
+
+def evaluated(known, machine, mode):
+    """What cpe says of a machine, where all statements are in this mode."""
+    records = [record.replace('"mode":"follow"', f'"mode":"{mode}"') for record in known.records]
+    items = [record_text({"do": "item", "name": item}) for item in machine.items]
+    lines = Program().run(["evaluate"], [*known.entries, *records, *items])
+    return {id: truth for word, id, truth in (line.split(" ") for line in lines if line.startswith("verdict ")) if word}
+
+
+def of_fleet(known, machines, is_strict):
+    """The lines of a fleet, machine by machine."""
+    with tempfile.TemporaryDirectory() as folder:
+        ranges, records, listed = (Path(folder) / it for it in ("ranges", "records", "machines"))
+        records.write_text("".join(f"{record}\n" for record in [*known.entries, *known.records]))
+        ranges.write_text("".join(record_text(one.record()) + "\n" for one in known.ranges.values()))
+        listed.write_text("".join(f"{machine.line()}\n" for machine in machines))
+        (Path(folder) / "letters").write_text("")
+        words = [str(records), str(listed), "--ranges", str(ranges), "--letters", f"{folder}/letters", *["--strict"] * is_strict]
+        asked = fleet.read_fleet(Program(), read_words(words, fleet.OPTIONS, fleet.USAGE), Heard())
+    session = Session(Program().path, asked.known)
+    try:
+        return [session.ask(machine).lines for machine in asked.machines]
+    finally:
+        session.end()
 
 
 class Drawn:
@@ -350,6 +379,63 @@ class Verdicts(unittest.TestCase):
             self.assertIn(truths(known, made, found[0])["NOT"], ("TRUE",) if truth == "FALSE" else ("FALSE", "UNKNOWN"))
             if truth == "UNKNOWN":
                 self.assertTrue(Hanging(known, found).on("CVE-1", "a")[0].startswith(f"{name('v', 'p', version)}: "))
+
+    def test_a_part_of_which_a_list_is_silent(self):
+        app, system, other = {"fact": name("v", "app")}, {"fact": name("v", "os").replace(":a:", ":o:")}, {"fact": name("v", "q")}
+        firmware, board = {"fact": name("v", "fw").replace(":a:", ":o:")}, {"fact": name("v", "board").replace(":a:", ":h:")}
+        one = Range("K", name("v", "kernel").replace(":a:", ":o:"), None, "5")
+        both = {"op": "AND", "of": [{"op": "OR", "of": [app]}, {"op": "OR", "of": [system, ranged(one)]}]}
+        asks = [statement("BOTH", both), statement("ALONE", system), statement("RANGE", ranged(one)), statement("BOARD", firmware, board, op="AND")]
+        asks += [statement("BUT", app, {"op": "OR", "negate": True, "of": [system]}, op="AND"), statement("OTHER", other, system, op="AND")]
+        known = self.known(*asks, ranges=[one])
+        item = name("v", "app", "1")
+        here = [name("v", product, "9").replace(":a:", f":{part}:") for part, product in (("o", "os"), ("o", "kernel"), ("o", "fw"), ("h", "board"))]
+        machines = [Machine("silent", [item]), Machine("on", [item, here[0]]), Machine("off", [item, here[1]])]
+        machines += [Machine("fw", [here[2]]), Machine("board", [here[3]]), Machine("whole", here[2:]), Machine("part", [item, "cpe:2.3:o:v:k*:*:*:*:*:*:*:*:*"])]
+        made, found = scanned(known, machines)
+        wanted = {
+            "silent": ["UNKNOWN", "FALSE", "FALSE", "FALSE", "UNKNOWN", "FALSE"], "on": ["TRUE", "TRUE", "FALSE", "FALSE", "FALSE", "FALSE"],
+            "off": ["FALSE", "FALSE", "FALSE", "FALSE", "TRUE", "FALSE"], "fw": ["FALSE", "FALSE", "FALSE", "UNKNOWN", "FALSE", "FALSE"],
+            "board": ["FALSE", "FALSE", "FALSE", "UNKNOWN", "FALSE", "FALSE"], "whole": ["FALSE", "FALSE", "FALSE", "TRUE", "FALSE", "FALSE"],
+            "part": ["UNKNOWN", "UNKNOWN", "UNKNOWN", "UNKNOWN", "UNKNOWN", "FALSE"],
+        }
+        self.assertEqual({it.machine.name: list(truths(known, made, it).values()) for it in found}, wanted)
+        hanging = Hanging(known, found)
+        self.assertEqual([hanging.on("BOTH", "silent"), hanging.on("BUT", "silent")], [["no operating system is listed"]] * 2)
+        self.assertEqual((hanging.on("BOARD", "fw"), hanging.on("BOARD", "board")), (["no hardware is listed"], ["no operating system is listed"]))
+        made, found = scanned(known, machines[3:5], has_hardware=False)
+        self.assertEqual([truths(known, made, it)["BOARD"] for it in found], ["FALSE", "UNKNOWN"])
+
+    def test_no_machine_is_hidden_that_cpe_finds_in_either_mode(self):
+        counts = {}
+        for seed in range(40):
+            drawn = Drawn(seed)
+            known, machines = drawn.known(), drawn.machines(["1.0", "1.1", "2.0", "-"])
+            # (without ranges, so that cpe alone says what is so)
+            records = [re.sub(r',\{"check":\{"system":"NVD","href":"cpeMatch","id":"K[0-9]+"\}\}', "", record) for record in known.records]
+            known = self.known(*records, entries=known.entries)
+            made, found = scanned(known, machines)
+            for one in found:
+                said = truths(known, made, one)
+                plain, follow = (evaluated(known, one.machine, mode) for mode in ("plain", "follow"))
+                for id, truth in said.items():
+                    counts[truth, plain[id], follow[id]] = counts.get((truth, plain[id], follow[id]), 0) + 1
+                    if truth == "FALSE":
+                        self.assertEqual((plain[id], follow[id]), ("FALSE", "FALSE"), f"seed {seed} {one.machine} {id}")
+                    elif "negate\":true" not in records[list(said).index(id)] and "TRUE" in (plain[id], follow[id]):
+                        self.assertEqual(truth, "TRUE", f"seed {seed} {one.machine} {id}")
+        self.assertGreater(sum(count for (truth, *_), count in counts.items() if truth == "FALSE"), 300, counts)
+        self.assertGreater(sum(count for (_, plain, follow), count in counts.items() if plain != follow), 80, counts)
+
+    def test_a_fleet_says_what_a_scan_says(self):
+        for seed in range(20):
+            drawn = Drawn(seed)
+            known, machines = drawn.known(), drawn.machines(["1.0", "1.1", "2.0", "1.0b", "-", "*"] + ["1.*"] * (seed % 2))
+            for is_strict in (False, True):
+                made, found = scanned(known, machines, is_strict=is_strict)
+                for one, lines in zip(found, of_fleet(known, machines, is_strict)):
+                    wanted = [f"{one.machine.name} {id} {truth}" for id, truth in truths(known, made, one).items()]
+                    self.assertEqual(lines, wanted, f"seed {seed} {one.machine}")
 
     def test_what_the_match_feed_lists_is_true_before_anything_else(self):
         one = Range("K", name("mysql", "mysql"), None, "5.5")
