@@ -62,6 +62,9 @@ class Stood:
     release: str = ""
 
 
+_INSIDE, _OUTSIDE = Stood(Standing.INSIDE), Stood(Standing.OUTSIDE)
+
+
 class Sameness(Enum):
     """Whether two versions are one."""
 
@@ -98,11 +101,12 @@ class By(NamedTuple):
 
 class Orders(NamedTuple):
     """The answers that are possible, each with all who give it, and the bound as it was compared. A word that stands against
-    another one is told."""
+    another one is told. `only` is the one answer that is sure, None where there isn't one."""
 
     answers: Mapping[int, tuple[By, ...]]
     bound: str
     words: str = ""
+    only: int | None = None
 
 
 _SURE: Mapping[int, Mapping[int, tuple[By, ...]]] = {answer: {answer: ()} for answer in (LESS, EQUAL, GREATER)}
@@ -115,7 +119,7 @@ def orders(version: str, bound: str, kind: str = "", upward: Upward | None = Non
     Letters that count upward are numbers in the bound."""
     quick = None if upward else _by_fronts(version, bound)
     if quick is not None:
-        return Orders(_SURE[quick], bound)
+        return Orders(_SURE[quick], bound, "", quick)
     nothing = next((f"{text} {why}" for text in (version, bound) if (why := _no_version(text))), "")
     if nothing:
         return Orders(_NOTHING_READ, bound, nothing)
@@ -132,7 +136,8 @@ def orders(version: str, bound: str, kind: str = "", upward: Upward | None = Non
             if answer is not None:
                 found.setdefault(answer, []).append(By(order.name, reading))
         words = words or ("" if is_own else _words_decide(reading.text, bound))
-    return Orders({answer: tuple(by) for answer, by in found.items()}, bound, words)
+    only = next(iter(found)) if len(found) == 1 and not words else None
+    return Orders({answer: tuple(by) for answer, by in found.items()}, bound, words, only)
 
 
 @functools.lru_cache(maxsize=_KEPT)
@@ -191,7 +196,13 @@ def standing(version: str, update: str | None, one: Range, kind: str = "", upwar
             continue
         found = orders(version, bound, kind, upward)
         answers, words = found.answers, found.words
-        if outside == LESS and _is_commit_beside(version, bound):
+        is_commit = outside == LESS and _is_commit_beside(version, bound)
+        if found.only is not None and not is_commit and (update is None or found.only != EQUAL):
+            # (mostly there is one answer)
+            if found.only == outside or found.only == EQUAL and excluded:
+                return _OUTSIDE
+            continue
+        if is_commit:
             # (its zeros don't say that it comes before a release)
             answers, words = _NOTHING_READ, f"{version} is a commit, and no release"
         elif update is not None and EQUAL in answers:
@@ -200,18 +211,20 @@ def standing(version: str, update: str | None, one: Range, kind: str = "", upwar
             answers = _NOTHING_READ
         meets = {answer: answer != outside and not (answer == EQUAL and excluded) for answer in answers}
         if not any(meets.values()):
-            return Stood(Standing.OUTSIDE)
+            return _OUTSIDE
         if not all(meets.values()) and not unsure:
             unsure = words or _differ(version, found, meets)
     if unsure:
         return Stood(Standing.UNSURE, f"{unsure}, letters that count upward being numbers" if upward else unsure)
-    is_of_distribution = any(bound is not None and has_release(bound) for bound in (one.start, one.end))
-    return Stood(Standing.INSIDE, release="" if is_of_distribution else release_of(version, kind))
+    release = release_of(version, kind)
+    if not release or any(bound is not None and has_release(bound) for bound in (one.start, one.end)):
+        return _INSIDE
+    return Stood(Standing.INSIDE, release=release)
 
 
 def _is_commit_beside(version: str, bound: str) -> bool:
     """Whether a version is a commit of a Go module of which no release is known, and the bound is none."""
-    return _COMMIT.fullmatch(version) is not None and not _COMMIT.fullmatch(bound)
+    return version.startswith(("0.0.0-", "v0.0.0-")) and _COMMIT.fullmatch(version) is not None and not _COMMIT.fullmatch(bound)
 
 
 def same(version: str, wanted: str, kind: str = "", upward: Upward | None = None) -> Same:
