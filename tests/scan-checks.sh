@@ -212,6 +212,50 @@ minds_disks() {
     judge 'a table without room for temporary files' $? 0 "$room/wanted"
 }
 
+# Feeds of several pages, in any order, one of them missing, and the same advisories in two files; and what changed where an advisory
+# isn't analysed any more, or isn't in the feeds.
+reads_pages() {
+    pages=recipes/samples/pages
+    year=$pages/nvdcve-2.0-2024.json modified=$pages/nvdcve-2.0-modified.json
+    # scans_pages OUT SAID WORD..: a scan with these words.
+    scans_pages() {
+        out=$1 said=$2
+        shift 2
+        limited python3 recipes/scan.py --machines "$pages/machines.txt" "$@" < /dev/null > "$out" 2> "$said"
+    }
+    scans_pages "$room/before.json" "$room/error" --json --dictionary "$pages"/dictionary-?.json --advisories "$year" "$modified"
+    python3 tests/recipes/truths.py "$pages/truths.txt" < "$room/before.json" > "$room/out"
+    judge 'pages and their truths' $? 0 "$pages/truths.out" "$pages/table.said"
+    for order in "0 3 6" "6 0 3" "3 6 0"; do
+        # shellcheck disable=SC2046,SC2086
+        scans_pages "$room/out" "$room/error" --dictionary $(printf "$pages/dictionary-%s.json " $order) --advisories "$modified" "$year"
+        judge "pages in the order $order" $? 0 "$pages/table.out" "$pages/table.said"
+    done
+    for gone in 0 3 6; do
+        set --
+        for page in 0 3 6; do [ $page = $gone ] || set -- "$@" "$pages/dictionary-$page.json"; done
+        scans_pages "$room/out" "$room/error" --dictionary "$@" --advisories "$year"
+        judge "a feed of which page $gone is missing" $? 2 /dev/null "$pages/missing-$gone.said"
+    done
+    scans_pages "$room/out" "$room/error" --partial --all --dictionary "$pages/dictionary-0.json" "$pages/dictionary-6.json" \
+        --advisories "$year" "$modified"
+    judge 'a feed of which a page may be missing' $? 1 "$pages/partial.out" "$pages/partial.said"
+    scans_pages "$room/scan.json" "$room/error" --json --dictionary "$pages"/dictionary-?.json --advisories "$pages"/CVE-*.json "$year" "$modified"
+    python3 tests/recipes/truths.py "$pages/truths-records.txt" < "$room/scan.json" > "$room/out"
+    judge 'CVE records beside feeds, and their truths' $? 0 "$pages/truths-records.out" "$pages/records.said"
+    if needs 'feeds in archives' tar gzip; then
+        tar -czf "$room/nvdcpe-2.0.tar.gz" -C "$pages" dictionary-6.json dictionary-0.json dictionary-3.json
+        gzip -c "$year" > "$room/nvdcve-2.0-2024.json.gz"
+        tar -cf "$room/cves.tar" -C "$pages" CVE-2024-97005.json CVE-2024-97006.json
+        scans_pages "$room/out" "$room/error" --dictionary "$room/nvdcpe-2.0.tar.gz" --advisories "$room/cves.tar" "$modified" \
+            "$room/nvdcve-2.0-2024.json.gz"
+        judge 'feeds in archives' $? 0 "$pages/records.out" "$pages/records.said"
+    fi
+    scans_pages "$room/after.json" "$room/error" --json --dictionary "$pages"/dictionary-?.json --advisories "$pages/nvdcve-2.0-later.json"
+    limited sh recipes/changes.sh "$room/before.json" "$room/after.json" > "$room/out" 2> "$room/error"
+    judge "what isn't analysed any more, or isn't there, is gone and not FALSE" $? 1 "$pages/changes.out" "$pages/changes.said"
+}
+
 # Machines in a file of lines, names of files that begin with a hyphen, and packed feeds.
 reads_machines() {
     printf 'web-1\t%s  %s\r\n\r\n bare\r\nodd cpe:/a:%%zz\r\n' \
@@ -263,6 +307,7 @@ if needs 'the recipes in Python' python3; then
     goes_step_by_step
     refuses_feeds
     minds_disks
+    reads_pages
     reads_machines
 fi
 end_of_checks 'scan checks'

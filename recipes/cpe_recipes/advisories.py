@@ -1,6 +1,6 @@
 """From NVD's API 2.0 to advisories: the JSON of /rest/json/cves/2.0 (vulnerabilities) to records `statement`.
 
-    sh advisories.sh [--ranges FILE] [--details FILE] [FILE..] > records
+    sh advisories.sh [--ranges FILE] [--details FILE] [--partial] [FILE..] > records
 
 A statement has the id of its CVE, follows deprecations, and is TRUE where one of the configurations holds with a vulnerable
 product there.
@@ -11,6 +11,9 @@ product there.
 - A range of versions is no name: it becomes the product in any version AND a check, whose key is NVD, cpeMatch and the id of
   the match. So the statement is FALSE where the product isn't there and no other fact holds, and UNKNOWN where it is, until a
   record `check` tells whether a version in the range is there. The ranges go into a file of their own, for decide.py.
+- An advisory without configurations isn't analysed yet, and has no statement; how many there are is remarked (unanalysed.py).
+- Of an advisory that comes more than once that counts which was modified last (latest.py). Where two tell the same time, and aren't the
+  same, what the later one in the files has beside the first is UNKNOWN, and said.
 - What can't be read in an advisory (a bad name, a bound that is none, a configuration of another form beside good ones) becomes
   a check that stays UNKNOWN, so it hides nothing that stands beside it, and is said.
 - An advisory of more names than a line has room for becomes several statements, CVE-..#2 and so on, of which one is TRUE where
@@ -18,7 +21,8 @@ product there.
   be asked twice.
 
 --ranges is where the ranges go, and --details where scores and titles go, by id, for affected.sh. What is left out is said, and
-the status is 1. A feed in which there is no vulnerability at all is refused.
+the status is 1. A feed in which there is no vulnerability at all is refused, and so is one of which pages are missing, as they say
+themselves; --partial lets it pass, and what is missing is said.
 """
 from __future__ import annotations
 
@@ -26,12 +30,15 @@ import re
 from collections.abc import Callable, Iterable, Iterator, Mapping, Sequence
 from dataclasses import dataclass, field
 
-from .feeds import FormFault, Json, Page, member, members, pages, record_text, text_at
-from .program import Candidate, Program, refusals
-from .said import Fatal, Output, Said, write_file
+from . import cve5, latest, whole
+from .feeds import FormFault, Json, Page, Placed, member, members, record_text, text_at
+from .program import Candidate, Program, candidate_at, refusals
+from .said import Fatal, Output, Said, quoted, write_file
+from .scores import score_of
+from .unanalysed import States
 from .words import ONE, read_words
 
-USAGE = "advisories.sh [--ranges FILE] [--details FILE] [FILE..]"
+USAGE = "advisories.sh [--ranges FILE] [--details FILE] [--partial] [FILE..]"
 KINDS = ("vulnerabilities",)
 SYSTEM, MATCH, CONFIGURATION = "NVD", "cpeMatch", "configuration"
 MOST_BYTES = 65_536
@@ -96,23 +103,25 @@ class Range:
 
 @dataclass(frozen=True)
 class Match:
-    """A match of a node: a name, perhaps with bounds of its version."""
+    """A match of a node: a name, perhaps with bounds of its version, or with a doubt about it, which stays UNKNOWN."""
 
     id: str | None
     criteria: str | None
     is_vulnerable: bool
     bounds: dict[str, str]
+    doubt: str = ""
 
     @staticmethod
     def of(match: Json) -> Match:
         bounds = {word: text_at(match, name) for name, word in _BOUNDS.items()}
         given = {word: bound for word, bound in bounds.items() if bound is not None}
-        return Match(text_at(match, "matchCriteriaId"), text_at(match, "criteria"), _flag(match, "vulnerable"), given)
+        criteria, doubt = text_at(match, "criteria"), text_at(match, cve5.DOUBT) or ""
+        return Match(text_at(match, "matchCriteriaId"), criteria, _flag(match, "vulnerable"), given, doubt)
 
     def text(self) -> str:
         """The match in words, which is the id of its check where it has no id."""
         bounds = ", ".join(f"{word} {bound}" for word, bound in self.bounds.items())
-        return " ".join(part for part in (self.criteria or "a match without a name", bounds) if part)
+        return " ".join(part for part in (self.criteria or "a match without a name", bounds, self.doubt) if part)
 
     def fault(self) -> str | None:
         """Why its bounds are no range."""
@@ -211,6 +220,7 @@ class Advisories:
     ranges: dict[str, Range] = field(default_factory=dict)
     stand_ins: dict[str, str] = field(default_factory=dict)
     details: dict[str, dict[str, Json]] = field(default_factory=dict)
+    states: States = field(default_factory=States)
     empty_pages: list[str] = field(default_factory=list)
 
     def tell_empty_pages(self, said: Said) -> None:
@@ -218,21 +228,26 @@ class Advisories:
             said.remark(f"{page}: no vulnerabilities in it")
 
 
-def convert(feed: Iterable[Page], program: Program, said: Said, is_decided: bool) -> Advisories:
-    """The advisories of these pages. Where ranges aren't decided after this, each is remarked. Fatal where none is there."""
-    all_of: list[tuple[str, Json]] = []
-    empty_pages: list[str] = []
-    for page in feed:
-        if not page.records:
-            empty_pages.append(page.name)
-        all_of.extend(page.each("vulnerability", lambda it: text_at(member(it, "cve"), "id")))
-    if empty_pages and not all_of:
+def convert(
+    feed: Iterable[Page], program: Program, said: Said, is_decided: bool, states: States | None = None
+) -> Advisories:
+    """The advisories of these pages, and beside these states those that have no verdict. Where ranges aren't decided after this, each
+    is remarked. Fatal where none is there."""
+    found = list(feed)
+    empty_pages = [page.name for page in found if not page.records]
+    if len(empty_pages) == len(found) > 0:
         raise Fatal("; ".join(f"{page}: no vulnerabilities in it" for page in empty_pages))
-    bad_names = _bad_names((cve for _, cve in all_of), program)
-    converter = _Converter(bad_names, said, is_decided)
-    converter.found.empty_pages = empty_pages
-    for id, vulnerability in all_of:
-        converter.take(id, vulnerability)
+    states = states or States()
+    of_ids: dict[str, list[Placed]] = {}
+    for page in states.sort(latest.advisories(found, said)):
+        for placed in page.each("vulnerability", lambda it: text_at(member(it, "cve"), "id")):
+            of_ids.setdefault(placed.id, []).append(placed)
+    states.drop(of_ids)
+    states.tell(said)
+    converter = _Converter(_bad_names((one.record for of_id in of_ids.values() for one in of_id), program), said, is_decided)
+    converter.found.states, converter.found.empty_pages = states, empty_pages
+    for of_id in of_ids.values():
+        converter.take(of_id)
     return converter.found
 
 
@@ -267,31 +282,46 @@ class _Converter:
     def __init__(self, bad_names: Mapping[str, str], said: Said, is_decided: bool) -> None:
         self._bad_names, self._said, self._is_decided = bad_names, said, is_decided
         self._matches: dict[str, Match] = {}
+        self._at: Placed
         self.found = Advisories()
 
-    def take(self, id: str, vulnerability: Json) -> None:
-        try:
-            cve = member(vulnerability, "cve")
-            if text_at(cve, "vulnStatus") == "Rejected":
-                self._said.remark("rejected", id)
-                return
-            tests = self._tests(id, members(cve, "configurations"), text_at(cve, "vulnStatus"))
-        except FormFault as fault:
-            self._leave_out(id, str(fault) or "not of the published form")
-            return
+    def take(self, of_id: Sequence[Placed]) -> None:
+        """Takes an advisory, and those of the same id of which isn't known whether they are later."""
+        first, *others = of_id
+        tests = self._tests(first)
+        for other in others:
+            self._at = other
+            more, key = self._tests(other), f"{other.id} {other.source.place(other.number)}"
+            what = f"it isn't as {first.source.place(first.number)}, and neither tells to be later"
+            if more:
+                tests.append({"op": "AND", "of": [{"op": "OR", "of": more}, _check(CONFIGURATION, key)]})
+                self._stand_in(other.id, what, key)
+            else:
+                self._leave_out(other.id, what)
+        self._at = first
         if tests:
-            self.found.candidates.extend(self._statements(id, tests))
-            # (of an id that comes again the first is kept, by cpe too)
-            self.found.details.setdefault(id, details(id, cve))
+            self.found.candidates.extend(self._statements(first.id, tests))
+            self.found.details[first.id] = details(first.id, first.record["cve"])
 
     def _leave_out(self, id: str, reason: str) -> None:
         # (among the candidates, so that it is said in its place between what cpe refuses)
-        self.found.candidates.append(Candidate(id, reason=reason))
+        self.found.candidates.append(candidate_at(self._at, id, reason=reason))
 
-    def _tests(self, id: str, configurations: list[Json], status: str | None) -> list[Test]:
-        """A test for each configuration with a vulnerable product."""
+    def _tests(self, placed: Placed) -> list[Test]:
+        """A test for each configuration with a vulnerable product; none where it isn't of the published form."""
+        self._at = placed
+        try:
+            cve = member(placed.record, "cve")
+            text_at(cve, "vulnStatus")
+            return self._tests_of(placed.id, members(cve, "configurations"))
+        except FormFault as fault:
+            self._leave_out(placed.id, str(fault) or "not of the published form")
+            return []
+
+    def _tests_of(self, id: str, configurations: list[Json]) -> list[Test]:
         if not configurations:
-            self._leave_out(id, f"no configurations, {status or 'of no status'}")
+            # (of an id that is none, so that it can't be noted as not analysed)
+            self._leave_out(id, "no configurations")
         tests, faults = [], []
         for number, raw in enumerate(configurations, 1):
             try:
@@ -312,7 +342,7 @@ class _Converter:
 
     def _stand_in(self, id: str, what: str, key: str) -> None:
         self.found.stand_ins[key] = what
-        self._leave_out(id, f"{what}: the check {key} stands for it")
+        self._leave_out(id, f"{what}: the check {quoted(key)} stands for it")
 
     def _configuration(self, id: str, configuration: Configuration) -> Test:
         test = _logic(configuration, [self._node(id, node) for node in configuration.nodes])
@@ -328,7 +358,7 @@ class _Converter:
     def _match(self, id: str, match: Match, is_told: bool = False) -> Test:
         """The test of a match: its name, with a check where it has bounds; a check alone where the name is none."""
         bad = "no name" if match.criteria is None else self._bad_names.get(match.criteria)
-        if not bad and not match.bounds:
+        if not bad and not match.bounds and not match.doubt:
             return {"fact": match.criteria}
         key = self._key(match)
         if not is_told:
@@ -345,15 +375,17 @@ class _Converter:
 
     def _tell(self, id: str, match: Match, key: str, bad: str | None) -> None:
         fault = match.fault()
-        if bad:
-            self._stand_in(id, f"{bad}: {match.text()}", key)
-        elif fault:
-            self._stand_in(id, f"{fault}: {match.text()}", key)
+        if match.doubt and not bad:
+            # (it was read, and is UNKNOWN since it says so)
+            self.found.stand_ins[key] = f"{quoted(match.criteria)}: {match.doubt}"
+        elif bad or fault:
+            self._stand_in(id, f"{bad or fault}: {quoted(match.text())}", key)
         else:
             self.found.ranges[key] = match.range(key)
             if not self._is_decided:
                 bounds = match.range(key).words()
-                self._said.remark(f"{id}: versions of {match.criteria} {bounds}: the check {key} stands for them")
+                what = f"versions of {quoted(match.criteria)} {quoted(bounds)}"
+                self._said.remark(f"{what}: the check {quoted(key)} stands for them", id)
 
     def _statements(self, id: str, tests: list[Test]) -> Iterator[Candidate]:
         """A statement, or several where it has more names than a line has room for."""
@@ -365,11 +397,11 @@ class _Converter:
                 test = {"op": "OR", "of": [_check(CONFIGURATION, key)]}
             name = f"{id}#{len(made) + 1}" if made else id
             made.append(record_text(_statement(name, test)))
-        return (Candidate(id, record) for record in made)
+        return (candidate_at(self._at, id, record) for record in made)
 
 
 def _same(one: Match, other: Match) -> bool:
-    return one.criteria == other.criteria and one.bounds == other.bounds
+    return (one.criteria, one.bounds, one.doubt) == (other.criteria, other.bounds, other.doubt)
 
 
 def _statement(id: str, test: Test) -> dict[str, Json]:
@@ -465,9 +497,10 @@ def _score(cve: Json) -> dict[str, Json]:
     for place, version in enumerate(_SCORES):
         for metric in _found(lambda: members(member(cve, "metrics") or {}, version)) or []:
             data = _found(lambda: member(metric, "cvssData"))
-            if isinstance(data, dict) and isinstance(data.get("baseScore"), (int, float)):
+            score = score_of(data.get("baseScore")) if isinstance(data, dict) else None
+            if score is not None:
                 severity = data.get("baseSeverity") or metric.get("baseSeverity")
-                found.append((metric.get("type") != "Primary", place, data["baseScore"], severity))
+                found.append((metric.get("type") != "Primary", place, score, severity))
     if not found:
         return {}
     _, _, score, severity = min(found, key=lambda one: one[:2])
@@ -482,9 +515,10 @@ def _url(id: str, cve: Json) -> str | None:
 
 
 def run(words: Sequence[str]) -> int:
-    read = read_words(words, {"--ranges": ONE, "--details": ONE}, USAGE)
+    read = read_words(words, {"--ranges": ONE, "--details": ONE, **whole.OPTIONS}, USAGE)
     said, output, program = Said(), Output(), Program()
-    found = convert(pages(read.files, said, KINDS), program, said, read.has("--ranges"))
+    feed = whole.pages(read.files, said, KINDS, reading=whole.Reading.of(read))
+    found = convert(feed, program, said, read.has("--ranges"))
     found.tell_empty_pages(said)
     output.lines(program.accepted(found.candidates, said))
     ranges, details_to = read.one("--ranges"), read.one("--details")

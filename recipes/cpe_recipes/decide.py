@@ -25,11 +25,11 @@ from collections.abc import Collection, Iterable, Iterator, Mapping, Sequence
 from dataclasses import dataclass, field, replace
 from pathlib import Path
 
-from . import matches, names
+from . import matches, names, whole
 from .advisories import MATCH, SYSTEM, Range, is_bound
 from .called import Called, Sure
 from .components import Machine
-from .feeds import FeedFault, FormFault, name_of, pages, read_feed, record_text, text_lines, values_of
+from .feeds import FeedFault, FormFault, name_of, read_feed, record_text, text_lines, values_of
 from .machines import read_machines
 from .program import Program
 from .readings import without_v
@@ -554,7 +554,7 @@ def run(words: Sequence[str]) -> int:
     said, output, program = Said(), Output(), Program()
     ranges, records = read_ranges(read.many("--ranges"), said), read_entries(read.many("--records"))
     machines = read_machines(machines_path, said)
-    feed = pages(read.many("--matches"), said, matches.KINDS, strict=True) if read.has("--matches") else []
+    feed = whole.pages(read.many("--matches"), said, matches.KINDS, strict=True) if read.has("--matches") else []
     lists = Lists(program, matches.listed(feed, ranges.keys(), said))
     items = {item: None for machine in machines for item in machine.items}
     leads = leads_of(program, records, items, (one.criteria for one in ranges.values()))

@@ -6,13 +6,13 @@ import json
 from collections.abc import Iterator, Sequence
 from dataclasses import dataclass, field, replace
 
-from . import decide, matches, unlisted
+from . import decide, matches, unlisted, whole
 from .advisories import Range
 from .asked import Negated, asked_of, facts_of
 from .called import Called, Sure
 from .calling import Calling, Wanted, listed_by_name
 from .components import Machine
-from .feeds import FeedFault, name_of, pages, read_feed, record_text
+from .feeds import FeedFault, name_of, read_feed, record_text
 from .machines import read_machines
 from .negations import Negations, has_hardware
 from .program import Program
@@ -186,7 +186,7 @@ class _Names:
         facts = dict.fromkeys([*records.facts, *(one.criteria for one in ranges.values())])
         self.leads = decide.leads_of(program, entries, items, dict.fromkeys([*facts, *unlisted.deprecated_names(entries)]))
         self._successors = unlisted.successors(entries, self.leads)
-        feed = pages(words.many("--matches"), said, matches.KINDS, strict=True) if words.has("--matches") else []
+        feed = whole.pages(words.many("--matches"), said, matches.KINDS, strict=True) if words.has("--matches") else []
         self._lists = decide.Lists(program, matches.listed(feed, ranges.keys(), said))
         named = [self.leads.found[fact].name for fact in facts if fact in self.leads.found]
         own = {lead.name: lead for item in items if (lead := self.leads.found.get(item))}

@@ -6,7 +6,7 @@ from collections.abc import Sequence
 from . import lists
 from .components import Machine, machine_of
 from .feeds import FeedFault, FormFault, name_of, read_feed, values_of
-from .said import Fatal, Said
+from .said import Fatal, Said, shown
 
 NO_NAME = "no CPE name"
 
@@ -92,6 +92,8 @@ def _without_endings(name: str) -> str:
 
 
 def _put(machines: dict[str, Machine], machine: Machine, said: Said) -> None:
+    # (so it is called everywhere, in what a terminal shows and in what another recipe reads)
+    machine.name = shown(machine.name)
     known = machines.setdefault(machine.name, machine)
     if known is not machine:
         known.add(machine)

@@ -29,7 +29,7 @@ from .feeds import Json
 from .fleet import read_text
 from .machines import read_machines
 from .program import Program
-from .said import Fatal, Output, Said
+from .said import Fatal, Output, Said, shown
 from .unlisted import say_items
 from .versions import Letters, read_letters
 from .words import ONE, read_words
@@ -73,7 +73,7 @@ def run(words: Sequence[str]) -> int:
     say_items(machines, leads, said)
     pairs = Pairs(program, facts, leads, ranges, letters)
     output.lines(list(pairs.perhaps(machines)))
-    output.end()
+    output.end(shown)
     return said.status()
 
 

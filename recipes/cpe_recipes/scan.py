@@ -1,7 +1,7 @@
 """The whole way, from feeds and what machines have to the advisories that concern each machine.
 
     python3 scan.py --dictionary FILE.. | --records FILE.. --advisories FILE.. [--matches FILE..]
-        --machines FILE | --lists FILE.. [--suppress FILE] [--letters FILE] [--strict] [--hardware none] [--all] [--json [--why]]
+        --machines FILE | --lists FILE.. [--suppress FILE] [--letters FILE] [--partial] [--strict] [--hardware none] [--all] [--json [--why]]
 
 - --dictionary, --advisories, --matches: pages of NVD's API 2.0, as they come or packed by gzip. --records: what dictionary.sh
   made of such pages before.
@@ -9,7 +9,8 @@
   machine.
 - --suppress: accepted advisories, lines `ID MACHINE REASON`, where * is every machine. They are told below the table.
 - --letters: the products of which letters in versions count upward, in place of letters.txt.
-- --all: the table and the JSON have the verdicts that are FALSE too.
+- --partial: pages of a feed may be missing. What is, is said, and each FALSE that could be another verdict by it is marked.
+- --all: the table and the JSON have the verdicts that are FALSE too, and below the table stands what isn't analysed.
 - --strict: an item that says less than an advisory asks for isn't what that names.
 - --hardware none: there is no hardware to ask for, as of containers; else what a list doesn't say of it is UNKNOWN.
 - --json: the same as one value of JSON, with what was left out (`leftOut`). report.py makes a page of it.
@@ -37,14 +38,14 @@ import json
 from collections.abc import Collection, Iterable, Iterator, Mapping, Sequence
 from dataclasses import dataclass, field, replace
 
-from . import advisories, affected, dictionary, matches, products, suppressed, unlisted, verdicts
+from . import advisories, affected, dictionary, latest, matches, products, suppressed, unlisted, verdicts, whole
 from .called import Called, Sure
 from .calling import Calling, Wanted, listed_by_name
 from .cases import Cases, Index, Items, Known, Product, Results, lines_of, verdicts_of
 from .components import Machine
 from .decide import LETTERS, Decider, Lead, Leads, Lists, decide, leads_of
 from .deciding import Deciding
-from .feeds import FeedFault, Page, name_of, pages, read_feed, text_lines
+from .feeds import FeedFault, Page, json_shown, name_of, read_feed, text_lines
 from .machines import read_lists, read_machines
 from .negations import Negations, has_hardware
 from .outcome import MOST_ALIKE, Found, Hanging, json_of, machines_with_verdicts, tell_items
@@ -52,12 +53,13 @@ from .program import Candidate, Program
 from .progress import Progress
 from .reasons import Reasons
 from .said import Fatal, Noting, Output, Said
+from .unanalysed import States
 from .versions import Letters, read_letters
 from .words import FLAG, MANY, ONE, Words, read_words
 
 USAGE = (
     "scan.py --dictionary FILE.. | --records FILE.. --advisories FILE.. [--matches FILE..] "
-    "--machines FILE | --lists FILE.. [--suppress FILE] [--letters FILE] [--strict] [--hardware none] [--all] [--json [--why]]"
+    "--machines FILE | --lists FILE.. [--suppress FILE] [--letters FILE] [--partial] [--strict] [--hardware none] [--all] [--json [--why]]"
 )
 OPTIONS = {
     "--dictionary": MANY,
@@ -73,6 +75,7 @@ OPTIONS = {
     "--why": FLAG,
     "--strict": FLAG,
     "--hardware": ONE,
+    **whole.OPTIONS,
 }
 
 
@@ -213,41 +216,45 @@ def _next(answers: Iterator[str]) -> str:
     return answer
 
 
-def read_known(read: Words, asked: Sequence[Machine], program: Program, said: Said, progress: Progress) -> Known:
-    """What the feeds tell. Fatal where one can't be read, or there is no entry or no statement."""
+def read_known(
+    read: Words, asked: Sequence[Machine], program: Program, said: Said, progress: Progress, reading: whole.Reading
+) -> tuple[Known, States]:
+    """What the feeds tell, and which advisories have no verdict. Fatal where one can't be read, or there is no entry or no statement."""
     progress.step("reading the dictionary")
     candidates = _records(read.many("--records"))
     if read.has("--dictionary"):
-        candidates += dictionary.candidates_of(read.many("--dictionary"), said, strict=True)
+        candidates += dictionary.candidates_of(read.many("--dictionary"), said, strict=True, reading=reading)
     entries = program.accepted(candidates, said, unsaid="exists")
     if not entries:
         raise Fatal("no entry is in the dictionary")
     progress.step("reading advisories")
-    feed = list(pages(read.many("--advisories"), said, advisories.KINDS, strict=True))
+    states = States()
+    feed = list(whole.pages(read.many("--advisories"), said, advisories.KINDS, strict=True, reading=reading))
     if sum(len(page.records) for page in feed) > products.MOST_STATEMENTS:
-        feed = _of_products(feed, asked, entries, program, said)
-    found = advisories.convert(feed, program, said, is_decided=True)
-    if not found.candidates:
-        raise Fatal(f"no advisory is in {', '.join(map(name_of, read.many('--advisories')))}")
+        feed = states.sort(latest.advisories(feed, said))
+        feed = _of_products(feed, asked, entries, program, said, states)
+    found = advisories.convert(feed, program, said, is_decided=True, states=states)
     found.tell_empty_pages(said)
     records = program.accepted(found.candidates, said)
     if not records:
-        raise Fatal("no advisory could be read")
-    return Known(entries, records, found.ranges, found.details, found.stand_ins)
+        none = "" if not states.unanalysed else f", and {len(states.unanalysed):,} aren't analysed"
+        raise Fatal(f"no advisory with a verdict is in {', '.join(map(name_of, read.many('--advisories')))}{none}")
+    return Known(entries, records, found.ranges, found.details, found.stand_ins), states
 
 
 def _of_products(
-    feed: Sequence[Page], asked: Iterable[Machine], entries: Sequence[str], program: Program, said: Said
+    feed: Sequence[Page], asked: Iterable[Machine], entries: Sequence[str], program: Program, said: Said, states: States
 ) -> list[Page]:
     """Of more advisories than cpe takes those that may concern a product of the machines; the others are FALSE on each."""
     items = dict.fromkeys(item for machine in asked for item in machine.items)
     leads = leads_of(program, entries, items, unlisted.deprecated_names(entries))
     wanted = products.products_of(leads, items, entries)
-    kept = [Page(page.name, page.kind, [json.loads(text) for text in products.cut(program, page, wanted)]) for page in feed]
+    kept = [page.only(products.cut(program, page, wanted)) for page in feed]
     before, behind = (sum(len(page.records) for page in some) for some in (feed, kept))
     if not behind:
         raise Fatal(f"none of {before} advisories may concern a product of these machines")
     said.remark(f"{behind} of {before} advisories may concern a product of these machines; the others are FALSE there")
+    states.put_elsewhere(feed, kept)
     return [page for page in kept if page.records]
 
 
@@ -293,9 +300,11 @@ def _result(read: Words, program: Program, said: Noting, progress: Progress) -> 
     accepted = suppressed.read_suppressed(read.many("--suppress"), said)
     letters = read_letters(read.one("--letters") or LETTERS)
     asked = read_asked(read, said)
-    known = read_known(read, asked, program, said, progress)
+    reading = whole.Reading.of(read)
+    known, states = read_known(read, asked, program, said, progress, reading)
     progress.step("reading the match feed")
-    feed = pages(read.many("--matches"), said, matches.KINDS, strict=True) if read.has("--matches") else []
+    matched = read.many("--matches")
+    feed = whole.pages(matched, said, matches.KINDS, strict=True, reading=reading) if matched else []
     lists = Lists(program, matches.listed(feed, known.ranges.keys(), said))
     scan = Scan(program, known, lists, letters, progress, read.has("--why"), read.has("--strict"), has_hardware(read))
     found = scan.machines(asked)
@@ -304,12 +313,14 @@ def _result(read: Words, program: Program, said: Noting, progress: Progress) -> 
     if read.has("--all"):
         for machine in machines:
             machine.show_all()
-    about = affected.About(known.details, accepted, Hanging(known, found))
+    about = affected.About(known.details, accepted, Hanging(known, found), reading.doubts())
     if read.has("--json"):
-        value = json_of(known, found, machines, about)
-        value["leftOut"] = [{"id": id, "reason": reason} for id, reason in said.noted]
-        lines = [json.dumps(value, ensure_ascii=False, indent=1)]
+        value = reading.mark(json_of(known, found, machines, about))
+        value |= states.json(verdicts.Statements([statement.id for statement in known.statements]).advisories)
+        value["leftOut"] = said.json()
+        lines = [json_shown(json.dumps(value, ensure_ascii=False, indent=1))]
     else:
         lines = list(affected.table_of(verdicts.Verdicts(machines), about))
+        lines += [*reading.lines(), *(states.lines() if read.has("--all") else ())]
     accepted.tell_unused(said)
     return lines

@@ -11,14 +11,13 @@ from dataclasses import dataclass, field
 
 from .feeds import FeedFault, Json, name_of, read_feed, values_of
 from .said import Fatal
+from .scores import score_of
 from .verdicts import TRUTHS
 
 ACCEPTED = "ACCEPTED"
 # The groups of the rows of an advisory, in their order.
 GROUPS = (*(truth for truth in TRUTHS if truth != "FALSE"), ACCEPTED)
 NO_ITEMS = "no items"
-# Of the scores of CVSS.
-HIGHEST = 10
 _ONE_OF = {"leftOut": "leftOut", "machines": "machine", "verdicts": "verdict"}
 _WORDS = {str: "text", int: "number", list: "list", dict: "object", (int, float): "number"}
 
@@ -190,9 +189,7 @@ class _Reader:
         title, severity, published, url = (
             self._given(one, key, str, where) or "" for key in ("title", "severity", "published", "url")
         )
-        score = self._given(one, "score", (int, float), where)
-        if score is not None and not 0 <= score <= HIGHEST:
-            raise self._fault(where, "has a score that is none")
+        score = score_of(one.get("score"))
         return Advisory(id, title, None if score is None else float(score), severity, published, url)
 
     def _texts(self, one: Json, key: str, where: str) -> list[str]:

@@ -20,7 +20,7 @@ from .components import Machine
 from .decide import Lead, Leads, leads_of, read_entries
 from .machines import read_machines
 from .program import Program
-from .said import Fatal, Output, Said
+from .said import Fatal, Output, Said, shown
 from .words import read_words
 
 USAGE = "unlisted.sh RECORDS MACHINES"
@@ -37,7 +37,7 @@ def run(words: Sequence[str]) -> int:
     leads = leads_of(program, records, items, ())
     say_items(machines, leads, said)
     output.lines(list(unlisted(machines, leads, successors_of(program, records, leads.found.values()))))
-    output.end()
+    output.end(shown)
     return said.status()
 
 

@@ -130,7 +130,7 @@ def run(words: list[str]) -> int:
     if len(given.files) != 2:
         raise said.Fatal(f"usage: {USAGE}")
     most = number(given, "--block", 100)
-    heard, program = said.Said(), Program(given.one("--cpe"))
+    heard, program = said.Said(), Program(given.one("--cpe"), is_tried=True)
     asked = fleet.read_fleet(program, given, heard)
     try:
         with said.room() as folder, cluster_of(given, folder) as client:

@@ -95,8 +95,10 @@ class Logic(unittest.TestCase):
         tests, left = outcome(cve({"nodes": [node(match("os", vulnerable=False))]}))
         self.assertEqual((tests, left), ([], ["a configuration without a vulnerable product"]))
 
-    def test_what_has_no_configurations_is_left_out_and_a_rejected_one_remarked(self):
-        self.assertEqual(outcome(cve(vulnStatus="Awaiting Analysis")), ([], ["no configurations, Awaiting Analysis"]))
+    def test_what_has_no_configurations_is_not_analysed_and_a_rejected_one_remarked(self):
+        found, said = converted(cve(vulnStatus="Awaiting Analysis"))
+        self.assertEqual((found.candidates, said.told, said.status()), ([], ["remark not analysed: 1 advisory"], 0))
+        self.assertEqual(found.states.unanalysed, {"CVE-2024-99999": "Awaiting Analysis"})
         found, said = converted(cve(vulnStatus="Rejected"))
         self.assertEqual((found.candidates, said.told), ([], ["remark CVE-2024-99999: rejected"]))
 
@@ -182,7 +184,7 @@ class Faults(unittest.TestCase):
         odd = ["text", {"cve": 7}, {}, cve({"nodes": 7}), cve({"nodes": [node(match("a"), negate=7)]}), cve("text"), cve(id=7)]
         for one in odd:
             with self.subTest(one):
-                tests, left = outcome(one, cve({"nodes": [node(match("a", "1"))]}))
+                tests, left = outcome(one, cve({"nodes": [node(match("a", "1"))]}, id="CVE-2024-99998"))
                 self.assertEqual((len(tests), len(left)), (1, 1))
 
     def test_an_empty_page_is_remarked(self):

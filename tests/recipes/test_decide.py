@@ -292,7 +292,7 @@ class Files(unittest.TestCase):
         odd = [{"matchString": {"matchCriteriaId": "C", "matches": ["text"]}}, "text", {"matchString": {"matchCriteriaId": "D"}}]
         found = matches.listed([Page("it.json", "matchStrings", strings + odd)], {"A", "C", "D"}, said)
         self.assertEqual(found, {"A": [name("p", "A")], "D": []})
-        self.assertEqual(said.told, ["left out C: not of the published form"])
+        self.assertEqual(said.told, ["left out C, match string 3 of it.json: not of the published form"])
         empty = Page("empty.json", "matchStrings", [])
         self.assertEqual(matches.listed([empty, Page("it.json", "matchStrings", strings)], {"A"}, said), {"A": [name("p", "A")]})
         self.assertEqual(said.told[1:], ["remark empty.json: no matchStrings in it"])
