@@ -19,8 +19,7 @@ An item that no entry of the dictionary has leads nowhere, though entries of its
 for under that one too; where the verdict would be another so, it is UNKNOWN. An item under a removed name leads nowhere either;
 where the verdict would be another if it led to itself, it is UNKNOWN.
 
-A component may have several names. One that makes a verdict TRUE is enough, and it is FALSE only if all do; alternatives.py says
-what it is where a test is negated.
+A component may have several names. One that makes a verdict TRUE is enough, and it is FALSE only if all do.
 
 An item that is known in part, since its name has a pattern, may be what a fact names; where a verdict hangs on that it is UNKNOWN,
 and the item is told (partly.py). Of a range it is FALSE where all that the item may be is outside; decide.py says when.
