@@ -153,6 +153,7 @@ class Scan:
             if self._deciding is not None:
                 self._progress.count("asking which items decide", done, len(found))
                 one.deciding = self._deciding.reasons(one.asked, one.decided, one.places_of("TRUE"))
+            one.note_backported(self._known.statements, lambda fact: self._leads.found[fact].name)
             # (what is decided is in the verdicts, and would be much beside them)
             one.decided.clear()
 

@@ -181,7 +181,7 @@ class _Reader:
         if advisory is None:
             advisory = self._advisories[id] = self._advisory(id, one, where)
         if truth != "FALSE":
-            reasons = self._texts(one, "hangsOn", where) + self._texts(one, "decidedBy", where)
+            reasons = [text for key in ("hangsOn", "remarks", "decidedBy") for text in self._texts(one, key, where)]
             accepted = self._given(one, "accepted", str, where)
             if accepted is not None:
                 reasons = [f"{truth}: {accepted}", *reasons]
