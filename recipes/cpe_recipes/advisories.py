@@ -42,6 +42,7 @@ USAGE = "advisories.sh [--ranges FILE] [--details FILE] [--partial] [FILE..]"
 KINDS = ("vulnerabilities",)
 SYSTEM, MATCH, CONFIGURATION = "NVD", "cpeMatch", "configuration"
 MOST_BYTES = 65_536
+_ROOM_TO_ASK = 4_096
 # An AND of many long ORs would be taken apart into more statements than anyone has room for.
 MOST_PARTS = 1_000
 # Of nodes in one another, so that the tests of a statement aren't more than cpe takes.
@@ -409,8 +410,8 @@ def _statement(id: str, test: Test) -> dict[str, Json]:
 
 
 def _room(id: str) -> int:
-    """How many bytes the test of a statement may have, with room for the number of a part."""
-    return MOST_BYTES - len(record_text(_statement(f"{id}#1000000", {})).encode())
+    """How many bytes the test of a statement may have, with room for the number of a part, and for what it is asked with."""
+    return MOST_BYTES - _ROOM_TO_ASK - len(record_text(_statement(f"{id}#1000000", {})).encode())
 
 
 def _check(href: str, key: str) -> Test:

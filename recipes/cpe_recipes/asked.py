@@ -5,21 +5,26 @@ becomes a check, which negations.py decides for each machine: TRUE if it holds w
 
 And where an AND asks for an operating system or for hardware (part `o` or `h`) beside something else, a list that names none of that
 part doesn't say that it isn't there. So a check stands beside such a name, which is FALSE where the list has an item of that part, and
-else is open.
+else is open. Where an AND asks for both and for nothing else, as for firmware on its device, the check is FALSE too where the list has
+neither.
 """
 from __future__ import annotations
 
-from collections.abc import Iterator
+from collections.abc import Iterator, Mapping
 from dataclasses import dataclass
 
 from . import names
 from .advisories import MATCH, SYSTEM
-from .feeds import Json
+from .feeds import Json, record_text
 
 # What the ids of such checks begin with. (No id of a match has a space.)
 _NOT, _PART = "not ", "part "
-# The parts that a list may be silent of, with the ids of their checks.
+# The parts that a list may be silent of, with the ids of their checks: beside something else, and beside the other part alone.
 PARTS = {part: f"{_PART}{part}" for part in "oh"}
+OF_DEVICES = {part: f"{_PART}{part} of a device" for part in "oh"}
+# In place of logic that is longer than a line as it is asked.
+LONG = f"{_PART}of what is longer than a line"
+MOST_BYTES = 65_536
 
 
 @dataclass(frozen=True)
@@ -38,49 +43,61 @@ def asked_of(statement: Json, negated: dict[str, Negated]) -> Json:
     test = _with_parts(statement.get("test"))
     if is_negated(test):
         test = _without_negated(test, False, negated)
-    return {**statement, "mode": "plain", "test": test}
+    asked = {**statement, "mode": "plain", "test": test}
+    if len(record_text(asked).encode(errors="replace")) > MOST_BYTES:
+        asked["test"] = {"op": "OR", "of": [_check(LONG)]}
+    return asked
 
 
 def _with_parts(test: Json) -> Json:
     """The test with checks beside the names of parts of which a list may be silent, wherever an AND asks for more than these."""
     if not _is_logic(test) or test.get("negate") or range_of(test) is not None:
         return test
-    of = [_with_parts(one) for one in test["of"]]
     if test["op"] == "OR":
-        return {**test, "of": of}
-    silent = [_if_silent(one) for one in test["of"]]
-    if silent == test["of"]:
-        return {**test, "of": of}
-    # (something of it has to be there; where that isn't asked for beside these parts, it is one of them)
-    sure = [one for one in test["of"] if not is_negated(one)]
-    if any(one == other for one, other in zip(test["of"], silent) if one in sure):
-        return {**test, "of": silent}
-    return {**test, "of": [*silent, {"op": "OR", "of": sure}]} if sure else {**test, "of": of}
+        return {**test, "of": [_with_parts(one) for one in test["of"]]}
+    parts = {part for one in test["of"] for part in _parts(one)}
+    if not parts & PARTS.keys() or len(parts) == 1:
+        return {**test, "of": [_with_parts(one) for one in test["of"]]}
+    keys = PARTS if parts - PARTS.keys() else OF_DEVICES
+    silent = [_if_silent(one, keys) for one in test["of"]]
+    if keys is PARTS and all(set(_parts(one)) & PARTS.keys() for one in test["of"] if not is_negated(one)):
+        # (something of it has to be there, where that isn't asked for beside these parts)
+        silent.append({"op": "OR", "of": [one for one in test["of"] if not is_negated(one)]})
+    return {**test, "of": silent}
 
 
-def _if_silent(test: Json) -> Json:
+def _parts(test: Json) -> Iterator[str]:
+    """The parts of the names of a test that aren't negated."""
+    if not isinstance(test, dict) or test.get("negate"):
+        return
+    if (part := _part(test)) is not None:
+        yield part
+    elif _is_logic(test):
+        yield from (part for one in test["of"] for part in _parts(one))
+
+
+def _if_silent(test: Json, keys: Mapping[str, str]) -> Json:
     """The test, within an AND, as it is where a list may be silent of a part."""
     if not isinstance(test, dict) or test.get("negate"):
         return test
     part = _part(test)
     if part is not None:
-        return {"op": "OR", "of": [test, _check(PARTS[part])]}
-    if not _is_logic(test) or range_of(test) is not None:
+        return {"op": "OR", "of": [test, _check(keys[part])]} if part in keys else test
+    if not _is_logic(test):
         return test
     if test["op"] == "AND":
-        return {**test, "of": [_if_silent(one) for one in test["of"]]}
-    found = {part: None for one in test["of"] if (part := _part(one)) is not None}
-    of = [one if _part(one) is not None else _if_silent(one) for one in test["of"]]
-    return {**test, "of": [*of, *(_check(PARTS[part]) for part in found)]} if found or of != test["of"] else test
+        return {**test, "of": [_if_silent(one, keys) for one in test["of"]]}
+    found = dict.fromkeys(part for one in test["of"] if (part := _part(one)) in keys)
+    of = [one if _part(one) is not None else _if_silent(one, keys) for one in test["of"]]
+    return {**test, "of": [*of, *(_check(keys[part]) for part in found)]}
 
 
 def _part(test: Json) -> str | None:
-    """The part of a fact, or of a range, where a list may be silent of that."""
+    """The part of a fact, or of a range; None where the test is neither."""
     if not isinstance(test, dict):
         return None
     fact = fact_of(test["of"][0] if range_of(test) is not None else test)
-    part = names.part_of(fact) if fact is not None else ""
-    return part if part in PARTS else None
+    return names.part_of(fact) if fact is not None else None
 
 
 def _is_logic(test: Json) -> bool:

@@ -14,7 +14,7 @@ from dataclasses import dataclass, field
 
 from . import names
 from .advisories import Range
-from .asked import Negated, asked_of, range_of
+from .asked import OF_DEVICES, PARTS, Negated, asked_of, range_of
 from .called import Called, Sure
 from .calling import Wanted
 from .decide import Decided, Leads, check_record, drop_record
@@ -204,10 +204,11 @@ def lines_of(known: Known, cases: Iterable[tuple[Items, Results, int, int]]) -> 
     """
     yield from known.asked
     asks = [record_text({"do": "verdict", "id": statement.id}) for statement in known.statements]
-    # (where nothing is, nothing is there of what is negated)
-    yield from (check_record(key, False) for key in known.negated)
+    # (where nothing is, nothing is there of what is negated, nor of any part)
+    nothing = [*known.negated, *PARTS.values(), *OF_DEVICES.values()]
+    yield from (check_record(key, False) for key in nothing)
     yield from asks
-    yield from (drop_record(key) for key in known.negated)
+    yield from (drop_record(key) for key in nothing)
     here: Items = ()
     for items, results, place, _ in cases:
         if items != here:

@@ -11,7 +11,7 @@ from __future__ import annotations
 from collections.abc import Collection, Iterable, Mapping, Sequence
 
 from . import names
-from .asked import PARTS, Negated
+from .asked import OF_DEVICES, PARTS, Negated
 from .called import Called
 from .decide import Backported, Decided, Decider, Lead, Leads, Lists, Stand, Unsure, items_met
 from .program import Program
@@ -55,11 +55,12 @@ class Negations:
         here = {one.name: one for one in called}
         listed = {names.part_of(name) for name in here}
         silent = [part for part in self._parts if part not in listed]
-        for part, key in PARTS.items():
-            if part in silent:
-                decided.unsure[key] = Unsure(key, "", _SILENT[part])
-            else:
-                decided.truths[key] = False
+        for keys, is_told in ((PARTS, True), (OF_DEVICES, not listed.isdisjoint(PARTS))):
+            for part, key in keys.items():
+                if part in silent and is_told:
+                    decided.unsure[key] = Unsure(key, "", _SILENT[part])
+                else:
+                    decided.truths[key] = False
         for one in self._negated:
             self._put_negated(one, components, here, decided, silent)
 

@@ -5,6 +5,7 @@ from collections.abc import Callable, Iterable, Mapping, Sequence
 from dataclasses import dataclass, field
 
 from . import advisories, affected, names, verdicts
+from .asked import LONG
 from .called import Called
 from .cases import Known, Product, Statement
 from .components import Machine
@@ -97,6 +98,8 @@ class Hanging:
             for key in self._known.statements[place].checks:
                 if key in one.decided.unsure:
                     reasons[one.decided.unsure[key].words()] = None
+                elif key == LONG:
+                    reasons["its logic is longer than a line as it is asked"] = None
                 elif key in self._known.stand_ins:
                     reasons[self._known.stand_ins[key]] = None
         return list(reasons)

@@ -235,6 +235,6 @@ def _legend() -> str:
         f'<footer><h2>How to read it</h2><dl>{lines}</dl>\n'
         "<p>Beside a machine stands what its verdict hangs on, or which items make it TRUE, where the scan tells it; "
         "<code>scan.py --why</code> tells the items.</p>\n"
-        "<p>Perhaps meant: an item knows less than an advisory asks for, which is FALSE there; <code>perhaps.sh</code> and the "
-        "JSON list them. Not in the dictionary: <code>unlisted.sh</code> and the JSON list them.</p></footer>\n"
+        "<p>Perhaps meant: an item says less than an advisory asks for, which is UNKNOWN there, or FALSE with <code>--strict</code>; "
+        "the JSON lists them. Not in the dictionary: <code>unlisted.sh</code> and the JSON list them.</p></footer>\n"
     )

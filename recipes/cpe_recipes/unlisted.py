@@ -7,8 +7,7 @@ RECORDS are those of a dictionary, and MACHINES a line a machine: its name, and 
 
 An item that no entry has leads nowhere, so no advisory that calls its product otherwise finds it. Where entries of its product
 are deprecated, and lead to other products, these are told. Of a component with several names it is enough that an entry has one of
-them. An item under a removed name has no ends, and no advisory in mode follow finds it at all. What is no item is said, and the
-status is 1.
+them. An item under a removed name has no ends, so an advisory finds it as it stands alone. What is no item is said, and the status is 1.
 """
 from __future__ import annotations
 
