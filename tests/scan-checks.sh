@@ -57,6 +57,21 @@ counts_truths() {
     judge "$what" "$status" 0 "$ranges/truths.out" "$ranges/table.said"
 }
 
+# The same where versions are those of packages, of which lists tell the kind, or don't.
+counts_orders() {
+    what='versions of packages against their truths'
+    orders=recipes/samples/orders
+    set -- --dictionary "$orders/dictionary.json" --advisories "$orders/advisories.json" --lists \
+        "$orders/alpine-1.cdx.json" "$orders/bare-1.txt" "$orders/code-1.cdx.json" "$orders/deb-1.cdx.json" "$orders/rpm-1.cdx.json"
+    limited python3 recipes/scan.py --json "$@" > "$room/scan.json" 2> "$room/error" < /dev/null
+    python3 tests/recipes/truths.py "$orders/truths.txt" < "$room/scan.json" > "$room/out"
+    status=$?
+    cat "$room/out"
+    judge "$what" "$status" 0 "$orders/truths.out" "$orders/table.said"
+    limited python3 recipes/scan.py "$@" > "$room/out" 2> "$room/error" < /dev/null
+    judge 'the table of versions of packages' $? 0 "$orders/table.out" "$orders/table.said"
+}
+
 # What lists and dictionaries don't say, by hand, beside what comes out; and that less is UNKNOWN where a word says so.
 counts_doubts() {
     set -- --dictionary "$doubts/dictionary.json" --advisories "$doubts/advisories.json" --lists "$doubts"/*-?.txt "$doubts"/*-db.txt "$doubts/box-1.cdx.json"
@@ -284,6 +299,7 @@ if needs 'the recipes in Python' python3; then
     runs_unit_tests
     compares_orders
     counts_truths
+    counts_orders
     counts_doubts
     reads_lists
     shows_tables

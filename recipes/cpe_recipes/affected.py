@@ -39,9 +39,12 @@ _MOST_HANGING = 3
 
 
 class Hangs(Protocol):
-    """What tells on what an UNKNOWN of a machine hangs, in words."""
+    """What tells on what an UNKNOWN of a machine hangs, and what is remarked of a TRUE, in words."""
 
     def on(self, advisory: str, machine: str | None) -> list[str]:
+        ...
+
+    def remarks(self, advisory: str, machine: str | None) -> list[str]:
         ...
 
 
@@ -126,8 +129,15 @@ def _rows(machine: Machine, about: About) -> Iterator[list[str]]:
             continue
         detail = about.details.get(id, {})
         score, title = score_of(detail.get("score")), detail.get("title")
-        hangs = about.hanging.on(id, machine.name) if truth == "UNKNOWN" else about.doubts if truth == "FALSE" else []
-        yield [name, truth, id, "" if score is None else str(score), cut(str(title or ""), _TITLE_WIDTH), _some(hangs)]
+        yield [name, truth, id, "" if score is None else str(score), cut(str(title or ""), _TITLE_WIDTH), _some(_told(machine, id, truth, about))]
+
+
+def _told(machine: Machine, id: str, truth: str, about: About) -> list[str]:
+    """What stands beside a verdict in words."""
+    if truth == "FALSE":
+        return about.doubts
+    tells = {"UNKNOWN": about.hanging.on, "TRUE": about.hanging.remarks}
+    return tells[truth](id, machine.name) if truth in tells else []
 
 
 def _some(texts: list[str]) -> str:

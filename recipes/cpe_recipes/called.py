@@ -25,7 +25,7 @@ class Sure(Enum):
 class Called:
     """A name of an item: as it is put, the item, the name that is meant, how sure that is, in words why it isn't, the attributes of
     which nothing is said, by their places, and the kind of the component. `is_spelled` is one whose version is only spelled as a fact
-    spells it, and ranges are decided without that."""
+    spells it, and ranges are decided without that; `release` is what a distribution's package has behind this version."""
 
     name: str
     item: str
@@ -35,6 +35,7 @@ class Called:
     lacks: frozenset[int] = frozenset()
     kind: str = ""
     is_spelled: bool = False
+    release: str = ""
 
     def is_sure(self) -> bool:
         return self.sure in (Sure.SURELY, Sure.RENAMED)

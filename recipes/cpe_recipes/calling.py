@@ -23,7 +23,7 @@ from .advisories import Range
 from .called import Called, Sure
 from .decide import Lead, Leads, Lists, leads_of
 from .program import Program
-from .versions import Letters, Sameness, Upward, same
+from .versions import Letters, Same, Sameness, Upward, same
 
 Product = tuple[str, str]
 # The attributes behind the product, of which an item may say less than a fact.
@@ -57,8 +57,8 @@ class Wanted:
             return frozenset(self._of_all.union(*self._by_product.values()))
         return frozenset(self._by_product.get(product, ())) | self._of_all
 
-    def spelled(self, name: str, kind: str, letters: Letters) -> Iterator[tuple[str, str]]:
-        """The name with each version that facts name and that is the same, or perhaps is, each in words why that isn't sure."""
+    def spelled(self, name: str, kind: str, letters: Letters) -> Iterator[tuple[str, Same]]:
+        """The name with each version that facts name and that is the same, or perhaps is, each with how sure that is."""
         parts = names.components(name)
         product = parts[names.VENDOR], parts[names.PRODUCT]
         version, rest = _version(parts[names.VERSION], parts[names.UPDATE], product, letters)
@@ -74,7 +74,7 @@ class Wanted:
                 parts_so = [*parts[: names.VERSION], wanted, parts[names.UPDATE], *parts[names.UPDATE + 1 :]]
                 if rest != parts[names.UPDATE] or rest_of_fact != update:
                     parts_so[names.UPDATE] = update if rest == names.ANY or rest_of_fact != update else rest
-                yield names.joined(parts_so), found.why
+                yield names.joined(parts_so), found
 
     def unsaid(self, name: str, meant: str) -> Iterator[tuple[str, frozenset[int]]]:
         """Names of which isn't said what `meant` says nothing of and facts something, and the attributes of which nothing is said.
@@ -197,10 +197,11 @@ class Calling:
             if name not in found:
                 _put(found, Called(name, lead.name, name, Sure.SURELY, why, kind=lead.kind))
         for one in list(found.values()):
-            for name, why in self._wanted.spelled(one.meant, lead.kind, self._letters):
+            for name, same_as in self._wanted.spelled(one.meant, lead.kind, self._letters):
                 if name not in found:
-                    whys = "; ".join(part for part in (one.why, f"{lead.name}: {why}" if why else "") if part)
-                    _put(found, Called(name, lead.name, name, Sure.SURELY, whys, kind=lead.kind, is_spelled=True))
+                    whys = "; ".join(part for part in (one.why, f"{lead.name}: {same_as.why}" if same_as.why else "") if part)
+                    known = Called(name, lead.name, name, Sure.SURELY, whys, frozenset(), lead.kind, True, same_as.release)
+                    _put(found, known)
         yield from found.values()
         for one in found.values():
             for name, lacks in self._wanted.unsaid(one.name, one.meant):

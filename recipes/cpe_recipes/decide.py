@@ -42,8 +42,18 @@ LETTERS = str(Path(__file__).resolve().parents[1] / "letters.txt")
 
 # The edits by which names lead on. (Where such a word stands in a text, its quotes have a backslash.)
 _LEADING = ('"entry"', '"deprecate"', '"amend"', '"restore"')
+
+
+@dataclass(frozen=True)
+class Backported:
+    """How a distribution's package stands to a range that has the version of its upstream: it is in it, unless the distribution
+    mended it in this release."""
+
+    release: str
+
+
 # How an end stands to a range: whether it is in it, or the reason why that isn't sure.
-Stand = bool | str
+Stand = bool | str | Backported
 
 
 @dataclass(frozen=True)
@@ -143,16 +153,19 @@ class Decided:
     inside: dict[str, str] = field(default_factory=dict)
     backported: dict[str, dict[str, None]] = field(default_factory=dict)
 
-    def put(self, key: str, is_inside: bool, item: str, release: str = "") -> None:
-        """Puts how an item stands to the range of a check, and of a distribution's package that is inside its release."""
-        if is_inside:
-            is_first = key not in self.inside
-            self.inside.setdefault(key, item)
-            if release and (is_first or key in self.backported):
-                self.backported.setdefault(key, {})[f"backported? {item}: release {release}"] = None
-            else:
-                self.backported.pop(key, None)
+    def put(self, key: str, is_inside: bool, item: str) -> None:
+        """Puts how an item stands to the range of a check."""
         self.truths[key] = self.truths.get(key, False) or is_inside
+        if is_inside:
+            self.inside.setdefault(key, item)
+            self.backported.pop(key, None)
+
+    def put_backported(self, key: str, item: str, release: str) -> None:
+        """Puts that a distribution's package of this release is inside by the version of its upstream."""
+        if not self.truths.get(key) or key in self.backported:
+            self.backported.setdefault(key, {})[f"backported? {item}: release {release}"] = None
+        self.truths[key] = True
+        self.inside.setdefault(key, item)
 
     def joined(self, other: Decided) -> Decided:
         """What is decided where both hold: TRUE if one says so, else without an answer if one has none."""
@@ -175,7 +188,6 @@ class Decider:
         self._covering: dict[str, tuple[_End, list[tuple[Range, bool]]]] = {}
         self._others: dict[str, dict[str, Stand]] = {}
         self._stands: dict[tuple[str, str], dict[str, Stand]] = {}
-        self._releases: dict[tuple[str, str, str], str] = {}
         self.criteria: dict[str, str] = {}
         sure: list[str] = []
         in_part: list[str] = []
@@ -218,10 +230,6 @@ class Decider:
                     found[one.key] = self._stand(covered[0], kind, one, is_inside)
         return found
 
-    def release(self, end: str, kind: str, key: str) -> str:
-        """The release of a distribution's package, where that is inside the range of this check; else nothing."""
-        return self._releases.get((end, kind, key), "")
-
     def _put(self, end: str, key: str, stand: Stand) -> None:
         self._others.setdefault(end, {})[key] = stand
 
@@ -248,9 +256,7 @@ class Decider:
             return "cpe orders its version otherwise than this recipe"
         if found.standing is Standing.UNSURE:
             return found.why
-        if found.release:
-            self._releases[end.name, kind, one.key] = found.release
-        return found.standing is Standing.INSIDE
+        return Backported(found.release) if found.release else found.standing is Standing.INSIDE
 
     def _ask_compare(self, near: _Near, odd: Sequence[tuple[Range, str]]) -> None:
         """Puts the reasons of ranges that can't be asked for, where their facts cover an end."""
@@ -275,7 +281,8 @@ class Decider:
         version = _End.of(end, self._letters).version
         if version is not None:
             upward = Upward(self._letters, product) if self._letters.has(product) else None
-            return standing(version, parts[names.UPDATE], one, upward=upward).standing is Standing.OUTSIDE
+            update = parts[names.UPDATE] if parts[names.UPDATE] not in (names.ANY, names.NA) else None
+            return standing(version, update, one, upward=upward).standing is Standing.OUTSIDE
         text = names.beginning(parts[names.VERSION])
         if text is None:
             return False
@@ -454,7 +461,7 @@ def decide(called: Iterable[Called], decider: Decider, lists: Lists) -> Decided:
                 decided.unsure.setdefault(key, Unsure(key, "", one.why))
         stands = decider.stands(one.name, one.kind)
         if one.sure is Sure.SURELY:
-            _put_sure(decided, one, stands, decider)
+            _put_sure(decided, one, stands)
         else:
             _put_doubted(decided, one, stands, decider.criteria)
     for key in [key for key in decided.unsure if decided.truths.get(key)]:
@@ -464,16 +471,18 @@ def decide(called: Iterable[Called], decider: Decider, lists: Lists) -> Decided:
     return decided
 
 
-def _put_sure(decided: Decided, one: Called, stands: Mapping[str, Stand], decider: Decider) -> None:
+def _put_sure(decided: Decided, one: Called, stands: Mapping[str, Stand]) -> None:
     """Puts how an item that surely is called so stands to ranges."""
     truths = decided.truths
     for key, stand in stands.items():
         if stand is True:
-            decided.put(key, True, one.item, decider.release(one.name, one.kind, key))
+            decided.put(key, True, one.item)
         elif stand is False:
             truths.setdefault(key, False)
-        else:
+        elif isinstance(stand, str):
             decided.unsure.setdefault(key, Unsure(key, one.name, stand))
+        else:
+            decided.put_backported(key, one.item, stand.release)
 
 
 def _put_doubted(decided: Decided, one: Called, stands: Mapping[str, Stand], criteria: Mapping[str, str]) -> None:
@@ -566,7 +575,8 @@ def _leads_of_machine(machine: Machine, leads: Leads, said: Said) -> list[Lead]:
     for item in machine.items:
         if item in leads.refused:
             said.left_out(machine.name, f"{leads.refused[item]}: {item}")
-    return [leads.found[item] for item in machine.items if item in leads.found]
+    named = ((name, component.kind) for component in machine.all() for name in component.names)
+    return [replace(leads.found[name], kind=kind) for name, kind in named if name in leads.found]
 
 
 def _write(machine: Machine, decided: Decided, ranges: Mapping[str, Range], output: Output, said: Said) -> None:

@@ -101,15 +101,16 @@ def text_lines(text: str) -> list[str]:
     return lines if lines[-1] else lines[:-1]
 
 
-def values_of(data: bytes) -> Iterator[Json]:
-    """The values of JSON that stand one after the other; those before a fault come out."""
+def values_of(data: bytes, is_strict: bool = False) -> Iterator[Json]:
+    """The values of JSON that stand one after the other; those before a fault come out. In strict ones no member of an object comes
+    twice: else the last one stands, and nobody sees the others."""
     if not data.strip():
         raise FeedFault("no JSON: it is empty")
     try:
         text = data.decode("utf-8-sig")
     except UnicodeDecodeError as fault:
         raise FeedFault(f"no JSON: it is no UTF-8 at byte {fault.start + 1}") from fault
-    decoder = json.JSONDecoder(parse_constant=_no_constant)
+    decoder = json.JSONDecoder(parse_constant=_no_constant, object_pairs_hook=_once if is_strict else None)
     place = _behind_space(text, 0)
     while place < len(text):
         try:
@@ -125,6 +126,15 @@ def values_of(data: bytes) -> Iterator[Json]:
 def _behind_space(text: str, place: int) -> int:
     found = _SPACE.match(text, place)
     return place if found is None else found.end()
+
+
+def _once(members: list[tuple[str, Json]]) -> dict[str, Json]:
+    value = dict(members)
+    if len(value) != len(members):
+        keys = [key for key, _ in members]
+        twice = next(key for key in keys if keys.count(key) > 1)
+        raise ValueError(f"an object has the member {twice[:100]} twice")
+    return value
 
 
 def _no_constant(word: str) -> None:

@@ -42,7 +42,7 @@ def _machine(line: bytes, where: str) -> Machine | None:
     """The machine of a line; None where it is empty."""
     if line.lstrip().startswith(b"{"):
         try:
-            values = list(values_of(line))
+            values = list(values_of(line, is_strict=True))
             if len(values) != 1:
                 raise FormFault("something stands behind it")
             return machine_of(values[0])

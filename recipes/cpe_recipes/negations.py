@@ -13,7 +13,7 @@ from collections.abc import Collection, Iterable, Mapping, Sequence
 from . import names
 from .asked import OF_DEVICES, PARTS, Negated
 from .called import Called
-from .decide import Decided, Decider, Lead, Leads, Lists, Stand, Unsure, items_met
+from .decide import Backported, Decided, Decider, Lead, Leads, Lists, Stand, Unsure, items_met
 from .program import Program
 from .said import Fatal
 from .words import Words
@@ -98,7 +98,9 @@ class Negations:
     def _in_range(self, key: str, name: str, meant: str, kind: str) -> Stand:
         if key in self._lists.keys(meant):
             return True
-        return self._decider.stands(name, kind).get(key, "nothing is told of its range")
+        stand = self._decider.stands(name, kind).get(key, "nothing is told of its range")
+        # (what it was mended of doesn't make its version another)
+        return True if isinstance(stand, Backported) else stand
 
     def _words(self, one: Negated, called: Called) -> str:
         """Why it isn't sure that this name is there."""

@@ -1,13 +1,13 @@
 """What came of the machines of a scan, as people and programs read it: the table, the JSON, and what is said beside them."""
 from __future__ import annotations
 
-from collections.abc import Iterable, Mapping, Sequence
+from collections.abc import Callable, Iterable, Mapping, Sequence
 from dataclasses import dataclass, field
 
 from . import advisories, affected, names, verdicts
 from .asked import LONG
 from .called import Called
-from .cases import Known, Product
+from .cases import Known, Product, Statement
 from .components import Machine
 from .decide import Decided, Lead
 from .feeds import Json
@@ -32,8 +32,8 @@ class Found:
     """What came of a machine: where all names of its list lead, those of each component that has a name which cpe takes, and those
     of which no name is in the dictionary (`unlisted`); how its items are called, and as which they are asked for; what is decided of
     its ranges; the verdicts that were asked for by the places of statements; those that are others where items say less than is asked
-    for (`less`), and which these are (`perhaps`); which items may be meant where it is UNKNOWN (`partly`); and where it was asked for
-    which items make others TRUE."""
+    for (`less`), and which these are (`perhaps`); which items may be meant where it is UNKNOWN (`partly`); the packages of
+    distributions that make others TRUE, and are perhaps mended (`backported`); and where it was asked for which items make them TRUE."""
 
     machine: Machine
     leads: list[Lead]
@@ -46,7 +46,23 @@ class Found:
     less: set[int] = field(default_factory=set)
     perhaps: dict[Perhaps, None] = field(default_factory=dict)
     partly: dict[int, list[str]] = field(default_factory=dict)
+    backported: dict[int, list[str]] = field(default_factory=dict)
     deciding: dict[int, list[str]] | None = None
+
+    def note_backported(self, statements: Sequence[Statement], named: Callable[[str], str]) -> None:
+        """Notes of statements that are TRUE by packages of distributions which these are; `named` is how cpe writes a fact."""
+        released = {_versioned(it.name): f"backported? {it.item}: release {it.release}" for it in self.called if it.release and it.is_sure()}
+        if not released and not self.decided.backported:
+            return
+        for place in self.places_of("TRUE"):
+            statement = statements[place]
+            inside = [key for key in statement.checks if self.decided.truths.get(key)]
+            remarks = [remark for key in inside for remark in self.decided.backported.get(key, ())]
+            # (a range that has another item is reason enough)
+            if all(key in self.decided.backported for key in inside):
+                remarks += [released[key] for fact in statement.facts if (key := _versioned(named(fact))) in released]
+                if remarks:
+                    self.backported[place] = list(dict.fromkeys(remarks))
 
     def has_items(self) -> bool:
         return bool(self.leads)
@@ -58,6 +74,11 @@ class Found:
     def removed(self) -> list[str]:
         """Its items under removed names, which lead nowhere."""
         return [lead.name for lead in self.leads if lead.is_removed()]
+
+
+def _versioned(name: str) -> tuple[str, ...]:
+    """The vendor, the product and the version of a name."""
+    return tuple(names.components(name)[names.VENDOR : names.UPDATE])
 
 
 class Hanging:
@@ -82,6 +103,12 @@ class Hanging:
                 elif key in self._known.stand_ins:
                     reasons[self._known.stand_ins[key]] = None
         return list(reasons)
+
+    def remarks(self, advisory: str, machine: str | None) -> list[str]:
+        """The packages of distributions that alone make it TRUE, each once."""
+        backported = self._found[machine or ""].backported
+        found = [backported.get(place) for place in self._parts.get(advisory, ()) if self._found[machine or ""].truths.get(place) == "TRUE"]
+        return list(dict.fromkeys(remark for remarks in found for remark in remarks or ())) if all(found) else []
 
 
 def _parts(known: Known) -> dict[str, list[int]]:
@@ -184,6 +211,9 @@ def _verdict_json(id: str, truth: str, machine: verdicts.Machine, about: affecte
     row: dict[str, Json] = {"id": id, "verdict": truth, **known}
     if truth == "UNKNOWN":
         row["hangsOn"] = about.hanging.on(id, machine.name)
+    remarks = about.hanging.remarks(id, machine.name) if truth == "TRUE" else []
+    if remarks:
+        row["remarks"] = remarks
     if id in machine.perhaps:
         row["perhaps"] = True
     reason = about.accepted_for(id, truth, machine.name)

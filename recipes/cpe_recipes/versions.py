@@ -34,6 +34,12 @@ _NUMBERS = re.compile(r"[0-9]+(?:\.[0-9]+)*")
 # A distribution writes such a word behind a tilde, or an underscore, so that it comes before the release.
 _BEFORE_RELEASE = re.compile(r"(?<![~_a-z])(?:alpha|beta|rc|cr|pre|preview|dev|snapshot|milestone|test)(?![a-z])")
 
+_DIGIT = re.compile(r"[0-9]")
+# A commit by its hash; and one of a Go module of which no release is known, which has a date.
+_HASH = re.compile(r"(?=.*[0-9])(?=.*[a-f].*[a-f])[0-9a-f]{7,40}")
+_BEGINS_HASH = re.compile(r"[0-9]+[a-f]")
+_COMMIT = re.compile(r"v?0\.0\.0-[0-9]{14}-[0-9a-f]{12}(?:\+.*)?")
+
 # How many answers are kept, since the same versions and bounds come again and again.
 _KEPT = 1 << 16
 
@@ -54,6 +60,9 @@ class Stood:
     standing: Standing
     why: str = ""
     release: str = ""
+
+
+_INSIDE, _OUTSIDE = Stood(Standing.INSIDE), Stood(Standing.OUTSIDE)
 
 
 class Sameness(Enum):
@@ -92,11 +101,12 @@ class By(NamedTuple):
 
 class Orders(NamedTuple):
     """The answers that are possible, each with all who give it, and the bound as it was compared. A word that stands against
-    another one is told."""
+    another one is told. `only` is the one answer that is sure, None where there isn't one."""
 
     answers: Mapping[int, tuple[By, ...]]
     bound: str
     words: str = ""
+    only: int | None = None
 
 
 _SURE: Mapping[int, Mapping[int, tuple[By, ...]]] = {answer: {answer: ()} for answer in (LESS, EQUAL, GREATER)}
@@ -109,16 +119,16 @@ def orders(version: str, bound: str, kind: str = "", upward: Upward | None = Non
     Letters that count upward are numbers in the bound."""
     quick = None if upward else _by_fronts(version, bound)
     if quick is not None:
-        return Orders(_SURE[quick], bound)
+        return Orders(_SURE[quick], bound, "", quick)
+    nothing = next((f"{text} {why}" for text in (version, bound) if (why := _no_version(text))), "")
+    if nothing:
+        return Orders(_NOTHING_READ, bound, nothing)
     bound, meant = readings(version, bound, kind)
     if upward:
         meant = tuple(Reading(upward.rewritten(one.text), one.release) for one in meant)
     found: dict[int, list[By]] = {}
     words = ""
     for reading in meant:
-        if not _PIECE.search(reading.text) or not _PIECE.search(bound):
-            none = bound if _PIECE.search(reading.text) else reading.text
-            return Orders(_NOTHING_READ, bound, f"{none} has neither digits nor letters")
         quick = _by_fronts(reading.text, bound)
         possible, is_own = _possible(reading.text, bound, kind) if quick is None else ((plain.ORDER,), True)
         for order in possible:
@@ -126,13 +136,15 @@ def orders(version: str, bound: str, kind: str = "", upward: Upward | None = Non
             if answer is not None:
                 found.setdefault(answer, []).append(By(order.name, reading))
         words = words or ("" if is_own else _words_decide(reading.text, bound))
-    return Orders({answer: tuple(by) for answer, by in found.items()}, bound, words)
+    only = next(iter(found)) if len(found) == 1 and not words else None
+    return Orders({answer: tuple(by) for answer, by in found.items()}, bound, words, only)
 
 
 @functools.lru_cache(maxsize=_KEPT)
 def _front(version: str) -> tuple[tuple[int, ...], bool]:
     """The numbers with dots at the beginning, and whether that is all."""
-    match = _FRONT.match(version) if ":" not in version and "!" not in version and "+really" not in version else None
+    is_other = ":" in version or "!" in version or "+really" in version or _HASH.fullmatch(version)
+    match = _FRONT.match(version) if not is_other else None
     return (tuple(map(int, match[0].split("."))), match.end() == len(version)) if match and len(version) < 256 else ((), False)
 
 
@@ -148,6 +160,14 @@ def _by_fronts(version: str, bound: str) -> int | None:
     if is_all and is_all_right and any(left[len(right) :] or right[len(left) :]):
         return GREATER if len(left) > len(right) else LESS
     return None
+
+
+@functools.lru_cache(maxsize=_KEPT)
+def _no_version(text: str) -> str:
+    """In words why a text says nothing of a version."""
+    if not _DIGIT.search(text):
+        return "has no digits"
+    return "is a commit, and no release" if _HASH.fullmatch(text) else ""
 
 
 def _possible(version: str, bound: str, kind: str) -> tuple[Iterable[Order[Any]], bool]:
@@ -176,24 +196,42 @@ def standing(version: str, update: str | None, one: Range, kind: str = "", upwar
             continue
         found = orders(version, bound, kind, upward)
         answers, words = found.answers, found.words
-        if update is not None and EQUAL in answers:
+        is_commit = outside == LESS and _is_commit_beside(version, bound)
+        if found.only is not None and not is_commit and (update is None or found.only != EQUAL):
+            # (mostly there is one answer)
+            if found.only == outside or found.only == EQUAL and excluded:
+                return _OUTSIDE
+            continue
+        if is_commit:
+            # (its zeros don't say that it comes before a release)
+            answers, words = _NOTHING_READ, f"{version} is a commit, and no release"
+        elif update is not None and EQUAL in answers:
             answers, words = _NOTHING_READ, words or f"{version} is the bound, and has the update {update}"
         elif words:
             answers = _NOTHING_READ
         meets = {answer: answer != outside and not (answer == EQUAL and excluded) for answer in answers}
         if not any(meets.values()):
-            return Stood(Standing.OUTSIDE)
+            return _OUTSIDE
         if not all(meets.values()) and not unsure:
             unsure = words or _differ(version, found, meets)
     if unsure:
         return Stood(Standing.UNSURE, f"{unsure}, letters that count upward being numbers" if upward else unsure)
-    is_of_distribution = any(bound is not None and has_release(bound) for bound in (one.start, one.end))
-    return Stood(Standing.INSIDE, release="" if is_of_distribution else release_of(version, kind))
+    release = release_of(version, kind)
+    if not release or any(bound is not None and has_release(bound) for bound in (one.start, one.end)):
+        return _INSIDE
+    return Stood(Standing.INSIDE, release=release)
+
+
+def _is_commit_beside(version: str, bound: str) -> bool:
+    """Whether a version is a commit of a Go module of which no release is known, and the bound is none."""
+    return version.startswith(("0.0.0-", "v0.0.0-")) and _COMMIT.fullmatch(version) is not None and not _COMMIT.fullmatch(bound)
 
 
 def same(version: str, wanted: str, kind: str = "", upward: Upward | None = None) -> Same:
     """Whether a version is the one that is wanted, by the orders and readings by which it would be compared with a bound."""
     found = orders(version, upward.rewritten(wanted) if upward else wanted, kind, upward)
+    if _is_commit_beside(version, wanted):
+        return Same(Sameness.UNSURE, f"{version} is a commit, and no release")
     if EQUAL not in found.answers:
         return Same(Sameness.UNEQUAL)
     if len(found.answers) > 1:
@@ -257,7 +295,10 @@ def is_outside_from(beginning: str, one: Range) -> bool:
 
 def _order_from(beginning: str, bound: str) -> int | None:
     """The order of each version with this beginning to a bound; None where it isn't the same of all."""
-    (left, _), (right, is_all) = map(_front, without_epoch(beginning, bound.lower()))
+    begins, ends = without_epoch(beginning, bound.lower())
+    if _BEGINS_HASH.match(begins) or _no_version(ends):
+        return None
+    (left, _), (right, is_all) = _front(begins), _front(ends)
     for here, there in zip(left, right):
         if here != there:
             return LESS if here < there else GREATER

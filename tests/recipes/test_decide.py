@@ -12,7 +12,7 @@ sys.path.insert(0, str(Path(__file__).resolve().parent))
 from stand_in import Heard  # noqa: E402 (it knows where the recipes are)
 from cpe_recipes import matches  # noqa: E402
 from cpe_recipes.advisories import Range  # noqa: E402
-from cpe_recipes.decide import Decider, Lists, check_record, decide, drop_record, leads_of, led, read_entries, read_ranges  # noqa: E402
+from cpe_recipes.decide import Backported, Decider, Lists, check_record, decide, drop_record, leads_of, led, read_entries, read_ranges  # noqa: E402
 from cpe_recipes.feeds import Page, record_text  # noqa: E402
 from cpe_recipes.names import spelled  # noqa: E402
 from cpe_recipes.program import Program  # noqa: E402
@@ -206,6 +206,15 @@ class Decisions(unittest.TestCase):
         listed = decide(led(leads.found[items[0]]), decider, Lists(program, {"LOW": [items[0]]}))
         self.assertEqual(listed.backported, {"KEY": {f"backported? {items[0]}: release 1": None}})
 
+    def test_components_of_several_kinds_are_asked_for_by_each(self):
+        program, item, one = Program(), name("p", "1.0.0-1"), Range("KEY", name("p"), None, "1.0.0", end_excluded=True)
+        leads = leads_of(program, [], [item], [one.criteria])
+        decider = Decider(program, [one], leads, [item], LETTERS)
+        for kinds, wanted in ((["deb", "npm"], {"KEY": True}), (["npm", "deb"], {"KEY": True}), (["deb", "rpm"], {"KEY": False}), (["deb", ""], {})):
+            called = [one for kind in kinds for one in led(replace(leads.found[item], kind=kind))]
+            found = decide(called, decider, Lists(program, {}))
+            self.assertEqual(found.truths, wanted, kinds)
+
     def test_an_epoch_and_a_v_never_decide(self):
         for version, kind in ((r"32\:9.16.23", ""), (r"32\:9.16.23", "rpm"), ("v9.16.23", ""), ("v9.16.23", "golang"), (r"1\!9.16.23", "pypi")):
             one = Range("KEY", name("p"), "9.16.0", "v9.16.48", end_excluded=True)
@@ -233,7 +242,8 @@ class Decisions(unittest.TestCase):
                 for version, item in items.items():
                     found = standing(version, None, one)
                     wanted = found.why if found.standing is Standing.UNSURE else found.standing is Standing.INSIDE
-                    self.assertEqual(decider.stands(item)["KEY"], wanted, (version, word, bound))
+                    stand = decider.stands(item)["KEY"]
+                    self.assertEqual(True if isinstance(stand, Backported) else stand, wanted, (version, word, bound))
                     sure += found.standing is not Standing.UNSURE
         self.assertGreater(sure, 500)
 

@@ -96,7 +96,7 @@ class Machines(unittest.TestCase):
             if text.startswith("{"):
                 with self.assertRaises(Fatal):
                     read_machines(self.file("bad.txt", f"b\n{text}\n".encode()), self.said)
-        for text in ('{"machine":"a"', '{"machine":"a"} {"machine":"b"}', "{a cpe:/a:v:p"):
+        for text in ('{"machine":"a"', '{"machine":"a","machine":"b"}', '{"machine":"a"} {"machine":"b"}', "{a cpe:/a:v:p"):
             with self.subTest(text), self.assertRaises(Fatal) as fatal:
                 read_machines(self.file("bad.txt", f"b\n{text}\n".encode()), self.said)
             self.assertTrue(str(fatal.exception).startswith("bad.txt line 2: no machine: "), fatal.exception)

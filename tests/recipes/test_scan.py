@@ -13,7 +13,7 @@ from unittest import mock
 sys.path.insert(0, str(Path(__file__).resolve().parent))
 
 from stand_in import Heard  # noqa: E402 (it knows where the recipes are)
-from cpe_recipes import affected, fleet, scan  # noqa: E402
+from cpe_recipes import affected, fleet, scan, verdicts  # noqa: E402
 from cpe_recipes.advisories import Range  # noqa: E402
 from cpe_recipes.cases import Known  # noqa: E402
 from cpe_recipes.components import Component, Machine  # noqa: E402
@@ -168,6 +168,30 @@ class Verdicts(unittest.TestCase):
         self.assertEqual(Hanging(known, found).on("CVE-1", "odd"), [f"{name('v', 'p', '1.0b')}: dpkg and PEP 440 differ between 1.0b and 1.0"])
         made, found = scanned(known, machines, {"KEY": [name("v", "p", "1.0b")]})
         self.assertEqual([truths(known, made, it)["CVE-1"] for it in found], ["TRUE", "FALSE", "TRUE"])
+
+    def test_what_a_distribution_may_have_mended_is_remarked(self):
+        one = Range("KEY", name("v", "p"), "1.0", "2.0", end_excluded=True)
+        exact = {"fact": name("v", "p", "1.5")}
+        either = statement("EITHER", {"op": "OR", "of": [ranged(one), exact]})
+        known = self.known(statement("RANGE", ranged(one)), statement("EXACT", exact), either, statement("NOT", ranged(one), negate=True), ranges=[one])
+        deb = Component(names=(name("v", "p", "1.5-1"),), kind="deb")
+        both = [deb, name("v", "p", "1.6")]
+        machines = [Machine("deb", [deb]), Machine("both", both), Machine("bare", [name("v", "p", "1.5-1")]), Machine("npm", [name("v", "p", "1.6")])]
+        made, found = scanned(known, machines)
+        said = [[truths(known, made, it)[id] for id in ("RANGE", "EXACT", "EITHER", "NOT")] for it in found]
+        self.assertEqual(said[:2], [["TRUE", "TRUE", "TRUE", "FALSE"]] * 2)
+        self.assertEqual(said[2:], [["TRUE", "UNKNOWN", "TRUE", "FALSE"], ["TRUE", "FALSE", "TRUE", "FALSE"]])
+        remark = [f"backported? {deb.names[0]}: release 1"]
+        hanging = Hanging(known, found)
+        self.assertEqual([hanging.remarks(id, "deb") for id in ("RANGE", "EXACT", "EITHER", "NOT")], [remark, remark, remark, []])
+        self.assertEqual([hanging.remarks(id, "both") for id in ("RANGE", "EXACT", "EITHER", "NOT")], [[], remark, [], []])
+        self.assertEqual([hanging.remarks(id, "bare") for id in ("RANGE", "EXACT", "EITHER", "NOT")], [remark, [], remark, []])
+        self.assertEqual(hanging.on("EXACT", "bare"), [f"{deb.names[0]}: 1.5-1 may be 1.5 in the release 1 of a distribution"])
+        rows = machines_with_verdicts(known, made.bare, found)
+        value = json_of(known, found, rows, affected.About({}, Suppressed([]), hanging))
+        self.assertEqual([one.get("remarks") for one in value["machines"][0]["verdicts"]], [remark] * 3)
+        table = list(affected.table_of(verdicts.Verdicts(rows[:1]), affected.About({}, Suppressed([]), hanging)))
+        self.assertEqual([line.endswith(remark[0]) for line in table[1:4]], [True] * 3)
 
     def test_a_program_that_answers_less_is_fatal(self):
         known = self.known(statement("CVE-1", {"fact": name("v", "p")}))

@@ -214,6 +214,12 @@ class Bad(ListCase):
         self.assertEqual(self.parts(trivy(packages(), {"Target": "u", "Class": "lang-pkgs"})), [("u", "it has no Packages")])
         self.assertEqual(self.parts(trivy(packages(), Metadata={"OS": "debian"})), [("list", "its Metadata.OS is no object")])
 
+    def test_members_that_come_twice(self):
+        for text in ('{"bomFormat":"CycloneDX","components":[{"cpe":"%s"}],"components":[]}' % A, '{"spdxVersion":"SPDX-2.3","packages":[{"SPDXID":"a","SPDXID":"b"}]}'):
+            with self.assertRaises(FeedFault) as caught:
+                self.read(text.encode())
+            self.assertIn(" twice", str(caught.exception))
+
     def test_samples_that_are_cut_off_or_of_another_tool(self):
         for path in sorted(LISTS.glob("*-?.*json")):
             data = path.read_bytes()

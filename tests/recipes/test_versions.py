@@ -32,7 +32,7 @@ class Beginnings(unittest.TestCase):
         one = between("1.5", "2.3")
         for text in ("1.4.", "0.", "2.4.", "2.3.1.", "3.", "v3.", "2:3.", "3-"):
             self.assertTrue(is_outside_from(text, one), text)
-        for text in ("", "1.", "1.5.", "2.", "2.3.", "2.3.0.", "2.3-1.", "2.3+1.", "2.3rc", "x.", "1.6.", "3:1.6.", "3:", "03.", "2.3-4."):
+        for text in ("", "1.", "1.5.", "2.", "2.3.", "2.3.0.", "2.3-1.", "2.3+1.", "2.3rc", "x.", "1.6.", "3:1.6.", "3:", "03.", "2.3-4.", "8f"):
             self.assertFalse(is_outside_from(text, one), text)
         self.assertFalse(is_outside_from("3.", between("none", "none")))
         self.assertFalse(is_outside_from("3.", between(None, "a.b")))
@@ -117,7 +117,17 @@ class Possible(unittest.TestCase):
     def test_what_has_no_pieces_is_no_version(self):
         for one, other in (("-", "1.0"), ("1.0", "*"), ("_", "_"), ("v", "~")):
             self.assertEqual(answers(one, other), {-1, 0, 1})
-            self.assertTrue(orders(one, other).words.endswith("has neither digits nor letters"))
+            self.assertTrue(orders(one, other).words.endswith("has no digits"))
+
+    def test_commits_are_no_versions(self):
+        for version in ("8f3c2e1", "1b2c3d4e5f", "0123456789abcdef0123456789abcdef01234567", "(devel)", "latest", "main"):
+            self.assertEqual(answers(version, "1.0"), {-1, 0, 1}, version)
+        self.assertEqual(answers("20240101a", "20230101"), {1})
+        commit, later = "v0.0.0-20191109021931-daa7c04131f5", "0.0.0-20220314234659-1baeb1ce4c0b"
+        for kind in ("golang", ""):
+            stands = [standing(commit, None, one, kind).standing for one in (between(None, "1.0"), between("1.0", "2.0"), between(None, later))]
+            self.assertEqual(stands, [INSIDE, UNSURE, INSIDE], kind)
+            self.assertEqual(standing(commit, None, between(later, None), kind).standing, OUTSIDE, kind)
 
     def test_pieces(self):
         self.assertEqual([(one.text, one.is_word) for one in pieces("1.010-RC2~")], [("1", False), ("10", False), ("rc", True), ("2", False)])
@@ -276,7 +286,9 @@ class Sames(unittest.TestCase):
             ("31.1-jre", "31.1", "maven", "31.1-jre may be 31.1"),
             ("2.0+3", "2.0", "", "2.0+3 may be 2.0"),
             ("1.0-final", "1.0", "", "dpkg and Maven differ between 1.0-final and 1.0"),
-            ("_", "1.0", "", "_ has neither digits nor letters"),
+            ("_", "1.0", "", "_ has no digits"),
+            ("8f3c2e1", "1.0", "", "8f3c2e1 is a commit, and no release"),
+            ("v0.0.0-20191109021931-daa7c04131f5", "1.0", "golang", "v0.0.0-20191109021931-daa7c04131f5 is a commit, and no release"),
         ):
             self.assertEqual(same(version, wanted, kind), Same(Sameness.UNSURE, why), version)
 

@@ -5,6 +5,10 @@ component all names are taken that its list gives for it, wherever its tool writ
 """
 from __future__ import annotations
 
+import contextlib
+import gc
+from collections.abc import Iterator
+
 from ..feeds import FeedFault, Json, values_of
 from . import cyclonedx, plain, spdx2, spdx3, syft, trivy
 from .reading import Listed, Odd
@@ -24,11 +28,24 @@ def read(feed: str, data: bytes) -> Listed:
         raise FeedFault(f"XML is not read: {WANTED}")
     listed = Listed(feed)
     if front[:1] in b"{[":
-        for value in values_of(data):
-            _read(value, listed)
+        with _no_collection():
+            for value in values_of(data, is_strict=True):
+                _read(value, listed)
     elif not plain.read(data, listed):
         raise FeedFault(f"no software list: {WANTED}")
     return listed
+
+
+@contextlib.contextmanager
+def _no_collection() -> Iterator[None]:
+    """Python looks for no garbage meanwhile: what is read stays, and to look at it again and again takes a third of the time."""
+    was_enabled = gc.isenabled()
+    gc.disable()
+    try:
+        yield
+    finally:
+        if was_enabled:
+            gc.enable()
 
 
 def _read(value: Json, listed: Listed) -> None:
