@@ -1,6 +1,6 @@
 """From NVD's API 2.0 to advisories: the JSON of /rest/json/cves/2.0 (vulnerabilities) to records `statement`.
 
-    sh advisories.sh [--ranges FILE] [--details FILE] [--partial] [FILE..] > records
+    sh advisories.sh [--ranges FILE] [--details FILE] [--partial] [--large] [FILE..] > records
 
 A statement has the id of its CVE, follows deprecations, and is TRUE where one of the configurations holds with a vulnerable
 product there.
@@ -38,7 +38,7 @@ from .scores import score_of
 from .unanalysed import States
 from .words import ONE, read_words
 
-USAGE = "advisories.sh [--ranges FILE] [--details FILE] [--partial] [FILE..]"
+USAGE = "advisories.sh [--ranges FILE] [--details FILE] [--partial] [--large] [FILE..]"
 KINDS = ("vulnerabilities",)
 SYSTEM, MATCH, CONFIGURATION = "NVD", "cpeMatch", "configuration"
 MOST_BYTES = 65_536
@@ -303,6 +303,8 @@ class _Converter:
         if tests:
             self.found.candidates.extend(self._statements(first.id, tests))
             self.found.details[first.id] = details(first.id, first.record["cve"])
+            if any(score_of(score) is None for _, _, score, _ in _metrics(first.record["cve"])):
+                self._said.remark("a score that is none is left out", first.id)
 
     def _leave_out(self, id: str, reason: str) -> None:
         # (among the candidates, so that it is said in its place between what cpe refuses)
@@ -494,18 +496,21 @@ def _title(cve: Json) -> str | None:
 
 def _score(cve: Json) -> dict[str, Json]:
     """The score of NVD, or else that of another source, by the newest version of CVSS in which there is one."""
-    found = []
-    for place, version in enumerate(_SCORES):
-        for metric in _found(lambda: members(member(cve, "metrics") or {}, version)) or []:
-            data = _found(lambda: member(metric, "cvssData"))
-            score = score_of(data.get("baseScore")) if isinstance(data, dict) else None
-            if score is not None:
-                severity = data.get("baseSeverity") or metric.get("baseSeverity")
-                found.append((metric.get("type") != "Primary", place, score, severity))
+    found = [one for one in _metrics(cve) if score_of(one[2]) is not None]
     if not found:
         return {}
     _, _, score, severity = min(found, key=lambda one: one[:2])
     return {"score": score, "severity": severity if isinstance(severity, str) else None}
+
+
+def _metrics(cve: Json) -> Iterator[tuple[bool, int, Json, Json]]:
+    """Of each metric whether it is of another source than NVD, the place of its version of CVSS, its score and severity."""
+    for place, version in enumerate(_SCORES):
+        for metric in _found(lambda: members(member(cve, "metrics") or {}, version)) or []:
+            data = _found(lambda: member(metric, "cvssData"))
+            if isinstance(data, dict) and "baseScore" in data:
+                severity = data.get("baseSeverity") or metric.get("baseSeverity")
+                yield metric.get("type") != "Primary", place, data["baseScore"], severity
 
 
 def _url(id: str, cve: Json) -> str | None:

@@ -30,13 +30,18 @@ def run(words: list[str]) -> int:
     if len(paths) != 2:
         raise Fatal(f"usage: {USAGE}")
     said, output = Said(), Output()
-    before, after = (read_verdicts(path) for path in paths)
-    if before.has_machines != after.has_machines:
-        bare, other = paths if after.has_machines else reversed(paths)
-        raise Fatal(f"{name_of(other)} has machines, and {name_of(bare)} has none")
-    output.lines(list(changes(before, after, said)))
+    output.lines(list(between(*paths, said)))
     output.end(shown)
     return said.status()
+
+
+def between(before_path: str, after_path: str, said: Said) -> Iterator[str]:
+    """The lines of the changes from the one file to the other."""
+    before, after = read_verdicts(before_path), read_verdicts(after_path)
+    if before.has_machines != after.has_machines:
+        bare, other = (before_path, after_path) if after.has_machines else (after_path, before_path)
+        raise Fatal(f"{name_of(other)} has machines, and {name_of(bare)} has none")
+    return changes(before, after, said)
 
 
 def changes(before: Verdicts, after: Verdicts, said: Said) -> Iterator[str]:

@@ -1,7 +1,7 @@
 """From NVD's API 2.0 to a dictionary: the JSON of /rest/json/cpes/2.0 (products) or /rest/json/cpematch/2.0 (matchStrings)
 to records `entry` and `deprecate`. All entries come before all deprecations.
 
-    sh dictionary.sh [--partial] [FILE..] > records
+    sh dictionary.sh [--partial] [--large] [FILE..] > records
 
 - A product is an entry with its English title, and the day on which it was created as its original record. The names that
   a match string matches are entries without title. A name that comes again is there already, and nothing is said. Of a product
@@ -12,7 +12,7 @@ to records `entry` and `deprecate`. All entries come before all deprecations.
 - A pattern with its range of versions is no name of a dictionary: of a match string only its matches are read.
 
 What is left out is said, and the status is 1. A feed in which there is no record at all is refused, and so is one of which pages are
-missing, as they say themselves; --partial lets it pass, and what is missing is said.
+missing, as they say themselves; --partial lets it pass, and what is missing is said. --large lets pages unpack to as much as they do (unpack.py).
 """
 from __future__ import annotations
 
@@ -26,7 +26,7 @@ from .program import Candidate, Program, candidate_at
 from .said import Fatal, Output, Said, quoted
 from .words import read_words
 
-USAGE = "dictionary.sh [--partial] [FILE..]"
+USAGE = "dictionary.sh [--partial] [--large] [FILE..]"
 KINDS = ("products", "matchStrings")
 
 

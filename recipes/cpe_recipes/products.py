@@ -1,4 +1,4 @@
-"""Advisories of the products that the machines have: sh products.sh --machines FILE [--records FILE] [--partial] [FILE..] > page.
+"""Advisories of the products that the machines have: sh products.sh --machines FILE [--records FILE] [--partial] [--large] [FILE..] > page.
 
 `cpe` takes 100,000 statements; NVD has more advisories. This cuts its feeds (the JSON of /rest/json/cves/2.0) down to the
 advisories that could be other than FALSE on some machine, as one page of the same form, for `advisories.sh` or `scan.py`. An
@@ -26,7 +26,7 @@ from .unanalysed import REJECTED, States
 from .unlisted import Product, deprecated_names, say_items, successors
 from .words import ONE, read_words
 
-USAGE = "products.sh --machines FILE [--records FILE] [--partial] [FILE..]"
+USAGE = "products.sh --machines FILE [--records FILE] [--partial] [--large] [FILE..]"
 MOST_STATEMENTS = 100_000
 
 

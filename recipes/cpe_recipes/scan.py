@@ -1,14 +1,17 @@
 """The whole way, from feeds and what machines have to the advisories that concern each machine.
 
     python3 scan.py --dictionary FILE.. | --records FILE.. --advisories FILE.. [--matches FILE..]
-        --machines FILE | --lists FILE.. [--suppress FILE] [--letters FILE] [--partial] [--strict] [--hardware none] [--all] [--json [--why]]
+        --machines FILE | --lists FILE.. [--suppress FILE] [--letters FILE] [--partial] [--large] [--strict] [--hardware none]
+        [--all] [--json [--why]]
 
-- --dictionary, --advisories, --matches: pages of NVD's API 2.0, as they come or packed by gzip. --records: what dictionary.sh
+- --dictionary, --advisories, --matches: pages of NVD's API 2.0, or its feeds, as they come, packed or in archives; advisories may be CVE
+  records of format 5 too (cve5.py). --records: what dictionary.sh
   made of such pages before.
 - --machines: a line a machine, as inventory.sh --machines writes it; --lists: software lists (CycloneDX, SPDX, Syft, plain), each a
   machine.
 - --suppress: accepted advisories, lines `ID MACHINE REASON`, where * is every machine. They are told below the table.
 - --letters: the products of which letters in versions count upward, in place of letters.txt.
+- --large: pages may unpack to as much as they do; unpack.py says what they else may.
 - --partial: pages of a feed may be missing. What is, is said, and each FALSE that could be another verdict by it is marked.
 - --all: the table and the JSON have the verdicts that are FALSE too, and below the table stands what isn't analysed.
 - --strict: an item that says less than an advisory asks for isn't what that names.
@@ -59,7 +62,8 @@ from .words import FLAG, MANY, ONE, Words, read_words
 
 USAGE = (
     "scan.py --dictionary FILE.. | --records FILE.. --advisories FILE.. [--matches FILE..] "
-    "--machines FILE | --lists FILE.. [--suppress FILE] [--letters FILE] [--partial] [--strict] [--hardware none] [--all] [--json [--why]]"
+    "--machines FILE | --lists FILE.. [--suppress FILE] [--letters FILE] [--partial] [--large] [--strict] [--hardware none] "
+    "[--all] [--json [--why]]"
 )
 OPTIONS = {
     "--dictionary": MANY,
@@ -237,8 +241,8 @@ def read_known(
     found.tell_empty_pages(said)
     records = program.accepted(found.candidates, said)
     if not records:
-        none = "" if not states.unanalysed else f", and {len(states.unanalysed):,} aren't analysed"
-        raise Fatal(f"no advisory with a verdict is in {', '.join(map(name_of, read.many('--advisories')))}{none}")
+        none = f"; not analysed: {len(states.unanalysed):,}" if states.unanalysed else ""
+        raise Fatal(f"no advisory that can have a verdict is in {', '.join(map(name_of, read.many('--advisories')))}{none}")
     return Known(entries, records, found.ranges, found.details, found.stand_ins), states
 
 

@@ -81,12 +81,14 @@ class Machine:
 
 @dataclass
 class Scanned:
-    """All of it: how many advisories were asked for, those that have rows, the machines, and what was left out."""
+    """All of it: how many advisories were asked for, those that have rows, the machines, what was left out, and how many advisories
+    aren't analysed, and so have no verdict."""
 
     asked: int
     advisories: list[Advisory]
     machines: list[Machine]
     left_out: list[tuple[str, str]]
+    unanalysed: int = 0
 
     def counts(self) -> Counter[str]:
         """How many rows of each group there are, and how many verdicts are FALSE."""
@@ -147,7 +149,10 @@ class _Reader:
             machines[machine.name] = machine
         if len(self._advisories) > asked:
             raise self._fault("the table", f"has {len(self._advisories)} advisories, where {asked} were asked for")
-        return in_order(asked, self._advisories.values(), machines.values(), left_out)
+        scanned = in_order(asked, self._advisories.values(), machines.values(), left_out)
+        by_status = self._given(value, "notAnalysed", dict, "the table") or {}
+        scanned.unanalysed = sum(len(self._needed(by_status, status, list, "the table")) for status in by_status)
+        return scanned
 
     def _machine(self, row: Json, where: str) -> Machine:
         name = self._needed(row, "name", str, where)

@@ -44,6 +44,8 @@ class Limits:
     most: int = 2 << 30
     times: int = 200
     free: int = 16 << 20
+    # (what stands behind the reason where a recipe has the option)
+    hint: str = ""
 
     def of(self, packed: int) -> int:
         """To how many bytes so many may unpack."""
@@ -52,14 +54,14 @@ class Limits:
     def fault(self, packed: int) -> FeedFault:
         """That something of so many bytes unpacks to more than it may."""
         if self.of(packed) == self.most:
-            return FeedFault(f"it unpacks to more than {self.most:,} bytes (--large lets it)")
+            return FeedFault(f"it unpacks to more than {self.most:,} bytes{self.hint}")
         return self.ratio_fault(packed)
 
     def ratio_fault(self, packed: int) -> FeedFault:
-        return FeedFault(f"it unpacks to more than {self.times} times its size, {packed:,} bytes (--large lets it)")
+        return FeedFault(f"it unpacks to more than {self.times} times its size, {packed:,} bytes{self.hint}")
 
 
-LIMITS = Limits()
+LIMITS, TOLD_LIMITS = Limits(), Limits(hint=" (--large lets it)")
 LARGE = Limits(sys.maxsize, sys.maxsize, sys.maxsize)
 
 

@@ -13,7 +13,7 @@ from dataclasses import dataclass, field
 from . import feeds
 from .feeds import Json, Page
 from .said import Fatal, Said
-from .unpack import LARGE, LIMITS, Limits
+from .unpack import LARGE, LIMITS, TOLD_LIMITS, Limits
 from .words import FLAG, Words
 
 OPTIONS = {"--partial": FLAG, "--large": FLAG}
@@ -57,7 +57,7 @@ class Reading:
 
     @staticmethod
     def of(words: Words) -> Reading:
-        return Reading(words.has("--partial"), LARGE if words.has("--large") else LIMITS)
+        return Reading(words.has("--partial"), LARGE if words.has("--large") else TOLD_LIMITS)
 
     def doubts(self) -> list[str]:
         """Why a verdict that is FALSE could be another one: names may lead elsewhere, and matches may list more. (An advisory that is
@@ -118,7 +118,9 @@ def pages(
     for kind, of_kind in spans.items():
         for one in [*_odd(kind, of_kind), *_missing(kind, of_kind, said)]:
             if not how.is_partial:
-                raise Fatal(f"{one.files}: {one.words()}; {one.where} (--partial lets it pass)")
+                # (a recipe without the option gives no way to read)
+                hint = " (--partial lets it pass)" if reading is not None else ""
+                raise Fatal(f"{one.files}: {one.words()}; {one.where}{hint}")
             how.missing.append(one)
             said.left_out(one.files, f"{one.words()}; {one.where}")
 

@@ -7,8 +7,9 @@ import unittest
 from recipe_case import CPE, RECIPES, RecipeCase, fs, needs_cpe
 
 from cpe_recipes import scores
-from cpe_recipes.advisories import details
-from cpe_recipes.feeds import record_text
+from cpe_recipes.advisories import convert, details
+from cpe_recipes.feeds import Page, record_text
+from stand_in import Heard, Names
 from test_report import ReportCase, machine, table, verdict
 
 # What clears a terminal, what begins a command without ESC, what turns the direction of a text, and the end of a character's life.
@@ -82,6 +83,16 @@ class Scores(unittest.TestCase):
             self.assertEqual(details("x", {"metrics": {"cvssMetricV31": [odd]}}), {"id": "x"})
             good = {"type": "Secondary", "cvssData": {"baseScore": 5, "baseSeverity": "MEDIUM"}}
             self.assertEqual(details("x", {"metrics": {"cvssMetricV31": [odd, good]}}), {"id": "x", "score": 5, "severity": "MEDIUM"})
+
+
+    def test_a_score_that_is_left_out_is_remarked(self):
+        odd = {"type": "Primary", "cvssData": {"baseScore": 11, "baseSeverity": "HIGH"}}
+        match = {"vulnerable": True, "criteria": fs("v", "p", "1")}
+        cve = {"id": "CVE-2024-1001", "configurations": [{"nodes": [{"operator": "OR", "cpeMatch": [match]}]}], "metrics": {"cvssMetricV31": [odd]}}
+        said = Heard()
+        found = convert([Page("it.json", "vulnerabilities", [{"cve": cve}])], Names(), said, True)
+        self.assertEqual((said.told, len(found.candidates)), (["remark CVE-2024-1001: a score that is none is left out"], 1))
+        self.assertNotIn("score", found.details["CVE-2024-1001"])
 
 
 class Pages(ReportCase):

@@ -16,7 +16,7 @@ from cpe_recipes.said import Fatal
 from cpe_recipes.unpack import LARGE, FeedFault, Limits, Unpacked
 
 PAGES = {f"nvdcpe-2.0-chunks/nvdcpe-2.0-chunk-0000{number}.json": json.dumps({"rows": [number] * 50}).encode() for number in (1, 2, 3)}
-SMALL = Limits(most=5000, times=10, free=1000)
+SMALL = Limits(most=5000, times=10, free=1000, hint=" (--large lets it)")
 
 
 def zipped(members, method=zipfile.ZIP_DEFLATED):
@@ -111,7 +111,7 @@ class Parts(RecipeCase):
             for data in (packed, zipped({"a.json": page}), tarred({"a.json": page}, "w:gz"), zipped({"a.zip": zipped({"a.json": page})})):
                 with self.subTest(size=size, front=data[:4]):
                     read: list[int] = []
-                    most = SMALL if len(packed) < 100 else unpack.LIMITS
+                    most = SMALL if len(packed) < 100 else unpack.TOLD_LIMITS
                     with mock.patch.object(unpack._Counted, "take", self.noting(read)):
                         self.assertRegex(self.refused(data, most), r"unpacks to more than \d+ times its size, [\d,]+ bytes \(--large lets it\)")
                     self.assertLess(sum(read), max(most.free, most.times * len(data)) + 4 * unpack._CHUNK)

@@ -48,9 +48,11 @@ class Pages(RecipeCase):
         self.assertEqual(self.said.told, [])
 
     def test_one_page_of_many_is_no_feed(self):
-        wanted = "1.json: the feed has 250,000 products, 10 were given; those of startIndex 10 to 249,999 are missing (--partial lets it pass)"
+        wanted = "1.json: the feed has 250,000 products, 10 were given; those of startIndex 10 to 249,999 are missing"
         self.assertEqual(self.refused(page(0, 10, 250_000)), wanted)
         self.assertEqual(self.refused(page(0, 10, 250_000), strict=False), wanted)
+        told = self.refused(page(0, 10, 250_000), reading=whole.Reading())
+        self.assertEqual(told, f"{wanted} (--partial lets it pass)")
 
     def test_each_missing_page_is_told_wherever_it_stands(self):
         pages = [page(0, 2, 9), page(2, 4, 9), page(4, 6, 9), page(6, 8, 9), page(8, 9, 9)]
