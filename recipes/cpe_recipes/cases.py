@@ -9,7 +9,7 @@ fit its facts, and once for all machines that have the same ones. A name whose v
 from __future__ import annotations
 
 import json
-from collections.abc import Collection, Iterable, Iterator, Mapping, Sequence
+from collections.abc import Iterable, Iterator, Mapping, Sequence
 from dataclasses import dataclass, field
 
 from . import names

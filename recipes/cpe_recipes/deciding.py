@@ -9,7 +9,7 @@ from __future__ import annotations
 import json
 from collections.abc import Iterable, Iterator, Mapping, Sequence
 
-from .advisories import MATCH, SYSTEM, Range
+from .advisories import Range
 from .asked import range_of
 from .called import Called
 from .cases import Known

@@ -18,7 +18,7 @@ from .negations import Negations, has_hardware
 from .program import Program
 from .said import Fatal, Said
 from .session import Asked, Known
-from .versions import Letters, read_letters
+from .versions import read_letters
 from .words import FLAG, MANY, ONE, Words
 
 OPTIONS = {"--ranges": ONE, "--matches": MANY, "--letters": ONE, "--decided": ONE, "--strict": FLAG, "--hardware": ONE}
@@ -180,7 +180,9 @@ def _without(results: set[str], decided: list[tuple[str, str]]) -> list[tuple[st
 class _Names:
     """Where the names of items lead, which names the items have, and what is decided of ranges by them."""
 
-    def __init__(self, program: Program, words: Words, records: Records, ranges: dict[str, Range], machines: list[Machine], said: Said) -> None:
+    def __init__(
+        self, program: Program, words: Words, records: Records, ranges: dict[str, Range], machines: list[Machine], said: Said
+    ) -> None:
         entries = decide.read_entries([words.files[0]])
         items = dict.fromkeys(item for machine in machines for item in machine.items)
         facts = dict.fromkeys([*records.facts, *(one.criteria for one in ranges.values())])

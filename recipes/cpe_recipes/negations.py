@@ -1,7 +1,7 @@
 """What is decided of the checks that asked.py puts into statements: what is negated there, and the parts of which a list may be silent.
 
-A check of what is negated, a fact or a range, is TRUE where a component meets the fact by each name that its list gives for it, both as it stands and as it leads on;
-FALSE where no name that an item has or perhaps has may meet it; and else there is no answer, so what it is negated in is UNKNOWN.
+A check of what is negated, a fact or a range, is TRUE where a component meets it by each name that its list gives for it, both as
+that stands and as it leads on; FALSE where no name that an item has or perhaps has may meet it; and else there is no answer, so what it is negated in is UNKNOWN.
 
 A check of a part is FALSE where the list names an item of that part, operating systems or hardware, and else it stays open; so does
 what is negated of such a part. Where it is known that there is no hardware to ask for, the list isn't silent of it.
