@@ -1,8 +1,8 @@
 """The whole way, from feeds and what machines have to the advisories that concern each machine.
 
     python3 scan.py --dictionary FILE.. | --records FILE.. --advisories FILE.. [--matches FILE..]
-        --machines FILE | --lists FILE.. [--suppress FILE] [--letters FILE] [--partial] [--large] [--strict] [--hardware none]
-        [--all] [--json [--why]]
+        --machines FILE | --lists FILE.. [--suppress FILE] [--letters FILE] [--partial] [--large] [--strict] [--platform NAME]
+        [--hardware none] [--all] [--json [--why]]
 
 - --dictionary, --advisories, --matches: pages of NVD's API 2.0, or its feeds, as they come, packed or in archives; advisories may be CVE
   records of format 5 too (cve5.py). --records: what dictionary.sh
@@ -15,6 +15,7 @@
 - --partial: pages of a feed may be missing. What is, is said, and each FALSE that could be another verdict by it is marked.
 - --all: the table and the JSON have the verdicts that are FALSE too, and below the table stands what isn't analysed.
 - --strict: an item that says less than an advisory asks for isn't what that names.
+- --platform NAME: the operating system of the machines whose lists name none; without it platforms.py says what is FALSE.
 - --hardware none: there is no hardware to ask for, as of containers; else what a list doesn't say of it is UNKNOWN.
 - --json: the same as one value of JSON, with what was left out (`leftOut`). report.py makes a page of it.
 - --why: the JSON tells of each verdict that is TRUE which items make it so (`decidedBy`); deciding.py says how, and what it takes.
@@ -41,7 +42,7 @@ import json
 from collections.abc import Collection, Iterable, Iterator, Mapping, Sequence
 from dataclasses import dataclass, field, replace
 
-from . import advisories, affected, dictionary, latest, matches, products, suppressed, unlisted, verdicts, whole
+from . import advisories, affected, dictionary, latest, matches, platforms, products, suppressed, unlisted, verdicts, whole
 from .called import Called, Sure
 from .calling import Calling, Wanted, listed_by_name
 from .cases import Cases, Index, Items, Known, Product, Results, lines_of, verdicts_of
@@ -62,7 +63,7 @@ from .words import FLAG, MANY, ONE, Words, read_words
 
 USAGE = (
     "scan.py --dictionary FILE.. | --records FILE.. --advisories FILE.. [--matches FILE..] "
-    "--machines FILE | --lists FILE.. [--suppress FILE] [--letters FILE] [--partial] [--large] [--strict] [--hardware none] "
+    "--machines FILE | --lists FILE.. [--suppress FILE] [--letters FILE] [--partial] [--large] [--strict] [--platform NAME] [--hardware none] "
     "[--all] [--json [--why]]"
 )
 OPTIONS = {
@@ -78,6 +79,7 @@ OPTIONS = {
     "--json": FLAG,
     "--why": FLAG,
     "--strict": FLAG,
+    "--platform": ONE,
     "--hardware": ONE,
     **whole.OPTIONS,
 }
@@ -276,9 +278,12 @@ def _records(paths: Sequence[str]) -> list[Candidate]:
 
 
 def read_asked(read: Words, said: Said) -> list[Machine]:
-    if read.has("--machines"):
-        return read_machines(read.one("--machines") or "", said)
-    return read_lists(read.many("--lists"), said)
+    """The machines, with the operating system that is given to those whose lists name none."""
+    path, platform = read.one("--machines"), read.one("--platform")
+    machines = read_lists(read.many("--lists"), said) if path is None else read_machines(path, said)
+    if platform is not None:
+        platforms.give(machines, platform)
+    return machines
 
 
 def run(words: Sequence[str]) -> int:
@@ -313,6 +318,7 @@ def _result(read: Words, program: Program, said: Noting, progress: Progress) -> 
     scan = Scan(program, known, lists, letters, progress, read.has("--why"), read.has("--strict"), has_hardware(read))
     found = scan.machines(asked)
     scan.tell_items(found, said)
+    platforms.remark_silent(asked, known, said)
     machines = machines_with_verdicts(known, scan.bare, found)
     if read.has("--all"):
         for machine in machines:
