@@ -118,7 +118,9 @@ def write(name, member, records):
     paths = []
     for first in range(0, len(records), PAGE):
         path = BUILD / f"{name}-{first // PAGE}.json"
-        path.write_text(json.dumps({member: records[first : first + PAGE]}))
+        part = records[first : first + PAGE]
+        head = {"resultsPerPage": len(part), "startIndex": first, "totalResults": len(records)}
+        path.write_text(json.dumps({**head, member: part}))
         paths.append(str(path))
     return paths
 

@@ -6,6 +6,7 @@
 CPE=$program
 export CPE
 ranges=recipes/samples/ranges
+doubts=recipes/samples/doubts
 
 # scans WORD..: scan.py over the samples of ranges, with more words.
 scans() {
@@ -30,6 +31,21 @@ runs_unit_tests() {
     done
 }
 
+# The orders of versions against the tools whose orders they are, those that are here. (Python's modules are Debian's.)
+compares_orders() {
+    python=python3
+    if /usr/bin/python3 -c 'import sys; sys.exit(sys.version_info < (3, 11))' 2> /dev/null; then python=/usr/bin/python3; fi
+    limited "$python" -B tests/recipes/orders_against_tools.py 10000 "$program" > "$room/tried" 2> "$room/error" ||
+        [ -s "$room/tried" ] || fail 'orders of versions against the tools' "$(tail -n 1 "$room/error")"
+    while read -r line; do
+        case $line in
+            'the same: '*) pass "the order of versions of ${line#the same: }" ;;
+            'SKIPPED: '*) line=${line#SKIPPED: }; skip "the order of versions of ${line%%:*}" "${line#*: }" ;;
+            *) fail 'orders of versions against the tools' "$line" ;;
+        esac
+    done < "$room/tried"
+}
+
 # What the vendors mean, by hand, beside what comes out: no affected pair FALSE, no other one TRUE, few UNKNOWN.
 counts_truths() {
     what='ranges of versions against their truths'
@@ -39,6 +55,58 @@ counts_truths() {
     status=$?
     cat "$room/out"
     judge "$what" "$status" 0 "$ranges/truths.out" "$ranges/table.said"
+}
+
+# The same where versions are those of packages, of which lists tell the kind, or don't.
+counts_orders() {
+    what='versions of packages against their truths'
+    orders=recipes/samples/orders
+    set -- --dictionary "$orders/dictionary.json" --advisories "$orders/advisories.json" --lists \
+        "$orders/alpine-1.cdx.json" "$orders/bare-1.txt" "$orders/code-1.cdx.json" "$orders/deb-1.cdx.json" "$orders/rpm-1.cdx.json"
+    limited python3 recipes/scan.py --json "$@" > "$room/scan.json" 2> "$room/error" < /dev/null
+    python3 tests/recipes/truths.py "$orders/truths.txt" < "$room/scan.json" > "$room/out"
+    status=$?
+    cat "$room/out"
+    judge "$what" "$status" 0 "$orders/truths.out" "$orders/table.said"
+    limited python3 recipes/scan.py "$@" > "$room/out" 2> "$room/error" < /dev/null
+    judge 'the table of versions of packages' $? 0 "$orders/table.out" "$orders/table.said"
+}
+
+# What lists and dictionaries don't say, by hand, beside what comes out; and that less is UNKNOWN where a word says so.
+counts_doubts() {
+    set -- --dictionary "$doubts/dictionary.json" --advisories "$doubts/advisories.json" --lists "$doubts"/*-?.txt "$doubts"/*-db.txt "$doubts/box-1.cdx.json"
+    what="what a list doesn't say against its truths"
+    limited python3 recipes/scan.py "$@" --json < /dev/null > "$room/scan.json" 2> "$room/error"
+    python3 tests/recipes/truths.py "$doubts/truths.txt" < "$room/scan.json" > "$room/out"
+    status=$?
+    cat "$room/out"
+    judge "$what" "$status" 0 "$doubts/truths.out" "$doubts/table.said"
+    limited python3 recipes/scan.py "$@" < /dev/null > "$room/out" 2> "$room/error"
+    judge "the table of what a list doesn't say" $? 0 "$doubts/table.out" "$doubts/table.said"
+    limited python3 recipes/scan.py "$@" --strict --hardware none < /dev/null > "$room/out" 2> "$room/error"
+    judge "the same with --strict and --hardware none" $? 0 "$doubts/strict.out" "$doubts/table.said"
+}
+
+# The same of the lists of tools: all names of a component are read, wherever a tool writes them. What has package URLs alone is
+# no item, and no machine that isn't affected.
+reads_lists() {
+    of=recipes/samples/lists
+    set -- --dictionary "$of/dictionary.json" --advisories "$of/advisories.json" --lists
+    limited python3 recipes/scan.py "$@" "$of"/shop-* "$of"/java-* "$of"/build-* > "$room/out" 2> "$room/error"
+    judge 'the table of the lists of tools' $? 1 "$of/table.out" "$of/table.said"
+    limited python3 recipes/scan.py --json "$@" "$of"/shop-* "$of"/java-* "$of"/build-* > "$room/scan.json" 2> /dev/null
+    python3 tests/recipes/truths.py "$of/truths.txt" < "$room/scan.json" > "$room/out"
+    status=$?
+    cat "$room/out"
+    : > "$room/error"
+    judge 'the lists of tools against their truths' "$status" 0 "$of/truths.out"
+    limited python3 recipes/scan.py "$@" "$of"/trivy-* > "$room/out" 2> "$room/error"
+    judge 'lists of package URLs alone' $? 1 "$of/no-names.out" "$of/no-names.said"
+    limited sh recipes/inventory.sh "$of/trivy-1.json" > "$room/out" 2> "$room/error"
+    status=$?
+    sed -n 's/^left out trivy-1 \(.*: no CPE name\)$/left out \1/p' "$of/no-names.said" > "$room/wanted.said"
+    echo 'inventory.sh: trivy-1.json: no item in it' >> "$room/wanted.said"
+    judge 'no inventory of package URLs alone' "$status" 2 /dev/null "$room/wanted.said"
 }
 
 shows_tables() {
@@ -144,6 +212,50 @@ minds_disks() {
     judge 'a table without room for temporary files' $? 0 "$room/wanted"
 }
 
+# Feeds of several pages, in any order, one of them missing, and the same advisories in two files; and what changed where an advisory
+# isn't analysed any more, or isn't in the feeds.
+reads_pages() {
+    pages=recipes/samples/pages
+    year=$pages/nvdcve-2.0-2024.json modified=$pages/nvdcve-2.0-modified.json
+    # scans_pages OUT SAID WORD..: a scan with these words.
+    scans_pages() {
+        out=$1 said=$2
+        shift 2
+        limited python3 recipes/scan.py --machines "$pages/machines.txt" "$@" < /dev/null > "$out" 2> "$said"
+    }
+    scans_pages "$room/before.json" "$room/error" --json --dictionary "$pages"/dictionary-?.json --advisories "$year" "$modified"
+    python3 tests/recipes/truths.py "$pages/truths.txt" < "$room/before.json" > "$room/out"
+    judge 'pages and their truths' $? 0 "$pages/truths.out" "$pages/table.said"
+    for order in "0 3 6" "6 0 3" "3 6 0"; do
+        # shellcheck disable=SC2046,SC2086
+        scans_pages "$room/out" "$room/error" --dictionary $(printf "$pages/dictionary-%s.json " $order) --advisories "$modified" "$year"
+        judge "pages in the order $order" $? 0 "$pages/table.out" "$pages/table.said"
+    done
+    for gone in 0 3 6; do
+        set --
+        for page in 0 3 6; do [ $page = $gone ] || set -- "$@" "$pages/dictionary-$page.json"; done
+        scans_pages "$room/out" "$room/error" --dictionary "$@" --advisories "$year"
+        judge "a feed of which page $gone is missing" $? 2 /dev/null "$pages/missing-$gone.said"
+    done
+    scans_pages "$room/out" "$room/error" --partial --all --dictionary "$pages/dictionary-0.json" "$pages/dictionary-6.json" \
+        --advisories "$year" "$modified"
+    judge 'a feed of which a page may be missing' $? 1 "$pages/partial.out" "$pages/partial.said"
+    scans_pages "$room/scan.json" "$room/error" --json --dictionary "$pages"/dictionary-?.json --advisories "$pages"/CVE-*.json "$year" "$modified"
+    python3 tests/recipes/truths.py "$pages/truths-records.txt" < "$room/scan.json" > "$room/out"
+    judge 'CVE records beside feeds, and their truths' $? 0 "$pages/truths-records.out" "$pages/records.said"
+    if needs 'feeds in archives' tar gzip; then
+        tar -czf "$room/nvdcpe-2.0.tar.gz" -C "$pages" dictionary-6.json dictionary-0.json dictionary-3.json
+        gzip -c "$year" > "$room/nvdcve-2.0-2024.json.gz"
+        tar -cf "$room/cves.tar" -C "$pages" CVE-2024-97005.json CVE-2024-97006.json
+        scans_pages "$room/out" "$room/error" --dictionary "$room/nvdcpe-2.0.tar.gz" --advisories "$room/cves.tar" "$modified" \
+            "$room/nvdcve-2.0-2024.json.gz"
+        judge 'feeds in archives' $? 0 "$pages/records.out" "$pages/records.said"
+    fi
+    scans_pages "$room/after.json" "$room/error" --json --dictionary "$pages"/dictionary-?.json --advisories "$pages/nvdcve-2.0-later.json"
+    limited sh recipes/changes.sh "$room/before.json" "$room/after.json" > "$room/out" 2> "$room/error"
+    judge "what isn't analysed any more, or isn't there, is gone and not FALSE" $? 1 "$pages/changes.out" "$pages/changes.said"
+}
+
 # Machines in a file of lines, names of files that begin with a hyphen, and packed feeds.
 reads_machines() {
     printf 'web-1\t%s  %s\r\n\r\n bare\r\nodd cpe:/a:%%zz\r\n' \
@@ -185,12 +297,17 @@ shows_pages() {
 
 if needs 'the recipes in Python' python3; then
     runs_unit_tests
+    compares_orders
     counts_truths
+    counts_orders
+    counts_doubts
+    reads_lists
     shows_tables
     shows_pages
     goes_step_by_step
     refuses_feeds
     minds_disks
+    reads_pages
     reads_machines
 fi
 end_of_checks 'scan checks'

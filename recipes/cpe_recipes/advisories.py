@@ -1,16 +1,19 @@
 """From NVD's API 2.0 to advisories: the JSON of /rest/json/cves/2.0 (vulnerabilities) to records `statement`.
 
-    sh advisories.sh [--ranges FILE] [--details FILE] [FILE..] > records
+    sh advisories.sh [--ranges FILE] [--details FILE] [--partial] [--large] [FILE..] > records
 
 A statement has the id of its CVE, follows deprecations, and is TRUE where one of the configurations holds with a vulnerable
 product there.
 
-- A configuration has nodes, and a node has matches; `operator` and `negate` of both are those of the test, and each match is a
-  fact. Where the logic of a configuration could hold without any product that is marked as vulnerable, the vulnerable ones
+- A configuration has nodes, and a node has matches, and perhaps nodes as its `children`; `operator` and `negate` of each are those
+  of the test, and each match is a fact. Where the logic of a configuration could hold without any product that is marked as vulnerable, the vulnerable ones
   are asked for beside it.
 - A range of versions is no name: it becomes the product in any version AND a check, whose key is NVD, cpeMatch and the id of
   the match. So the statement is FALSE where the product isn't there and no other fact holds, and UNKNOWN where it is, until a
   record `check` tells whether a version in the range is there. The ranges go into a file of their own, for decide.py.
+- An advisory without configurations isn't analysed yet, and has no statement; how many there are is remarked (unanalysed.py).
+- Of an advisory that comes more than once that counts which was modified last (latest.py). Where two tell the same time, and aren't the
+  same, what the later one in the files has beside the first is UNKNOWN, and said.
 - What can't be read in an advisory (a bad name, a bound that is none, a configuration of another form beside good ones) becomes
   a check that stays UNKNOWN, so it hides nothing that stands beside it, and is said.
 - An advisory of more names than a line has room for becomes several statements, CVE-..#2 and so on, of which one is TRUE where
@@ -18,7 +21,8 @@ product there.
   be asked twice.
 
 --ranges is where the ranges go, and --details where scores and titles go, by id, for affected.sh. What is left out is said, and
-the status is 1. A feed in which there is no vulnerability at all is refused.
+the status is 1. A feed in which there is no vulnerability at all is refused, and so is one of which pages are missing, as they say
+themselves; --partial lets it pass, and what is missing is said.
 """
 from __future__ import annotations
 
@@ -26,17 +30,23 @@ import re
 from collections.abc import Callable, Iterable, Iterator, Mapping, Sequence
 from dataclasses import dataclass, field
 
-from .feeds import FormFault, Json, Page, member, members, pages, record_text, text_at
-from .program import Candidate, Program, refusals
-from .said import Fatal, Output, Said, write_file
+from . import cve5, latest, whole
+from .feeds import FormFault, Json, Page, Placed, member, members, record_text, text_at
+from .program import Candidate, Program, candidate_at, refusals
+from .said import Fatal, Output, Said, quoted, write_file
+from .scores import score_of
+from .unanalysed import States
 from .words import ONE, read_words
 
-USAGE = "advisories.sh [--ranges FILE] [--details FILE] [FILE..]"
+USAGE = "advisories.sh [--ranges FILE] [--details FILE] [--partial] [--large] [FILE..]"
 KINDS = ("vulnerabilities",)
 SYSTEM, MATCH, CONFIGURATION = "NVD", "cpeMatch", "configuration"
 MOST_BYTES = 65_536
+_ROOM_TO_ASK = 4_096
 # An AND of many long ORs would be taken apart into more statements than anyone has room for.
 MOST_PARTS = 1_000
+# Of nodes in one another, so that the tests of a statement aren't more than cpe takes.
+MOST_NODES_DEEP = 20
 
 _BOUNDS = {
     "versionStartIncluding": "from",
@@ -94,23 +104,25 @@ class Range:
 
 @dataclass(frozen=True)
 class Match:
-    """A match of a node: a name, perhaps with bounds of its version."""
+    """A match of a node: a name, perhaps with bounds of its version, or with a doubt about it, which stays UNKNOWN."""
 
     id: str | None
     criteria: str | None
     is_vulnerable: bool
     bounds: dict[str, str]
+    doubt: str = ""
 
     @staticmethod
     def of(match: Json) -> Match:
         bounds = {word: text_at(match, name) for name, word in _BOUNDS.items()}
         given = {word: bound for word, bound in bounds.items() if bound is not None}
-        return Match(text_at(match, "matchCriteriaId"), text_at(match, "criteria"), _flag(match, "vulnerable"), given)
+        criteria, doubt = text_at(match, "criteria"), text_at(match, cve5.DOUBT) or ""
+        return Match(text_at(match, "matchCriteriaId"), criteria, _flag(match, "vulnerable"), given, doubt)
 
     def text(self) -> str:
         """The match in words, which is the id of its check where it has no id."""
         bounds = ", ".join(f"{word} {bound}" for word, bound in self.bounds.items())
-        return " ".join(part for part in (self.criteria or "a match without a name", bounds) if part)
+        return " ".join(part for part in (self.criteria or "a match without a name", bounds, self.doubt) if part)
 
     def fault(self) -> str | None:
         """Why its bounds are no range."""
@@ -127,12 +139,30 @@ class Match:
 
 @dataclass(frozen=True)
 class Node:
+    """Matches of a configuration, and nodes within it, as older feeds have them."""
+
     operator: str
     is_negated: bool
     matches: list[Match]
+    children: list[Node]
+
+    @staticmethod
+    def of(node: Json, depth: int = 0) -> Node:
+        """The node; FormFault where it isn't of the published form."""
+        if depth > MOST_NODES_DEEP:
+            raise FormFault("nodes that stand too deep in one another")
+        children = [Node.of(child, depth + 1) for child in members(node, "children")]
+        given = members(node, "cpeMatch") if children else _filled(node, "cpeMatch", "a node without matches")
+        return Node(_operator(node), _flag(node, "negate"), [Match.of(match) for match in given], children)
+
+    def all_matches(self) -> Iterator[Match]:
+        yield from self.matches
+        for child in self.children:
+            yield from child.all_matches()
 
     def needs_vulnerable(self) -> bool:
-        return _needs(self, (match.is_vulnerable for match in self.matches))
+        flags = [match.is_vulnerable for match in self.matches]
+        return _needs(self, [*flags, *(child.needs_vulnerable() for child in self.children)])
 
 
 @dataclass(frozen=True)
@@ -144,14 +174,11 @@ class Configuration:
     @staticmethod
     def of(configuration: Json) -> Configuration:
         """The configuration; FormFault where it isn't of the published form."""
-        nodes = []
-        for node in _filled(configuration, "nodes", "a configuration without nodes"):
-            matches = [Match.of(match) for match in _filled(node, "cpeMatch", "a node without matches")]
-            nodes.append(Node(_operator(node), _flag(node, "negate"), matches))
+        nodes = [Node.of(node) for node in _filled(configuration, "nodes", "a configuration without nodes")]
         return Configuration(_operator(configuration), _flag(configuration, "negate"), nodes)
 
     def matches(self) -> Iterator[Match]:
-        return (match for node in self.nodes for match in node.matches)
+        return (match for node in self.nodes for match in node.all_matches())
 
     def needs_vulnerable(self) -> bool:
         """Whether the logic holds only with a vulnerable product."""
@@ -194,6 +221,7 @@ class Advisories:
     ranges: dict[str, Range] = field(default_factory=dict)
     stand_ins: dict[str, str] = field(default_factory=dict)
     details: dict[str, dict[str, Json]] = field(default_factory=dict)
+    states: States = field(default_factory=States)
     empty_pages: list[str] = field(default_factory=list)
 
     def tell_empty_pages(self, said: Said) -> None:
@@ -201,21 +229,26 @@ class Advisories:
             said.remark(f"{page}: no vulnerabilities in it")
 
 
-def convert(feed: Iterable[Page], program: Program, said: Said, is_decided: bool) -> Advisories:
-    """The advisories of these pages. Where ranges aren't decided after this, each is remarked. Fatal where none is there."""
-    all_of: list[tuple[str, Json]] = []
-    empty_pages: list[str] = []
-    for page in feed:
-        if not page.records:
-            empty_pages.append(page.name)
-        all_of.extend(page.each("vulnerability", lambda it: text_at(member(it, "cve"), "id")))
-    if empty_pages and not all_of:
+def convert(
+    feed: Iterable[Page], program: Program, said: Said, is_decided: bool, states: States | None = None
+) -> Advisories:
+    """The advisories of these pages, and beside these states those that have no verdict. Where ranges aren't decided after this, each
+    is remarked. Fatal where none is there."""
+    found = list(feed)
+    empty_pages = [page.name for page in found if not page.records]
+    if len(empty_pages) == len(found) > 0:
         raise Fatal("; ".join(f"{page}: no vulnerabilities in it" for page in empty_pages))
-    bad_names = _bad_names((cve for _, cve in all_of), program)
-    converter = _Converter(bad_names, said, is_decided)
-    converter.found.empty_pages = empty_pages
-    for id, vulnerability in all_of:
-        converter.take(id, vulnerability)
+    states = states or States()
+    of_ids: dict[str, list[Placed]] = {}
+    for page in states.sort(latest.advisories(found, said)):
+        for placed in page.each("vulnerability", lambda it: text_at(member(it, "cve"), "id")):
+            of_ids.setdefault(placed.id, []).append(placed)
+    states.drop(of_ids)
+    states.tell(said)
+    converter = _Converter(_bad_names((one.record for of_id in of_ids.values() for one in of_id), program), said, is_decided)
+    converter.found.states, converter.found.empty_pages = states, empty_pages
+    for of_id in of_ids.values():
+        converter.take(of_id)
     return converter.found
 
 
@@ -235,8 +268,11 @@ def _all_matches(vulnerability: Json) -> Iterator[Json]:
     """The matches of whatever is of the published form there."""
     try:
         for configuration in members(member(vulnerability, "cve"), "configurations"):
-            for node in members(configuration, "nodes"):
+            waiting = list(members(configuration, "nodes"))
+            while waiting:
+                node = waiting.pop()
                 yield from members(node, "cpeMatch")
+                waiting.extend(members(node, "children"))
     except FormFault:
         return
 
@@ -247,31 +283,48 @@ class _Converter:
     def __init__(self, bad_names: Mapping[str, str], said: Said, is_decided: bool) -> None:
         self._bad_names, self._said, self._is_decided = bad_names, said, is_decided
         self._matches: dict[str, Match] = {}
+        self._at: Placed
         self.found = Advisories()
 
-    def take(self, id: str, vulnerability: Json) -> None:
-        try:
-            cve = member(vulnerability, "cve")
-            if text_at(cve, "vulnStatus") == "Rejected":
-                self._said.remark("rejected", id)
-                return
-            tests = self._tests(id, members(cve, "configurations"), text_at(cve, "vulnStatus"))
-        except FormFault as fault:
-            self._leave_out(id, str(fault) or "not of the published form")
-            return
+    def take(self, of_id: Sequence[Placed]) -> None:
+        """Takes an advisory, and those of the same id of which isn't known whether they are later."""
+        first, *others = of_id
+        tests = self._tests(first)
+        for other in others:
+            self._at = other
+            more, key = self._tests(other), f"{other.id} {other.source.place(other.number)}"
+            what = f"it isn't as {first.source.place(first.number)}, and neither tells to be later"
+            if more:
+                tests.append({"op": "AND", "of": [{"op": "OR", "of": more}, _check(CONFIGURATION, key)]})
+                self._stand_in(other.id, what, key)
+            else:
+                self._leave_out(other.id, what)
+        self._at = first
         if tests:
-            self.found.candidates.extend(self._statements(id, tests))
-            # (of an id that comes again the first is kept, by cpe too)
-            self.found.details.setdefault(id, details(id, cve))
+            self.found.candidates.extend(self._statements(first.id, tests))
+            self.found.details[first.id] = details(first.id, first.record["cve"])
+            if any(score_of(score) is None for _, _, score, _ in _metrics(first.record["cve"])):
+                self._said.remark("a score that is none is left out", first.id)
 
     def _leave_out(self, id: str, reason: str) -> None:
         # (among the candidates, so that it is said in its place between what cpe refuses)
-        self.found.candidates.append(Candidate(id, reason=reason))
+        self.found.candidates.append(candidate_at(self._at, id, reason=reason))
 
-    def _tests(self, id: str, configurations: list[Json], status: str | None) -> list[Test]:
-        """A test for each configuration with a vulnerable product."""
+    def _tests(self, placed: Placed) -> list[Test]:
+        """A test for each configuration with a vulnerable product; none where it isn't of the published form."""
+        self._at = placed
+        try:
+            cve = member(placed.record, "cve")
+            text_at(cve, "vulnStatus")
+            return self._tests_of(placed.id, members(cve, "configurations"))
+        except FormFault as fault:
+            self._leave_out(placed.id, str(fault) or "not of the published form")
+            return []
+
+    def _tests_of(self, id: str, configurations: list[Json]) -> list[Test]:
         if not configurations:
-            self._leave_out(id, f"no configurations, {status or 'of no status'}")
+            # (of an id that is none, so that it can't be noted as not analysed)
+            self._leave_out(id, "no configurations")
         tests, faults = [], []
         for number, raw in enumerate(configurations, 1):
             try:
@@ -292,20 +345,23 @@ class _Converter:
 
     def _stand_in(self, id: str, what: str, key: str) -> None:
         self.found.stand_ins[key] = what
-        self._leave_out(id, f"{what}: the check {key} stands for it")
+        self._leave_out(id, f"{what}: the check {quoted(key)} stands for it")
 
     def _configuration(self, id: str, configuration: Configuration) -> Test:
-        nodes = [_logic(node, [self._match(id, match) for match in node.matches]) for node in configuration.nodes]
-        test = _logic(configuration, nodes)
+        test = _logic(configuration, [self._node(id, node) for node in configuration.nodes])
         if configuration.needs_vulnerable():
             return test
         vulnerable = [self._match(id, match, True) for match in configuration.matches() if match.is_vulnerable]
         return {"op": "AND", "of": [test, {"op": "OR", "of": vulnerable}]}
 
+    def _node(self, id: str, node: Node) -> Test:
+        matches = [self._match(id, match) for match in node.matches]
+        return _logic(node, [*matches, *(self._node(id, child) for child in node.children)])
+
     def _match(self, id: str, match: Match, is_told: bool = False) -> Test:
         """The test of a match: its name, with a check where it has bounds; a check alone where the name is none."""
         bad = "no name" if match.criteria is None else self._bad_names.get(match.criteria)
-        if not bad and not match.bounds:
+        if not bad and not match.bounds and not match.doubt:
             return {"fact": match.criteria}
         key = self._key(match)
         if not is_told:
@@ -313,22 +369,26 @@ class _Converter:
         return _check(MATCH, key) if bad else {"op": "AND", "of": [{"fact": match.criteria}, _check(MATCH, key)]}
 
     def _key(self, match: Match) -> str:
-        """The id of its check, which no other match has, and which can stand in a line with tabs."""
-        if match.id and match.id.isprintable() and _same(self._matches.setdefault(match.id, match), match):
+        """The id of its check, which no other match has, and which can stand in a line with tabs. (One with a space is of another kind
+        of check, as asked.py has them.)"""
+        if match.id and match.id.isprintable() and " " not in match.id and _same(self._matches.setdefault(match.id, match), match):
             return match.id
-        return match.text()
+        text = match.text()
+        return f"match {text}" if text.startswith(("not ", "part ")) else text
 
     def _tell(self, id: str, match: Match, key: str, bad: str | None) -> None:
         fault = match.fault()
-        if bad:
-            self._stand_in(id, f"{bad}: {match.text()}", key)
-        elif fault:
-            self._stand_in(id, f"{fault}: {match.text()}", key)
+        if match.doubt and not bad:
+            # (it was read, and is UNKNOWN since it says so)
+            self.found.stand_ins[key] = f"{quoted(match.criteria)}: {match.doubt}"
+        elif bad or fault:
+            self._stand_in(id, f"{bad or fault}: {quoted(match.text())}", key)
         else:
             self.found.ranges[key] = match.range(key)
             if not self._is_decided:
                 bounds = match.range(key).words()
-                self._said.remark(f"{id}: versions of {match.criteria} {bounds}: the check {key} stands for them")
+                what = f"versions of {quoted(match.criteria)} {quoted(bounds)}"
+                self._said.remark(f"{what}: the check {quoted(key)} stands for them", id)
 
     def _statements(self, id: str, tests: list[Test]) -> Iterator[Candidate]:
         """A statement, or several where it has more names than a line has room for."""
@@ -340,11 +400,11 @@ class _Converter:
                 test = {"op": "OR", "of": [_check(CONFIGURATION, key)]}
             name = f"{id}#{len(made) + 1}" if made else id
             made.append(record_text(_statement(name, test)))
-        return (Candidate(id, record) for record in made)
+        return (candidate_at(self._at, id, record) for record in made)
 
 
 def _same(one: Match, other: Match) -> bool:
-    return one.criteria == other.criteria and one.bounds == other.bounds
+    return (one.criteria, one.bounds, one.doubt) == (other.criteria, other.bounds, other.doubt)
 
 
 def _statement(id: str, test: Test) -> dict[str, Json]:
@@ -352,8 +412,8 @@ def _statement(id: str, test: Test) -> dict[str, Json]:
 
 
 def _room(id: str) -> int:
-    """How many bytes the test of a statement may have, with room for the number of a part."""
-    return MOST_BYTES - len(record_text(_statement(f"{id}#1000000", {})).encode())
+    """How many bytes the test of a statement may have, with room for the number of a part, and for what it is asked with."""
+    return MOST_BYTES - _ROOM_TO_ASK - len(record_text(_statement(f"{id}#1000000", {})).encode())
 
 
 def _check(href: str, key: str) -> Test:
@@ -436,17 +496,21 @@ def _title(cve: Json) -> str | None:
 
 def _score(cve: Json) -> dict[str, Json]:
     """The score of NVD, or else that of another source, by the newest version of CVSS in which there is one."""
-    found = []
-    for place, version in enumerate(_SCORES):
-        for metric in _found(lambda: members(member(cve, "metrics") or {}, version)) or []:
-            data = _found(lambda: member(metric, "cvssData"))
-            if isinstance(data, dict) and isinstance(data.get("baseScore"), (int, float)):
-                severity = data.get("baseSeverity") or metric.get("baseSeverity")
-                found.append((metric.get("type") != "Primary", place, data["baseScore"], severity))
+    found = [one for one in _metrics(cve) if score_of(one[2]) is not None]
     if not found:
         return {}
     _, _, score, severity = min(found, key=lambda one: one[:2])
     return {"score": score, "severity": severity if isinstance(severity, str) else None}
+
+
+def _metrics(cve: Json) -> Iterator[tuple[bool, int, Json, Json]]:
+    """Of each metric whether it is of another source than NVD, the place of its version of CVSS, its score and severity."""
+    for place, version in enumerate(_SCORES):
+        for metric in _found(lambda: members(member(cve, "metrics") or {}, version)) or []:
+            data = _found(lambda: member(metric, "cvssData"))
+            if isinstance(data, dict) and "baseScore" in data:
+                severity = data.get("baseSeverity") or metric.get("baseSeverity")
+                yield metric.get("type") != "Primary", place, data["baseScore"], severity
 
 
 def _url(id: str, cve: Json) -> str | None:
@@ -457,9 +521,10 @@ def _url(id: str, cve: Json) -> str | None:
 
 
 def run(words: Sequence[str]) -> int:
-    read = read_words(words, {"--ranges": ONE, "--details": ONE}, USAGE)
+    read = read_words(words, {"--ranges": ONE, "--details": ONE, **whole.OPTIONS}, USAGE)
     said, output, program = Said(), Output(), Program()
-    found = convert(pages(read.files, said, KINDS), program, said, read.has("--ranges"))
+    feed = whole.pages(read.files, said, KINDS, reading=whole.Reading.of(read))
+    found = convert(feed, program, said, read.has("--ranges"))
     found.tell_empty_pages(said)
     output.lines(program.accepted(found.candidates, said))
     ranges, details_to = read.one("--ranges"), read.one("--details")

@@ -24,7 +24,8 @@ from typing import Protocol
 from .feeds import Json
 from .fleet import Decided, read_decided
 from .hanging import Hanging, json_lines, read_ranges, records_with_checks
-from .said import Fatal, Output, Said
+from .said import Fatal, Output, Said, shown
+from .scores import score_of
 from .suppressed import Suppressed, read_suppressed
 from .table import counted, cut, table
 from .verdicts import TRUTHS, Machine, Verdicts, read_verdicts
@@ -38,24 +39,28 @@ _MOST_HANGING = 3
 
 
 class Hangs(Protocol):
-    """What tells on what an UNKNOWN of a machine hangs, in words."""
+    """What tells on what an UNKNOWN of a machine hangs, and what is remarked of a TRUE, in words."""
 
     def on(self, advisory: str, machine: str | None) -> list[str]:
+        ...
+
+    def remarks(self, advisory: str, machine: str | None) -> list[str]:
         ...
 
 
 @dataclass
 class About:
-    """What is known of advisories beside their verdicts."""
+    """What is known of advisories beside their verdicts; `doubts` are reasons why what is FALSE could be another verdict."""
 
     details: dict[str, Json]
     suppressed: Suppressed
     hanging: Hangs
+    doubts: list[str] = field(default_factory=list)
     accepted: list[tuple[str | None, str, str, str]] = field(default_factory=list)
 
     def score(self, id: str) -> float:
-        score = self.details.get(id, {}).get("score")
-        return float(score) if isinstance(score, (int, float)) else -1.0
+        score = score_of(self.details.get(id, {}).get("score"))
+        return -1.0 if score is None else float(score)
 
     def accepted_for(self, id: str, truth: str, machine: str | None) -> str | None:
         """Why this verdict is accepted, None where it isn't; there is nothing to accept where it is FALSE."""
@@ -116,16 +121,23 @@ def _rows(machine: Machine, about: About) -> Iterator[list[str]]:
     name = machine.name or ""
     if not machine.has_items:
         yield [name, "", "no items", "", "", ""]
-    shown = sorted(machine.shown.items(), key=lambda row: (TRUTHS.index(row[1]), -about.score(row[0])))
+    shown = sorted(machine.shown.items(), key=lambda row: (machine.rank(row[0]), -about.score(row[0])))
     for id, truth in shown:
         reason = about.accepted_for(id, truth, machine.name)
         if reason is not None:
             about.accepted.append((machine.name, id, truth, reason))
             continue
         detail = about.details.get(id, {})
-        score, title = detail.get("score"), detail.get("title")
-        hangs = about.hanging.on(id, machine.name) if truth == "UNKNOWN" else []
-        yield [name, truth, id, "" if score is None else str(score), cut(str(title or ""), _TITLE_WIDTH), _some(hangs)]
+        score, title = score_of(detail.get("score")), detail.get("title")
+        yield [name, truth, id, "" if score is None else str(score), cut(str(title or ""), _TITLE_WIDTH), _some(_told(machine, id, truth, about))]
+
+
+def _told(machine: Machine, id: str, truth: str, about: About) -> list[str]:
+    """What stands beside a verdict in words."""
+    if truth == "FALSE":
+        return about.doubts
+    tells = {"UNKNOWN": about.hanging.on, "TRUE": about.hanging.remarks}
+    return tells[truth](id, machine.name) if truth in tells else []
 
 
 def _some(texts: list[str]) -> str:
@@ -135,16 +147,20 @@ def _some(texts: list[str]) -> str:
 
 def _accepted_line(machine: str | None, id: str, truth: str, reason: str) -> str:
     where = "" if machine is None else f"{machine} "
-    return f"accepted {where}{id} {truth}: {reason}"
+    return shown(f"accepted {where}{id} {truth}: {reason}")
 
 
 def _count(verdicts: Verdicts, about: About) -> str:
     counts: Counter[str] = Counter()
     for machine in verdicts.machines:
-        counts.update(machine.shown.values())
+        counts.update(machine.kind(id) for id in machine.shown)
         counts["FALSE"] += machine.statements.count - len(machine.shown)
-    counts.subtract(truth for _, _, truth, _ in about.accepted)
-    numbers = ", ".join(f"{counts[truth]} {truth}" for truth in TRUTHS if truth != "FALSE") + f", {counts['FALSE']} FALSE"
+        counts["strict"] += sum(machine.kind(id) == "FALSE" for id in machine.perhaps)
+    by_name = {machine.name: machine for machine in verdicts.machines}
+    counts.subtract(by_name[name].kind(id) for name, id, _, _ in about.accepted)
+    numbers = ", ".join(f"{counts[truth]} {truth}" for truth in TRUTHS if truth != "FALSE")
+    numbers += f", {counts['perhaps']} perhaps" if counts["perhaps"] else ""
+    numbers += f", {counts['FALSE']} FALSE" + (f", of which {counts['strict']} perhaps" if counts["strict"] else "")
     accepted = f", {len(about.accepted)} accepted" if about.accepted else ""
     if not verdicts.has_machines:
         return f"{counted(verdicts.machines[0].statements.count, 'statement')}: {numbers}{accepted}"

@@ -1,10 +1,10 @@
 """Which statements are asked of which machine, and over what, so that a run of cpe has no more to do than it must.
 
-A machine is asked for those statements alone whose verdict may be another than that of a machine without items: those with a
-fact, or an end of it, of the vendor and product of some end of the machine's items, or of no plain vendor or product. Of a range
-that is so only where it is TRUE or UNKNOWN there, since where all versions are outside it is FALSE as without items. A statement
-is asked over those items alone that may fit its facts, and once for all machines that have the same ones. An item whose vendor or
-product is a pattern may fit every fact.
+Statements are asked in mode plain, over all names of the items (calling.py), so both as names stand and as they lead on. A machine is
+asked for those statements alone whose verdict may be another than that of a machine without items: those with a fact of the vendor
+and product of some name of the machine's items, or of no plain vendor or product. Of a range that is so only where it is TRUE or
+UNKNOWN there, since where all versions are outside it is FALSE as without items. A statement is asked over those names alone that may
+fit its facts, and once for all machines that have the same ones. A name whose vendor or product is a pattern may fit every fact.
 """
 from __future__ import annotations
 
@@ -14,7 +14,10 @@ from dataclasses import dataclass, field
 
 from . import names
 from .advisories import Range
-from .decide import Decided, Lead, Leads, check_record, drop_record
+from .asked import OF_DEVICES, PARTS, Negated, asked_of, range_of
+from .called import Called, Sure
+from .calling import Wanted
+from .decide import Decided, Leads, check_record, drop_record
 from .feeds import Json, record_text
 from .said import Fatal
 
@@ -28,8 +31,8 @@ Results = tuple[tuple[str, bool], ...]
 
 @dataclass(frozen=True)
 class Statement:
-    """What is looked at of a statement: its id, its facts but those of ranges, the ranges by the ids of their checks, and the ids
-    of all its checks."""
+    """What is looked at of a statement: its id, its facts but those of ranges, the ranges by the ids of their checks, and the ids of
+    all its checks."""
 
     id: str
     facts: tuple[str, ...]
@@ -37,8 +40,7 @@ class Statement:
     checks: tuple[str, ...]
 
     @staticmethod
-    def of(record: str, ranges: Mapping[str, Range]) -> Statement:
-        value = json.loads(record)
+    def of(value: Json, ranges: Mapping[str, Range]) -> Statement:
         facts: dict[str, None] = {}
         ranged: dict[str, None] = {}
         checks: dict[str, None] = {}
@@ -57,18 +59,10 @@ class Statement:
         return Statement(value["id"], tuple(facts), tuple(ranged), tuple(checks))
 
 
-def range_of(test: Json) -> str | None:
-    """The id of the check where a test is a name and the check of its range."""
-    of = test.get("of", ())
-    if test.get("op") != "AND" or test.get("negate") or len(of) != 2 or "fact" not in of[0] or "check" not in of[1]:
-        return None
-    key: str = of[1]["check"]["id"]
-    return key
-
-
 @dataclass
 class Known:
-    """What the feeds tell, and what is known of the names in them and of the items."""
+    """What the feeds tell, and what is known of the names in them and of the items. `asked` are the statements as they are asked, and
+    `negated` is what is negated there."""
 
     entries: list[str]
     records: list[str]
@@ -76,13 +70,24 @@ class Known:
     details: dict[str, dict[str, Json]]
     stand_ins: Mapping[str, str]
     statements: list[Statement] = field(init=False)
+    asked: list[str] = field(init=False)
+    negated: dict[str, Negated] = field(init=False)
 
     def __post_init__(self) -> None:
-        self.statements = [Statement.of(record, self.ranges) for record in self.records]
+        self.statements, self.asked, self.negated = [], [], {}
+        for record in self.records:
+            value = asked_of(json.loads(record), self.negated)
+            self.statements.append(Statement.of(value, self.ranges))
+            self.asked.append(record_text(value))
+
+    def facts(self) -> list[str]:
+        """The names that statements and ranges ask for."""
+        facts = [fact for statement in self.statements for fact in statement.facts]
+        return [*facts, *(one.fact for one in self.negated.values()), *(one.criteria for one in self.ranges.values())]
 
 
 class Index:
-    """The statements by vendor and product of what their facts lead to, and by their ranges."""
+    """The statements by vendor and product of their facts, and by their ranges."""
 
     def __init__(self, known: Known, leads: Leads) -> None:
         self._by_product: dict[Product, list[int]] = {}
@@ -90,25 +95,35 @@ class Index:
         self._of_all_products: list[int] = []
         # (of each statement the products that its facts may fit, and whether these are all)
         self._products: list[tuple[set[Product], bool]] = []
+        self._wanted: list[Wanted] = []
         for place, statement in enumerate(known.statements):
-            plain, is_all = _products(statement.facts, leads)
+            facts = [leads.found[fact].name for fact in statement.facts]
+            plain, is_all = _products(facts)
             for product in plain:
                 self._by_product.setdefault(product, []).append(place)
             if is_all:
                 self._of_all_products.append(place)
-            for key in statement.ranges:
+            negated = [known.negated[key] for key in statement.checks if key in known.negated]
+            for key in (*statement.ranges, *(one.key for one in negated)):
                 self._by_range.setdefault(key, []).append(place)
-            ranged, is_all_ranged = _products((known.ranges[key].criteria for key in statement.ranges), leads)
+            criteria = [leads.found[known.ranges[key].criteria].name for key in statement.ranges]
+            ranged, is_all_ranged = _products(criteria)
             self._products.append((plain | ranged, is_all or is_all_ranged))
+            self._wanted.append(Wanted([*facts, *criteria, *(leads.found[one.fact].name for one in negated)]))
 
-    def concerned(self, leads: Iterable[Lead], decided: Decided) -> list[int]:
-        """The places of the statements that may have another verdict than without these items, in order."""
+    def concerned(self, products: Iterable[Product], decided: Decided) -> list[int]:
+        """The places of the statements that may have another verdict than without items of these products, in order."""
         found = set(self._of_all_products)
-        for product in {_product_of(end) for lead in leads for end in lead.ends}:
+        for product in products:
             found.update(range(len(self._products)) if product == _OPEN else self._by_product.get(product, ()))
         for key in [*(key for key, is_inside in decided.truths.items() if is_inside), *decided.unsure]:
             found.update(self._by_range.get(key, ()))
         return sorted(found)
+
+    def asks_for_more(self, place: int, less: Mapping[Product, frozenset[int]]) -> bool:
+        """Whether a fact of this statement says something of what names of these products don't."""
+        wanted = self._wanted[place]
+        return wanted.are_any() and any(not unsaid.isdisjoint(wanted.places(product)) for product, unsaid in less.items())
 
     def items(self, place: int, by_product: Mapping[Product, Items], all_items: Items) -> Items:
         """Those items that may fit the facts of a statement, of such by product that are in order."""
@@ -120,19 +135,18 @@ class Index:
         return found[0] if len(found) == 1 else tuple(sorted({item for items in found for item in items}))
 
 
-def _products(facts: Iterable[str], leads: Leads) -> tuple[set[Product], bool]:
-    """The plain products of what these lead to, and whether there is one that isn't plain."""
-    products = {names.product_of(end) for fact in facts for end in leads.found[fact].ends}
+def _products(facts: Iterable[str]) -> tuple[set[Product], bool]:
+    """The plain products of these names, and whether there is one that isn't plain."""
+    products = set(map(names.product_of, facts))
     plain = {product for product in products if all(map(names.is_plain, product))}
     return plain, len(plain) < len(products)
 
 
-def items_by_product(ends: Iterable[tuple[str, Iterable[str]]]) -> dict[Product, Items]:
-    """Items with their ends, by the products of these, in order."""
+def _by_product(called: Iterable[Called]) -> dict[Product, Items]:
+    """Names by their products, in order."""
     found: dict[Product, set[str]] = {}
-    for item, ends_of_item in ends:
-        for end in ends_of_item:
-            found.setdefault(_product_of(end), set()).add(item)
+    for one in called:
+        found.setdefault(_product_of(one.name), set()).add(one.name)
     return {product: tuple(sorted(items)) for product, items in found.items()}
 
 
@@ -143,17 +157,24 @@ def _product_of(end: str) -> Product:
 
 
 class Cases:
-    """Statements that are asked over items and results of checks, each such case once."""
+    """Statements that are asked over names of items and results of checks, each such case once."""
 
     def __init__(self, known: Known, index: Index, is_all_asked: bool = False) -> None:
         self._known, self._index, self._is_all_asked = known, index, is_all_asked
         self._numbers: dict[tuple[Items, Results, int], int] = {}
 
-    def put(self, leads: Collection[Lead], decided: Decided) -> dict[int, int]:
-        """The cases of a machine by the places of the statements that are asked of it."""
-        all_items = tuple(sorted({lead.name for lead in leads}))
-        by_product = items_by_product((lead.name, lead.ends) for lead in leads)
-        places = range(len(self._known.statements)) if self._is_all_asked else self._index.concerned(leads, decided)
+    def put(self, called: Sequence[Called], decided: Decided) -> dict[int, int]:
+        """The cases of a machine whose items are called so, by the places of the statements that are asked of it."""
+        by_product = _by_product(called)
+        if self._is_all_asked:
+            places = list(range(len(self._known.statements)))
+        else:
+            places = self._index.concerned(by_product, decided)
+        # (where an item says less, it is asked for beside the others, where a fact says more)
+        less = _unsaid(called)
+        if less and not self._is_all_asked:
+            places = [place for place in places if self._index.asks_for_more(place, less)]
+        all_items = tuple(sorted({one.name for one in called}))
         truths, cases = decided.truths, {}
         for place in places:
             items = all_items if self._is_all_asked else self._index.items(place, by_product, all_items)
@@ -166,22 +187,28 @@ class Cases:
         return sorted((*case, number) for case, number in self._numbers.items())
 
 
-# Cases in order, and the edits of the dictionary that stand before them.
-Part = tuple[Sequence[str], Sequence[tuple[Items, Results, int, int]]]
+def _unsaid(called: Iterable[Called]) -> dict[Product, frozenset[int]]:
+    """The attributes that items say nothing of, by their products."""
+    found: dict[Product, frozenset[int]] = {}
+    for one in called:
+        if one.sure is Sure.LESS:
+            product = _product_of(one.name)
+            found[product] = found.get(product, frozenset()) | one.lacks
+    return found
 
 
-def lines_of(known: Known, parts: Iterable[Part]) -> Iterator[str]:
-    """All that is known, a question for each statement, and then the cases: the statement of each, over its items and results."""
-    yield from known.entries
-    yield from known.records
+def lines_of(known: Known, cases: Iterable[tuple[Items, Results, int, int]]) -> Iterator[str]:
+    """All that is known, a question for each statement, and then the cases: the statement of each, over its items and results.
+
+    No entry is among it: in mode plain nothing is led on.
+    """
+    yield from known.asked
     asks = [record_text({"do": "verdict", "id": statement.id}) for statement in known.statements]
+    # (where nothing is, nothing is there of what is negated, nor of any part)
+    nothing = [*known.negated, *PARTS.values(), *OF_DEVICES.values()]
+    yield from (check_record(key, False) for key in nothing)
     yield from asks
-    for edits, cases in parts:
-        yield from edits
-        yield from _lines_of_cases(asks, cases)
-
-
-def _lines_of_cases(asks: Sequence[str], cases: Iterable[tuple[Items, Results, int, int]]) -> Iterator[str]:
+    yield from (drop_record(key) for key in nothing)
     here: Items = ()
     for items, results, place, _ in cases:
         if items != here:

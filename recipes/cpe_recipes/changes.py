@@ -7,16 +7,18 @@ It writes a line for each verdict that isn't FALSE on one side at least, and isn
     gone MACHINE ID BEFORE AFTER        it is FALSE now, or isn't there any more
     changed MACHINE ID BEFORE AFTER     it is another one
 
-BEFORE and AFTER are truths, or `none` where there is no verdict: the machine isn't there, or has no items there, or the
-advisory isn't there. That a machine has no items any more is said, and the status is 1: what is gone then isn't mended.
-Verdicts of one inventory have no MACHINE. The status is 2, and nothing is written, where a side isn't whole.
+BEFORE and AFTER are truths, or `none` where there is no verdict, and behind an AFTER that is `none` stands why: the machine isn't there,
+or has no items there; the advisory isn't analysed there, is rejected, was left out, or isn't in the feeds; or there is a FALSE that could
+be another verdict, since pages of the dictionary or of the match feed are missing. What is gone so isn't mended. It is said, and the
+status is 1, where a machine has no items any more, and where an advisory was left out or isn't in the feeds; not where it isn't
+analysed, or rejected. Verdicts of one inventory have no MACHINE. The status is 2, and nothing is written, where a side isn't whole.
 """
 from __future__ import annotations
 
 from collections.abc import Iterator
 
 from .feeds import name_of
-from .said import Fatal, Output, Said
+from .said import Fatal, Output, Said, shown
 from .verdicts import Machine, Verdicts, read_verdicts
 from .words import read_words
 
@@ -28,33 +30,54 @@ def run(words: list[str]) -> int:
     if len(paths) != 2:
         raise Fatal(f"usage: {USAGE}")
     said, output = Said(), Output()
-    before, after = (read_verdicts(path) for path in paths)
-    if before.has_machines != after.has_machines:
-        bare, other = paths if after.has_machines else reversed(paths)
-        raise Fatal(f"{name_of(other)} has machines, and {name_of(bare)} has none")
-    output.lines(list(changes(before, after, said)))
-    output.end()
+    output.lines(list(between(*paths, said)))
+    output.end(shown)
     return said.status()
+
+
+def between(before_path: str, after_path: str, said: Said) -> Iterator[str]:
+    """The lines of the changes from the one file to the other."""
+    before, after = read_verdicts(before_path), read_verdicts(after_path)
+    if before.has_machines != after.has_machines:
+        bare, other = (before_path, after_path) if after.has_machines else (after_path, before_path)
+        raise Fatal(f"{name_of(other)} has machines, and {name_of(bare)} has none")
+    return changes(before, after, said)
 
 
 def changes(before: Verdicts, after: Verdicts, said: Said) -> Iterator[str]:
     """The lines of the changes, in the order of the machines and advisories of before, and then of those that are new."""
     olds = {machine.name: machine for machine in before.machines}
     news = {machine.name: machine for machine in after.machines}
+    lost: dict[str, str] = {}
     for name in {**olds, **news}:
-        old, new = olds.get(name, Machine(name)), news.get(name, Machine(name))
+        old, new = olds.get(name, Machine(name)), news.get(name)
         where = "" if name is None else f"{name} "
-        if name not in news:
+        if new is None:
             said.remark(f"{name} is no machine any more")
         elif not new.has_items:
             said.left_out(name or "", "no items")
-        for id in {**old.shown, **new.shown}:
-            truths = old.truth(id) or "none", new.truth(id) or "none"
-            if truths[0] != truths[1]:
-                yield f"{_word(id, old, new)} {where}{id} {truths[0]} {truths[1]}"
+        for id in {**old.shown, **(new.shown if new else {})}:
+            then, (now, why) = old.truth(id), _now(id, new, after)
+            if then == now:
+                continue
+            if now is None and new is not None and new.has_items and not after.is_told_of(id):
+                lost[id] = why
+            yield f"{_word(id, old, new)} {where}{id} {then or 'none'} {now or 'none'}{why and ' '}{why}"
+    for id, why in lost.items():
+        said.left_out(id, why)
 
 
-def _word(id: str, old: Machine, new: Machine) -> str:
+def _now(id: str, machine: Machine | None, after: Verdicts) -> tuple[str | None, str]:
+    """The verdict after, or None and why there is none."""
+    if machine is None or not machine.has_items:
+        return None, "it is no machine any more" if machine is None else "no items"
+    truth = machine.truth(id)
+    if truth is None or truth == "FALSE" and after.doubts:
+        return None, after.why_none(id) if truth is None else "; ".join(after.doubts)
+    return truth, ""
+
+
+def _word(id: str, old: Machine, new: Machine | None) -> str:
     if id not in old.shown:
         return "new"
-    return "changed" if id in new.shown else "gone"
+    return "changed" if new is not None and id in new.shown else "gone"

@@ -3,8 +3,11 @@
 For each range and machine, where the name of the range covers an item of the machine or an end that the item leads to:
 
 1. TRUE where the match feed's own list for that match has the item or an end of it;
-2. else TRUE where the version of some end is in the range, by the order of `cpe advise`, and FALSE where that of none is;
-3. where the order can't be trusted (versions.py says when), there is no answer, and it is said: the check stays UNKNOWN.
+2. else TRUE where the version of some end is in the range, by all orders that it may have, and FALSE where that of none is;
+3. where not all orders lead to the same (versions.py), there is no answer, and it is said: the check stays UNKNOWN.
+
+Which order a version has is told by the kind of the component, if its list says it. The order of `cpe advise` is one of those that are
+possible where nothing is said, and what it makes of a range is asked of cpe.
 
 An end that is known in part, since its name has a pattern, may be covered by the name of the range. Then the answer is FALSE where
 all versions that its pattern begins with are outside, and else there is none.
@@ -17,17 +20,21 @@ tabs between them.
 """
 from __future__ import annotations
 
+import itertools
 from collections.abc import Collection, Iterable, Iterator, Mapping, Sequence
 from dataclasses import dataclass, field, replace
 from pathlib import Path
 
-from . import matches, names
+from . import matches, names, whole
 from .advisories import MATCH, SYSTEM, Range, is_bound
-from .feeds import FeedFault, FormFault, name_of, pages, read_feed, record_text, text_lines, values_of
-from .machines import Machine, read_machines
+from .called import Called, Sure
+from .components import Machine
+from .feeds import FeedFault, FormFault, name_of, read_feed, record_text, text_lines, values_of
+from .machines import read_machines
 from .program import Program
+from .readings import without_v
 from .said import Fatal, Output, Said
-from .versions import Letters, Standing, is_outside_from, read_letters, standing, sure_beginning
+from .versions import Letters, Standing, Upward, is_outside_from, plain_standing, read_letters, standing, sure_beginning
 from .words import MANY, ONE, read_words
 
 USAGE = "decide.py --ranges FILE.. --records FILE.. --machines FILE [--matches FILE..] [--letters FILE]"
@@ -35,17 +42,30 @@ LETTERS = str(Path(__file__).resolve().parents[1] / "letters.txt")
 
 # The edits by which names lead on. (Where such a word stands in a text, its quotes have a backslash.)
 _LEADING = ('"entry"', '"deprecate"', '"amend"', '"restore"')
+
+
+@dataclass(frozen=True)
+class Backported:
+    """How a distribution's package stands to a range that has the version of its upstream: it is in it, unless the distribution
+    mended it in this release."""
+
+    release: str
+
+
 # How an end stands to a range: whether it is in it, or the reason why that isn't sure.
-Stand = bool | str
+Stand = bool | str | Backported
 
 
 @dataclass(frozen=True)
 class Lead:
-    """What the dictionary makes of a name: how cpe writes it, whether it is an entry there, and the ends it leads to."""
+    """What the dictionary makes of a name: how cpe writes it, whether it is an entry there, the ends it leads to, and the names on
+    the way, itself among them; and of an item the kind of its component, if its list says it."""
 
     name: str
     is_entry: bool
     ends: tuple[str, ...]
+    steps: tuple[str, ...] = ()
+    kind: str = ""
 
     def is_removed(self) -> bool:
         """Whether it leads nowhere, since a name was removed from the dictionary."""
@@ -54,39 +74,49 @@ class Lead:
 
 @dataclass
 class Leads:
-    """Names, as they were written, with where they lead; and those that are refused, with the reasons."""
+    """Names, as they were written, with where they lead; those that are refused, with the reasons; and of names that were searched
+    for how many active entries they cover."""
 
     found: dict[str, Lead] = field(default_factory=dict)
     refused: dict[str, str] = field(default_factory=dict)
+    active: dict[str, int] = field(default_factory=dict)
 
 
-def leads_of(program: Program, records: Sequence[str], items: Iterable[str], facts: Iterable[str]) -> Leads:
+def leads_of(
+    program: Program, records: Sequence[str], items: Iterable[str], facts: Iterable[str], searched: Sequence[str] = ()
+) -> Leads:
     """Where these names lead by these records. (What is refused of the records is told where they are evaluated.)"""
     asked = [*((name, True) for name in dict.fromkeys(items)), *((name, False) for name in dict.fromkeys(facts))]
     reasons: dict[int, str] = {}
-    chains: list[tuple[str, bool, list[str]]] = []
-    for line in program.lines(["resolve"], _questions(records, asked)):
+    chains: list[tuple[str, bool, list[str], list[str]]] = []
+    searches = [record_text({"do": "search", "name": name, "active": True}) for name in searched]
+    counts: list[int] = []
+    for line in program.lines(["resolve"], itertools.chain(_questions(records, asked), searches)):
         word, rest = line.split(" ", 1)
         if word == "refused":
             number, reason = rest.split(" ", 1)
             reasons[int(number)] = reason
         elif word == "chain":
             name, steps, _ = rest.rsplit(" ", 2)
-            chains.append((name, steps != "0", []))
+            chains.append((name, steps != "0", [], []))
         elif word == "end":
             chains[-1][2].append(rest)
-    leads, answers = Leads(), iter(chains)
+        elif word == "step":
+            chains[-1][3].append(rest.partition(" ")[0])
+        elif word == "search":
+            counts.append(int(rest.rpartition(" ")[2]))
+    leads, answers = Leads(active=dict(zip(searched, counts, strict=True))), iter(chains)
     for place, (name, is_item) in enumerate(asked):
         first = len(records) + 1 + 3 * place
         if first in reasons:
             leads.refused[name] = reasons[first]
             continue
-        written, is_entry, ends = next(answers)
+        written, is_entry, ends, steps = next(answers)
         # (the edits that try an item stand after the question)
         if is_item and first + 1 in reasons:
             leads.refused[name] = reasons[first + 1]
         else:
-            leads.found[name] = Lead(written, is_entry, tuple(ends))
+            leads.found[name] = Lead(written, is_entry, tuple(ends), tuple(steps))
     return leads
 
 
@@ -102,27 +132,46 @@ def _questions(records: Sequence[str], asked: Iterable[tuple[str, bool]]) -> Ite
 
 @dataclass(frozen=True)
 class Unsure:
-    """Why a range has no answer on a machine: an end that it covers, and what can't be trusted there."""
+    """Why a range has no answer on a machine: an end that it covers, empty where the reason has its name, and what can't be trusted
+    there."""
 
     key: str
     end: str
     reason: str
 
+    def words(self) -> str:
+        return f"{self.end}: {self.reason}" if self.end else self.reason
+
 
 @dataclass
 class Decided:
     """What is decided of a machine: the truths of checks by their ids, those that have none, and of each that is TRUE the first item
-    that makes it so."""
+    that makes it so. Where only packages of distributions do, which may be mended without a new version, each is in `backported`."""
 
     truths: dict[str, bool] = field(default_factory=dict)
     unsure: dict[str, Unsure] = field(default_factory=dict)
     inside: dict[str, str] = field(default_factory=dict)
+    backported: dict[str, dict[str, None]] = field(default_factory=dict)
 
     def put(self, key: str, is_inside: bool, item: str) -> None:
         """Puts how an item stands to the range of a check."""
         self.truths[key] = self.truths.get(key, False) or is_inside
         if is_inside:
             self.inside.setdefault(key, item)
+            self.backported.pop(key, None)
+
+    def put_backported(self, key: str, item: str, release: str) -> None:
+        """Puts that a distribution's package of this release is inside by the version of its upstream."""
+        if not self.truths.get(key) or key in self.backported:
+            self.backported.setdefault(key, {})[f"backported? {item}: release {release}"] = None
+        self.truths[key] = True
+        self.inside.setdefault(key, item)
+
+    def joined(self, other: Decided) -> Decided:
+        """What is decided where both hold: TRUE if one says so, else without an answer if one has none."""
+        unsure = {key: one for key, one in {**other.unsure, **self.unsure}.items() if not self.truths.get(key)}
+        truths = {key: truth for key, truth in {**other.truths, **self.truths}.items() if key not in unsure}
+        return Decided(truths, unsure, self.inside, self.backported)
 
     def clear(self) -> None:
         """Lets go of what the verdicts have too."""
@@ -133,45 +182,59 @@ class Decided:
 class Decider:
     """How each end of the machines stands to each range that may concern it."""
 
-    def __init__(self, program: Program, ranges: Collection[Range], leads: Leads, items: Iterable[str], letters: Letters) -> None:
+    def __init__(self, program: Program, ranges: Collection[Range], leads: Leads, ends: Iterable[str], letters: Letters) -> None:
         self._program, self._letters = program, letters
-        self._stands: dict[str, dict[str, Stand]] = {}
-        ends = {end: None for item in items if item in leads.found for end in leads.found[item].ends}
-        sure = [end for end in ends if not names.is_known_in_part(end)]
-        near = _Near(ends)
+        # (of each end the ranges of plain criteria that cover it, and whether it is inside by cpe)
+        self._covering: dict[str, tuple[_End, list[tuple[Range, bool]]]] = {}
+        self._others: dict[str, dict[str, Stand]] = {}
+        self._stands: dict[tuple[str, str], dict[str, Stand]] = {}
+        self.criteria: dict[str, str] = {}
+        sure: list[str] = []
+        in_part: list[str] = []
+        for end in dict.fromkeys(ends):
+            (in_part if names.is_known_in_part(end) else sure).append(end)
+        near, near_in_part = _Near(sure), _Near(in_part)
         plain: list[Range] = []
-        odd: list[tuple[Range, Lead, str]] = []
-        asked_of_patterns: list[tuple[Range, Lead]] = []
+        odd: list[tuple[Range, str]] = []
+        asked_of_patterns: list[Range] = []
         for one in ranges:
             lead = leads.found.get(one.criteria)
-            near_ends = [end for fact in lead.ends for end in near.ends(fact)] if lead is not None else []
-            if lead is None or not near_ends:
+            if lead is None:
                 continue
             # (by its name as cpe writes it, of which vendor and product can be told)
             asked = _asked(replace(one, criteria=lead.name), letters)
-            if any(map(names.is_known_in_part, near_ends)):
-                asked_of_patterns.append((asked, lead))
-            reason = _oddness(lead, asked)
-            if reason:
-                odd.append((asked, lead, reason))
-            else:
-                plain.append(asked)
+            self.criteria[one.key] = lead.name
+            if near_in_part.ends(lead.name):
+                asked_of_patterns.append(asked)
+            if near.ends(lead.name):
+                reason = _oddness(asked)
+                if reason:
+                    odd.append((asked, reason))
+                else:
+                    plain.append(asked)
         if plain:
             self._ask_advise(sure, plain)
         if odd:
             self._ask_compare(near, odd)
         if asked_of_patterns:
-            self._ask_items([end for end in ends if names.is_known_in_part(end)], asked_of_patterns)
+            self._ask_items(in_part, asked_of_patterns)
 
-    def stands(self, end: str) -> Mapping[str, Stand]:
-        """How this end stands to the ranges that cover it, by the ids of their checks."""
-        return self._stands.get(end, {})
+    def stands(self, end: str, kind: str = "") -> Mapping[str, Stand]:
+        """How this end, as a component of this kind, stands to the ranges that cover it, by the ids of their checks."""
+        found = self._stands.get((end, kind))
+        if found is None:
+            found = self._stands[end, kind] = {**self._others.get(end, {})}
+            covered = self._covering.get(end)
+            if covered is not None:
+                for one, is_inside in covered[1]:
+                    found[one.key] = self._stand(covered[0], kind, one, is_inside)
+        return found
 
     def _put(self, end: str, key: str, stand: Stand) -> None:
-        self._stands.setdefault(end, {})[key] = stand
+        self._others.setdefault(end, {})[key] = stand
 
     def _ask_advise(self, ends: Sequence[str], ranges: Sequence[Range]) -> None:
-        """Puts how the ends stand to ranges of plain criteria."""
+        """Puts which ranges of plain criteria cover the ends, and what cpe says of their versions."""
         asked: dict[str, list[_End]] = {}
         for name in ends:
             end = _End.of(name, self._letters)
@@ -180,34 +243,34 @@ class Decider:
         for one, (covered, inside) in zip(ranges, _pairs(answers, len(ranges))):
             for item in covered:
                 for end in asked[item]:
-                    self._put(end.name, one.key, self._stand(end, one, item in inside))
+                    self._covering.setdefault(end.name, (end, []))[1].append((one, item in inside))
 
-    def _stand(self, end: _End, one: Range, is_inside: bool) -> Stand:
+    def _stand(self, end: _End, kind: str, one: Range, is_inside: bool) -> Stand:
         if end.version is None:
             return "its version isn't known"
-        if self._letters.has(end.product) and names.product_of(one.criteria) != end.product:
+        if end.upward and names.product_of(one.criteria) != end.product:
             return "letters count upward in its versions, and the range is of more than its product"
-        found, reason = standing(end.version, end.update, one)
-        if found is Standing.UNSURE:
-            return f"{reason}, letters that count upward being numbers" if self._letters.has(end.product) else reason
-        # (both orders are one; where they weren't, neither could be trusted)
-        return is_inside if is_inside == (found is Standing.INSIDE) else "cpe orders its version otherwise than this recipe"
+        found = standing(end.version, end.update, one, kind, end.upward)
+        # (its own order may lead to another answer than the one of cpe; but of that this recipe thinks as cpe does)
+        if is_inside != (found.standing is Standing.INSIDE) and is_inside != plain_standing(end.asked_version(), one):
+            return "cpe orders its version otherwise than this recipe"
+        if found.standing is Standing.UNSURE:
+            return found.why
+        return Backported(found.release) if found.release else found.standing is Standing.INSIDE
 
-    def _ask_compare(self, near: _Near, odd: Sequence[tuple[Range, Lead, str]]) -> None:
+    def _ask_compare(self, near: _Near, odd: Sequence[tuple[Range, str]]) -> None:
         """Puts the reasons of ranges that can't be asked for, where their facts cover an end."""
-        pairs = [(fact, end, one.key, reason) for one, lead, reason in odd for fact in lead.ends for end in near.ends(fact)]
+        pairs = [(one.criteria, end, one.key, reason) for one, reason in odd for end in near.ends(one.criteria)]
         lines = self._program.lines(["compare"], (f"{fact} {end}" for fact, end, _, _ in pairs))
         for (_, end, key, reason), line in zip(pairs, lines):
             if line.split(" ", 1)[0] in ("SUPERSET", "EQUAL"):
                 self._put(end, key, reason)
 
-
-    def _ask_items(self, ends: Sequence[str], ranges: Sequence[tuple[Range, Lead]]) -> None:
+    def _ask_items(self, ends: Sequence[str], ranges: Sequence[Range]) -> None:
         """Puts how ends that are known in part stand to the ranges whose facts may cover them."""
-        facts = dict.fromkeys(fact for _, lead in ranges for fact in lead.ends)
-        _, may_be = items_met(self._program, ends, facts)
-        for one, lead in ranges:
-            for end in dict.fromkeys(end for fact in lead.ends for end in may_be[fact]):
+        _, may_be = items_met(self._program, ends, dict.fromkeys(one.criteria for one in ranges))
+        for one in ranges:
+            for end in may_be[one.criteria]:
                 self._put(end, one.key, False if self._is_outside(end, one) else "it is known in part")
 
     def _is_outside(self, end: str, one: Range) -> bool:
@@ -217,7 +280,9 @@ class Decider:
             return False
         version = _End.of(end, self._letters).version
         if version is not None:
-            return standing(version, parts[names.UPDATE], one)[0] is Standing.OUTSIDE
+            upward = Upward(self._letters, product) if self._letters.has(product) else None
+            update = parts[names.UPDATE] if parts[names.UPDATE] not in (names.ANY, names.NA) else None
+            return standing(version, update, one, upward=upward).standing is Standing.OUTSIDE
         text = names.beginning(parts[names.VERSION])
         if text is None:
             return False
@@ -273,42 +338,48 @@ class _Near:
 
 @dataclass(frozen=True)
 class _End:
-    """An end: its name, how it is asked for, its vendor and product, and its version and update where they are plain."""
+    """An end: its name, how it is asked for, its vendor and product, its version and update where they are plain, and whether letters
+    count upward there."""
 
     name: str
     asked: str
     product: tuple[str, str]
     version: str | None
     update: str | None
+    upward: Upward | None = None
 
     @staticmethod
     def of(name: str, letters: Letters) -> _End:
         parts = names.components(name)
         product = parts[names.VENDOR], parts[names.PRODUCT]
         version, update = names.body(parts[names.VERSION]), names.body(parts[names.UPDATE])
-        if version is None or not letters.has(product):
+        if version is None:
             return _End(name, name, product, version, update)
-        version, update = letters.with_update(product, version, update)
-        version = letters.rewritten(product, version)
-        parts[names.VERSION] = names.spelled(version)
-        return _End(name, names.joined(parts), product, version, update)
+        upward = Upward(letters, product) if letters.has(product) else None
+        if upward:
+            version, update = letters.with_update(product, version, update)
+        asked = upward.rewritten(version) if upward else without_v(version)
+        if asked != version:
+            parts[names.VERSION] = names.spelled(asked)
+        return _End(name, names.joined(parts) if asked != version else name, product, version, update, upward)
+
+    def asked_version(self) -> str:
+        """The version in the name that is asked for."""
+        return names.body(names.components(self.asked)[names.VERSION]) or ""
 
 
 def _asked(one: Range, letters: Letters) -> Range:
     """The range with its bounds as its product's versions are asked for."""
     product = names.product_of(one.criteria)
-    if not letters.has(product):
-        return one
-    start, end = (bound and letters.rewritten(product, bound) for bound in (one.start, one.end))
-    return replace(one, start=start, end=end)
+    spell = Upward(letters, product).rewritten if letters.has(product) else without_v
+    start, end = (bound and spell(bound) for bound in (one.start, one.end))
+    return one if (start, end) == (one.start, one.end) else replace(one, start=start, end=end)
 
 
-def _oddness(lead: Lead, asked: Range) -> str:
-    """Why a range of a name that leads so can't be asked for."""
-    if lead.ends != (lead.name,):
-        return f"{lead.name} leads to {', '.join(lead.ends) or 'nothing'} by the dictionary"
-    if names.components(lead.name)[names.VERSION] != names.ANY:
-        return f"{lead.name} has a version beside its bounds"
+def _oddness(asked: Range) -> str:
+    """Why a range can't be asked for."""
+    if names.components(asked.criteria)[names.VERSION] != names.ANY:
+        return f"{asked.criteria} has a version beside its bounds"
     if not all(is_bound(bound) for bound in (asked.start, asked.end) if bound is not None):
         return "a bound is no version that cpe takes"
     return ""
@@ -372,25 +443,66 @@ class Lists:
         """The ids of the matches whose lists have this name."""
         return self._keys.get(name, ())
 
+    def by_name(self) -> Iterable[tuple[str, Sequence[str]]]:
+        """Each name that is listed, with the ids of the matches whose lists have it."""
+        return self._keys.items()
 
-def decide(leads: Iterable[Lead], decider: Decider, lists: Lists) -> Decided:
-    """What is decided of a machine with items that lead so."""
+
+def decide(called: Iterable[Called], decider: Decider, lists: Lists) -> Decided:
+    """What is decided of a machine whose items are called so."""
     decided = Decided()
-    for lead in leads:
-        for name in (lead.name, *lead.ends):
-            for key in lists.keys(name):
-                decided.put(key, True, lead.name)
-        for end in lead.ends:
-            for key, stand in decider.stands(end).items():
-                if isinstance(stand, str):
-                    decided.unsure.setdefault(key, Unsure(key, end, stand))
-                else:
-                    decided.put(key, stand, lead.name)
+    for one in called:
+        if one.is_spelled:
+            continue
+        for key in lists.keys(one.meant) if one.sure is not Sure.LESS else ():
+            if one.is_sure():
+                decided.put(key, True, one.item)
+            else:
+                decided.unsure.setdefault(key, Unsure(key, "", one.why))
+        stands = decider.stands(one.name, one.kind)
+        if one.sure is Sure.SURELY:
+            _put_sure(decided, one, stands)
+        else:
+            _put_doubted(decided, one, stands, decider.criteria)
     for key in [key for key in decided.unsure if decided.truths.get(key)]:
         del decided.unsure[key]
     for key in decided.unsure:
         decided.truths.pop(key, None)
     return decided
+
+
+def _put_sure(decided: Decided, one: Called, stands: Mapping[str, Stand]) -> None:
+    """Puts how an item that surely is called so stands to ranges."""
+    truths = decided.truths
+    for key, stand in stands.items():
+        if stand is True:
+            decided.put(key, True, one.item)
+        elif stand is False:
+            truths.setdefault(key, False)
+        elif isinstance(stand, str):
+            decided.unsure.setdefault(key, Unsure(key, one.name, stand))
+        else:
+            decided.put_backported(key, one.item, stand.release)
+
+
+def _put_doubted(decided: Decided, one: Called, stands: Mapping[str, Stand], criteria: Mapping[str, str]) -> None:
+    """The same of an item that perhaps is called so, or whose version is another there."""
+    for key, stand in stands.items():
+        # (what is said is decided by the name that says it)
+        if one.sure is Sure.LESS and not one.asks_for_more(criteria[key]):
+            continue
+        if stand is False:
+            decided.truths.setdefault(key, False)
+        elif one.sure is Sure.RENAMED:
+            why = f"{one.item} is {one.meant} by the dictionary, where its version is another"
+            decided.unsure.setdefault(key, Unsure(key, "", why))
+        else:
+            decided.unsure.setdefault(key, Unsure(key, "", one.words(criteria[key])))
+
+
+def led(lead: Lead) -> list[Called]:
+    """An item by its name as it stands, and as it leads on."""
+    return [Called(name, lead.name, name, Sure.SURELY, kind=lead.kind) for name in dict.fromkeys((lead.name, *lead.ends))]
 
 
 def check_record(key: str, is_true: bool) -> str:
@@ -442,16 +554,18 @@ def run(words: Sequence[str]) -> int:
     said, output, program = Said(), Output(), Program()
     ranges, records = read_ranges(read.many("--ranges"), said), read_entries(read.many("--records"))
     machines = read_machines(machines_path, said)
-    feed = pages(read.many("--matches"), said, matches.KINDS, strict=True) if read.has("--matches") else []
+    feed = whole.pages(read.many("--matches"), said, matches.KINDS, strict=True) if read.has("--matches") else []
     lists = Lists(program, matches.listed(feed, ranges.keys(), said))
     items = {item: None for machine in machines for item in machine.items}
     leads = leads_of(program, records, items, (one.criteria for one in ranges.values()))
-    decider = Decider(program, ranges.values(), leads, items, read_letters(read.one("--letters") or LETTERS))
+    ends = [one.name for item in items if item in leads.found for one in led(leads.found[item])]
+    decider = Decider(program, ranges.values(), leads, ends, read_letters(read.one("--letters") or LETTERS))
     for one in ranges.values():
         if one.criteria in leads.refused:
             said.left_out(one.key, f"{leads.refused[one.criteria]}: {one.criteria}")
     for machine in machines:
-        _write(machine, leads, decide(_leads_of_machine(machine, leads, said), decider, lists), ranges, output, said)
+        called = [one for lead in _leads_of_machine(machine, leads, said) for one in led(lead)]
+        _write(machine, decide(called, decider, lists), ranges, output, said)
     output.end()
     return said.status()
 
@@ -461,10 +575,11 @@ def _leads_of_machine(machine: Machine, leads: Leads, said: Said) -> list[Lead]:
     for item in machine.items:
         if item in leads.refused:
             said.left_out(machine.name, f"{leads.refused[item]}: {item}")
-    return [leads.found[item] for item in machine.items if item in leads.found]
+    named = ((name, component.kind) for component in machine.all() for name in component.names)
+    return [replace(leads.found[name], kind=kind) for name, kind in named if name in leads.found]
 
 
-def _write(machine: Machine, leads: Leads, decided: Decided, ranges: Mapping[str, Range], output: Output, said: Said) -> None:
+def _write(machine: Machine, decided: Decided, ranges: Mapping[str, Range], output: Output, said: Said) -> None:
     for key, one in decided.unsure.items():
         said.left_out(machine.name, f"{one.end} in {ranges[key].criteria} {ranges[key].words()}: {one.reason}")
     for key in ranges:

@@ -1,16 +1,18 @@
 """Which items make verdicts TRUE, as `cpe explain` tells it, for scan.py --why.
 
-Of a machine the statements that are TRUE there are explained, over the dictionary, its items and what was decided of its ranges:
+Of a machine the statements that are TRUE there are explained, over the names of its items and what was decided of its ranges:
 one more run of cpe for each machine that has such a statement. A certificate names an item for each fact that it needs. Of a range
 it has the fact and the check, and the item is the one whose version decided the check.
 """
 from __future__ import annotations
 
 import json
-from collections.abc import Iterable, Iterator, Sequence
+from collections.abc import Iterable, Iterator, Mapping, Sequence
 
 from .advisories import MATCH, SYSTEM, Range
-from .cases import Known, range_of
+from .asked import range_of
+from .called import Called
+from .cases import Known
 from .decide import Decided, check_record
 from .feeds import Json, record_text
 from .program import Program
@@ -23,23 +25,23 @@ class Deciding:
     def __init__(self, program: Program, known: Known) -> None:
         self._program, self._known = program, known
 
-    def reasons(self, items: Iterable[str], decided: Decided, places: Sequence[int]) -> dict[int, list[str]]:
-        """In words why these statements are TRUE over these items, each by its place."""
+    def reasons(self, called: Sequence[Called], decided: Decided, places: Sequence[int]) -> dict[int, list[str]]:
+        """In words why these statements are TRUE over items that are called so, each by its place."""
         if not places:
             return {}
+        items = {one.name: one.item for one in reversed(called)}
         lines = self._program.lines(["explain"], self._lines(items, decided, places))
         found: dict[int, list[str]] = {}
         for place, line in zip(places, lines):
-            test, proof = json.loads(self._known.records[place])["test"], _proof(line)
-            told = Told(self._known.ranges, decided).of(test, proof)
+            test, proof = json.loads(self._known.asked[place])["test"], _proof(line)
+            told = Told(self._known.ranges, decided, items).of(test, proof)
             found[place] = list(dict.fromkeys(told))
         if len(found) != len(places) or next(lines, None) is not None:
             raise Fatal("cpe explained more or less than was asked")
         return found
 
     def _lines(self, items: Iterable[str], decided: Decided, places: Sequence[int]) -> Iterator[str]:
-        yield from self._known.entries
-        yield from (self._known.records[place] for place in places)
+        yield from (self._known.asked[place] for place in places)
         yield from (record_text({"do": "item", "name": item}) for item in items)
         keys = dict.fromkeys(key for place in places for key in self._known.statements[place].checks)
         yield from (check_record(key, decided.truths[key]) for key in keys if key in decided.truths)
@@ -56,10 +58,10 @@ def _proof(line: str) -> Json:
 
 
 class Told:
-    """A certificate in words."""
+    """A certificate in words, over names and the items that have them."""
 
-    def __init__(self, ranges: dict[str, Range] | Json, decided: Decided) -> None:
-        self._ranges, self._decided = ranges, decided
+    def __init__(self, ranges: Mapping[str, Range], decided: Decided, items: Mapping[str, str]) -> None:
+        self._ranges, self._decided, self._items = ranges, decided, items
 
     def of(self, test: Json, why: Json) -> Iterator[str]:
         """What makes a test TRUE, of a test and its certificate that go down together."""
@@ -73,7 +75,7 @@ class Told:
             for child, given in zip(test["of"], why["of"]):
                 yield from self.of(child, given)
         elif "item" in why:
-            yield f"{_led(why['item'])} is covered by {_led(why['fact'])}"
+            yield f"{self._named(why['item'][0])} is covered by {why['fact'][0]}"
         elif "check" in test and why["truth"] == "TRUE":
             yield f"the check {test['check']['id']} is TRUE"
 
@@ -81,7 +83,7 @@ class Told:
         item = self._decided.inside.get(one.key, "an item")
         return f"{item} is in {one.criteria} {one.words()}".rstrip()
 
-
-def _led(names: Sequence[str]) -> str:
-    """A name, with the end to which deprecations lead from it."""
-    return names[0] if len(names) == 1 else f"{names[0]}, now {names[-1]},"
+    def _named(self, name: str) -> str:
+        """An item, with the name by which it is found where that is another."""
+        item = self._items.get(name, name)
+        return item if item == name else f"{item}, also {name},"

@@ -1,58 +1,131 @@
 """From NVD's API 2.0 to a dictionary: the JSON of /rest/json/cpes/2.0 (products) or /rest/json/cpematch/2.0 (matchStrings)
 to records `entry` and `deprecate`. All entries come before all deprecations.
 
-    sh dictionary.sh [FILE..] > records
+    sh dictionary.sh [--partial] [--large] [FILE..] > records
 
 - A product is an entry with its English title, and the day on which it was created as its original record. The names that
-  a match string matches are entries without title. A name that comes again is there already, and nothing is said.
+  a match string matches are entries without title. A name that comes again is there already, and nothing is said. Of a product
+  that comes again with another `lastModified` the later counts, whichever comes first.
 - The successors of a deprecated product are those of its own `deprecatedBy` and the products that say that they deprecate
   it. The API tells no kind of a deprecation: with no successor it is NAME_REMOVAL, with one NAME_CORRECTION, with several
   ADDITIONAL_INFORMATION. It tells no date either: that of the last change of the product is taken.
 - A pattern with its range of versions is no name of a dictionary: of a match string only its matches are read.
 
-What is left out is said, and the status is 1. A feed in which there is no record at all is refused.
+What is left out is said, and the status is 1. A feed in which there is no record at all is refused, and so is one of which pages are
+missing, as they say themselves; --partial lets it pass, and what is missing is said. --large lets pages unpack to as much as they do (unpack.py).
 """
 from __future__ import annotations
 
-from collections.abc import Iterator
+from collections.abc import Iterator, Sequence
 from dataclasses import dataclass, field
 
-from .feeds import FormFault, Json, Page, member, members, pages, record_text, text_at
-from .program import Candidate, Program
-from .said import Fatal, Output, Said
+from . import whole
+from .feeds import FormFault, Json, Page, Placed, member, members, record_text, text_at
+from .latest import time_of, told
+from .program import Candidate, Program, candidate_at
+from .said import Fatal, Output, Said, quoted
+from .words import read_words
 
+USAGE = "dictionary.sh [--partial] [--large] [FILE..]"
 KINDS = ("products", "matchStrings")
 
 
 def run(words: list[str]) -> int:
+    read = read_words(words, whole.OPTIONS, USAGE)
     said, output, program = Said(), Output(), Program()
-    output.lines(program.accepted(candidates_of(words, said), said, unsaid="exists"))
+    candidates = candidates_of(read.files, said, reading=whole.Reading.of(read))
+    output.lines(program.accepted(candidates, said, unsaid="exists"))
     output.end()
     return said.status()
 
 
-def candidates_of(paths: list[str], said: Said, strict: bool = False) -> Iterator[Candidate]:
+def candidates_of(
+    paths: Sequence[str], said: Said, strict: bool = False, reading: whole.Reading | None = None
+) -> Iterator[Candidate]:
     """What the records of these feeds become: first the entries, and then the deprecations."""
-    deprecations = Deprecations()
+    products = Products()
     empty, is_empty = [], True
-    for page in pages(paths, said, KINDS, strict):
+    for page in whole.pages(paths, said, KINDS, strict, reading):
         if not page.records:
             empty.append(f"{page.name}: no {page.kind} in it")
             continue
         is_empty = False
-        yield from _products(page, deprecations) if page.kind == "products" else _match_strings(page)
+        for candidate in _products(page, products) if page.kind == "products" else _match_strings(page):
+            products.candidates.append(candidate)
     if is_empty:
         raise Fatal("; ".join(empty))
     for text in empty:
         said.remark(text)
-    yield from deprecations.candidates()
+    if products.older:
+        said.remark(told(len(products.older), "product", "products"))
+    yield from (one for one in products.candidates if one is not None)
+    yield from products.deprecations().candidates()
+
+
+@dataclass(frozen=True, slots=True)
+class Change:
+    """What a product tells of deprecations: whether it is deprecated itself, since when, by which names, and which names by it."""
+
+    placed: Placed = field(compare=False)
+    name: Json
+    is_old: bool
+    date: Json
+    by: tuple[Json, ...]
+    of: tuple[Json, ...]
+
+
+class Products:
+    """The entries in their order, and what they tell of deprecations, of each name by those that were modified last."""
+
+    def __init__(self) -> None:
+        self.candidates: list[Candidate | None] = []
+        self.older: set[str] = set()
+        self._changes: dict[int, Change] = {}
+        # (of each name when it was modified, and the places of those that count, of which more than one tell the same time)
+        self._places: dict[str, tuple[Json, tuple[int, ...]]] = {}
+
+    def put(self, name: Json, modified: Json, entry: Candidate, change: Change | None) -> None:
+        """Puts a product of this name, or passes it over where a later one is there."""
+        # (one without a name is said, and is no other's)
+        known = self._places.get(name) if isinstance(name, str) else None
+        if known is not None and modified != known[0]:
+            self.older.add(name)
+            if time_of(modified) < time_of(known[0]):
+                return
+            for place in known[1]:
+                self.candidates[place] = None
+                self._changes.pop(place, None)
+            known = None
+        places = () if known is None else known[1]
+        if any(self._changes.get(place) == change for place in places):
+            return
+        place = len(self.candidates)
+        self.candidates.append(entry)
+        if isinstance(name, str):
+            self._places[name] = modified, (*places, place)
+        if change is not None:
+            self._changes[place] = change
+
+    def deprecations(self) -> Deprecations:
+        """What they tell together."""
+        found = Deprecations()
+        for place in sorted(self._changes):
+            change = self._changes[place]
+            if change.is_old:
+                found.put(change.placed, change.name, change.date)
+            for successor in change.by:
+                found.put_successor(change.placed, change.name, successor)
+            for old in change.of:
+                found.put_successor(change.placed, old, change.name)
+        return found
 
 
 @dataclass
 class Old:
-    """A deprecated product: its id, the date that stands for that of its deprecation, and whether it was there."""
+    """A deprecated product: where it stands, or who tells of it, the date that stands for that of its deprecation, and whether it was
+    there."""
 
-    id: str = ""
+    placed: Placed
     date: Json = None
     is_here: bool = False
     successors: dict[str, Json] = field(default_factory=dict)
@@ -67,26 +140,28 @@ class Deprecations:
         # (who is said to be deprecated before it comes itself stands where it came)
         self._here: dict[str, None] = {}
 
-    def _of(self, name: Json) -> Old:
+    def _of(self, placed: Placed, name: Json) -> Old:
         key = record_text(name)
         self._names.setdefault(key, name)
-        return self._old.setdefault(key, Old())
+        return self._old.setdefault(key, Old(placed))
 
-    def put(self, id: str, name: Json, date: Json) -> None:
-        old = self._of(name)
-        old.id, old.date, old.is_here = id, date, True
+    def put(self, placed: Placed, name: Json, date: Json) -> None:
+        old = self._of(placed, name)
+        old.placed, old.date, old.is_here = placed, date, True
         self._here.setdefault(record_text(name))
 
-    def put_successor(self, name: Json, successor: Json) -> None:
-        self._of(name).successors.setdefault(record_text(successor), successor)
+    def put_successor(self, placed: Placed, name: Json, successor: Json) -> None:
+        self._of(placed, name).successors.setdefault(record_text(successor), successor)
 
     def candidates(self) -> Iterator[Candidate]:
         for key in self._here:
-            yield Candidate(self._old[key].id, record_text(_deprecation(self._names[key], self._old[key])))
+            old = self._old[key]
+            yield candidate_at(old.placed, old.placed.id, record_text(_deprecation(self._names[key], old)))
         for key, old in self._old.items():
             if not old.is_here:
                 by = ", ".join(str(successor) for successor in old.successors.values())
-                yield Candidate(str(self._names[key]), reason=f"no deprecated product here, though said to be deprecated by {by}")
+                reason = f"no deprecated product here, though said to be deprecated by {quoted(by)}"
+                yield candidate_at(old.placed, str(self._names[key]), reason=reason)
 
 
 def _deprecation(name: Json, old: Old) -> Json:
@@ -96,24 +171,22 @@ def _deprecation(name: Json, old: Old) -> Json:
     return {"do": "deprecate", "name": name, "kind": kind, **named, "date": old.date}
 
 
-def _products(page: Page, deprecations: Deprecations) -> Iterator[Candidate]:
-    for id, record in page.each("product", _product_id):
+def _products(page: Page, products: Products) -> Iterator[Candidate]:
+    """Puts the products of a page; those that can't be read come out."""
+    for placed in page.each("product", _product_id):
         try:
-            product = member(record, "cpe")
+            product = member(placed.record, "cpe")
             entry = _entry(product)
-            by = [member(one, "cpeName") for one in members(product, "deprecatedBy")]
-            of = [member(one, "cpeName") for one in members(product, "deprecates")]
+            by = tuple(member(one, "cpeName") for one in members(product, "deprecatedBy"))
+            of = tuple(member(one, "cpeName") for one in members(product, "deprecates"))
         except FormFault:
-            yield Candidate(id, reason="not of the published form")
+            yield candidate_at(placed, placed.id, reason="not of the published form")
             continue
-        name = entry["name"]
-        yield Candidate(id, record_text(entry))
-        if product.get("deprecated"):
-            deprecations.put(id, name, _day(product.get("lastModified") or product.get("created")))
-        for successor in by:
-            deprecations.put_successor(name, successor)
-        for old in of:
-            deprecations.put_successor(old, name)
+        name, modified, is_old = entry["name"], product.get("lastModified"), bool(product.get("deprecated"))
+        date = _day(modified or product.get("created")) if is_old else None
+        # (its place alone is kept of it)
+        change = Change(placed._replace(record=None), name, is_old, date, by, of) if is_old or by or of else None
+        products.put(name, modified, candidate_at(placed, placed.id, record_text(entry)), change)
 
 
 def _product_id(record: Json) -> Json:
@@ -139,11 +212,11 @@ def _day(date: Json) -> Json:
 
 
 def _match_strings(page: Page) -> Iterator[Candidate]:
-    for id, record in page.each("match string", lambda record: text_at(member(record, "matchString"), "matchCriteriaId")):
+    for placed in page.each("match string", lambda it: text_at(member(it, "matchString"), "matchCriteriaId")):
         try:
-            names = [member(match, "cpeName") for match in members(member(record, "matchString"), "matches")]
+            names = [member(match, "cpeName") for match in members(member(placed.record, "matchString"), "matches")]
         except FormFault:
-            yield Candidate(id, reason="not of the published form")
+            yield candidate_at(placed, placed.id, reason="not of the published form")
             continue
         for name in names:
-            yield Candidate(id, record_text({"do": "entry", "name": name}))
+            yield candidate_at(placed, placed.id, record_text({"do": "entry", "name": name}))

@@ -1,69 +1,90 @@
-"""How the recipes read feeds: files or standard input, packed by gzip or not, as pages of JSON, each with a list of records."""
+"""How the recipes read feeds: files or standard input, packed or not (unpack.py), as pages of JSON, each with a list of records."""
 from __future__ import annotations
 
-import gzip
 import json
 import re
-import sys
-import zlib
-from collections.abc import Callable, Iterator, Sequence
-from dataclasses import dataclass
+from collections.abc import Callable, Iterator, Mapping, Sequence
+from dataclasses import dataclass, field, replace
 from pathlib import Path
-from typing import Any
+from typing import Any, NamedTuple
 
-from .said import Fatal, Said, why
+from .said import Fatal, Said, quoted
+from .unpack import LIMITS, FeedFault, Limits, Unpacked, read_feed
 
 Json = Any
 
-_GZIP = b"\x1f\x8b"
 _SPACE = re.compile(r"\s*")
 _SURROGATE = re.compile("[\ud800-\udfff]")
 _COMPACT = json.JSONEncoder(ensure_ascii=False, separators=(",", ":")).encode
-
-
-class FeedFault(Exception):
-    """Why a feed can't be read, as words that stand after its name."""
+# What pages of NVD's API 2.0 say that they are, and what each tells of its place in its feed.
+_FORMATS = {"products": "NVD_CPE", "vulnerabilities": "NVD_CVE", "matchStrings": "NVD_CPEMatchString"}
+_VERSION = re.compile(r"2\.0(\.\d+)?")
+ADVISORIES = "vulnerabilities"
+# What pages of CVE records are called, which are no part of a feed that tells how many it has.
+RECORDS = "CVE records"
+_RECORD_VERSION = re.compile(r"5(\.\d+)*")
+COUNTS = ("totalResults", "startIndex", "resultsPerPage")
 
 
 class FormFault(Exception):
     """A record of a feed isn't of the published form."""
 
 
+@dataclass(frozen=True, slots=True)
+class Source:
+    """Where records come from: what one of them is called, and the file."""
+
+    word: str
+    name: str
+
+    def place(self, number: int) -> str:
+        return f"{self.word} {number} of {self.name}"
+
+
+class Placed(NamedTuple):
+    """A record of a page with its id, and its number there; one without an id is called by its place."""
+
+    id: str
+    record: Json
+    source: Source
+    number: int
+
+
 @dataclass(frozen=True)
 class Page:
-    """A page of a feed: the name of its file, the member that has its records, and these."""
+    """A page of a feed: the name of its file, the member that has its records, these, and what it tells of its place in its feed.
+
+    `numbers` has the places of the records in the file, where some of them were taken out. CVE records that were put in NVD's form are
+    known by `is_of_records`.
+    """
 
     name: str
     kind: str
     records: list[Json]
+    counts: Mapping[str, int] = field(default_factory=dict)
+    numbers: Sequence[int] | None = None
+    is_of_records: bool = False
 
-    def each(self, word: str, id_of: Callable[[Json], Json]) -> Iterator[tuple[str, Json]]:
+    def each(self, word: str, id_of: Callable[[Json], Json]) -> Iterator[Placed]:
         """The records with their ids; one that has none is told by its place, as `word`."""
-        for place, record in enumerate(self.records, 1):
+        source = Source(word, self.name)
+        for number, record in zip(self.numbers or range(1, len(self.records) + 1), self.records):
             try:
                 id = id_of(record)
             except FormFault:
                 id = None
-            yield (id if isinstance(id, str) and id else f"{word} {place} of {self.name}"), record
+            yield Placed(id if isinstance(id, str) and id else source.place(number), record, source, number)
+
+    def only(self, kept: Sequence[int]) -> Page:
+        """The page with the records at these places of its list alone."""
+        numbers = self.numbers or range(1, len(self.records) + 1)
+        records, numbers = [self.records[k] for k in kept], [numbers[k] for k in kept]
+        return replace(self, records=records, numbers=numbers)
 
 
 def name_of(path: str | None) -> str:
     """What a feed is called."""
     return "standard input" if path is None else Path(path).name
-
-
-def read_feed(path: str | None) -> bytes:
-    """The bytes of a feed, of standard input where there is no path; those that gzip packed are unpacked."""
-    try:
-        data = sys.stdin.buffer.read() if path is None else Path(path).read_bytes()
-    except OSError as fault:
-        raise FeedFault(f"can not be read: {why(fault)}") from fault
-    if not data.startswith(_GZIP):
-        return data
-    try:
-        return gzip.decompress(data)
-    except (OSError, EOFError, zlib.error) as fault:
-        raise FeedFault(f"can not be unpacked: {fault}") from fault
 
 
 def whole(path: str | None) -> bytes:
@@ -80,15 +101,16 @@ def text_lines(text: str) -> list[str]:
     return lines if lines[-1] else lines[:-1]
 
 
-def values_of(data: bytes) -> Iterator[Json]:
-    """The values of JSON that stand one after the other; those before a fault come out."""
+def values_of(data: bytes, is_strict: bool = False) -> Iterator[Json]:
+    """The values of JSON that stand one after the other; those before a fault come out. In strict ones no member of an object comes
+    twice: else the last one stands, and nobody sees the others."""
     if not data.strip():
         raise FeedFault("no JSON: it is empty")
     try:
         text = data.decode("utf-8-sig")
     except UnicodeDecodeError as fault:
         raise FeedFault(f"no JSON: it is no UTF-8 at byte {fault.start + 1}") from fault
-    decoder = json.JSONDecoder(parse_constant=_no_constant)
+    decoder = json.JSONDecoder(parse_constant=_no_constant, object_pairs_hook=_once if is_strict else None)
     place = _behind_space(text, 0)
     while place < len(text):
         try:
@@ -106,39 +128,107 @@ def _behind_space(text: str, place: int) -> int:
     return place if found is None else found.end()
 
 
+def _once(members: list[tuple[str, Json]]) -> dict[str, Json]:
+    value = dict(members)
+    if len(value) != len(members):
+        keys = [key for key, _ in members]
+        twice = next(key for key in keys if keys.count(key) > 1)
+        raise ValueError(f"an object has the member {twice[:100]} twice")
+    return value
+
+
 def _no_constant(word: str) -> None:
     raise ValueError(f"{word} is no number")
 
 
-def pages(paths: Sequence[str], said: Said, kinds: Sequence[str], strict: bool = False) -> Iterator[Page]:
+def pages(
+    paths: Sequence[str], said: Said, kinds: Sequence[str], strict: bool = False, limits: Limits = LIMITS
+) -> Iterator[Page]:
     """The pages at these paths, of standard input where there is none.
 
-    A page is an object in which one of `kinds` is a list. Where a page is none, or can't be read, the others still come out,
-    and that is said; where there is no page at all, or `strict` is asked for, it is Fatal.
+    A page is an object in which one of `kinds` is a list, in a file or a member of an archive. Where a page is none, or can't be read,
+    the others still come out, and that is said; where there is no page at all, or `strict` is asked for, it is Fatal.
     """
     good, faults = 0, []
     feeds: Sequence[str | None] = list(paths) or [None]
     for path in feeds:
         name = name_of(path)
-        try:
-            for value in values_of(read_feed(path)):
-                yield _page(name, value, kinds)
+        for one in _pages_of(path, said, kinds, limits):
+            if isinstance(one, Page):
                 good += 1
-        except FeedFault as fault:
-            if strict or len(paths) <= 1 and not good:
-                raise Fatal(f"{name}: {fault}") from fault
-            faults.append(name)
-            said.left_out(name, str(fault))
+                yield one
+            elif strict or len(paths) <= 1 and not good:
+                raise Fatal(f"{one[0]}: {one[1]}")
+            else:
+                faults.append(one[0])
+                said.left_out(*one)
     if not good:
         raise Fatal(f"none of these can be read: {', '.join(faults)}")
+
+
+def _pages_of(path: str | None, said: Said, kinds: Sequence[str], limits: Limits) -> Iterator[Page | tuple[str, str]]:
+    """The pages of a file; of what is none its name and the reason."""
+    name, unpacked = name_of(path), Unpacked(limits)
+    parts = unpacked.parts(path)
+    while True:
+        place = name
+        try:
+            part = next(parts, None)
+            if part is None:
+                break
+            place = f"{name}/{part[0]}" if part[0] else name
+            for value in values_of(part[1]):
+                yield _page(place, value, kinds)
+        except FeedFault as fault:
+            yield place, str(fault)
+    if unpacked.passed:
+        some = f"{len(unpacked.passed):,} {'member is' if len(unpacked.passed) == 1 else 'members are'} no page by the name"
+        said.remark(f"{name}: {some}, such as {quoted(unpacked.passed[0])}")
 
 
 def _page(name: str, value: Json, kinds: Sequence[str]) -> Page:
     if isinstance(value, dict):
         for kind in kinds:
             if isinstance(value.get(kind), list):
-                return Page(name, kind, value[kind])
+                _check_format(value, kind)
+                return Page(name, kind, value[kind], _counts(value))
+    if ADVISORIES in kinds and (records := _records(value)):
+        return Page(name, RECORDS, records)
+    if isinstance(value, dict) and "CVE_Items" in value:
+        raise FeedFault("a feed of NVD's format 1.1, which isn't read: take that of 2.0")
     raise FeedFault(f"no {kinds[0]}" if len(kinds) == 1 else f"neither {' nor '.join(kinds)}")
+
+
+def _records(value: Json) -> list[Json]:
+    """The CVE records of format 5 that a value is, or has as a list."""
+    found = value if isinstance(value, list) else [value]
+    if not all(isinstance(one, dict) and (one.get("dataType") == "CVE_RECORD" or "cveMetadata" in one) for one in found):
+        return []
+    for one in found:
+        version = one.get("dataVersion", "5.1")
+        if not isinstance(version, str) or not _RECORD_VERSION.fullmatch(version):
+            raise FeedFault(f"a CVE record of version {quoted(version)}, and 5 is what is read")
+    return found
+
+
+def _check_format(value: Json, kind: str) -> None:
+    """Whether a page is of the format that is read, where it says which it is."""
+    wanted = _FORMATS.get(kind)
+    given = value.get("format", wanted)
+    if given != wanted:
+        raise FeedFault(f"its format is {quoted(given)}, and that of {kind} is {wanted}")
+    version = value.get("version", "2.0")
+    if wanted and not (isinstance(version, str) and _VERSION.fullmatch(version)):
+        raise FeedFault(f"its version is {quoted(version)}, and 2.0 is what is read")
+
+
+def _counts(value: Json) -> dict[str, int]:
+    """What a page tells of its place in its feed."""
+    found = {key: value[key] for key in COUNTS if value.get(key) is not None}
+    for key, count in found.items():
+        if isinstance(count, bool) or not isinstance(count, int) or count < 0:
+            raise FeedFault(f"its {key} is {quoted(count)}, which is no count")
+    return found
 
 
 def member(value: Json, key: str) -> Json:
@@ -169,5 +259,11 @@ def text_at(value: Json, key: str) -> str | None:
 def record_text(record: Json) -> str:
     """A record as the compact JSON of its line."""
     text = _COMPACT(record)
+    return text if text.isprintable() else json_shown(text)
+
+
+def json_shown(text: str) -> str:
+    """A text of JSON as a terminal shows it: what can't be printed is spelled by its number, as JSON has it. Ends of lines stay."""
     # (half a character of two, which JSON can spell, has no bytes)
-    return text if text.isascii() else _SURROGATE.sub("\ufffd", text)
+    whole = text if text.isascii() else _SURROGATE.sub("\ufffd", text)
+    return "".join(one if one.isprintable() or one == "\n" else json.dumps(one)[1:-1] for one in whole)

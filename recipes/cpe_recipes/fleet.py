@@ -3,21 +3,26 @@
 from __future__ import annotations
 
 import json
-from collections.abc import Iterator
-from dataclasses import dataclass, replace
+from collections.abc import Iterator, Sequence
+from dataclasses import dataclass, field, replace
 
-from . import decide, matches, unlisted
+from . import decide, matches, unlisted, whole
 from .advisories import Range
-from .feeds import FeedFault, name_of, pages, read_feed
-from .machines import Machine, read_machines
+from .asked import Negated, asked_of, facts_of
+from .called import Called, Sure
+from .calling import Calling, Wanted, listed_by_name
+from .components import Machine
+from .feeds import FeedFault, name_of, read_feed, record_text
+from .machines import read_machines
+from .negations import Negations, has_hardware
 from .program import Program
 from .said import Fatal, Said
 from .session import Asked, Known
 from .versions import Letters, read_letters
-from .words import MANY, ONE, Words
+from .words import FLAG, MANY, ONE, Words
 
-OPTIONS = {"--ranges": ONE, "--matches": MANY, "--letters": ONE, "--decided": ONE}
-USAGE = "RECORDS MACHINES [--ranges FILE [--letters FILE] [--matches FILE..] | --decided FILE]"
+OPTIONS = {"--ranges": ONE, "--matches": MANY, "--letters": ONE, "--decided": ONE, "--strict": FLAG, "--hardware": ONE}
+USAGE = "RECORDS MACHINES [--strict] [--hardware none] [--ranges FILE [--letters FILE] [--matches FILE..] | --decided FILE]"
 MACHINES_MISSING = 5
 
 
@@ -32,19 +37,19 @@ def read_text(path: str) -> str:
 
 @dataclass(frozen=True)
 class Records:
-    """The records of a fleet, and the keys of NVD's checks that have a result among them."""
+    """The records of a fleet, the keys of NVD's checks that have a result among them, the facts of the statements, and what is negated
+    there."""
 
     known: Known
     results: set[str]
+    facts: list[str] = field(default_factory=list)
+    negated: list[Negated] = field(default_factory=list)
 
 
 def read_records(program: Program, path: str, said: Said) -> Records:
     """The records at this path, and what cpe says to them. What it refuses is said. Fatal where there is no statement, and
     where there are items, since those of machines come and go."""
     feed, text = name_of(path), read_text(path)
-    lines = text.encode(errors="replace")
-    if lines and not lines.endswith(b"\n"):
-        lines += b"\n"
     answers = program.run(["evaluate"], _lines_of(text))
     table = next((place for place, line in enumerate(answers) if line.startswith("verdicts ")), None)
     if table is None:
@@ -57,9 +62,28 @@ def read_records(program: Program, path: str, said: Said) -> Records:
     if not statements:
         raise Fatal(f"{feed}: no statements in it")
     results: set[str] = set()
+    facts: dict[str, None] = {}
+    negated: dict[str, Negated] = {}
+    lines: list[str] = []
     for number, line in enumerate(_lines_of(text), 1):
         _note_state(feed, number, line, results)
-    return Records(Known(lines, table, statements), results)
+        lines.append(_asked_line(line, facts, negated))
+    data = "".join(f"{line}\n" for line in lines).encode(errors="replace")
+    return Records(Known(data, table, statements), results, list(facts), list(negated.values()))
+
+
+def _asked_line(line: str, facts: dict[str, None], negated: dict[str, Negated]) -> str:
+    """A line of the records as the workers are given it: a statement as it is asked. Its facts are noted, and what is negated."""
+    if '"statement"' not in line:
+        return line
+    try:
+        record = json.loads(line)
+    except (ValueError, RecursionError):
+        return line
+    if not isinstance(record, dict) or record.get("do") != "statement":
+        return line
+    facts.update(dict.fromkeys(facts_of(record.get("test"))))
+    return record_text(asked_of(record, negated))
 
 
 def _lines_of(text: str) -> Iterator[str]:
@@ -121,20 +145,31 @@ def read_fleet(program: Program, words: Words, said: Said) -> Fleet:
     records = read_records(program, records_path, said)
     machines = read_machines(machines_path, said)
     ranges = decide.read_ranges(words.many("--ranges"), said)
-    names = _Names(program, decide.read_entries([records_path]), machines, [one.criteria for one in ranges.values()])
-    decided = _decided(program, words, ranges, names, machines, said)
+    before = _decided_before(words, machines, said)
+    names = _Names(program, words, records, ranges, machines, said)
     asked = []
     for machine in machines:
-        own, beside, restored = (_without(records.results, found) for found in decided.get(machine.name, ([], [], [])))
-        supposed, removed = names.supposed(machine), names.removed(machine)
-        for item in supposed:
-            said.remark(f"not in the dictionary {machine.name} {item}{names.goes_on(item)}")
-        for item in removed:
-            said.remark(f"under a removed name {machine.name} {item}")
-        new = dict.fromkeys(name for found in supposed.values() for name in found)
-        asked.append(Asked(machine.name, machine.items, own, list(new), beside, restored if removed else None))
-    restores = "".join(f"{record}\n" for record in names.restores).encode()
-    return Fleet(replace(records.known, restores=restores), asked)
+        called = names.called(machine)
+        decided = names.decided(machine, called, before)
+        _say_unsure(machine, decided, ranges, said)
+        names.say(machine, said)
+        own = {lead.name for lead in names.items(machine).values()}
+        others = list(dict.fromkeys(one.name for one in called if one.name not in own))
+        asked.append(Asked(machine.name, names.put(machine), _without(records.results, _results(decided)), others))
+    return Fleet(records.known, asked)
+
+
+def _decided_before(words: Words, machines: list[Machine], said: Said) -> Decided | None:
+    """What decide.py wrote, where that is given."""
+    path = words.one("--decided")
+    if path is None:
+        return None
+    before = read_decided(path)
+    here = {machine.name for machine in machines}
+    for name in before:
+        if name not in here:
+            said.remark(f"{name} has decided ranges, and is no machine here")
+    return before
 
 
 def _without(results: set[str], decided: list[tuple[str, str]]) -> list[tuple[str, str]]:
@@ -143,84 +178,77 @@ def _without(results: set[str], decided: list[tuple[str, str]]) -> list[tuple[st
 
 
 class _Names:
-    """Where the names of items lead, under which others they may go on that no entry has, and where they would lead if no name
-    of theirs had been removed."""
+    """Where the names of items lead, which names the items have, and what is decided of ranges by them."""
 
-    def __init__(self, program: Program, entries: list[str], machines: list[Machine], criteria: list[str]) -> None:
+    def __init__(self, program: Program, words: Words, records: Records, ranges: dict[str, Range], machines: list[Machine], said: Said) -> None:
+        entries = decide.read_entries([words.files[0]])
         items = dict.fromkeys(item for machine in machines for item in machine.items)
-        self.leads = decide.leads_of(program, entries, items, criteria)
-        own = [self.leads.found[item] for item in items if item not in self.leads.refused]
-        self._successors = unlisted.successors_of(program, entries, own)
-        new = dict.fromkeys(name for lead in own for name in unlisted.supposed_names(lead, self._successors))
-        self.beside = decide.leads_of(program, entries, new, ()).found if new else {}
-        self.restores = unlisted.restores(program, entries, dict.fromkeys(lead.name for lead in own if lead.is_removed()))
-        self.restored = decide.leads_of(program, [*entries, *self.restores], items, criteria) if self.restores else self.leads
+        facts = dict.fromkeys([*records.facts, *(one.criteria for one in ranges.values())])
+        self.leads = decide.leads_of(program, entries, items, dict.fromkeys([*facts, *unlisted.deprecated_names(entries)]))
+        self._successors = unlisted.successors(entries, self.leads)
+        feed = whole.pages(words.many("--matches"), said, matches.KINDS, strict=True) if words.has("--matches") else []
+        self._lists = decide.Lists(program, matches.listed(feed, ranges.keys(), said))
+        named = [self.leads.found[fact].name for fact in facts if fact in self.leads.found]
+        own = {lead.name: lead for item in items if (lead := self.leads.found.get(item))}
+        by_feed = listed_by_name(self._lists, ranges, self.leads)
+        letters = read_letters(words.one("--letters") or decide.LETTERS)
+        calling = Calling(program, entries, self.leads, own.values(), by_feed, Wanted(named), letters)
+        self._is_strict, self._calling = words.has("--strict"), calling
+        self._components = {machine.name: list(self._leads_of(machine)) for machine in machines}
+        called = calling.of_components(leads for of in self._components.values() for leads in of)
+        ends = (one.name for one in called if not one.is_spelled)
+        self._decider = decide.Decider(program, ranges.values(), self.leads, ends, letters)
+        self._negations = Negations(program, records.negated, self.leads, called, self._decider, self._lists, has_hardware(words))
 
     def items(self, machine: Machine) -> dict[str, decide.Lead]:
         """Where its items lead; what is no item is said where it is put."""
         return {item: self.leads.found[item] for item in dict.fromkeys(machine.items) if item not in self.leads.refused}
 
-    def removed(self, machine: Machine) -> list[str]:
-        """Its items under removed names."""
-        return [item for item, lead in self.items(machine).items() if lead.is_removed()]
+    def put(self, machine: Machine) -> list[str]:
+        """The names that are put as its items: all, or those of its components where none of these is an item."""
+        own = machine.own_items()
+        return machine.items if any(item in self.leads.found for item in own) else own
 
-    def supposed(self, machine: Machine) -> dict[str, list[str]]:
-        """Of items that no entry has the names under which they may go on."""
-        found = {item: unlisted.supposed_names(lead, self._successors) for item, lead in self.items(machine).items()}
-        return {item: supposed for item, supposed in found.items() if supposed}
+    def called(self, machine: Machine) -> list[Called]:
+        found = self._calling.of_components(self._components[machine.name])
+        return [one for one in found if not self._is_strict or one.sure is not Sure.LESS]
 
-    def goes_on(self, item: str) -> str:
-        return unlisted.goes_on(self.leads.found[item], self._successors)
+    def _leads_of(self, machine: Machine) -> Iterator[list[decide.Lead]]:
+        """Where the names of its components lead."""
+        for one in machine.all():
+            leads = {lead.name: lead for name in one.names if (lead := self.leads.found.get(name))}
+            yield [replace(lead, kind=one.kind) for lead in leads.values()]
+
+    def decided(self, machine: Machine, called: Sequence[Called], before: Decided | None) -> decide.Decided:
+        """What is decided of a machine; of its ranges what decide.py wrote before, where that is given."""
+        if before is None:
+            decided = decide.decide(called, self._decider, self._lists)
+        else:
+            decided = decide.Decided({key: result == "TRUE" for key, result in before.get(machine.name, ())})
+        self._negations.put(self._components[machine.name], called, decided)
+        return decided
+
+    def say(self, machine: Machine, said: Said) -> None:
+        """What the dictionary doesn't lead on is remarked."""
+        for item, lead in self.items(machine).items():
+            goes_on = "" if lead.is_entry else unlisted.goes_on(lead, self._successors)
+            if goes_on:
+                said.remark(f"not in the dictionary {machine.name} {item}{goes_on}")
+        for item, lead in self.items(machine).items():
+            if lead.is_removed():
+                said.remark(f"under a removed name {machine.name} {item}")
 
 
-# What is decided of machines by name: with their own items, with those beside that they may have, and where no name is removed.
-_AllDecided = dict[str, tuple[list[tuple[str, str]], ...]]
-
-
-def _decided(
-    program: Program, words: Words, ranges: dict[str, Range], names: _Names, machines: list[Machine], said: Said
-) -> _AllDecided:
-    decided_path = words.one("--decided")
-    if decided_path is not None:
-        before = read_decided(decided_path)
-        here = {machine.name for machine in machines}
-        for name in before:
-            if name not in here:
-                said.remark(f"{name} has decided ranges, and is no machine here")
-        return {name: (decided, decided, decided) for name, decided in before.items()}
-    if not ranges:
-        return {}
-    feed = pages(words.many("--matches"), said, matches.KINDS, strict=True) if words.has("--matches") else []
-    lists = decide.Lists(program, matches.listed(feed, ranges.keys(), said))
-    letters = read_letters(words.one("--letters") or decide.LETTERS)
-    items = [item for machine in machines for item in names.items(machine)]
-    own_and_beside = [*(names.leads.found[item] for item in items), *names.beside.values()]
-    decider = _decider(program, ranges, names.leads, own_and_beside, letters)
-    found: _AllDecided = {}
-    for machine in machines:
-        own = list(names.items(machine).values())
-        new = [names.beside[name] for supposed in names.supposed(machine).values() for name in supposed]
-        one = decide.decide(own, decider, lists)
-        for key, unsure in one.unsure.items():
+def _say_unsure(machine: Machine, decided: decide.Decided, ranges: dict[str, Range], said: Said) -> None:
+    """The ranges that have no answer; what hangs on another name of an item is remarked, once each."""
+    reasons: dict[str, None] = {}
+    for key, unsure in decided.unsure.items():
+        if key in ranges and unsure.end:
             said.left_out(machine.name, f"{unsure.end} in {ranges[key].criteria} {ranges[key].words()}: {unsure.reason}")
-        found[machine.name] = _results(one), _results(decide.decide([*own, *new], decider, lists)), []
-    removed = [machine for machine in machines if names.removed(machine)]
-    if removed:
-        leads = {machine.name: [names.restored.found[item] for item in names.items(machine)] for machine in removed}
-        decider = _decider(program, ranges, names.restored, [lead for some in leads.values() for lead in some], letters)
-        for name, some in leads.items():
-            found[name] = *found[name][:2], _results(decide.decide(some, decider, lists))
-    return found
-
-
-def _decider(
-    program: Program, ranges: dict[str, Range], leads: decide.Leads, of_items: list[decide.Lead], letters: Letters
-) -> decide.Decider:
-    # (items by their names as cpe writes them, so that one stands for all spellings)
-    by_name = {lead.name: lead for lead in of_items}
-    criteria = {one.criteria for one in ranges.values()} & leads.found.keys()
-    known = decide.Leads(by_name | {name: leads.found[name] for name in criteria})
-    return decide.Decider(program, ranges.values(), known, list(by_name), letters)
+        elif key in ranges:
+            reasons[unsure.reason] = None
+    for reason in reasons:
+        said.remark(f"{machine.name}: {reason}")
 
 
 def _results(decided: decide.Decided) -> list[tuple[str, str]]:

@@ -42,6 +42,10 @@ class Hanging:
         asked = self._checks.get(advisory, {})
         return [self._words(key) for key in asked if key not in self._results and not _is_decided(key, decided)]
 
+    def remarks(self, advisory: str, machine: str | None) -> list[str]:
+        """Nothing, since the verdicts of `cpe evaluate` and of a fleet have none."""
+        return []
+
     def _words(self, key: Key) -> str:
         found = self._ranges.get(key[2]) if key[:2] == ("NVD", "cpeMatch") else None
         return f"{found.criteria} {found.words()}" if found else " ".join(key)

@@ -27,7 +27,8 @@ def run(words: Sequence[str]) -> int:
     if " ".join(words) not in WORDS:
         raise Fatal(f"usage: lines.sh {'|'.join(WORDS)}")
     workers.needs_parallel()
-    program, said = Program(), Said()
+    # (whether it is cpe is seen by the pieces)
+    program, said = Program(is_tried=False), Said()
     most = workers.number_at("PIECE", 100_000)
     with room() as folder:
         pieces = list(_cut(folder, most))

@@ -1,68 +1,76 @@
-"""What the machines have: a name, and names of items, from a file of lines or from a software list of each machine."""
+"""What the machines have, from a file with a line for each, or from a software list of each. components.py says what a machine is."""
 from __future__ import annotations
 
-import json
-from collections.abc import Callable, Sequence
-from dataclasses import dataclass, field
+from collections.abc import Sequence
 
-from .feeds import FeedFault, name_of, read_feed
-from .program import Candidate, prefix_of
-from .said import Fatal, Said
+from . import lists
+from .components import Machine, machine_of
+from .feeds import FeedFault, FormFault, name_of, read_feed, values_of
+from .said import Fatal, Said, shown
+
+NO_NAME = "no CPE name"
 
 _ENDINGS = (".gz", ".json", ".txt", ".cdx", ".spdx")
 
-# What the names of a software list are read by: its base name and its bytes to candidates of records `item`.
-Reader = Callable[[str, bytes], Sequence[Candidate]]
-
-
-@dataclass
-class Machine:
-    """A machine, and the names of its items as they were written."""
-
-    name: str
-    items: list[str] = field(default_factory=list)
-
 
 def read_machines(path: str, said: Said) -> list[Machine]:
-    """The machines of a file with a line for each: its name, and after it the names of its items, with spaces between them.
+    """The machines of a file with a line for each, in either form.
 
-    Spaces may be several, and tabs; line ends may be those of Windows; an empty line is none. A name that comes again is the
-    same machine, and has the items of both lines. Fatal where there is no machine.
+    Of the plain form, spaces may be several, and tabs; line ends may be those of Windows; an empty line is none. A name that comes
+    again is the same machine, and has the items of both lines. A component without a name is said. Fatal where a line that
+    begins with `{` is no machine, and where there is no machine at all.
     """
     try:
         data = read_feed(path)
     except FeedFault as fault:
         raise Fatal(f"{name_of(path)}: {fault}") from fault
     machines: dict[str, Machine] = {}
-    for line in data.removeprefix(b"\xef\xbb\xbf").splitlines():
-        words = [word.decode(errors="backslashreplace") for word in line.split()]
-        if words:
-            _put(machines, Machine(words[0], words[1:]), said)
+    for number, line in enumerate(data.removeprefix(b"\xef\xbb\xbf").splitlines(), 1):
+        machine = _machine(line, f"{name_of(path)} line {number}")
+        if machine is not None:
+            _put(machines, machine, said)
+    for machine in machines.values():
+        for one in machine.all():
+            if not one.names:
+                said.left_out(f"{machine.name} {one.called()}", NO_NAME)
     if not machines:
         raise Fatal(f"{name_of(path)}: no machine in it")
     return list(machines.values())
 
 
-def read_lists(paths: Sequence[str], reader: Reader, said: Said) -> list[Machine]:
-    """A machine for each software list, which is called as its file is. What has no name of its own there is said. Fatal
-    where one can't be read, or has nothing in it."""
+def _machine(line: bytes, where: str) -> Machine | None:
+    """The machine of a line; None where it is empty."""
+    if line.lstrip().startswith(b"{"):
+        try:
+            values = list(values_of(line, is_strict=True))
+            if len(values) != 1:
+                raise FormFault("something stands behind it")
+            return machine_of(values[0])
+        except (FeedFault, FormFault) as fault:
+            raise Fatal(f"{where}: no machine: {fault}") from fault
+    words = [word.decode(errors="backslashreplace") for word in line.split()]
+    return Machine(words[0], words[1:]) if words else None
+
+
+def read_lists(paths: Sequence[str], said: Said) -> list[Machine]:
+    """A machine for each software list, which is called as its file is. What was not read of it, and what has no name there, is
+    said. Fatal where a list can't be read, or has nothing in it."""
     machines: dict[str, Machine] = {}
     for path, called in zip(paths, _names_of_lists(paths)):
         feed = name_of(path)
-        machine = Machine(called)
         try:
-            candidates = list(reader(feed, read_feed(path)))
+            listed = lists.read(feed, read_feed(path))
         except FeedFault as fault:
             raise Fatal(f"{feed}: {fault}") from fault
-        if not candidates:
+        parts = list(listed.all())
+        if not parts:
             raise Fatal(f"{feed}: nothing is in it")
-        for one in candidates:
-            name = json.loads(one.record)["name"] if one.record else None
-            if isinstance(name, str):
-                machine.items.append(name)
-            else:
-                said.left_out(f"{called} {one.id}", one.reason or f"no text as its name: {prefix_of(one.record)}")
-        _put(machines, machine, said)
+        for one in parts:
+            if isinstance(one, lists.Odd):
+                said.left_out(f"{called} {one.id}", one.reason)
+            elif not one.names:
+                said.left_out(f"{called} {one.called()}", NO_NAME)
+        _put(machines, Machine(called, listed.components(), listed.platform), said)
     if not machines:
         raise Fatal("no software list was given")
     return list(machines.values())
@@ -84,7 +92,9 @@ def _without_endings(name: str) -> str:
 
 
 def _put(machines: dict[str, Machine], machine: Machine, said: Said) -> None:
+    # (so it is called everywhere, in what a terminal shows and in what another recipe reads)
+    machine.name = shown(machine.name)
     known = machines.setdefault(machine.name, machine)
     if known is not machine:
-        known.items.extend(machine.items)
+        known.add(machine)
         said.remark(f"{machine.name} comes more than once, and has the items of each")

@@ -3,7 +3,8 @@ from __future__ import annotations
 
 from collections.abc import Collection, Iterable
 
-from .feeds import FormFault, Page, member, members, text_at
+from .feeds import FormFault, Json, Page, member, members, text_at
+from .latest import time_of
 from .said import Fatal, Said
 
 KINDS = ("matchStrings",)
@@ -12,24 +13,35 @@ KINDS = ("matchStrings",)
 def listed(feed: Iterable[Page], wanted: Collection[str], said: Said) -> dict[str, list[str]]:
     """Of the wanted matches, by their ids, the names that the feed lists for them, as they are written there. Fatal where
     there are pages, and none has anything."""
-    found: dict[str, list[str]] = {}
+    found: dict[str, tuple[Json, list[str]]] = {}
     empty_pages, is_empty = [], True
     for page in feed:
         if not page.records:
             empty_pages.append(page.name)
         is_empty = is_empty and not page.records
-        for id, record in page.each("match string", lambda it: text_at(member(it, "matchString"), "matchCriteriaId")):
+        for placed in page.each("match string", lambda it: text_at(member(it, "matchString"), "matchCriteriaId")):
             try:
-                if id in wanted:
-                    listed_here = _names(member(record, "matchString"))
-                    found.setdefault(id, []).extend(listed_here)
+                if placed.id in wanted:
+                    _put(found, placed.id, member(placed.record, "matchString"))
             except FormFault:
-                said.left_out(id, "not of the published form")
+                said.left_out(placed.id, "not of the published form", placed.source.place(placed.number))
     if empty_pages and is_empty:
         raise Fatal(f"no matchStrings are in {', '.join(empty_pages)}")
     for name in empty_pages:
         said.remark(f"{name}: no matchStrings in it")
-    return found
+    return {id: names for id, (_, names) in found.items()}
+
+
+def _put(found: dict[str, tuple[Json, list[str]]], id: str, match_string: Json) -> None:
+    """Puts the names of a match. Of one that comes again the later list counts; those of the same time are joined."""
+    names = _names(match_string)
+    # (a list changes when the dictionary does, and its match needn't)
+    modified = max((member(match_string, key) for key in ("lastModified", "cpeLastModified")), key=time_of)
+    known = found.get(id)
+    if known is None or time_of(modified) > time_of(known[0]):
+        found[id] = modified, names
+    elif time_of(modified) == time_of(known[0]):
+        known[1].extend(names)
 
 
 def _names(match_string: object) -> list[str]:

@@ -3,10 +3,17 @@ cpe alone says."""
 from __future__ import annotations
 
 import re
+from collections.abc import Iterable
 
 PREFIX = "cpe:2.3:"
 ANY, NA = "*", "-"
 VENDOR, PRODUCT, VERSION, UPDATE = 1, 2, 3, 4
+# The attributes in their order, as NIST IR 7695 calls them.
+ATTRIBUTES = (
+    "part", "vendor", "product", "version", "update", "edition", "language", "sw_edition", "target_sw", "target_hw", "other",
+)
+# What stands in a name where the list doesn't say what is there. As a pattern it is known in part, so no name covers it.
+UNSAID = "unsaid?"
 
 _COMPONENT = re.compile(r"(?:[^:\\]|\\.)+")
 _QUOTED = re.compile(r"\\(.)")
@@ -57,6 +64,22 @@ def beginning(component: str) -> str | None:
 def spelled(text: str) -> str:
     """A plain text as a component."""
     return "".join(one if _BARE.match(one) else f"\\{one}" for one in text)
+
+
+def marked(name: str, places: Iterable[int]) -> str:
+    """The name where these components aren't said."""
+    parts = components(name)
+    for place in places:
+        parts[place] = UNSAID
+    return joined(parts)
+
+
+def part_of(name: str) -> str:
+    """The part of a name in either binding, in lower case."""
+    text = name.lower()
+    if text.startswith("cpe:/"):
+        return text[len("cpe:/") : len("cpe:/") + 1]
+    return components(text)[0] if text.startswith(PREFIX) else ""
 
 
 def product_of(name: str) -> tuple[str, str]:

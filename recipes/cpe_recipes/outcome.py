@@ -1,15 +1,16 @@
 """What came of the machines of a scan, as people and programs read it: the table, the JSON, and what is said beside them."""
 from __future__ import annotations
 
-from collections.abc import Iterable, Mapping, Sequence
+from collections.abc import Callable, Iterable, Mapping, Sequence
 from dataclasses import dataclass, field
 
 from . import advisories, affected, names, verdicts
-from .cases import Known, Product
+from .asked import LONG
+from .called import Called
+from .cases import Known, Product, Statement
+from .components import Machine
 from .decide import Decided, Lead
 from .feeds import Json
-from .machines import Machine
-from .perhaps import Pairs
 from .said import Said
 from .table import counted
 
@@ -17,19 +18,51 @@ from .table import counted
 MOST_ALIKE = 20
 
 
+@dataclass(frozen=True)
+class Perhaps:
+    """A statement, an item, and a fact that the item perhaps is, since it says less."""
+
+    id: str
+    item: str
+    fact: str
+
+
 @dataclass
 class Found:
-    """What came of a machine: where its items lead, what is decided of its ranges, the verdicts that were asked for by the
-    places of statements, why some are UNKNOWN, as which items that are known in part may be meant (`partly`), and where it was asked
-    for which items make others TRUE."""
+    """What came of a machine: where all names of its list lead, those of each component that has a name which cpe takes, and those
+    of which no name is in the dictionary (`unlisted`); how its items are called, and as which they are asked for; what is decided of
+    its ranges; the verdicts that were asked for by the places of statements; those that are others where items say less than is asked
+    for (`less`), and which these are (`perhaps`); which items may be meant where it is UNKNOWN (`partly`); the packages of
+    distributions that make others TRUE, and are perhaps mended (`backported`); and where it was asked for which items make them TRUE."""
 
     machine: Machine
     leads: list[Lead]
+    components: list[list[Lead]] = field(default_factory=list)
+    unlisted: list[list[Lead]] = field(default_factory=list)
+    called: list[Called] = field(default_factory=list)
+    asked: list[Called] = field(default_factory=list)
     decided: Decided = field(default_factory=Decided)
     truths: dict[int, str] = field(default_factory=dict)
-    supposed: dict[int, str] = field(default_factory=dict)
+    less: set[int] = field(default_factory=set)
+    perhaps: dict[Perhaps, None] = field(default_factory=dict)
     partly: dict[int, list[str]] = field(default_factory=dict)
+    backported: dict[int, list[str]] = field(default_factory=dict)
     deciding: dict[int, list[str]] | None = None
+
+    def note_backported(self, statements: Sequence[Statement], named: Callable[[str], str]) -> None:
+        """Notes of statements that are TRUE by packages of distributions which these are; `named` is how cpe writes a fact."""
+        released = {_versioned(it.name): f"backported? {it.item}: release {it.release}" for it in self.called if it.release and it.is_sure()}
+        if not released and not self.decided.backported:
+            return
+        for place in self.places_of("TRUE"):
+            statement = statements[place]
+            inside = [key for key in statement.checks if self.decided.truths.get(key)]
+            remarks = [remark for key in inside for remark in self.decided.backported.get(key, ())]
+            # (a range that has another item is reason enough)
+            if all(key in self.decided.backported for key in inside):
+                remarks += [released[key] for fact in statement.facts if (key := _versioned(named(fact))) in released]
+                if remarks:
+                    self.backported[place] = list(dict.fromkeys(remarks))
 
     def has_items(self) -> bool:
         return bool(self.leads)
@@ -41,6 +74,11 @@ class Found:
     def removed(self) -> list[str]:
         """Its items under removed names, which lead nowhere."""
         return [lead.name for lead in self.leads if lead.is_removed()]
+
+
+def _versioned(name: str) -> tuple[str, ...]:
+    """The vendor, the product and the version of a name."""
+    return tuple(names.components(name)[names.VENDOR : names.UPDATE])
 
 
 class Hanging:
@@ -56,16 +94,21 @@ class Hanging:
         one = self._found[machine or ""]
         reasons: dict[str, None] = {}
         for place in self._parts.get(advisory, ()):
-            if place in one.supposed:
-                reasons[one.supposed[place]] = None
             reasons.update(dict.fromkeys(one.partly.get(place, ())))
             for key in self._known.statements[place].checks:
                 if key in one.decided.unsure:
-                    unsure = one.decided.unsure[key]
-                    reasons[f"{unsure.end}: {unsure.reason}"] = None
+                    reasons[one.decided.unsure[key].words()] = None
+                elif key == LONG:
+                    reasons["its logic is longer than a line as it is asked"] = None
                 elif key in self._known.stand_ins:
                     reasons[self._known.stand_ins[key]] = None
         return list(reasons)
+
+    def remarks(self, advisory: str, machine: str | None) -> list[str]:
+        """The packages of distributions that alone make it TRUE, each once."""
+        backported = self._found[machine or ""].backported
+        found = [backported.get(place) for place in self._parts.get(advisory, ()) if self._found[machine or ""].truths.get(place) == "TRUE"]
+        return list(dict.fromkeys(remark for remarks in found for remark in remarks or ())) if all(found) else []
 
 
 def _parts(known: Known) -> dict[str, list[int]]:
@@ -89,8 +132,8 @@ def machines_with_verdicts(known: Known, bare: Sequence[str], found: Iterable[Fo
             continue
         machine = verdicts.Machine(one.machine.name, statements)
         for place, truth in sorted({**without_items, **one.truths}.items()):
-            if truth != "FALSE":
-                machine.put(known.statements[place].id, truth)
+            if truth != "FALSE" or place in one.less:
+                machine.put(known.statements[place].id, truth, place in one.less)
         machines.append(machine)
     return machines
 
@@ -107,13 +150,15 @@ def tell_items(
                 said.left_out(name, f"{refused[item]}: {item}")
         if not one.has_items():
             said.left_out(name, "no items")
+        unlisted = {lead.name for leads in one.unlisted for lead in leads}
+        firsts = {leads[0].name for leads in one.unlisted}
         for lead in one.leads:
             goes_on = successors.get(names.product_of(lead.name))
             if lead.is_removed():
                 said.remark(f"under a removed name {name} {lead.name}")
-            elif not lead.is_entry and goes_on:
+            elif lead.name in unlisted and goes_on:
                 said.remark(f"not in the dictionary {name} {lead.name} goes on as {' '.join(map(':'.join, goes_on))}")
-            elif not lead.is_entry:
+            elif lead.name in firsts:
                 strange.add(lead.name)
                 where.add(name)
     if strange:
@@ -121,39 +166,10 @@ def tell_items(
         said.remark(f"not in the dictionary: {items}, on {machines}; unlisted.sh lists them")
 
 
-# A machine, the id of an advisory, an item of the machine, and a fact of the advisory that the item perhaps is.
-Perhaps = tuple[str, str, str, str]
-
-
-def perhaps(pairs: Pairs, found: Sequence[Found], machines: Sequence[verdicts.Machine]) -> list[Perhaps]:
-    """The items that know less than an advisory asks for, which is FALSE there."""
-    # (a name of a machine may have spaces, and its number has none)
-    numbered = [Machine(str(number), one.machine.items) for number, one in enumerate(found)]
-    rows = []
-    for line in pairs.perhaps(numbered):
-        _, number, id, item, fact = line.split(" ", 4)
-        machine = machines[int(number)]
-        if machine.truth(id) == "FALSE":
-            rows.append((machine.name or "", id, item, fact))
-    return rows
-
-
-def tell_perhaps(rows: Sequence[Perhaps], said: Said) -> None:
-    for row in rows[:MOST_ALIKE]:
-        said.remark(f"perhaps {' '.join(row)}")
-    if len(rows) > MOST_ALIKE:
-        said.remark(f"perhaps: {len(rows) - MOST_ALIKE} more, which --json and perhaps.sh list")
-
-
-def json_of(
-    known: Known, found: Sequence[Found], machines: Sequence[verdicts.Machine], about: affected.About, rows: Iterable[Perhaps]
-) -> dict[str, Json]:
+def json_of(known: Known, found: Sequence[Found], machines: Sequence[verdicts.Machine], about: affected.About) -> dict[str, Json]:
     """The result as one value, with the verdicts that the machines show."""
-    maybe: dict[str, list[Json]] = {}
-    for name, id, item, fact in rows:
-        maybe.setdefault(name, []).append({"id": id, "item": item, "fact": fact})
     parts = _parts(known)
-    of_machines = [_machine_json(one, machine, about, maybe, parts) for one, machine in zip(found, machines)]
+    of_machines = [_machine_json(one, machine, about, parts) for one, machine in zip(found, machines)]
     advisories_of = verdicts.Statements([statement.id for statement in known.statements]).advisories
     return {"advisories": len(advisories_of), "machines": of_machines}
 
@@ -162,17 +178,18 @@ def _machine_json(
     one: Found,
     machine: verdicts.Machine,
     about: affected.About,
-    maybe: Mapping[str, list[Json]],
     parts: Mapping[str, Sequence[int]],
 ) -> Json:
-    row: dict[str, Json] = {"name": machine.name, "items": len(one.leads)}
+    row: dict[str, Json] = {"name": machine.name, "items": len(one.components)}
     if machine.has_items:
         row["verdicts"] = [
             _verdict_json(id, truth, machine, about) | _decided_json(one, truth, parts.get(id, ()))
             for id, truth in _in_order(machine, about)
         ]
-        row["perhaps"] = maybe.get(one.machine.name, [])
-        row["notInDictionary"] = [lead.name for lead in one.leads if not lead.is_entry]
+        row["perhaps"] = [
+            {"id": id, "item": it.item, "fact": it.fact} for it in one.perhaps if (id := machine.whole(it.id)) in machine.perhaps
+        ]
+        row["notInDictionary"] = [leads[0].name for leads in one.unlisted]
         row["underRemovedName"] = one.removed()
     return row
 
@@ -186,7 +203,7 @@ def _decided_json(one: Found, truth: str, places: Iterable[int]) -> dict[str, Js
 
 def _in_order(machine: verdicts.Machine, about: affected.About) -> list[tuple[str, str]]:
     """What is shown, in the order of the table."""
-    return sorted(machine.shown.items(), key=lambda row: (verdicts.TRUTHS.index(row[1]), -about.score(row[0])))
+    return sorted(machine.shown.items(), key=lambda row: (machine.rank(row[0]), -about.score(row[0])))
 
 
 def _verdict_json(id: str, truth: str, machine: verdicts.Machine, about: affected.About) -> dict[str, Json]:
@@ -194,5 +211,10 @@ def _verdict_json(id: str, truth: str, machine: verdicts.Machine, about: affecte
     row: dict[str, Json] = {"id": id, "verdict": truth, **known}
     if truth == "UNKNOWN":
         row["hangsOn"] = about.hanging.on(id, machine.name)
+    remarks = about.hanging.remarks(id, machine.name) if truth == "TRUE" else []
+    if remarks:
+        row["remarks"] = remarks
+    if id in machine.perhaps:
+        row["perhaps"] = True
     reason = about.accepted_for(id, truth, machine.name)
     return row if reason is None else {**row, "accepted": reason}

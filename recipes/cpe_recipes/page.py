@@ -41,15 +41,16 @@ def text(data: str) -> str:
     return html.escape(shown(data))
 
 
-def page(scanned: Scanned, parts: Parts) -> Iterator[str]:
-    """The page, in pieces."""
+def page(scanned: Scanned, parts: Parts, changed: Sequence[str] | None = None) -> Iterator[str]:
+    """The page, in pieces; `changed` are lines of what changed since an earlier day."""
     counts = scanned.counts()
     rows = sum(counts[group] for group in GROUPS)
     yield from _head(parts)
     yield f"<header><h1><bdi>{text(parts.title)}</bdi></h1>\n"
-    yield f"<p>{_machine_count(len(scanned.machines))}, {_advisory_count(scanned.asked)} asked for.</p></header>\n<main>\n"
+    yield f"<p>{_machine_count(len(scanned.machines))}, {_advisory_count(scanned.asked)} asked for.{_unanalysed(scanned)}</p></header>\n<main>\n"
     yield from _missing(scanned)
     yield from _numbers(counts)
+    yield from _changed(changed)
     if rows:
         yield _filter()
         number = _advisory_count(len(scanned.advisories))
@@ -73,6 +74,22 @@ def _advisory_count(number: int) -> str:
 
 def _machine_count(number: int) -> str:
     return _many(number, "machine", "machines")
+
+
+def _unanalysed(scanned: Scanned) -> str:
+    """How many advisories have no verdict, in words."""
+    number = scanned.unanalysed
+    return f" {_advisory_count(number)} {'is' if number == 1 else 'are'} not analysed yet, and told of no machine." if number else ""
+
+
+def _changed(changed: Sequence[str] | None) -> Iterator[str]:
+    """What changed, line by line; nothing where it wasn't asked for."""
+    if changed is None:
+        return
+    yield f'<details id="changed"{_open(len(changed) <= MOST_OPEN)}><summary><h2>Changed <small>{len(changed):,}, each with the verdict '
+    yield "before and now</small></h2></summary><ul>\n"
+    yield from (f"<li>{text(line)}\n" for line in changed)
+    yield "</ul></details>\n"
 
 
 def _head(parts: Parts) -> Iterator[str]:
@@ -235,6 +252,6 @@ def _legend() -> str:
         f'<footer><h2>How to read it</h2><dl>{lines}</dl>\n'
         "<p>Beside a machine stands what its verdict hangs on, or which items make it TRUE, where the scan tells it; "
         "<code>scan.py --why</code> tells the items.</p>\n"
-        "<p>Perhaps meant: an item knows less than an advisory asks for, which is FALSE there; <code>perhaps.sh</code> and the "
-        "JSON list them. Not in the dictionary: <code>unlisted.sh</code> and the JSON list them.</p></footer>\n"
+        "<p>Perhaps meant: an item says less than an advisory asks for, which is UNKNOWN there, or FALSE with <code>--strict</code>; "
+        "the JSON lists them. Not in the dictionary: <code>unlisted.sh</code> and the JSON list them.</p></footer>\n"
     )

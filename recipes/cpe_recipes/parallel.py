@@ -1,14 +1,15 @@
 """An inventory of many machines over the processors of this one, with GNU parallel.
 
-    sh parallel.sh RECORDS MACHINES [--ranges FILE [--letters FILE] [--matches FILE..] | --decided FILE]
+    sh parallel.sh RECORDS MACHINES [--strict] [--hardware none] [--ranges FILE [--letters FILE] [--matches FILE..] | --decided FILE]
 
 - RECORDS: entries, deprecations, statements and results of checks, as the recipes write them.
 - MACHINES: a line a machine: its name, and after it the names of its items.
 - --ranges: the ranges of versions that `advisories.sh --ranges` wrote. Each is decided for each machine, as `decide.py` does,
   and the statements that wait for it get the answer. --decided has what `decide.py` wrote before.
 
-An item that no entry of the dictionary has is asked for under the products too to which entries of its own lead; where a verdict
-would be another so, it is UNKNOWN, and the item is remarked; so it is for an item under a removed name, as if that led to itself.
+What is asked of a machine is what `scan.py` asks: all statements over the names of its items as they stand and as they lead on,
+whatever their mode says, and what a list doesn't say is UNKNOWN; with --strict an item that says less than an advisory asks for isn't
+what that names. Which items the dictionary doesn't lead on is remarked.
 
 It writes a line `MACHINE STATEMENT TRUTH` for each, in the order of the machines and of the statements, and `MACHINE no items`
 for a machine without items, of which nothing is known. The last line, `machines COUNT`, stands where every machine was told.

@@ -23,12 +23,13 @@ from dataclasses import dataclass
 
 from . import names
 from .advisories import MATCH, SYSTEM, Range, base_id
+from .components import Machine
 from .decide import LETTERS, Decider, Lead, Leads, leads_of, read_entries, read_ranges
 from .feeds import Json
 from .fleet import read_text
-from .machines import Machine, read_machines
+from .machines import read_machines
 from .program import Program
-from .said import Fatal, Output, Said
+from .said import Fatal, Output, Said, shown
 from .unlisted import say_items
 from .versions import Letters, read_letters
 from .words import ONE, read_words
@@ -72,7 +73,7 @@ def run(words: Sequence[str]) -> int:
     say_items(machines, leads, said)
     pairs = Pairs(program, facts, leads, ranges, letters)
     output.lines(list(pairs.perhaps(machines)))
-    output.end()
+    output.end(shown)
     return said.status()
 
 

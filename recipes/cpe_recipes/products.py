@@ -1,4 +1,4 @@
-"""Advisories of the products that the machines have: sh products.sh --machines FILE [--records FILE] [FILE..] > page.
+"""Advisories of the products that the machines have: sh products.sh --machines FILE [--records FILE] [--partial] [--large] [FILE..] > page.
 
 `cpe` takes 100,000 statements; NVD has more advisories. This cuts its feeds (the JSON of /rest/json/cves/2.0) down to the
 advisories that could be other than FALSE on some machine, as one page of the same form, for `advisories.sh` or `scan.py`. An
@@ -7,29 +7,31 @@ advisory goes on where a vulnerable match of it
 - has a vendor and product that an item of a machine has, or leads to by the dictionary of --records, or may go on as there; or
 - has a vendor or product that isn't plain, or a name that is none, or where an item has a pattern in its vendor or product;
 
-and where there is something in it that `advisories.sh` has to tell. The others name products that aren't here: they are
-FALSE on every machine, and how many they are is remarked.
+and where there is something in it that `advisories.sh` has to tell, such as that it isn't analysed. The others name products that
+aren't here: they are FALSE on every machine, and how many they are is remarked. A feed of which pages are missing, as they say
+themselves, is refused; --partial lets it pass, and what is missing is said.
 """
 from __future__ import annotations
 
 from collections.abc import Iterable, Iterator, Sequence
 
-from . import names
+from . import latest, names, whole
 from .advisories import KINDS, Configuration
 from .decide import Leads, leads_of, read_entries
-from .feeds import FormFault, Json, Page, member, members, pages, record_text, text_at
+from .feeds import FormFault, Json, Page, member, members, record_text, text_at
 from .machines import read_machines
 from .program import Program
 from .said import Fatal, Output, Said
+from .unanalysed import REJECTED, States
 from .unlisted import Product, deprecated_names, say_items, successors
 from .words import ONE, read_words
 
-USAGE = "products.sh --machines FILE [--records FILE] [FILE..]"
+USAGE = "products.sh --machines FILE [--records FILE] [--partial] [--large] [FILE..]"
 MOST_STATEMENTS = 100_000
 
 
 def run(words: Sequence[str]) -> int:
-    read = read_words(words, {"--machines": ONE, "--records": ONE}, USAGE)
+    read = read_words(words, {"--machines": ONE, "--records": ONE, **whole.OPTIONS}, USAGE)
     machines_path = read.one("--machines")
     if machines_path is None:
         raise Fatal(f"usage: {USAGE}")
@@ -41,17 +43,26 @@ def run(words: Sequence[str]) -> int:
     wanted = products_of(leads, items, records)
     if not wanted:
         raise Fatal("no machine has an item")
-    count = 0
-    kept: list[str] = []
-    for page in pages(read.files, said, KINDS):
-        count += len(page.records)
-        kept.extend(cut(program, page, wanted))
-    said.remark(f"{len(kept)} of {count} advisories may concern a product of these machines")
-    if len(kept) > MOST_STATEMENTS:
+    feed = latest.advisories(whole.pages(read.files, said, KINDS, reading=whole.Reading.of(read)), said)
+    kept = [page.records[place] for page in feed for place in cut(program, page, wanted)]
+    # (what isn't analysed stays in the page, so that who reads it tells that)
+    states = States()
+    states.sort([Page("", KINDS[0], kept)])
+    count = len(kept) - len(states.unanalysed)
+    said.remark(f"{count} of {sum(len(page.records) for page in feed)} advisories may concern a product of these machines")
+    if count > MOST_STATEMENTS:
         said.remark(f"these are more than cpe takes, {MOST_STATEMENTS}; give it some of the machines at a time")
-    output.lines(['{"vulnerabilities":[', *with_commas(kept), "]}"])
+    states.tell(said)
+    output.lines(page_of([record_text(record) for record in kept]))
     output.end()
     return said.status()
+
+
+def page_of(records: Sequence[str]) -> list[str]:
+    """A page of NVD's form of these advisories, which is all of its feed."""
+    count = len(records)
+    front = f'"resultsPerPage":{count},"startIndex":0,"totalResults":{count},"format":"NVD_CVE","version":"2.0"'
+    return [f'{{{front},"vulnerabilities":[', *with_commas(records), "]}"]
 
 
 def with_commas(records: Sequence[str]) -> list[str]:
@@ -71,20 +82,17 @@ def products_of(leads: Leads, items: Iterable[str], records: Sequence[str]) -> s
     return found | {names.product_of(lead.name) for lead in before if any(names.product_of(end) in found for end in lead.ends)}
 
 
-def cut(program: Program, page: Page, wanted: set[Product]) -> Iterator[str]:
-    """The advisories of a page that go on."""
+def cut(program: Program, page: Page, wanted: set[Product]) -> list[int]:
+    """The places in the list of a page of those advisories that go on."""
     if any(names.has_special(part) for product in wanted for part in product):
-        yield from (record_text(record) for record in page.records)
-        return
+        return list(range(len(page.records)))
     named = [_vulnerable(record) for record in page.records]
     asked = list(dict.fromkeys(name for found in named if found is not None for name in found))
     lookups = (record_text({"do": "lookup", "name": name}) for name in asked)
-    answers = program.run(["resolve"], lookups) if asked else []
+    answers = program.answers(["resolve"], lookups) if asked else []
     # (one that is refused is no name)
     goes_on = {name for name, line in zip(asked, answers) if _concerns(line, wanted)}
-    for record, found in zip(page.records, named):
-        if found is None or not goes_on.isdisjoint(found):
-            yield record_text(record)
+    return [place for place, found in enumerate(named) if found is None or not goes_on.isdisjoint(found)]
 
 
 def _concerns(answer: str, wanted: set[Product]) -> bool:
@@ -99,7 +107,7 @@ def _vulnerable(record: Json) -> list[str] | None:
     """The names of the vulnerable matches of an advisory; None where there is anything else to tell of it."""
     try:
         cve = member(record, "cve")
-        if text_at(cve, "vulnStatus") == "Rejected":
+        if text_at(cve, "vulnStatus") == REJECTED:
             return []
         found = [
             match.criteria

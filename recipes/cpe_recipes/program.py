@@ -2,40 +2,121 @@
 from __future__ import annotations
 
 import contextlib
+import itertools
 import os
 import shutil
 import subprocess
 import threading
+import uuid
 from collections.abc import Iterable, Iterator, Sequence
 from dataclasses import dataclass
 from typing import IO
 
-from .said import Fatal, Said, why
+from .feeds import Placed, Source
+from .said import Fatal, Said, quoted, why
+from .table import counted
 
 # Lines are handed over in pieces of about so many bytes.
 _PIECE = 1 << 16
-_MOST_SHOWN = 100
+# By what a program is known to be cpe: a line of `compare`, and its answer.
+_PAIR = "cpe:/a:gnu cpe:/a:gnu:gnutls"
+_ANSWER = "SUPERSET EQUAL EQUAL SUPERSET" + " EQUAL" * 8
+_SECONDS, _MOST_ANSWER = 60, 4096
+# What is asked at the end of a run, about an id that nobody has put, so that it is seen whether its answers are all there. Under
+# other words each line has one answer.
+_BARRIERS = {"resolve": "verdict", "advise": "affected"}
+_BY_LINES = ("compare", "unbind", "bind", "convert")
 
 
-@dataclass(frozen=True)
+@dataclass(frozen=True, slots=True)
 class Candidate:
-    """What became of a record of a feed, which has an id there: a record for cpe, or else the reason why there is none."""
+    """What became of a record of a feed, which has an id there: a record for cpe, or else the reason why there is none. It may be known
+    where it stands."""
 
     id: str
     record: str = ""
     reason: str = ""
+    source: Source | None = None
+    number: int = 0
+
+    def place(self) -> str:
+        return "" if self.source is None else self.source.place(self.number)
+
+
+def candidate_at(placed: Placed, id: str, record: str = "", reason: str = "") -> Candidate:
+    """What became of a record that stands there."""
+    return Candidate(id, record, reason, placed.source, placed.number)
 
 
 class Program:
     """The program; Fatal where it isn't there."""
 
-    def __init__(self, path: str | None = None) -> None:
+    def __init__(self, path: str | None = None, is_tried: bool | None = None) -> None:
+        """The program at this path, or else that which is to be found; whether it is cpe is tried where it was found."""
         self.path = path or os.environ.get("CPE") or "cpe"
         if shutil.which(self.path) is None:
             raise Fatal(f"there is no {self.path}")
+        if is_tried if is_tried is not None else path is None:
+            self._try()
+
+    def _try(self) -> None:
+        try:
+            run = subprocess.Popen([self.path, "compare"], stdin=subprocess.PIPE, stdout=subprocess.PIPE, stderr=subprocess.DEVNULL)
+        except OSError as fault:
+            raise Fatal(f"{self.path} can not be run: {why(fault)}") from fault
+        with run:
+            # (what never ends, or writes for ever, is no cpe either)
+            alarm = threading.Timer(_SECONDS, run.kill)
+            alarm.start()
+            with contextlib.suppress(OSError), _pipe(run.stdin) as to_run:
+                to_run.write(f"{_PAIR}\n".encode())
+            answer = _pipe(run.stdout).read(_MOST_ANSWER).decode(errors="replace")
+            if len(answer) >= _MOST_ANSWER:
+                run.kill()
+            alarm.cancel()
+        if answer != f"{_ANSWER}\n":
+            lines = answer.splitlines()
+            told = f", {quoted(lines[0])}" if lines else ""
+            raise Fatal(f"{self.path} isn't cpe: it answers one line of compare with {counted(len(lines), 'line')}{told}, not with {_ANSWER}")
 
     def lines(self, words: Sequence[str], records: Iterable[str]) -> Iterator[str]:
-        """What the program writes under these words over these lines, as it comes. Fatal where it doesn't come to its end."""
+        """What the program writes under these words over these lines, as it comes. Fatal where it doesn't come to its end, or
+        where answers are missing."""
+        verb = _BARRIERS.get(words[0]) if words else None
+        if verb is None:
+            yield from self._by_lines(words, records) if words and words[0] in _BY_LINES else self._lines(words, records)
+            return
+        asked, id, answered, last = _Counted(records), uuid.uuid4().hex, 0, ""
+        for line in self._lines(words, itertools.chain(asked, [f'{{"do":"{verb}","id":"{id}"}}'])):
+            if answered:
+                yield self._checked(words, last, asked.count)
+            answered, last = answered + 1, line
+        if last != f"{verb} {id} absent":
+            raise self._short(words, answered, asked.count)
+
+    def _by_lines(self, words: Sequence[str], records: Iterable[str]) -> Iterator[str]:
+        """The answers of a word that has one for each line."""
+        asked, answered = _Counted(records), 0
+        for answered, line in enumerate(self._lines(words, asked), 1):
+            if line.startswith("refused ") and line.split(" ", 2)[1] != str(answered):
+                raise Fatal(f"{self.path} {' '.join(words)} answered line {answered:,} with {quoted(line)}")
+            yield line
+        if answered != asked.count:
+            raise self._short(words, answered, asked.count)
+
+    def _checked(self, words: Sequence[str], line: str, count: int) -> str:
+        """A line, which may refuse none but those that were written."""
+        if line.startswith("refused "):
+            number = line.split(" ", 2)[1]
+            if not number.isdecimal() or not 1 <= int(number) <= count:
+                raise Fatal(f"{self.path} {' '.join(words)} refused another line than the {count:,} that it was given: {quoted(line)}")
+        return line
+
+    def _short(self, words: Sequence[str], answered: int, count: int) -> Fatal:
+        what = f"it wrote {answered:,} lines over {count:,}, and the last answer isn't there"
+        return Fatal(f"{self.path} {' '.join(words)} answered too few lines: {what}")
+
+    def _lines(self, words: Sequence[str], records: Iterable[str]) -> Iterator[str]:
         try:
             run = subprocess.Popen([self.path, *words], stdin=subprocess.PIPE, stdout=subprocess.PIPE)
         except OSError as fault:
@@ -61,6 +142,17 @@ class Program:
         """What the program writes under these words over these lines."""
         return list(self.lines(words, records))
 
+    def answers(self, words: Sequence[str], questions: Iterable[str]) -> list[str]:
+        """The answers to questions of which each has one line, in their order. Fatal where one is missing, or another's."""
+        asked = _Counted(questions)
+        found = self.run(words, asked)
+        if len(found) != asked.count:
+            raise Fatal(f"{self.path} {' '.join(words)} answered {len(found):,} of {asked.count:,} questions")
+        for number, line in enumerate(found, 1):
+            if line.startswith("refused ") and line.split(" ", 2)[1] != str(number):
+                raise Fatal(f"{self.path} {' '.join(words)} answered question {number:,} with {quoted(line)}")
+        return found
+
     def bytes(self, words: Sequence[str], data: bytes) -> bytes:
         """What the program writes under these words over these bytes."""
         try:
@@ -80,12 +172,24 @@ class Program:
         records = []
         for number, one in enumerate(kept, 1):
             if not one.record:
-                said.left_out(one.id, one.reason)
+                said.left_out(one.id, one.reason, one.place())
             elif number not in reasons:
                 records.append(one.record)
             elif reasons[number] != unsaid:
-                said.left_out(one.id, f"{reasons[number]}: {prefix_of(one.record)}")
+                said.left_out(one.id, f"{reasons[number]}: {prefix_of(one.record)}", one.place())
         return records
+
+
+class _Counted:
+    """Lines, and how many of them were given so far."""
+
+    def __init__(self, lines: Iterable[str]) -> None:
+        self._lines, self.count = lines, 0
+
+    def __iter__(self) -> Iterator[str]:
+        for line in self._lines:
+            self.count += 1
+            yield line
 
 
 class _Writer(threading.Thread):
@@ -139,4 +243,4 @@ def refusals(lines: Iterable[str]) -> dict[int, str]:
 
 def prefix_of(record: str) -> str:
     """A record, or its beginning where it is long."""
-    return record if len(record) <= _MOST_SHOWN else f"{record[:_MOST_SHOWN]}..."
+    return quoted(record)

@@ -1,6 +1,7 @@
 """One page to look at, of what `scan.py --json` wrote, or a fleet, or `cpe evaluate`.
 
-    python3 report.py [--title TEXT] [--details FILE] [--suppress FILE] [--records FILE] [--ranges FILE] [--decided FILE] [FILE] > page.html
+    python3 report.py [--title TEXT] [--before FILE] [--details FILE] [--suppress FILE] [--records FILE] [--ranges FILE] [--decided FILE]
+        [FILE] > page.html
 
 It is one file of HTML without outside parts: it opens from a disk, on a telephone too, in light and in dark, and loads nothing.
 What was left out stands at its top, then how many rows there are of each verdict, then the advisories by their scores, each with
@@ -9,6 +10,8 @@ looks at texts, machines and verdicts; without scripts it is all that is missing
 `page.html#q=openssl&machine=web-1&truth=UNKNOWN`.
 
 - --title: what stands above the page, such as whose machines these are and the day.
+- --before: verdicts of an earlier day, in the same form. What changed since stands on the page as `changes.sh` writes it, with the reason
+  where a verdict is `none` now. It needs a FILE.
 - the others: those of `affected.sh`, for verdicts of a fleet or of `cpe evaluate`. What `scan.py` wrote has all that they tell.
 
 The status is 1 where something was left out or a machine has no items, which is said too, and 2 where the table isn't whole:
@@ -19,7 +22,7 @@ from __future__ import annotations
 from collections.abc import Iterable, Sequence
 from pathlib import Path
 
-from . import affected
+from . import affected, changes
 from .feeds import FeedFault, name_of, read_feed
 from .page import Parts, page
 from .progress import Progress
@@ -28,7 +31,9 @@ from .scanned import ACCEPTED, NO_ITEMS, Advisory, Machine, Row, Scanned, in_ord
 from .verdicts import Verdicts, verdicts_of
 from .words import ONE, Words, read_words
 
-USAGE = "report.py [--title TEXT] [--details FILE] [--suppress FILE] [--records FILE] [--ranges FILE] [--decided FILE] [FILE]"
+USAGE = (
+    "report.py [--title TEXT] [--before FILE] [--details FILE] [--suppress FILE] [--records FILE] [--ranges FILE] [--decided FILE] [FILE]"
+)
 TITLE = "Advisories by machine"
 # Of lines that are alike, and of bytes that are written at once.
 _MOST_ALIKE = 20
@@ -37,14 +42,15 @@ _RECIPES = Path(__file__).resolve().parent.parent
 
 
 def run(words: Sequence[str]) -> int:
-    read = read_words(words, {"--title": ONE, **affected.OPTIONS}, USAGE)
-    if len(read.files) > 1:
+    read = read_words(words, {"--title": ONE, "--before": ONE, **affected.OPTIONS}, USAGE)
+    if len(read.files) > 1 or read.has("--before") and not read.files:
         raise Fatal(f"usage: {USAGE}")
     parts = Parts(read.one("--title") or TITLE, _part("report.css"), _part("report.js"))
     with Progress() as progress:
         progress.step("reading the table")
         scanned = _scanned(read)
-    write(page(scanned, parts))
+        changed = _changed(read, scanned)
+    write(page(scanned, parts, changed))
     said = Said(most_alike=_MOST_ALIKE)
     _tell(scanned, said)
     said.tell_others()
@@ -67,6 +73,18 @@ def _scanned(read: Words) -> Scanned:
     return scanned_of(data, feed)
 
 
+def _changed(read: Words, scanned: Scanned) -> list[str] | None:
+    """What changed since the verdicts before, None where it isn't asked for. What it leaves out joins that of the page."""
+    before = read.one("--before")
+    if before is None:
+        return None
+    gathered = _Gathered()
+    lines = list(changes.between(before, read.files[0], gathered))
+    known = set(scanned.left_out)
+    scanned.left_out += [one for one in gathered.noted if one not in known]
+    return lines
+
+
 class _Gathered(Said):
     """What is left out, which is told when the page is written."""
 
@@ -74,8 +92,11 @@ class _Gathered(Said):
         super().__init__()
         self.noted: list[tuple[str, str]] = []
 
-    def left_out(self, id: str, reason: str) -> None:
+    def left_out(self, id: str, reason: str, place: str = "") -> None:
         self.noted.append((id, reason))
+
+    def remark(self, text: str, id: str = "") -> None:
+        """(what changed tells it)"""
 
 
 def _of_fleet(verdicts: Verdicts, read: Words) -> Scanned:

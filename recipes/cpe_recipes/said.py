@@ -7,6 +7,7 @@ from __future__ import annotations
 
 import contextlib
 import os
+import re
 import signal
 import sys
 import tempfile
@@ -19,6 +20,10 @@ from typing import NoReturn
 DONE, LEFT_OUT, NO_RESULT, STOPPED = 0, 1, 2, 130
 # Where this variable is set, a fault of a recipe is told with all that led to it.
 TRACEBACK = "CPE_TRACEBACK"
+# How many bytes of what was read stand in a message.
+MOST_QUOTED = 200
+_WORD = re.compile(r"\S{50,}")
+_MOST_BEHIND = 8
 
 if sys.version_info < (3, 11):
     print(f"{sys.argv[0]}: this python3 is {sys.version.split()[0]}, and the recipes need 3.11 or newer", file=sys.stderr)
@@ -39,6 +44,26 @@ def shown(text: str) -> str:
 def _by_number(one: str) -> str:
     number = ord(one)
     return f"\\u{number:04x}" if number < 0x10000 else f"\\U{number:08x}"
+
+
+def quoted(value: object, most: int = MOST_QUOTED) -> str:
+    """What a message quotes, cut where it has more bytes than this."""
+    text = value if isinstance(value, str) else str(value)
+    if len(text) * 4 <= most:
+        return text
+    data = text.encode(errors="backslashreplace")
+    return text if len(data) <= most else f"{data[:most].decode(errors='ignore')}..."
+
+
+def cut_words(text: str, most: int = MOST_QUOTED) -> str:
+    """A message whose words, such as names that it quotes, are cut where they are longer than this."""
+    return text if len(text) * 4 <= most else _WORD.sub(lambda found: _cut_word(found[0], most), text)
+
+
+def _cut_word(word: str, most: int) -> str:
+    # (what stands behind a name belongs to the message; the end of one that is cut already too)
+    name = word.rstrip(".,;:)")
+    return quoted(name, most) + word[len(name) :] if len(word) - len(name) <= _MOST_BEHIND else quoted(word, most)
 
 
 def why(fault: OSError) -> str:
@@ -69,10 +94,11 @@ class Said:
         self.left = 0
         self.remarks = 0
 
-    def left_out(self, id: str, reason: str) -> None:
-        """Something was not read, or is no record."""
+    def left_out(self, id: str, reason: str, place: str = "") -> None:
+        """Something was not read, or is no record; it stands at this place of a file, where it isn't called by that."""
         self.left += 1
-        self._say_some(f"left out {id}: {reason}", f"left out {{}} more: {reason}")
+        where = f", {place}" if place and place != id else ""
+        self._say_some(f"left out {quoted(id)}{where}: {reason}", f"left out {{}} more: {reason}")
 
     def remark(self, text: str, id: str = "") -> None:
         """Worth knowing, and nothing is lost."""
@@ -97,19 +123,25 @@ class Said:
     def _say(self, line: str) -> None:
         if self._before is not None:
             self._before()
-        write_all(self._descriptor, f"{shown(line)}\n".encode(errors="replace"), "what was left out")
+        write_all(self._descriptor, f"{shown(cut_words(line))}\n".encode(errors="replace"), "what was left out")
 
 
 class Noting(Said):
-    """What is told, where the result has what was left out too: all of it, with ids and reasons."""
+    """What is told, where the result has what was left out too: all of it, with ids, reasons and places."""
 
     def __init__(self, descriptor: int = 2, before: Callable[[], None] | None = None, most_alike: int | None = None) -> None:
         super().__init__(descriptor, before, most_alike)
-        self.noted: list[tuple[str, str]] = []
+        self.noted: list[tuple[str, str, str]] = []
 
-    def left_out(self, id: str, reason: str) -> None:
-        self.noted.append((id, reason))
-        super().left_out(id, reason)
+    def left_out(self, id: str, reason: str, place: str = "") -> None:
+        self.noted.append((id, reason, place))
+        super().left_out(id, reason, place)
+
+    def json(self) -> list[dict[str, str]]:
+        """What was left out, as it stands in the result."""
+        return [
+            {"id": id, "reason": reason} | ({"place": place} if place and place != id else {}) for id, reason, place in self.noted
+        ]
 
 
 class Output:
@@ -125,9 +157,10 @@ class Output:
     def lines(self, texts: Iterator[str] | list[str]) -> None:
         self._lines.extend(texts)
 
-    def end(self) -> None:
-        """Writes all that was gathered; the result is whole after this."""
-        data = "".join(f"{line}\n" for line in self._lines).encode(errors="replace")
+    def end(self, as_shown: Callable[[str], str] | None = None) -> None:
+        """Writes all that was gathered, each line perhaps as it is shown; the result is whole after this."""
+        lines = self._lines if as_shown is None else map(as_shown, self._lines)
+        data = "".join(f"{line}\n" for line in lines).encode(errors="replace")
         self._lines.clear()
         write_all(self._descriptor, data, "the output")
 
@@ -179,7 +212,7 @@ def _fault(fault: Exception) -> str:
 
 def _end(name: str, reason: str) -> int:
     with contextlib.suppress(OSError, Fatal):
-        write_all(2, f"{name}: {shown(reason)}\n".encode(errors="replace"), "the reason")
+        write_all(2, f"{name}: {shown(cut_words(reason))}\n".encode(errors="replace"), "the reason")
     return NO_RESULT
 
 

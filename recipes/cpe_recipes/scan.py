@@ -1,27 +1,36 @@
 """The whole way, from feeds and what machines have to the advisories that concern each machine.
 
     python3 scan.py --dictionary FILE.. | --records FILE.. --advisories FILE.. [--matches FILE..]
-        --machines FILE | --lists FILE.. [--suppress FILE] [--letters FILE] [--all] [--json [--why]]
+        --machines FILE | --lists FILE.. [--suppress FILE] [--letters FILE] [--partial] [--large] [--strict] [--hardware none]
+        [--all] [--json [--why]]
 
-- --dictionary, --advisories, --matches: pages of NVD's API 2.0, as they come or packed by gzip. --records: what dictionary.sh
+- --dictionary, --advisories, --matches: pages of NVD's API 2.0, or its feeds, as they come, packed or in archives; advisories may be CVE
+  records of format 5 too (cve5.py). --records: what dictionary.sh
   made of such pages before.
-- --machines: a line a machine, its name and names of items; --lists: software lists (CycloneDX, SPDX, plain), each a machine.
+- --machines: a line a machine, as inventory.sh --machines writes it; --lists: software lists (CycloneDX, SPDX, Syft, plain), each a
+  machine.
 - --suppress: accepted advisories, lines `ID MACHINE REASON`, where * is every machine. They are told below the table.
 - --letters: the products of which letters in versions count upward, in place of letters.txt.
-- --all: the table and the JSON have the verdicts that are FALSE too.
+- --large: pages may unpack to as much as they do; unpack.py says what they else may.
+- --partial: pages of a feed may be missing. What is, is said, and each FALSE that could be another verdict by it is marked.
+- --all: the table and the JSON have the verdicts that are FALSE too, and below the table stands what isn't analysed.
+- --strict: an item that says less than an advisory asks for isn't what that names.
+- --hardware none: there is no hardware to ask for, as of containers; else what a list doesn't say of it is UNKNOWN.
 - --json: the same as one value of JSON, with what was left out (`leftOut`). report.py makes a page of it.
 - --why: the JSON tells of each verdict that is TRUE which items make it so (`decidedBy`); deciding.py says how, and what it takes.
 
 What machines are asked for, cases.py says; all verdicts come from one run of cpe.
 
-An item that no entry of the dictionary has leads nowhere, though entries of its product may lead to another product. It is asked
-for under that one too; where the verdict would be another so, it is UNKNOWN. An item under a removed name leads nowhere either;
-where the verdict would be another if it led to itself, it is UNKNOWN.
+A statement holds for a machine if it holds of the names as they stand or as the dictionary leads them on, on either side; calling.py
+says which names an item has so, and which it perhaps has. Where something is negated it holds only if it does so in each way.
 
-An item that is known in part, since its name has a pattern, may be what a fact names; where a verdict hangs on that it is UNKNOWN,
-and the item is told (partly.py). Of a range it is FALSE where all that the item may be is outside; decide.py says when.
+A component may have several names. One that makes a verdict TRUE is enough, and it is FALSE only if all do; negations.py says what it
+is where a test is negated.
 
-An item that knows less than an advisory asks for is FALSE, and remarked as `perhaps`; perhaps.py says when.
+What a list doesn't say is UNKNOWN: an item that is known in part, since its name has a pattern, may be what a fact names, and so may
+one that says less than the fact, as of a plugin without its platform. Such a verdict is told with what isn't said (reasons.py), and
+those of items that say less are counted apart, as `perhaps`. With --strict they are FALSE, as NIST IR 7696 has it, and counted all
+the same. Of a range an item is FALSE where all that it may be is outside; decide.py says when.
 
 The status is 0 where every verdict came and nothing was left out, 1 where something was, which is said, and 2 where there is no
 result: then nothing was written, but why.
@@ -29,27 +38,32 @@ result: then nothing was written, but why.
 from __future__ import annotations
 
 import json
-from collections.abc import Collection, Iterable, Iterator, Sequence
-from dataclasses import dataclass, field
+from collections.abc import Collection, Iterable, Iterator, Mapping, Sequence
+from dataclasses import dataclass, field, replace
 
-from . import advisories, affected, dictionary, inventory, matches, products, suppressed, unlisted, verdicts
-from .cases import Cases, Index, Known, Product, items_by_product, lines_of, verdicts_of
+from . import advisories, affected, dictionary, latest, matches, products, suppressed, unlisted, verdicts, whole
+from .called import Called, Sure
+from .calling import Calling, Wanted, listed_by_name
+from .cases import Cases, Index, Items, Known, Product, Results, lines_of, verdicts_of
+from .components import Machine
 from .decide import LETTERS, Decider, Lead, Leads, Lists, decide, leads_of
 from .deciding import Deciding
-from .feeds import FeedFault, Page, name_of, pages, read_feed, text_lines
-from .machines import Machine, read_lists, read_machines
-from .outcome import MOST_ALIKE, Found, Hanging, json_of, machines_with_verdicts, perhaps, tell_items, tell_perhaps
-from .partly import Partly
-from .perhaps import Pairs, facts_of
+from .feeds import FeedFault, Page, json_shown, name_of, read_feed, text_lines
+from .machines import read_lists, read_machines
+from .negations import Negations, has_hardware
+from .outcome import MOST_ALIKE, Found, Hanging, json_of, machines_with_verdicts, tell_items
 from .program import Candidate, Program
 from .progress import Progress
+from .reasons import Reasons
 from .said import Fatal, Noting, Output, Said
+from .unanalysed import States
 from .versions import Letters, read_letters
 from .words import FLAG, MANY, ONE, Words, read_words
 
 USAGE = (
     "scan.py --dictionary FILE.. | --records FILE.. --advisories FILE.. [--matches FILE..] "
-    "--machines FILE | --lists FILE.. [--suppress FILE] [--letters FILE] [--all] [--json [--why]]"
+    "--machines FILE | --lists FILE.. [--suppress FILE] [--letters FILE] [--partial] [--large] [--strict] [--hardware none] "
+    "[--all] [--json [--why]]"
 )
 OPTIONS = {
     "--dictionary": MANY,
@@ -63,6 +77,9 @@ OPTIONS = {
     "--all": FLAG,
     "--json": FLAG,
     "--why": FLAG,
+    "--strict": FLAG,
+    "--hardware": ONE,
+    **whole.OPTIONS,
 }
 
 
@@ -70,157 +87,130 @@ class Scan:
     """Verdicts of machines over what is known."""
 
     def __init__(
-        self, program: Program, known: Known, lists: Lists, letters: Letters, progress: Progress, has_why: bool = False
+        self,
+        program: Program,
+        known: Known,
+        lists: Lists,
+        letters: Letters,
+        progress: Progress,
+        has_why: bool = False,
+        is_strict: bool = False,
+        has_hardware: bool = True,
     ) -> None:
         self._program, self._known, self._lists, self._letters, self._progress = program, known, lists, letters, progress
         self._deciding = Deciding(program, known) if has_why else None
+        self._is_strict, self._has_hardware = is_strict, has_hardware
         self.bare: list[str] = []
         self.successors: dict[Product, list[Product]] = {}
         self._leads = Leads()
 
     def machines(self, machines: Sequence[Machine], is_all_asked: bool = False) -> list[Found]:
         """What comes of the machines. Where all statements are asked of each, that is the same, and takes longer."""
-        self._lead(dict.fromkeys(item for machine in machines for item in machine.items))
-        found = [Found(machine, _leads_in(self._leads, machine.items)) for machine in machines]
+        calling = self._lead(dict.fromkeys(item for machine in machines for item in machine.items))
+        found = [self._found(machine, calling) for machine in machines]
         self._decide(found, is_all_asked)
         return found
+
+    def _found(self, machine: Machine, calling: Calling) -> Found:
+        """Where the names of a machine lead. It has no items where none of its components has a name, be its platform known."""
+        if not any(name in self._leads.found for name in machine.own_items()):
+            return Found(machine, [])
+        found = [(one.kind, _leads_in(self._leads, one.names, one.kind)) for one in machine.all()]
+        components = {(kind, tuple(lead.name for lead in leads)): leads for kind, leads in found if leads}
+        leads = {lead.name: lead for of_one in components.values() for lead in of_one}
+        unlisted = [of_one for of_one in components.values() if not any(lead.is_entry for lead in of_one)]
+        of_components = list(components.values())
+        return Found(machine, list(leads.values()), of_components, unlisted, calling.of_components(of_components))
 
     def tell_items(self, found: Sequence[Found], said: Said) -> None:
         tell_items(found, self._leads.refused, self.successors, said)
 
-    def pairs(self) -> Pairs:
-        """The facts and items of one vendor and product, of which some perhaps are what is meant."""
-        return Pairs(self._program, facts_of(self._known.records), self._leads, self._known.ranges, self._letters)
-
-    def _lead(self, items: Collection[str]) -> None:
+    def _lead(self, items: Collection[str]) -> Calling:
+        """Where the names lead; and which names the items have."""
         self._progress.step("following names in the dictionary")
-        names_of_feeds = dict.fromkeys([*self._facts(), *unlisted.deprecated_names(self._known.entries)])
-        self._leads = leads_of(self._program, self._known.entries, items, names_of_feeds)
-        self.successors = unlisted.successors(self._known.entries, self._leads)
-
-    def _facts(self) -> list[str]:
-        """The names that statements and ranges ask for."""
-        facts = [fact for statement in self._known.statements for fact in statement.facts]
-        return [*facts, *(one.criteria for one in self._known.ranges.values())]
-
-    def _renamed(self, one: Found) -> dict[str, str]:
-        """The names under which items that no entry has may go on, and in words why."""
-        return {
-            name: f"{lead.name} is not in the dictionary, and may be {name}"
-            for lead in one.leads
-            for name in unlisted.supposed_names(lead, self.successors)
-        }
+        entries, facts = self._known.entries, self._known.facts()
+        self._leads = leads_of(self._program, entries, items, dict.fromkeys([*facts, *unlisted.deprecated_names(entries)]))
+        self.successors = unlisted.successors(entries, self._leads)
+        feed = listed_by_name(self._lists, self._known.ranges, self._leads)
+        wanted = Wanted(self._leads.found[fact].name for fact in dict.fromkeys(facts))
+        return Calling(self._program, entries, self._leads, _leads_in(self._leads, items), feed, wanted, self._letters)
 
     def _decide(self, found: Sequence[Found], is_all_asked: bool) -> None:
         """Puts what is decided of the ranges, and the verdicts."""
-        renamed = [self._renamed(one) for one in found]
-        new = dict.fromkeys(name for reasons in renamed for name in reasons)
-        beside = leads_of(self._program, self._known.entries, new, ()).found if new else {}
         self._progress.step("deciding ranges of versions")
-        here = self._state(self._leads, [*(lead for one in found for lead in one.leads), *beside.values()], is_all_asked)
-        restored = self._restored([one for one in found if one.removed()], is_all_asked)
-        asked: list[list[_Asked]] = []
-        for one, reasons in zip(found, renamed):
-            one.decided = decide(one.leads, here.decider, self._lists)
-            asked.append([_Asked(here, here.cases.put(one.leads, one.decided) if one.has_items() else {}, {})])
-            if reasons:
-                asked[-1].append(self._asked_so(here, [*one.leads, *(beside[name] for name in reasons)], reasons))
-            if restored is not None and one.removed():
-                reasons = {name: f"{name} was removed from the dictionary" for name in one.removed()}
-                asked[-1].append(self._asked_so(restored, _leads_in(restored.leads, one.machine.items), reasons))
-        self._ask([here] if restored is None else [here, restored])
+        index = Index(self._known, self._leads)
+        cases = Cases(self._known, index, is_all_asked)
+        called = list({it.name: it for one in found for it in one.called}.values())
+        decider = Decider(self._program, self._known.ranges.values(), self._leads, _ends(called), self._letters)
+        negated = list(self._known.negated.values())
+        negations = Negations(self._program, negated, self._leads, called, decider, self._lists, self._has_hardware)
+        asked = [self._asked(one, decider, negations, cases) for one in found]
+        truths = self._ask(cases.in_order())
         for one, of_machine in zip(found, asked):
-            self._put(one, of_machine)
-        Partly(self._program, self._known, self._leads).put(found)
+            self._put(one, of_machine, truths)
+        Reasons(self._program, self._known, self._leads).put(found)
         for done, one in enumerate(found):
             if self._deciding is not None:
                 self._progress.count("asking which items decide", done, len(found))
-                one.deciding = self._deciding.reasons([lead.name for lead in one.leads], one.decided, one.places_of("TRUE"))
+                one.deciding = self._deciding.reasons(one.asked, one.decided, one.places_of("TRUE"))
+            one.note_backported(self._known.statements, lambda fact: self._leads.found[fact].name)
             # (what is decided is in the verdicts, and would be much beside them)
             one.decided.clear()
 
-    def _asked_so(self, state: _State, leads: list[Lead], reasons: dict[str, str]) -> _Asked:
-        """What is asked of a machine where its items lead so, and in words why they may."""
-        return _Asked(state, state.cases.put(leads, decide(leads, state.decider, self._lists)), reasons)
+    def _asked(self, one: Found, decider: Decider, negations: Negations, cases: Cases) -> _Asked:
+        """What is asked of a machine."""
+        sure = [it for it in one.called if it.sure is not Sure.LESS]
+        less = [it for it in one.called if it.sure is Sure.LESS]
+        decided = decide(sure, decider, self._lists)
+        both = decided.joined(decide(less, decider, self._lists)) if less else decided
+        negations.put(one.components, sure, decided)
+        asked = _Asked(cases.put(sure, decided) if one.has_items() else {})
+        if less:
+            negations.put(one.components, one.called, both)
+            asked.beside.update(cases.put(one.called, both))
+        one.asked, one.decided = (sure, decided) if self._is_strict else (one.called, both)
+        return asked
 
-    def _restored(self, found: Sequence[Found], is_all_asked: bool) -> _State | None:
-        """The dictionary in which the items of these machines that are under removed names lead to themselves."""
-        removed = dict.fromkeys(name for one in found for name in one.removed())
-        if not removed:
-            return None
-        edits = unlisted.restores(self._program, self._known.entries, removed)
-        items = dict.fromkeys(item for one in found for item in one.machine.items)
-        leads = leads_of(self._program, [*self._known.entries, *edits], items, self._facts())
-        return self._state(leads, _leads_in(leads, items), is_all_asked, edits)
-
-    def _state(self, leads: Leads, of_items: Iterable[Lead], is_all_asked: bool, edits: Sequence[str] = ()) -> _State:
-        """The dictionary after these edits, by which the names of the feeds and these items lead so."""
-        # (names are as cpe writes them, so that one stands for all its spellings)
-        known = Leads({lead.name: lead for lead in of_items})
-        items = list(known.found)
-        known.found.update((one.criteria, leads.found[one.criteria]) for one in self._known.ranges.values())
-        decider = Decider(self._program, self._known.ranges.values(), known, items, self._letters)
-        index = Index(self._known, leads)
-        return _State(edits, leads, decider, index, Cases(self._known, index, is_all_asked))
-
-    def _ask(self, states: Sequence[_State]) -> None:
-        """Puts the verdicts of the cases, by their numbers."""
+    def _ask(self, cases: Sequence[tuple[Items, Results, int, int]]) -> dict[int, str]:
+        """The truths of the cases, by their numbers."""
         self._progress.step("asking for verdicts")
-        parts = [(state.edits, state.cases.in_order()) for state in states]
-        answers = verdicts_of(self._program.lines(["resolve"], lines_of(self._known, parts)))
+        answers = verdicts_of(self._program.lines(["resolve"], lines_of(self._known, cases)))
         self.bare = [_next(answers) for _ in self._known.statements]
-        done, of = 0, sum(len(cases) for _, cases in parts)
-        for state, (_, cases) in zip(states, parts):
-            for _, _, _, number in cases:
-                state.truths[number] = _next(answers)
-                done += 1
-                self._progress.count("asking for verdicts", done, of)
+        truths: dict[int, str] = {}
+        for _, _, _, number in cases:
+            truths[number] = _next(answers)
+            self._progress.count("asking for verdicts", len(truths), len(cases))
         for answer in answers:
             raise Fatal(f"cpe answered more than was asked: {answer}")
+        return truths
 
-    def _put(self, one: Found, asked: Sequence[_Asked]) -> None:
-        """Puts verdicts of a machine. One that is another where items are what they perhaps are is UNKNOWN."""
-        own, *others = asked
-        one.truths = own.truths()
-        sure = dict(one.truths)
-        for other in others:
-            by_product = items_by_product((name, [name]) for name in other.reasons)
-            for place, truth in other.truths().items():
-                if truth != sure.get(place, self.bare[place]):
-                    one.truths[place] = "UNKNOWN"
-                    meant = other.state.index.items(place, by_product, tuple(other.reasons)) or other.reasons
-                    why = [one.supposed[place]] if place in one.supposed else []
-                    one.supposed[place] = "; ".join([*why, *(other.reasons[name] for name in meant)])
-
-
-@dataclass(frozen=True)
-class _State:
-    """A dictionary, which comes by these edits, and what is decided and asked in it; `truths` are those of the cases, by their
-    numbers."""
-
-    edits: Sequence[str]
-    leads: Leads
-    decider: Decider
-    index: Index
-    cases: Cases
-    truths: dict[int, str] = field(default_factory=dict)
+    def _put(self, one: Found, asked: _Asked, truths: Mapping[int, str]) -> None:
+        """Puts verdicts of a machine. One that is another where items are what they say too little of is UNKNOWN."""
+        one.truths.update((place, truths[number]) for place, number in asked.plain.items())
+        for place, number in asked.beside.items():
+            truth = one.truths.setdefault(place, self.bare[place])
+            if truths[number] != truth:
+                one.less.add(place)
+                one.truths[place] = truth if self._is_strict else truths[number]
 
 
 @dataclass(frozen=True)
 class _Asked:
-    """What is asked of a machine: the cases by the places of statements, and in words why its items perhaps are these names."""
+    """What is asked of a machine: the cases by the places of statements; and beside them those with what its items say too little of."""
 
-    state: _State
-    cases: dict[int, int]
-    reasons: dict[str, str]
-
-    def truths(self) -> dict[int, str]:
-        return {place: self.state.truths[number] for place, number in self.cases.items()}
+    plain: dict[int, int]
+    beside: dict[int, int] = field(default_factory=dict)
 
 
-def _leads_in(leads: Leads, items: Iterable[str]) -> list[Lead]:
+def _leads_in(leads: Leads, items: Iterable[str], kind: str = "") -> list[Lead]:
     """Where the items lead, each once, however it is spelled."""
-    return list({lead.name: lead for item in items if (lead := leads.found.get(item))}.values())
+    found = {lead.name: lead for item in items if (lead := leads.found.get(item))}.values()
+    return [replace(lead, kind=kind) for lead in found] if kind else list(found)
+
+
+def _ends(called: Iterable[Called]) -> list[str]:
+    """The names that are held against ranges."""
+    return [one.name for one in called if not one.is_spelled]
 
 
 def _next(answers: Iterator[str]) -> str:
@@ -230,41 +220,45 @@ def _next(answers: Iterator[str]) -> str:
     return answer
 
 
-def read_known(read: Words, asked: Sequence[Machine], program: Program, said: Said, progress: Progress) -> Known:
-    """What the feeds tell. Fatal where one can't be read, or there is no entry or no statement."""
+def read_known(
+    read: Words, asked: Sequence[Machine], program: Program, said: Said, progress: Progress, reading: whole.Reading
+) -> tuple[Known, States]:
+    """What the feeds tell, and which advisories have no verdict. Fatal where one can't be read, or there is no entry or no statement."""
     progress.step("reading the dictionary")
     candidates = _records(read.many("--records"))
     if read.has("--dictionary"):
-        candidates += dictionary.candidates_of(read.many("--dictionary"), said, strict=True)
+        candidates += dictionary.candidates_of(read.many("--dictionary"), said, strict=True, reading=reading)
     entries = program.accepted(candidates, said, unsaid="exists")
     if not entries:
         raise Fatal("no entry is in the dictionary")
     progress.step("reading advisories")
-    feed = list(pages(read.many("--advisories"), said, advisories.KINDS, strict=True))
+    states = States()
+    feed = list(whole.pages(read.many("--advisories"), said, advisories.KINDS, strict=True, reading=reading))
     if sum(len(page.records) for page in feed) > products.MOST_STATEMENTS:
-        feed = _of_products(feed, asked, entries, program, said)
-    found = advisories.convert(feed, program, said, is_decided=True)
-    if not found.candidates:
-        raise Fatal(f"no advisory is in {', '.join(map(name_of, read.many('--advisories')))}")
+        feed = states.sort(latest.advisories(feed, said))
+        feed = _of_products(feed, asked, entries, program, said, states)
+    found = advisories.convert(feed, program, said, is_decided=True, states=states)
     found.tell_empty_pages(said)
     records = program.accepted(found.candidates, said)
     if not records:
-        raise Fatal("no advisory could be read")
-    return Known(entries, records, found.ranges, found.details, found.stand_ins)
+        none = f"; not analysed: {len(states.unanalysed):,}" if states.unanalysed else ""
+        raise Fatal(f"no advisory that can have a verdict is in {', '.join(map(name_of, read.many('--advisories')))}{none}")
+    return Known(entries, records, found.ranges, found.details, found.stand_ins), states
 
 
 def _of_products(
-    feed: Sequence[Page], asked: Iterable[Machine], entries: Sequence[str], program: Program, said: Said
+    feed: Sequence[Page], asked: Iterable[Machine], entries: Sequence[str], program: Program, said: Said, states: States
 ) -> list[Page]:
     """Of more advisories than cpe takes those that may concern a product of the machines; the others are FALSE on each."""
     items = dict.fromkeys(item for machine in asked for item in machine.items)
     leads = leads_of(program, entries, items, unlisted.deprecated_names(entries))
     wanted = products.products_of(leads, items, entries)
-    kept = [Page(page.name, page.kind, [json.loads(text) for text in products.cut(program, page, wanted)]) for page in feed]
+    kept = [page.only(products.cut(program, page, wanted)) for page in feed]
     before, behind = (sum(len(page.records) for page in some) for some in (feed, kept))
     if not behind:
         raise Fatal(f"none of {before} advisories may concern a product of these machines")
     said.remark(f"{behind} of {before} advisories may concern a product of these machines; the others are FALSE there")
+    states.put_elsewhere(feed, kept)
     return [page for page in kept if page.records]
 
 
@@ -284,7 +278,7 @@ def _records(paths: Sequence[str]) -> list[Candidate]:
 def read_asked(read: Words, said: Said) -> list[Machine]:
     if read.has("--machines"):
         return read_machines(read.one("--machines") or "", said)
-    return read_lists(read.many("--lists"), lambda feed, data: list(inventory.candidates_of(feed, data)), said)
+    return read_lists(read.many("--lists"), said)
 
 
 def run(words: Sequence[str]) -> int:
@@ -310,26 +304,27 @@ def _result(read: Words, program: Program, said: Noting, progress: Progress) -> 
     accepted = suppressed.read_suppressed(read.many("--suppress"), said)
     letters = read_letters(read.one("--letters") or LETTERS)
     asked = read_asked(read, said)
-    known = read_known(read, asked, program, said, progress)
+    reading = whole.Reading.of(read)
+    known, states = read_known(read, asked, program, said, progress, reading)
     progress.step("reading the match feed")
-    feed = pages(read.many("--matches"), said, matches.KINDS, strict=True) if read.has("--matches") else []
+    matched = read.many("--matches")
+    feed = whole.pages(matched, said, matches.KINDS, strict=True, reading=reading) if matched else []
     lists = Lists(program, matches.listed(feed, known.ranges.keys(), said))
-    scan = Scan(program, known, lists, letters, progress, read.has("--why"))
+    scan = Scan(program, known, lists, letters, progress, read.has("--why"), read.has("--strict"), has_hardware(read))
     found = scan.machines(asked)
     scan.tell_items(found, said)
     machines = machines_with_verdicts(known, scan.bare, found)
     if read.has("--all"):
         for machine in machines:
             machine.show_all()
-    about = affected.About(known.details, accepted, Hanging(known, found))
-    progress.step("looking for items that know less than is asked for")
-    rows = perhaps(scan.pairs(), found, machines)
-    tell_perhaps(rows, said)
+    about = affected.About(known.details, accepted, Hanging(known, found), reading.doubts())
     if read.has("--json"):
-        value = json_of(known, found, machines, about, rows)
-        value["leftOut"] = [{"id": id, "reason": reason} for id, reason in said.noted]
-        lines = [json.dumps(value, ensure_ascii=False, indent=1)]
+        value = reading.mark(json_of(known, found, machines, about))
+        value |= states.json(verdicts.Statements([statement.id for statement in known.statements]).advisories)
+        value["leftOut"] = said.json()
+        lines = [json_shown(json.dumps(value, ensure_ascii=False, indent=1))]
     else:
         lines = list(affected.table_of(verdicts.Verdicts(machines), about))
+        lines += [*reading.lines(), *(states.lines() if read.has("--all") else ())]
     accepted.tell_unused(said)
     return lines

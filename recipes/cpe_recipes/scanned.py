@@ -11,14 +11,13 @@ from dataclasses import dataclass, field
 
 from .feeds import FeedFault, Json, name_of, read_feed, values_of
 from .said import Fatal
+from .scores import score_of
 from .verdicts import TRUTHS
 
 ACCEPTED = "ACCEPTED"
 # The groups of the rows of an advisory, in their order.
 GROUPS = (*(truth for truth in TRUTHS if truth != "FALSE"), ACCEPTED)
 NO_ITEMS = "no items"
-# Of the scores of CVSS.
-HIGHEST = 10
 _ONE_OF = {"leftOut": "leftOut", "machines": "machine", "verdicts": "verdict"}
 _WORDS = {str: "text", int: "number", list: "list", dict: "object", (int, float): "number"}
 
@@ -82,12 +81,14 @@ class Machine:
 
 @dataclass
 class Scanned:
-    """All of it: how many advisories were asked for, those that have rows, the machines, and what was left out."""
+    """All of it: how many advisories were asked for, those that have rows, the machines, what was left out, and how many advisories
+    aren't analysed, and so have no verdict."""
 
     asked: int
     advisories: list[Advisory]
     machines: list[Machine]
     left_out: list[tuple[str, str]]
+    unanalysed: int = 0
 
     def counts(self) -> Counter[str]:
         """How many rows of each group there are, and how many verdicts are FALSE."""
@@ -148,7 +149,10 @@ class _Reader:
             machines[machine.name] = machine
         if len(self._advisories) > asked:
             raise self._fault("the table", f"has {len(self._advisories)} advisories, where {asked} were asked for")
-        return in_order(asked, self._advisories.values(), machines.values(), left_out)
+        scanned = in_order(asked, self._advisories.values(), machines.values(), left_out)
+        by_status = self._given(value, "notAnalysed", dict, "the table") or {}
+        scanned.unanalysed = sum(len(self._needed(by_status, status, list, "the table")) for status in by_status)
+        return scanned
 
     def _machine(self, row: Json, where: str) -> Machine:
         name = self._needed(row, "name", str, where)
@@ -177,7 +181,7 @@ class _Reader:
         if advisory is None:
             advisory = self._advisories[id] = self._advisory(id, one, where)
         if truth != "FALSE":
-            reasons = self._texts(one, "hangsOn", where) + self._texts(one, "decidedBy", where)
+            reasons = [text for key in ("hangsOn", "remarks", "decidedBy") for text in self._texts(one, key, where)]
             accepted = self._given(one, "accepted", str, where)
             if accepted is not None:
                 reasons = [f"{truth}: {accepted}", *reasons]
@@ -190,9 +194,7 @@ class _Reader:
         title, severity, published, url = (
             self._given(one, key, str, where) or "" for key in ("title", "severity", "published", "url")
         )
-        score = self._given(one, "score", (int, float), where)
-        if score is not None and not 0 <= score <= HIGHEST:
-            raise self._fault(where, "has a score that is none")
+        score = score_of(one.get("score"))
         return Advisory(id, title, None if score is None else float(score), severity, published, url)
 
     def _texts(self, one: Json, key: str, where: str) -> list[str]:

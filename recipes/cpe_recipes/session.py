@@ -14,31 +14,25 @@ from dataclasses import dataclass, field
 
 @dataclass(frozen=True)
 class Known:
-    """What every worker of a fleet knows: the records, how many lines cpe answers to them, and the ids of the statements.
-
-    `restores` are lines of edits after which the items that are under removed names lead to themselves.
-    """
+    """What every worker of a fleet knows: the records, how many lines cpe answers to them, and the ids of the statements."""
 
     lines: bytes
     answers: int
     statements: list[str]
-    restores: bytes = b""
 
 
 @dataclass(frozen=True)
 class Asked:
-    """A machine, the names of its items, and what was decided of the ranges for it: keys of checks, with TRUE or FALSE.
+    """A machine, the names of its items as its list has them, and what was decided of the ranges for it: keys of checks, with TRUE or
+    FALSE.
 
-    `supposed` are names that items of it may have which no dictionary has, and `beside` is what is decided with them too. Where
-    items of it are under removed names, `restored` is what is decided where these lead to themselves.
+    `names` are the other names that these items have, or perhaps have.
     """
 
     name: str
     items: list[str]
     decided: list[tuple[str, str]] = field(default_factory=list)
-    supposed: list[str] = field(default_factory=list)
-    beside: list[tuple[str, str]] = field(default_factory=list)
-    restored: list[tuple[str, str]] | None = None
+    names: list[str] = field(default_factory=list)
 
 
 @dataclass(frozen=True)
@@ -57,7 +51,6 @@ class Session:
 
     def __init__(self, program: str, known: Known) -> None:
         self._program, self._known = program, known
-        self._restored: Session | None = None
         self._ask = [_record("verdict", id=id) for id in known.statements]
         self._run = subprocess.Popen([program, "resolve"], stdin=subprocess.PIPE, stdout=subprocess.PIPE)
         assert self._run.stdin is not None and self._run.stdout is not None
@@ -85,46 +78,25 @@ class Session:
         return line[:-1].decode(errors="backslashreplace")
 
     def ask(self, machine: Asked) -> Told:
-        """The verdicts of a machine. One that would be another with the supposed items, or where names weren't removed, is
-        UNKNOWN."""
+        """The verdicts of a machine."""
         if not machine.items:
             return _without_items(machine.name, [])
-        told = self._ask_with(machine.name, machine.items, machine.decided)
-        others: list[list[str]] = []
-        if told.has_items and machine.supposed:
-            others.append(self._ask_with(machine.name, machine.items + machine.supposed, machine.beside).lines)
-        if told.has_items and machine.restored is not None:
-            others.append(self._with_restores()._ask_with(machine.name, machine.items, machine.restored).lines)
-        lines = [one if {one}.issuperset(more) else _unknown(one) for one, *more in zip(told.lines, *others)]
-        return Told(told.machine, told.left_out, lines, told.has_items)
-
-    def _with_restores(self) -> Session:
-        """The run after the restores, which few machines need."""
-        if self._restored is None:
-            known = Known(self._known.lines + self._known.restores, self._known.answers, self._known.statements)
-            self._restored = Session(self._program, known)
-        return self._restored
-
-    def _ask_with(self, name: str, items: list[str], decided: list[tuple[str, str]]) -> Told:
-        """The verdicts with these items and results: they are put, the statements asked, and the former dropped again."""
-        puts = [("item", {"name": item}) for item in items]
-        puts += [("check", {"system": "NVD", "href": "cpeMatch", "id": key, "result": result}) for key, result in decided]
+        puts = [("item", {"name": item}) for item in (*machine.items, *machine.names)]
+        puts += [("check", {"system": "NVD", "href": "cpeMatch", "id": key, "result": result}) for key, result in machine.decided]
         drops = [("drop-" + word, {key: text for key, text in members.items() if key != "result"}) for word, members in puts]
         first = self._last + 1
         lines = [_record(word, **members) for word, members in puts] + self._ask
-        lines += [_record(word, **members) for word, members in drops]
+        # (the last first, so that none closes up)
+        lines += [_record(word, **members) for word, members in reversed(drops)]
         self._last += len(lines)
         self._waiting.put("".join(lines).encode(errors="replace"))
         refused, verdicts = self._answers(first, len(puts), len(self._ask))
+        named = [*machine.items, *machine.names, *(f"check {key}" for key, _ in machine.decided)]
         # (a name that comes twice is one item)
-        left_out = [
-            (items[place] if place < len(items) else f"check {decided[place - len(items)][0]}", reason)
-            for place, reason in refused.items()
-            if reason != "exists"
-        ]
-        if all(place in refused and refused[place] != "exists" for place in range(len(items))):
-            return _without_items(name, left_out)
-        return Told(name, left_out, [f"{name} {verdict}" for verdict in verdicts])
+        left_out = [(named[place], reason) for place, reason in refused.items() if reason != "exists"]
+        if all(place in refused and refused[place] != "exists" for place in range(len(machine.items))):
+            return _without_items(machine.name, left_out)
+        return Told(machine.name, left_out, [f"{machine.name} {verdict}" for verdict in verdicts])
 
     def _answers(self, first: int, puts: int, wanted: int) -> tuple[dict[int, str], list[str]]:
         refused: dict[int, str] = {}
@@ -141,8 +113,6 @@ class Session:
         return refused, verdicts
 
     def end(self) -> None:
-        if self._restored is not None:
-            self._restored.end()
         self._waiting.put(b"")
         self._run.kill()
         self._run.wait()
@@ -153,10 +123,6 @@ class Session:
 
 def _record(word: str, **members: str) -> str:
     return json.dumps({"do": word, **members}, ensure_ascii=False, separators=(",", ":")) + "\n"
-
-
-def _unknown(line: str) -> str:
-    return f"{line.rpartition(' ')[0]} UNKNOWN"
 
 
 def _without_items(name: str, left_out: list[tuple[str, str]]) -> Told:

@@ -6,8 +6,8 @@ RECORDS are those of a dictionary, and MACHINES a line a machine: its name, and 
     under a removed name MACHINE NAME
 
 An item that no entry has leads nowhere, so no advisory that calls its product otherwise finds it. Where entries of its product
-are deprecated, and lead to other products, these are told. An item under a removed name has no ends, and no advisory in mode
-follow finds it at all. What is no item is said, and the status is 1.
+are deprecated, and lead to other products, these are told. Of a component with several names it is enough that an entry has one of
+them. An item under a removed name has no ends, so an advisory finds it as it stands alone. What is no item is said, and the status is 1.
 """
 from __future__ import annotations
 
@@ -15,17 +15,15 @@ import json
 from collections.abc import Collection, Iterable, Iterator, Mapping, Sequence
 
 from . import names
+from .components import Machine
 from .decide import Lead, Leads, leads_of, read_entries
-from .feeds import record_text
-from .machines import Machine, read_machines
-from .program import Program, refusals
-from .said import Fatal, Output, Said
+from .machines import read_machines
+from .program import Program
+from .said import Fatal, Output, Said, shown
 from .words import read_words
 
 USAGE = "unlisted.sh RECORDS MACHINES"
 Product = tuple[str, str]
-# A restore has a date, and nothing hangs on it.
-_ANY_DATE = "2000-01-01"
 
 
 def run(words: Sequence[str]) -> int:
@@ -38,7 +36,7 @@ def run(words: Sequence[str]) -> int:
     leads = leads_of(program, records, items, ())
     say_items(machines, leads, said)
     output.lines(list(unlisted(machines, leads, successors_of(program, records, leads.found.values()))))
-    output.end()
+    output.end(shown)
     return said.status()
 
 
@@ -48,7 +46,7 @@ def say_items(machines: Iterable[Machine], leads: Leads, said: Said) -> None:
         for item in machine.items:
             if item in leads.refused:
                 said.left_out(f"{machine.name} {item}", leads.refused[item])
-        if all(item in leads.refused for item in machine.items):
+        if all(item in leads.refused for item in machine.own_items()):
             said.left_out(machine.name, "no items")
 
 
@@ -107,13 +105,6 @@ def supposed_names(lead: Lead, successors: Mapping[Product, Sequence[Product]]) 
     return found
 
 
-def restores(program: Program, entries: Sequence[str], removed: Iterable[str]) -> list[str]:
-    """The records by which these names, which were removed, lead to themselves. (One that cpe refuses would change nothing.)"""
-    records = [record_text({"do": "restore", "name": name, "date": _ANY_DATE}) for name in removed]
-    reasons = refusals(program.lines(["resolve"], [*entries, *records])) if records else {}
-    return [record for number, record in enumerate(records, len(entries) + 1) if number not in reasons]
-
-
 def goes_on(lead: Lead, successors: Mapping[Product, Sequence[Product]]) -> str:
     """The vendors and products under which that of a name goes on, in words; empty where there are none."""
     found = successors.get(names.product_of(lead.name))
@@ -122,11 +113,14 @@ def goes_on(lead: Lead, successors: Mapping[Product, Sequence[Product]]) -> str:
 
 def unlisted(machines: Iterable[Machine], leads: Leads, successors: Mapping[Product, Sequence[Product]]) -> Iterator[str]:
     for machine in machines:
-        for item in dict.fromkeys(machine.items):
-            if item in leads.refused:
-                continue
-            lead = leads.found[item]
-            if not lead.is_entry:
-                yield f"not in the dictionary {machine.name} {item}{goes_on(lead, successors)}"
-            elif lead.is_removed():
-                yield f"under a removed name {machine.name} {item}"
+        told: dict[str, None] = {}
+        for one in machine.all():
+            known = {name: leads.found[name] for name in one.names if name not in leads.refused}
+            # (of several names one that is an entry is enough)
+            is_listed = any(lead.is_entry for lead in known.values())
+            for name, lead in known.items():
+                if lead.is_removed():
+                    told[f"under a removed name {machine.name} {name}"] = None
+                elif not is_listed:
+                    told[f"not in the dictionary {machine.name} {name}{goes_on(lead, successors)}"] = None
+        yield from told

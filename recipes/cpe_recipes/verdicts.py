@@ -19,7 +19,7 @@ _RANK = {truth: rank for rank, truth in enumerate(TRUTHS)}
 
 
 class Statements:
-    """The ids of statements, and of which advisory each is a part. Where only their number is known, any may be there."""
+    """The ids of statements, and of which advisory each is a part. How many there are may be known without them."""
 
     def __init__(self, ids: Sequence[str], count: int | None = None) -> None:
         self.ids = list(ids)
@@ -27,27 +27,47 @@ class Statements:
         # (an id is that of a part where the first part is there)
         self.whole = {id: base_id(id) if base_id(id) in all_ids else id for id in self.ids}
         self.advisories = dict.fromkeys(self.whole.values())
-        self._is_open = count is not None
         self.count = len(self.advisories) if count is None else count
 
     def has(self, advisory: str) -> bool:
-        return self._is_open or advisory in self.advisories
+        return advisory in self.advisories
+
+
+def _order(truth: str, is_perhaps: bool) -> int:
+    """In the order of OR; an UNKNOWN that hangs on what an item says too little of comes after the others, and a FALSE before them."""
+    return 2 * _RANK[truth] + (is_perhaps if truth == "UNKNOWN" else not is_perhaps)
 
 
 @dataclass
 class Machine:
     """The verdicts of a machine, which has no name in a table of one inventory. Only those that aren't FALSE are shown, where not
-    all are asked for."""
+    all are asked for. Those in `perhaps` are another where an item says less than is asked for."""
 
     name: str | None
     statements: Statements = field(default_factory=lambda: Statements([]))
     shown: dict[str, str] = field(default_factory=dict)
     has_items: bool = True
+    perhaps: set[str] = field(default_factory=set)
 
-    def put(self, id: str, truth: str) -> None:
-        whole = self.statements.whole.get(id, id)
-        if _RANK[truth] < _RANK[self.shown.get(whole, "FALSE")]:
-            self.shown[whole] = truth
+    def whole(self, id: str) -> str:
+        """The advisory of a statement."""
+        return self.statements.whole.get(id, id)
+
+    def put(self, id: str, truth: str, is_perhaps: bool = False) -> None:
+        whole = self.whole(id)
+        if _order(truth, is_perhaps) < _order(self.shown.get(whole, "FALSE"), whole in self.perhaps):
+            if truth != "FALSE":
+                self.shown[whole] = truth
+            (self.perhaps.add if is_perhaps and truth in ("UNKNOWN", "FALSE") else self.perhaps.discard)(whole)
+
+    def kind(self, advisory: str) -> str:
+        """Its verdict, or `perhaps` where it is UNKNOWN since an item says too little."""
+        truth = self.shown.get(advisory, "FALSE")
+        return "perhaps" if truth == "UNKNOWN" and advisory in self.perhaps else truth
+
+    def rank(self, advisory: str) -> int:
+        """Its place in the order of verdicts."""
+        return _order(self.shown.get(advisory, "FALSE"), advisory in self.perhaps)
 
     def show_all(self) -> None:
         """Keeps those that are FALSE too."""
@@ -61,11 +81,24 @@ class Machine:
 
 @dataclass
 class Verdicts:
-    """The machines in their order, and how many lines of the records were refused."""
+    """The machines in their order, and how many lines of the records were refused. Of advisories without a verdict `states` tell that they
+    aren't analysed or are rejected, and `reasons` why others were left out; `doubts` are why what is FALSE could be another verdict."""
 
     machines: list[Machine]
     refused: int = 0
     has_machines: bool = True
+    reasons: dict[str, str] = field(default_factory=dict)
+    states: dict[str, str] = field(default_factory=dict)
+    doubts: list[str] = field(default_factory=list)
+    asked_of: str = "it isn't among the advisories that were asked for"
+
+    def why_none(self, advisory: str) -> str:
+        """Why there is no verdict of an advisory on a machine with items."""
+        return self.states.get(advisory) or self.reasons.get(advisory) or self.asked_of
+
+    def is_told_of(self, advisory: str) -> bool:
+        """Whether an advisory without a verdict is in the feeds, as one that has none."""
+        return advisory in self.states
 
 
 def read_verdicts(path: str | None) -> Verdicts:
@@ -119,9 +152,11 @@ def _scan(values: Sequence[Json]) -> Verdicts:
     count = member(values[0], "advisories")
     if len(values) != 1 or not isinstance(count, int):
         raise FormFault
-    statements = Statements([], count)
+    rows = members(values[0], "machines")
+    told = [text_at(one, "id") or "" for row in rows for one in members(row, "verdicts")]
+    statements = Statements([*_texts(members(values[0], "asked")), *told], count)
     machines: dict[str, Machine] = {}
-    for row in members(values[0], "machines"):
+    for row in rows:
         name = text_at(row, "name")
         if not name or name in machines:
             raise FormFault
@@ -131,7 +166,32 @@ def _scan(values: Sequence[Json]) -> Verdicts:
             if id is None or truth not in _RANK:
                 raise FormFault
             machines[name].put(id, truth)
-    return Verdicts(list(machines.values()))
+    return _with_reasons(Verdicts(list(machines.values())), values[0])
+
+
+def _with_reasons(verdicts: Verdicts, value: Json) -> Verdicts:
+    """Puts why advisories of a scan have no verdicts, and why what is FALSE could be another one."""
+    if not isinstance(value.get("asked"), list):
+        verdicts.asked_of = "which advisories were asked for isn't told there"
+    else:
+        verdicts.asked_of = "it isn't in the feeds"
+    for one in members(value, "leftOut"):
+        verdicts.reasons[text_at(one, "id") or ""] = f"left out: {text_at(one, 'reason')}"
+    by_status = member(value, "notAnalysed") or {}
+    for status in by_status if isinstance(by_status, dict) else ():
+        verdicts.states |= dict.fromkeys(_texts(members(by_status, status)), f"not analysed: {status}")
+    verdicts.states |= dict.fromkeys(_texts(members(value, "rejected")), "rejected")
+    for one in members(value, "missing"):
+        total, feed, given = member(one, "total"), text_at(one, "feed"), member(one, "given")
+        if feed != "vulnerabilities":
+            verdicts.doubts.append(f"of {total} {feed} {given} were given")
+    return verdicts
+
+
+def _texts(values: list[Json]) -> list[str]:
+    if not all(isinstance(value, str) for value in values):
+        raise FormFault
+    return values
 
 
 def _table(lines: list[str]) -> Verdicts:

@@ -1,9 +1,11 @@
-"""What decides between two versions, and whether that can be trusted.
+"""How a version stands to the bounds of a range, and whether it is another version, by all orders that it may have.
 
-cpe has one plain order of versions: pieces are runs of digits and runs of letters, numbers go by what they are worth, a letter
-is older than nothing, and nothing is older than a number. Vendors mean others: for some 1.1.1k comes after 1.1.1, for most
-1.0beta2 before 1.0. So here is found which orders of two versions a vendor may mean; where not all of them lead to the same
-answer there is none, and whoever asks is told why. Which version is in a range cpe alone says.
+Which order a version has is told by what it comes from, if its list says so: a Debian package has dpkg's, a module of npm that of
+Semantic Versioning. Otherwise each order is possible that reads both versions (orders/), and what the version means may be open as
+well (readings.py). There is an answer where all of them lead to it; else there is none, and it is said which differ.
+
+A word that stands against another word, as in 1.0-hotfix and 1.0-rc, is not trusted even where all orders agree, unless the order
+is told.
 """
 from __future__ import annotations
 
@@ -12,10 +14,13 @@ import re
 from collections.abc import Iterable, Mapping
 from dataclasses import dataclass
 from enum import Enum
+from typing import Any, NamedTuple
 
 from . import names
 from .advisories import Range
 from .feeds import FeedFault, name_of, read_feed, text_lines
+from .orders import ALL, EQUAL, GREATER, LESS, OF_KIND, Order, plain
+from .readings import DISTRIBUTIONS, Reading, has_release, readings, release_of, without_epoch, without_v
 from .said import Fatal
 
 _PIECE = re.compile(r"[0-9]+|[a-z]+")
@@ -23,10 +28,18 @@ _LAST_PIECE = re.compile(r"(?:[0-9]+|[a-z]+)$")
 _LETTERED = re.compile(r"(?P<word>[a-z]{1,2})[0-9]*")
 # What comes after z is za. (Other words of two letters mostly stand before a release: rc, tp.)
 _LETTER = re.compile(r"[a-z]|z[a-z]")
+# The numbers with dots at the beginning, none of which begins with a zero that isn't all of it.
+_FRONT = re.compile(r"(?:0|[1-9][0-9]*)(?![0-9])(?:\.(?:0|[1-9][0-9]*)(?![0-9]))*")
+_NUMBERS = re.compile(r"[0-9]+(?:\.[0-9]+)*")
+# A distribution writes such a word behind a tilde, or an underscore, so that it comes before the release.
+_BEFORE_RELEASE = re.compile(r"(?<![~_a-z])(?:alpha|beta|rc|cr|pre|preview|dev|snapshot|milestone|test)(?![a-z])")
 
-LESS, EQUAL, GREATER = -1, 0, 1
-Orders = frozenset[int]
-_ANY_ORDER: Orders = frozenset({LESS, EQUAL, GREATER})
+_DIGIT = re.compile(r"[0-9]")
+# A commit by its hash; and one of a Go module of which no release is known, which has a date.
+_HASH = re.compile(r"(?=.*[0-9])(?=.*[a-f].*[a-f])[0-9a-f]{7,40}")
+_BEGINS_HASH = re.compile(r"[0-9]+[a-f]")
+_COMMIT = re.compile(r"v?0\.0\.0-[0-9]{14}-[0-9a-f]{12}(?:\+.*)?")
+
 # How many answers are kept, since the same versions and bounds come again and again.
 _KEPT = 1 << 16
 
@@ -40,88 +53,233 @@ class Standing(Enum):
 
 
 @dataclass(frozen=True)
+class Stood:
+    """How a version stands to a range, why that isn't sure, and of a distribution's package that is inside its release, since the
+    distribution may have mended it without a new version."""
+
+    standing: Standing
+    why: str = ""
+    release: str = ""
+
+
+_INSIDE, _OUTSIDE = Stood(Standing.INSIDE), Stood(Standing.OUTSIDE)
+
+
+class Sameness(Enum):
+    """Whether two versions are one."""
+
+    EQUAL = "equal"
+    UNEQUAL = "unequal"
+    UNSURE = "unsure"
+
+
+@dataclass(frozen=True)
+class Same:
+    """Whether two versions are one, why that isn't sure, and of a distribution's package that is equal its release."""
+
+    sameness: Sameness
+    why: str = ""
+    release: str = ""
+
+
+class Upward(NamedTuple):
+    """A product in whose versions letters count upward."""
+
+    letters: Letters
+    product: tuple[str, str]
+
+    def rewritten(self, version: str) -> str:
+        return self.letters.rewritten(self.product, version)
+
+
+class By(NamedTuple):
+    """Who gives an answer: an order, for a reading of the version."""
+
+    order: str
+    reading: Reading
+
+
+class Orders(NamedTuple):
+    """The answers that are possible, each with all who give it, and the bound as it was compared. A word that stands against
+    another one is told. `only` is the one answer that is sure, None where there isn't one."""
+
+    answers: Mapping[int, tuple[By, ...]]
+    bound: str
+    words: str = ""
+    only: int | None = None
+
+
+_SURE: Mapping[int, Mapping[int, tuple[By, ...]]] = {answer: {answer: ()} for answer in (LESS, EQUAL, GREATER)}
+_NOTHING_READ: Mapping[int, tuple[By, ...]] = {answer: () for answer in (LESS, EQUAL, GREATER)}
+
+
+@functools.lru_cache(maxsize=_KEPT)
+def orders(version: str, bound: str, kind: str = "", upward: Upward | None = None) -> Orders:
+    """The orders of a version to a bound that are possible, where a list says that the version is of this kind, or says nothing.
+    Letters that count upward are numbers in the bound."""
+    quick = None if upward else _by_fronts(version, bound)
+    if quick is not None:
+        return Orders(_SURE[quick], bound, "", quick)
+    nothing = next((f"{text} {why}" for text in (version, bound) if (why := _no_version(text))), "")
+    if nothing:
+        return Orders(_NOTHING_READ, bound, nothing)
+    bound, meant = readings(version, bound, kind)
+    if upward:
+        meant = tuple(Reading(upward.rewritten(one.text), one.release) for one in meant)
+    found: dict[int, list[By]] = {}
+    words = ""
+    for reading in meant:
+        quick = _by_fronts(reading.text, bound)
+        possible, is_own = _possible(reading.text, bound, kind) if quick is None else ((plain.ORDER,), True)
+        for order in possible:
+            answer = order.compare(reading.text, bound) if quick is None else quick
+            if answer is not None:
+                found.setdefault(answer, []).append(By(order.name, reading))
+        words = words or ("" if is_own else _words_decide(reading.text, bound))
+    only = next(iter(found)) if len(found) == 1 and not words else None
+    return Orders({answer: tuple(by) for answer, by in found.items()}, bound, words, only)
+
+
+@functools.lru_cache(maxsize=_KEPT)
+def _front(version: str) -> tuple[tuple[int, ...], bool]:
+    """The numbers with dots at the beginning, and whether that is all."""
+    is_other = ":" in version or "!" in version or "+really" in version or _HASH.fullmatch(version)
+    match = _FRONT.match(version) if not is_other else None
+    return (tuple(map(int, match[0].split("."))), match.end() == len(version)) if match and len(version) < 256 else ((), False)
+
+
+def _by_fronts(version: str, bound: str) -> int | None:
+    """The order of versions that differ in the numbers with which they begin, which is the same in all orders and readings; None
+    where they don't."""
+    if version == bound:
+        return EQUAL if _PIECE.search(version.lower()) else None
+    (left, is_all), (right, is_all_right) = _front(version), _front(bound)
+    for one, other in zip(left, right):
+        if one != other:
+            return LESS if one < other else GREATER
+    if is_all and is_all_right and any(left[len(right) :] or right[len(left) :]):
+        return GREATER if len(left) > len(right) else LESS
+    return None
+
+
+@functools.lru_cache(maxsize=_KEPT)
+def _no_version(text: str) -> str:
+    """In words why a text says nothing of a version."""
+    if not _DIGIT.search(text):
+        return "has no digits"
+    return "is a commit, and no release" if _HASH.fullmatch(text) else ""
+
+
+def _possible(version: str, bound: str, kind: str) -> tuple[Iterable[Order[Any]], bool]:
+    """The orders that these two may have, and whether they are those of the kind."""
+    own = [order for order in OF_KIND.get(kind, ()) if order.compare(version, bound) is not None]
+    # (a distribution spells versions in its own way, and a bound is spelled as upstream's)
+    is_respelled = kind in DISTRIBUTIONS and (not _NUMBERS.fullmatch(bound) or _BEFORE_RELEASE.search(version) is not None)
+    return (own, True) if own and not is_respelled else (ALL, False)
+
+
+def _words_decide(version: str, bound: str) -> str:
+    """In words that two words decide between two versions; empty where it is otherwise, or where both are letters."""
+    here, there = pieces(version), pieces(bound)
+    for one, other in zip(here, there):
+        if not one.same(other):
+            is_of_words = one.is_word and other.is_word and len(one.text) + len(other.text) > 2
+            return f"the words {one.text} and {other.text} decide between {version} and {bound}" if is_of_words else ""
+    return ""
+
+
+def standing(version: str, update: str | None, one: Range, kind: str = "", upward: Upward | None = None) -> Stood:
+    """How a version with its update, where it has one, stands to the bounds of a range."""
+    unsure = ""
+    for bound, outside, excluded in ((one.start, LESS, one.start_excluded), (one.end, GREATER, one.end_excluded)):
+        if bound is None:
+            continue
+        found = orders(version, bound, kind, upward)
+        answers, words = found.answers, found.words
+        is_commit = outside == LESS and _is_commit_beside(version, bound)
+        if found.only is not None and not is_commit and (update is None or found.only != EQUAL):
+            # (mostly there is one answer)
+            if found.only == outside or found.only == EQUAL and excluded:
+                return _OUTSIDE
+            continue
+        if is_commit:
+            # (its zeros don't say that it comes before a release)
+            answers, words = _NOTHING_READ, f"{version} is a commit, and no release"
+        elif update is not None and EQUAL in answers:
+            answers, words = _NOTHING_READ, words or f"{version} is the bound, and has the update {update}"
+        elif words:
+            answers = _NOTHING_READ
+        meets = {answer: answer != outside and not (answer == EQUAL and excluded) for answer in answers}
+        if not any(meets.values()):
+            return _OUTSIDE
+        if not all(meets.values()) and not unsure:
+            unsure = words or _differ(version, found, meets)
+    if unsure:
+        return Stood(Standing.UNSURE, f"{unsure}, letters that count upward being numbers" if upward else unsure)
+    release = release_of(version, kind)
+    if not release or any(bound is not None and has_release(bound) for bound in (one.start, one.end)):
+        return _INSIDE
+    return Stood(Standing.INSIDE, release=release)
+
+
+def _is_commit_beside(version: str, bound: str) -> bool:
+    """Whether a version is a commit of a Go module of which no release is known, and the bound is none."""
+    return version.startswith(("0.0.0-", "v0.0.0-")) and _COMMIT.fullmatch(version) is not None and not _COMMIT.fullmatch(bound)
+
+
+def same(version: str, wanted: str, kind: str = "", upward: Upward | None = None) -> Same:
+    """Whether a version is the one that is wanted, by the orders and readings by which it would be compared with a bound."""
+    found = orders(version, upward.rewritten(wanted) if upward else wanted, kind, upward)
+    if _is_commit_beside(version, wanted):
+        return Same(Sameness.UNSURE, f"{version} is a commit, and no release")
+    if EQUAL not in found.answers:
+        return Same(Sameness.UNEQUAL)
+    if len(found.answers) > 1:
+        return Same(Sameness.UNSURE, found.words or _differ(version, found, {answer: answer == EQUAL for answer in found.answers}))
+    return Same(Sameness.EQUAL, release=next((by.reading.release for by in found.answers[EQUAL] if by.reading.release), ""))
+
+
+def _differ(version: str, found: Orders, meets: Mapping[int, bool]) -> str:
+    """In words which orders differ, or else which readings: answers that meet something, and others that don't."""
+    sides: tuple[list[By], list[By]] = ([], [])
+    for answer, is_met in meets.items():
+        sides[is_met].extend(found.answers[answer])
+    for reading in dict.fromkeys(by.reading for by in (*sides[0], *sides[1])):
+        one, other = (next((by.order for by in side if by.reading == reading), "") for side in sides)
+        if one and other:
+            first, second = sorted((one, other), key=_place)
+            return f"{first} and {second} differ between {reading.text} and {found.bound}"
+    other = min((by.reading for side in sides for by in side), key=lambda reading: len(reading.text))
+    return f"{version} may be {other.text}" + (f" in the release {other.release} of a distribution" if other.release else "")
+
+
+def _place(name: str) -> int:
+    return next(place for place, order in enumerate(ALL) if order.name == name)
+
+
+def plain_standing(version: str, one: Range) -> bool:
+    """Whether a version is inside a range by the order of `cpe advise`."""
+    start, end = (None if bound is None else plain.ORDER.compare(version, bound) for bound in (one.start, one.end))
+    is_behind = start in (None, GREATER) or start == EQUAL and not one.start_excluded
+    return is_behind and (end in (None, LESS) or end == EQUAL and not one.end_excluded)
+
+
+@dataclass(frozen=True)
 class Piece:
-    """A run of digits without the zeros before it, or a run of letters, and what separates it from the piece before."""
+    """A run of digits without the zeros before it, or a run of letters."""
 
     text: str
     is_word: bool
-    separator: str
 
-    def is_zero(self) -> bool:
-        return not self.is_word and not self.text
-
-    def same(self, other: Piece | None) -> bool:
-        return other is not None and (self.text, self.is_word) == (other.text, other.is_word)
+    def same(self, other: Piece) -> bool:
+        return (self.text, self.is_word) == (other.text, other.is_word)
 
 
 @functools.lru_cache(maxsize=_KEPT)
 def pieces(version: str) -> tuple[Piece, ...]:
     """The pieces of a version."""
-    found, last = [], 0
-    for match in _PIECE.finditer(version.lower()):
-        text = match[0]
-        is_word = not text[0].isdigit()
-        found.append(Piece(text if is_word else text.lstrip("0"), is_word, version[last : match.start()]))
-        last = match.end()
-    return tuple(found)
-
-
-@functools.lru_cache(maxsize=_KEPT)
-def orders(version: str, bound: str) -> tuple[Orders, str]:
-    """The orders of two versions that a vendor may mean, and in words what leaves more than one."""
-    here, there = pieces(version), pieces(bound)
-    if not here or not there:
-        return _ANY_ORDER, f"{bound if here else version} has neither digits nor letters"
-    place = 0
-    while place < min(len(here), len(there)) and here[place].same(there[place]):
-        place += 1
-    left, right = here[place:], there[place:]
-    if left and right and not left[0].is_word and not right[0].is_word:
-        return frozenset({_numbers(left[0].text, right[0].text)}), ""
-    if any(rest and rest[0].is_word for rest in (left, right)):
-        return _ANY_ORDER, f"a letter decides between {version} and {bound}"
-    if not left and not right:
-        return frozenset({EQUAL}), ""
-    found, why = _longer(left or right)
-    order = GREATER if left else LESS
-    return frozenset({order * one for one in found}), f"{why} between {version} and {bound}" if why else ""
-
-
-def _numbers(one: str, other: str) -> int:
-    key, other_key = (len(one), one), (len(other), other)
-    return LESS if key < other_key else GREATER if key > other_key else EQUAL
-
-
-def _longer(rest: tuple[Piece, ...]) -> tuple[Orders, str]:
-    """The orders of a version to the one that stands before its last pieces, the first of which is a number."""
-    worth = next((place for place, piece in enumerate(rest) if not piece.is_zero()), None)
-    if worth is None:
-        return frozenset({EQUAL, GREATER}), "only zeros decide"
-    separators = "".join(piece.separator for piece in rest[: worth + 1])
-    if rest[worth].is_word:
-        return _ANY_ORDER, "a letter decides"
-    if "~" in separators or "-" in separators:
-        return _ANY_ORDER, "a number behind a hyphen or tilde decides"
-    if "+" in separators:
-        return frozenset({EQUAL, GREATER}), "a number behind a plus decides"
-    return frozenset({GREATER}), ""
-
-
-def standing(version: str, update: str | None, one: Range) -> tuple[Standing, str]:
-    """How a version with its update, where it has one, stands to the bounds of a range, and why that isn't sure."""
-    unsure = ""
-    for bound, outside, excluded in ((one.start, LESS, one.start_excluded), (one.end, GREATER, one.end_excluded)):
-        if bound is None:
-            continue
-        found, why = orders(version, bound)
-        if update is not None and EQUAL in found:
-            found, why = _ANY_ORDER, why or f"{version} is the bound, and has the update {update}"
-        meets = {order != outside and not (order == EQUAL and excluded) for order in found}
-        if meets == {False}:
-            return Standing.OUTSIDE, ""
-        if False in meets and not unsure:
-            unsure = why
-    return (Standing.UNSURE, unsure) if unsure else (Standing.INSIDE, "")
+    found = _PIECE.findall(version.lower())
+    return tuple(Piece(text.lstrip("0") if text[0].isdigit() else text, not text[0].isdigit()) for text in found)
 
 
 def sure_beginning(text: str) -> str:
@@ -130,26 +288,24 @@ def sure_beginning(text: str) -> str:
 
 
 def is_outside_from(beginning: str, one: Range) -> bool:
-    """Whether each version that has the pieces of this text first is outside the range, in all orders that a vendor may mean."""
+    """Whether each version that begins with this text is outside the range, in all orders and readings."""
     bounds = ((one.start, LESS), (one.end, GREATER))
-    return any(bound is not None and _orders_from(beginning, bound) == {outside} for bound, outside in bounds)
+    return any(bound is not None and _order_from(beginning, bound) == outside for bound, outside in bounds)
 
 
-def _orders_from(beginning: str, bound: str) -> Orders:
-    """The orders of a version with these first pieces to a bound."""
-    here, there = pieces(beginning), pieces(bound)
-    place = 0
-    while place < min(len(here), len(there)) and here[place].same(there[place]):
-        place += 1
-    left, right = here[place:], there[place:]
-    if not left or not there or left[0].is_word:
-        return _ANY_ORDER
-    if right:
-        return _ANY_ORDER if right[0].is_word else frozenset({_numbers(left[0].text, right[0].text)})
-    return _ANY_ORDER if all(piece.is_zero() for piece in left) else _longer(left)[0]
+def _order_from(beginning: str, bound: str) -> int | None:
+    """The order of each version with this beginning to a bound; None where it isn't the same of all."""
+    begins, ends = without_epoch(beginning, bound.lower())
+    if _BEGINS_HASH.match(begins) or _no_version(ends):
+        return None
+    (left, _), (right, is_all) = _front(begins), _front(ends)
+    for here, there in zip(left, right):
+        if here != there:
+            return LESS if here < there else GREATER
+    return GREATER if is_all and any(left[len(right) :]) else None
 
 
-@dataclass(frozen=True)
+@dataclass(frozen=True, eq=False)
 class Letters:
     """The products of which letters in versions count upward, each with the words that do, or with none where it is a letter,
     and za after z."""
@@ -161,9 +317,9 @@ class Letters:
 
     def rewritten(self, product: tuple[str, str], version: str) -> str:
         """The version of such a product with numbers in place of letters: 1.1.1k as 1.1.1.11, 0.9.8za as 0.9.8.26.1. All other
-        words are left."""
+        words are left, but a v before the first digit."""
         out, last = [], 0
-        text = version.lower()
+        text = without_v(version.lower())
         for match in _PIECE.finditer(text):
             if self._counts(product, match[0]):
                 number = ".".join(str(ord(letter) - ord("a") + 1) for letter in match[0])

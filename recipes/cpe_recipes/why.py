@@ -20,7 +20,7 @@ from typing import Any
 from .feeds import text_lines, whole
 from .from_snapshot import NotSnapshot, read
 from .program import Program
-from .said import Fatal, Output, Said
+from .said import Fatal, Output, Said, shown
 from .words import ONE, read_words
 
 USAGE = "why.sh [--records FILE] [FILE]"
@@ -60,7 +60,7 @@ def run(words: list[str]) -> int:
             said.left_out(f"line {number}", "it has not the form of a certificate")
     if count == 0:
         raise Fatal("no certificates")
-    output.end()
+    output.end(shown)
     return said.status()
 
 

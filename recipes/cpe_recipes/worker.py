@@ -21,7 +21,7 @@ def write_plan(folder: Path, known: Known) -> list[str]:
         records.write_bytes(known.lines)
     except OSError as fault:
         raise Fatal(f"the records could not be written: {why(fault)}") from fault
-    write_file(str(plan), [json.dumps([known.answers, known.statements, known.restores.decode()])])
+    write_file(str(plan), [json.dumps([known.answers, known.statements])])
     return [str(records), str(plan)]
 
 
@@ -32,8 +32,8 @@ def write_piece(path: Path, machines: Sequence[Asked]) -> None:
 def run(words: Sequence[str]) -> int:
     program, *paths = words
     records, plan, piece = (Path(path) for path in paths)
-    answers, statements, restores = json.loads(plan.read_text())
-    known = Known(records.read_bytes(), answers, statements, restores.encode())
+    answers, statements = json.loads(plan.read_text())
+    known = Known(records.read_bytes(), answers, statements)
     try:
         session = Session(program, known)
         try:

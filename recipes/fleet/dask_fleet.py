@@ -41,9 +41,9 @@ USAGE = f"dask_fleet.py {fleet.USAGE} [--workers N] [--block N] [--scheduler ADD
 _TRIES = 3
 
 
-def known_of(lines: bytes, answers: int, statements: list[str], restores: bytes) -> tuple[str, session.Known]:
+def known_of(lines: bytes, answers: int, statements: list[str]) -> tuple[str, session.Known]:
     """What is known, with a key that tells it from what was known to another client of the cluster."""
-    return hashlib.sha256(lines + restores).hexdigest(), session.Known(lines, answers, statements, restores)
+    return hashlib.sha256(lines).hexdigest(), session.Known(lines, answers, statements)
 
 
 def evaluate(block: list[session.Asked], program: str, known: tuple[str, session.Known]) -> list[session.Told]:
@@ -70,7 +70,7 @@ def ask_all(client: Client, program: str, asked: fleet.Fleet, most: int, heard: 
     # are in the graph, of which Dask warns where they are large.
     warnings.filterwarnings("ignore", message="Large object")
     given = asked.known
-    known = client.submit(known_of, given.lines, given.answers, given.statements, given.restores)
+    known = client.submit(known_of, given.lines, given.answers, given.statements)
     # (else most of the work goes to the worker that has them first)
     wait(known)
     client.replicate([known])
@@ -130,7 +130,7 @@ def run(words: list[str]) -> int:
     if len(given.files) != 2:
         raise said.Fatal(f"usage: {USAGE}")
     most = number(given, "--block", 100)
-    heard, program = said.Said(), Program(given.one("--cpe"))
+    heard, program = said.Said(), Program(given.one("--cpe"), is_tried=True)
     asked = fleet.read_fleet(program, given, heard)
     try:
         with said.room() as folder, cluster_of(given, folder) as client:

@@ -55,3 +55,10 @@ class RecipeCase(unittest.TestCase):
             ["sh", str(RECIPES / f"{name}.sh"), *words], capture_output=True, text=True, stdin=subprocess.DEVNULL, **how
         )
         return run.returncode, run.stdout.splitlines(), run.stderr.splitlines()
+
+    def scan(self, *words):
+        """The status of scan.py, its lines, and the lines that it says."""
+        run = subprocess.run(
+            [sys.executable, str(RECIPES / "scan.py"), *words], capture_output=True, text=True, stdin=subprocess.DEVNULL, check=False
+        )
+        return run.returncode, run.stdout.splitlines(), run.stderr.splitlines()

@@ -59,6 +59,33 @@ class Logic(unittest.TestCase):
         ]
         self.assertEqual((tests, left), ([{"op": "OR", "of": wanted}], []))
 
+    def test_nodes_within_a_node(self):
+        within = [node(match("a", "1")), node(match("os", vulnerable=False), negate=True)]
+        old = {"operator": "AND", "negate": False, "cpeMatch": [], "children": within}
+        bare = {"operator": "AND", "children": within}
+        beside = {"operator": "OR", "negate": True, "cpeMatch": [match("c", "3")], "children": [bare]}
+        inner = {"op": "AND", "of": [{"op": "OR", "of": [fact("a", "1")]}, {"op": "OR", "negate": True, "of": [fact("os")]}]}
+        for given in (old, bare):
+            tests, left = outcome(cve({"nodes": [given]}))
+            self.assertEqual((tests, left), ([{"op": "OR", "of": [{"op": "OR", "of": [inner]}]}], []))
+        tests, _ = outcome(cve({"nodes": [beside]}))
+        logic = {"op": "OR", "of": [{"op": "OR", "negate": True, "of": [fact("c", "3"), inner]}]}
+        # (it could hold without what is vulnerable, so that is asked for beside it)
+        self.assertEqual(tests[0]["of"], [{"op": "AND", "of": [logic, {"op": "OR", "of": [fact("c", "3"), fact("a", "1")]}]}])
+
+    def test_nodes_that_are_none(self):
+        deep = node(match("a", "1"))
+        for _ in range(30):
+            deep = {"operator": "OR", "children": [deep]}
+        for bad, reason in (
+            ({"operator": "AND", "children": [7]}, "not of the published form"),
+            ({"operator": "AND", "children": "x"}, "not of the published form"),
+            ({"operator": "AND", "children": [{"operator": "OR", "cpeMatch": []}]}, "a node without matches"),
+            ({"operator": "AND", "children": []}, "not of the published form"),
+            (deep, "nodes that stand too deep in one another"),
+        ):
+            self.assertEqual(outcome(cve({"nodes": [bad]})), ([], [reason]))
+
     def test_what_is_vulnerable_must_be_there(self):
         tests, _ = outcome(cve({"nodes": [node(match("a", "1"), match("os", vulnerable=False))]}))
         logic = {"op": "OR", "of": [{"op": "OR", "of": [fact("a", "1"), fact("os")]}]}
@@ -68,13 +95,22 @@ class Logic(unittest.TestCase):
         tests, left = outcome(cve({"nodes": [node(match("os", vulnerable=False))]}))
         self.assertEqual((tests, left), ([], ["a configuration without a vulnerable product"]))
 
-    def test_what_has_no_configurations_is_left_out_and_a_rejected_one_remarked(self):
-        self.assertEqual(outcome(cve(vulnStatus="Awaiting Analysis")), ([], ["no configurations, Awaiting Analysis"]))
+    def test_what_has_no_configurations_is_not_analysed_and_a_rejected_one_remarked(self):
+        found, said = converted(cve(vulnStatus="Awaiting Analysis"))
+        self.assertEqual((found.candidates, said.told, said.status()), ([], ["remark not analysed: 1 advisory"], 0))
+        self.assertEqual(found.states.unanalysed, {"CVE-2024-99999": "Awaiting Analysis"})
         found, said = converted(cve(vulnStatus="Rejected"))
         self.assertEqual((found.candidates, said.told), ([], ["remark CVE-2024-99999: rejected"]))
 
 
 class Ranges(unittest.TestCase):
+    def test_an_id_that_is_of_another_kind_of_check_is_none(self):
+        for key in ("part o", "not K"):
+            found, _ = converted(cve({"nodes": [node(match("a", versionEndExcluding="2.0", matchCriteriaId=key))]}))
+            self.assertEqual(list(found.ranges), [f"{name('a')} before 2.0"])
+        found, _ = converted(cve({"nodes": [node({"vulnerable": True, "criteria": "part o"})]}))
+        self.assertEqual(list(found.stand_ins), ["match part o"])
+
     def test_a_range_is_the_product_and_a_check(self):
         ranged = match("a", versionStartIncluding="1.0", versionEndExcluding="2.0", matchCriteriaId="KEY")
         found, said = converted(cve({"nodes": [node(ranged)]}))
@@ -148,7 +184,7 @@ class Faults(unittest.TestCase):
         odd = ["text", {"cve": 7}, {}, cve({"nodes": 7}), cve({"nodes": [node(match("a"), negate=7)]}), cve("text"), cve(id=7)]
         for one in odd:
             with self.subTest(one):
-                tests, left = outcome(one, cve({"nodes": [node(match("a", "1"))]}))
+                tests, left = outcome(one, cve({"nodes": [node(match("a", "1"))]}, id="CVE-2024-99998"))
                 self.assertEqual((len(tests), len(left)), (1, 1))
 
     def test_an_empty_page_is_remarked(self):

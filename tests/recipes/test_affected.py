@@ -211,7 +211,13 @@ class Changes(RecipeCase):
         status, lines, said = self.changes(FLEET, after)
         self.assertEqual(
             lines,
-            ["gone m a TRUE none", "gone m b UNKNOWN none", "new bare a none TRUE", "gone n b UNKNOWN none", "new o b none TRUE"],
+            [
+                "gone m a TRUE none no items",
+                "gone m b UNKNOWN none no items",
+                "new bare a none TRUE",
+                "gone n b UNKNOWN none it is no machine any more",
+                "new o b none TRUE",
+            ],
         )
         self.assertEqual((status, said), (1, ["left out m: no items", "remark n is no machine any more"]))
 

@@ -4,6 +4,7 @@ import random
 import sys
 import tempfile
 import unittest
+from dataclasses import replace
 from pathlib import Path
 
 sys.path.insert(0, str(Path(__file__).resolve().parent))
@@ -11,8 +12,9 @@ sys.path.insert(0, str(Path(__file__).resolve().parent))
 from stand_in import Heard  # noqa: E402 (it knows where the recipes are)
 from cpe_recipes import matches  # noqa: E402
 from cpe_recipes.advisories import Range  # noqa: E402
-from cpe_recipes.decide import Decider, Lists, check_record, decide, drop_record, leads_of, read_entries, read_ranges  # noqa: E402
+from cpe_recipes.decide import Backported, Decider, Lists, check_record, decide, drop_record, leads_of, led, read_entries, read_ranges  # noqa: E402
 from cpe_recipes.feeds import Page, record_text  # noqa: E402
+from cpe_recipes.names import spelled  # noqa: E402
 from cpe_recipes.program import Program  # noqa: E402
 from cpe_recipes.said import Fatal  # noqa: E402
 from cpe_recipes.versions import Standing, letters_of, standing  # noqa: E402
@@ -40,8 +42,9 @@ class Decisions(unittest.TestCase):
         """The truths and reasons of a machine with these items."""
         program = Program()
         leads = leads_of(program, list(records), items, [one.criteria for one in ranges])
-        decider = Decider(program, ranges, leads, items, LETTERS)
-        found = decide([leads.found[item] for item in items if item in leads.found], decider, Lists(program, listed or {}))
+        called = [one for item in items if item in leads.found for one in led(leads.found[item])]
+        decider = Decider(program, ranges, leads, [one.name for one in called], LETTERS)
+        found = decide(called, decider, Lists(program, listed or {}))
         return found.truths, {key: one.reason for key, one in found.unsure.items()}
 
     def one(self, version, start=None, end=None, product="p", update="*", **excluded):
@@ -58,8 +61,8 @@ class Decisions(unittest.TestCase):
         self.assertIs(self.one("1.0", "1.0", None, start_excluded=True), False)
 
     def test_what_can_not_be_trusted_has_no_answer(self):
-        self.assertEqual(self.one("1.0k", "1.0", "1.1"), "a letter decides between 1.0k and 1.0")
-        self.assertEqual(self.one("1.0.0", None, "1.0"), "only zeros decide between 1.0.0 and 1.0")
+        self.assertEqual(self.one("1.0k", "1.0", "1.1"), "dpkg and cpe differ between 1.0k and 1.0")
+        self.assertEqual(self.one("1.0.0", None, "1.0"), "dpkg and PEP 440 differ between 1.0.0 and 1.0")
         self.assertEqual(self.one("1.0", "1.0", None, update="rc1"), "1.0 is the bound, and has the update rc1")
         for version in ("*", "-"):
             self.assertEqual(self.one(version, None, "1.0"), "its version isn't known")
@@ -67,8 +70,9 @@ class Decisions(unittest.TestCase):
     def test_letters_that_count_upward(self):
         for version, wanted in (("1.1.1", True), ("1.1.1k", True), ("1.1.1u", False), ("1.1.1v", False), ("1.1.0z", False), ("3.0", False)):
             self.assertIs(self.one(version, "1.1.1", "1.1.1u", "lettered", end_excluded=True), wanted, version)
-        unsure = "a letter decides between 1.1.1-rc1 and 1.1.1.1, letters that count upward being numbers"
-        self.assertEqual(self.one("1.1.1-rc1", "1.1.1a", None, "lettered"), unsure)
+        unsure = "dpkg and PEP 440 differ between 1.1.1-rc1 and 1.1.1, letters that count upward being numbers"
+        self.assertEqual(self.one("1.1.1-rc1", "1.1.1", None, "lettered"), unsure)
+        self.assertIs(self.one("1.1.1-rc1", "1.1.1a", None, "lettered"), False)
         for update, wanted in (("-", True), ("p1", True), ("p2", False), ("p10", False)):
             self.assertIs(self.one("9.3", None, "9.3p2", "patched", update, end_excluded=True), wanted, update)
         unsure = "9.3 is the bound, and has the update b1, letters that count upward being numbers"
@@ -77,7 +81,7 @@ class Decisions(unittest.TestCase):
     def test_one_item_in_the_range_is_enough_and_one_that_is_unsure_beats_those_outside(self):
         one = Range("KEY", name("p"), "1.0", "2.0")
         self.assertEqual(self.decided([name("p", "3.0"), name("p", "1.5"), name("p", "1.0b")], one), ({"KEY": True}, {}))
-        self.assertEqual(self.decided([name("p", "3.0"), name("p", "1.0b")], one), ({}, {"KEY": "a letter decides between 1.0b and 1.0"}))
+        self.assertEqual(self.decided([name("p", "3.0"), name("p", "1.0b")], one), ({}, {"KEY": "dpkg and PEP 440 differ between 1.0b and 1.0"}))
         self.assertEqual(self.decided([name("p", "3.0"), name("q", "1.5")], one), ({"KEY": False}, {}))
 
     def test_what_the_name_does_not_cover_needs_no_answer(self):
@@ -93,12 +97,12 @@ class Decisions(unittest.TestCase):
         self.assertEqual(self.decided([old], one), ({}, {}))
         self.assertEqual(self.decided([old], one, records=[entry(old), deprecate(old)]), ({}, {}))
 
-    def test_criteria_that_lead_elsewhere_have_no_answer(self):
+    def test_criteria_that_lead_elsewhere_are_asked_as_they_stand(self):
         old, new, item = name("old"), name("new"), name("new", "1.0")
         records = [entry(old), entry(new), deprecate(old, new)]
-        truths, unsure = self.decided([item, name("old", "1.0")], Range("KEY", old, None, "2.0"), records=records)
-        self.assertEqual((truths, unsure), ({}, {"KEY": f"{old} leads to {new} by the dictionary"}))
-        self.assertEqual(self.decided([name("old", "1.0")], Range("KEY", old, None, "2.0"), records=records), ({}, {}))
+        one = Range("KEY", old, None, "2.0")
+        self.assertEqual(self.decided([item, name("old", "1.0")], one, records=records), ({"KEY": True}, {}))
+        self.assertEqual(self.decided([item], one, records=records), ({}, {}))
 
     def test_criteria_with_a_version_have_no_answer(self):
         truths, unsure = self.decided([name("p", "1.5")], Range("KEY", name("p", "1.*"), None, "2.0"))
@@ -158,9 +162,69 @@ class Decisions(unittest.TestCase):
     def test_ranges_that_are_not_asked_for_may_be_of_items_that_are_known_in_part(self):
         odd = Range("KEY", "cpe:2.3:a:acme:*:1*:*:*:*:*:*:*:*", None, "2.0")
         self.assertEqual(self.decided([name("p", "1.*")], odd), ({}, {"KEY": "it is known in part"}))
-        old, new = name("old"), name("p")
-        records = [entry(old), entry(new), deprecate(old, new)]
-        self.assertEqual(self.decided([name("p", "1.*")], Range("KEY", old, "1.0"), records=records), ({}, {"KEY": "it is known in part"}))
+
+    def decided_of_kind(self, version, kind, start, end, **excluded):
+        """What is decided of a range on a machine with one component of this kind."""
+        program, item, one = Program(), name("p", spelled(version)), Range("KEY", name("p"), start, end, **excluded)
+        leads = leads_of(program, [], [item], [one.criteria])
+        decider = Decider(program, [one], leads, [item], LETTERS)
+        return decide(led(replace(leads.found[item], kind=kind)), decider, Lists(program, {}))
+
+    def test_packages_of_distributions_are_inside_by_the_version_of_their_upstream(self):
+        for version, kind, start, end in (
+            ("1:3.0.7-24.el9", "rpm", "3.0.0", "3.0.13"), ("252-14.el9", "rpm", None, "252.4"), ("115-1.el9", "rpm", None, "115.0.2"),
+            ("1:3.0.7-24.el9", "", "3.0.0", "3.0.13"), ("1.1.1t-0+deb11u1", "deb", "1.1.1", "1.1.1u"), ("3.1.3-r0", "apk", "3.1", "3.1.4"),
+        ):
+            found = self.decided_of_kind(version, kind, start, end, end_excluded=True)
+            self.assertEqual((found.truths, found.unsure), ({"KEY": True}, {}), version)
+            release = version.rpartition("-")[2]
+            self.assertEqual(found.backported, {"KEY": {f"backported? {name('p', spelled(version))}: release {release}": None}})
+        for version, kind, end in (("1:3.0.13-1.el9", "rpm", "3.0.13"), ("252.4-1", "deb", "252.4"), ("3.1.4-r5", "apk", "3.1.4")):
+            found = self.decided_of_kind(version, kind, None, end, end_excluded=True)
+            self.assertEqual((found.truths, found.unsure, found.backported), ({"KEY": False}, {}, {}), version)
+
+    def test_the_order_of_a_kind_decides_where_others_differ(self):
+        for kind, version, end, wanted in (
+            ("npm", "1.0.0-1", "1.0.0", True), ("deb", "1.0.0-1", "1.0.0", False), ("pypi", "1.0.0-1", "1.0.0", False),
+            ("pypi", "1.0rc1", "1.0", True), ("maven", "1.0-rc1", "1.0", True), ("golang", "v1.2.3-0.20240101000000-abcdefabcdef", "1.2.3", True),
+            ("deb", "1.0~rc1-1", "1.0", True), ("rpm", "1.0k-1", "1.0", False), ("apk", "1.1_rc1-r0", "1.1", True),
+        ):
+            found = self.decided_of_kind(version, kind, None, end, end_excluded=True)
+            self.assertEqual((found.truths, found.unsure), ({"KEY": wanted}, {}), (kind, version))
+        found = self.decided_of_kind("1.0.0-1", "", None, "1.0.0", end_excluded=True)
+        self.assertEqual(found.unsure["KEY"].reason, "dpkg and SemVer differ between 1.0.0-1 and 1.0.0")
+
+    def test_what_an_item_without_a_release_makes_true_is_not_backported(self):
+        program, items = Program(), [name("p", "1.5-1"), name("p", "1.6"), name("p", "1.7-2")]
+        ranges = [Range("KEY", name("p"), "1.0", "2.0"), Range("LOW", name("p"), "1.0", "1.5.9")]
+        leads = leads_of(program, [], items, [one.criteria for one in ranges])
+        decider = Decider(program, ranges, leads, items, LETTERS)
+        for order in (items, items[::-1]):
+            found = decide([one for item in order for one in led(leads.found[item])], decider, Lists(program, {}))
+            self.assertEqual(found.truths, {"KEY": True, "LOW": True})
+            self.assertEqual(found.backported, {"LOW": {f"backported? {items[0]}: release 1": None}})
+        listed = decide(led(leads.found[items[0]]), decider, Lists(program, {"LOW": [items[0]]}))
+        self.assertEqual(listed.backported, {"KEY": {f"backported? {items[0]}: release 1": None}})
+
+    def test_components_of_several_kinds_are_asked_for_by_each(self):
+        program, item, one = Program(), name("p", "1.0.0-1"), Range("KEY", name("p"), None, "1.0.0", end_excluded=True)
+        leads = leads_of(program, [], [item], [one.criteria])
+        decider = Decider(program, [one], leads, [item], LETTERS)
+        for kinds, wanted in ((["deb", "npm"], {"KEY": True}), (["npm", "deb"], {"KEY": True}), (["deb", "rpm"], {"KEY": False}), (["deb", ""], {})):
+            called = [one for kind in kinds for one in led(replace(leads.found[item], kind=kind))]
+            found = decide(called, decider, Lists(program, {}))
+            self.assertEqual(found.truths, wanted, kinds)
+
+    def test_an_epoch_and_a_v_never_decide(self):
+        for version, kind in ((r"32\:9.16.23", ""), (r"32\:9.16.23", "rpm"), ("v9.16.23", ""), ("v9.16.23", "golang"), (r"1\!9.16.23", "pypi")):
+            one = Range("KEY", name("p"), "9.16.0", "v9.16.48", end_excluded=True)
+            self.assertEqual(self.decided([name("p", version)], one), ({"KEY": True}, {}), version)
+        self.assertEqual(self.decided([name("p", r"32\:9.16.49")], one), ({"KEY": False}, {}))
+        self.assertEqual(self.decided([name("p", r"32\:9.*")], one), ({}, {"KEY": "it is known in part"}))
+        self.assertEqual(self.decided([name("p", r"32\:9.17.*")], one), ({"KEY": False}, {}))
+        one = Range("KEY", name("lettered"), "v1.1.1", "v1.1.1u", end_excluded=True)
+        self.assertEqual(self.decided([name("lettered", r"1\:1.1.1k-24.el9")], one), ({"KEY": True}, {}))
+        self.assertEqual(self.decided([name("lettered", "v1.1.1w")], one), ({"KEY": False}, {}))
 
     def test_this_recipe_orders_versions_as_cpe_does(self):
         draw = random.Random(18)
@@ -176,10 +240,11 @@ class Decisions(unittest.TestCase):
                 leads = leads_of(program, [], items.values(), [one.criteria])
                 decider = Decider(program, [one], leads, items.values(), LETTERS)
                 for version, item in items.items():
-                    found, reason = standing(version, None, one)
-                    wanted = reason if found is Standing.UNSURE else found is Standing.INSIDE
-                    self.assertEqual(decider.stands(item)["KEY"], wanted, (version, word, bound))
-                    sure += found is not Standing.UNSURE
+                    found = standing(version, None, one)
+                    wanted = found.why if found.standing is Standing.UNSURE else found.standing is Standing.INSIDE
+                    stand = decider.stands(item)["KEY"]
+                    self.assertEqual(True if isinstance(stand, Backported) else stand, wanted, (version, word, bound))
+                    sure += found.standing is not Standing.UNSURE
         self.assertGreater(sure, 500)
 
 
@@ -227,7 +292,7 @@ class Files(unittest.TestCase):
         odd = [{"matchString": {"matchCriteriaId": "C", "matches": ["text"]}}, "text", {"matchString": {"matchCriteriaId": "D"}}]
         found = matches.listed([Page("it.json", "matchStrings", strings + odd)], {"A", "C", "D"}, said)
         self.assertEqual(found, {"A": [name("p", "A")], "D": []})
-        self.assertEqual(said.told, ["left out C: not of the published form"])
+        self.assertEqual(said.told, ["left out C, match string 3 of it.json: not of the published form"])
         empty = Page("empty.json", "matchStrings", [])
         self.assertEqual(matches.listed([empty, Page("it.json", "matchStrings", strings)], {"A"}, said), {"A": [name("p", "A")]})
         self.assertEqual(said.told[1:], ["remark empty.json: no matchStrings in it"])

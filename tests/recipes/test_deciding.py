@@ -9,7 +9,7 @@ from cpe_recipes.advisories import Range
 from cpe_recipes.cases import Known
 from cpe_recipes.decide import Decided
 from cpe_recipes.deciding import Told
-from cpe_recipes.machines import Machine
+from cpe_recipes.components import Machine
 
 
 def explains():
@@ -24,12 +24,14 @@ def pair(fact, *item):
 class InWords(unittest.TestCase):
     def told(self, test, why, inside=None):
         ranges = {"K": Range("K", name("v", "p"), "1.0", "2.0", end_excluded=True)}
-        return list(Told(ranges, Decided(inside=inside or {})).of(test, why))
+        items = {name("w", "p", "1"): name("v", "p", "1")}
+        return list(Told(ranges, Decided(inside=inside or {}), items).of(test, why))
 
-    def test_a_pair_names_its_item_and_where_it_leads(self):
-        fact, old, new = name("w", "p"), name("v", "p", "1"), name("w", "p", "1")
-        self.assertEqual(self.told({"fact": fact}, pair(fact, new)), [f"{new} is covered by {fact}"])
-        self.assertEqual(self.told({"fact": fact}, pair(fact, old, new)), [f"{old}, now {new}, is covered by {fact}"])
+    def test_a_pair_names_its_item_and_how_it_is_called_too(self):
+        old, new = name("v", "p", "1"), name("w", "p", "1")
+        fact, former = name("w", "p"), name("v", "p")
+        self.assertEqual(self.told({"fact": former}, pair(former, old)), [f"{old} is covered by {former}"])
+        self.assertEqual(self.told({"fact": fact}, pair(fact, new)), [f"{old}, also {new}, is covered by {fact}"])
 
     def test_of_a_logical_test_what_is_given_counts(self):
         one, two = name("v", "p", "1"), name("v", "q", "1")
@@ -64,7 +66,7 @@ class Asked(unittest.TestCase):
         ]
         _, found = scanned(known, machines, has_why=True)
         self.assertEqual(found[0].deciding, {
-            0: [f"{old}, now {new}, is covered by {new}"],
+            0: [f"{old}, also {new}, is covered by {new}"],
             1: [f"{name('v', 'r', '1.5')} is in {one.criteria} from 1.0, before 2.0"],
         })
         self.assertEqual(found[1].deciding, {0: [f"{name('v', 'q', '7')} is covered by {name('v', 'q')}"]})

@@ -93,7 +93,7 @@ class Feeds(RecipeCase):
         self.assertEqual(told, [("m", {"do": "entry", "name": "x"}), ("o", "not of the published form")])
 
     def test_a_feed_without_records(self):
-        self.assertEqual(len(self.records({"products": []}, {"products": [product("x")]})), 1)
+        self.assertEqual(len(self.records({"products": [], "totalResults": 0}, {"products": [product("x")], "totalResults": 1})), 1)
         self.assertEqual(self.said.told, ["remark 1.json: no products in it"])
         with self.assertRaises(Fatal) as caught:
             self.records({"matchStrings": []})

@@ -91,7 +91,7 @@ class Pages(unittest.TestCase):
 
     def test_a_record_without_an_id_has_its_place(self):
         page = feeds.Page("it.json", "rows", [{"id": "a"}, {}, "text", {"id": 7}])
-        self.assertEqual([id for id, _ in page.each("row", lambda it: feeds.member(it, "id"))], ["a"] + [f"row {k} of it.json" for k in (2, 3, 4)])
+        self.assertEqual([one.id for one in page.each("row", lambda it: feeds.member(it, "id"))], ["a"] + [f"row {k} of it.json" for k in (2, 3, 4)])
 
 
 class Members(unittest.TestCase):

@@ -7,7 +7,7 @@ import unittest
 
 from recipe_case import CPE, RECIPES, RecipeCase, fs, needs_cpe, obey_signals
 
-from cpe_recipes import fleet
+from cpe_recipes import fleet, names
 from cpe_recipes.program import Program
 from cpe_recipes.said import Fatal
 from cpe_recipes.session import Asked, Session
@@ -71,26 +71,38 @@ class Sessions(RecipeCase):
         session = self.session(
             [*STATEMENTS, {"do": "statement", "id": "not", "test": {"op": "OR", "negate": True, "of": [{"fact": OPENSSL}]}}]
         )
-        asked = Asked("a", ["cpe:/a:x:y"], [], [OPENSSL], [('key "1"', "FALSE")])
+        maybe = names.marked(OPENSSL, (names.ATTRIBUTES.index("other"),))
+        asked = Asked("a", ["cpe:/a:x:y"], [('key "1"', "FALSE")], [maybe])
         self.assertEqual(session.ask(asked).lines, ["a ranged FALSE", "a named UNKNOWN", "a not UNKNOWN"])
-        self.assertEqual(session.ask(Asked("b", ["cpe:/a:x:y"])).lines, ["b ranged FALSE", "b named FALSE", "b not TRUE"])
+        asked = Asked("b", ["cpe:/a:x:y"], [(f"not {OPENSSL}", "FALSE")])
+        self.assertEqual(session.ask(asked).lines, ["b ranged FALSE", "b named FALSE", "b not TRUE"])
 
-    def test_a_verdict_that_hangs_on_a_removed_name_is_unknown(self):
-        gone = fs("openssl", "gone", "1.0")
-        entries = [{"do": "entry", "name": gone}, {"do": "deprecate", "name": gone, "kind": "NAME_REMOVAL", "date": "2024-01-02"}]
-        asks = [{"do": "statement", "id": "gone", "mode": "follow", "test": {"op": "OR", "of": [{"fact": fs("openssl", "gone")}]}}]
-        program, path = Program(CPE), self.file("records", [*entries, *asks, *STATEMENTS])
-        words = read_words([path, self.file("machines", f"a {gone} {OPENSSL}\nb {OPENSSL}\nc {gone}\n")], fleet.OPTIONS, fleet.USAGE)
-        asked = fleet.read_fleet(program, words, self.said)
-        self.assertEqual(self.said.told, [f"remark under a removed name {machine} {gone}" for machine in "ac"])
-        self.assertEqual([one.restored for one in asked.machines], [[], None, []])
+    def asked_of(self, records, machines, *words):
+        """The lines of a fleet over these machines, by a session."""
+        program, path = Program(CPE), self.file("records", records)
+        read = read_words([path, self.file("machines", machines), *words], fleet.OPTIONS, fleet.USAGE)
+        asked = fleet.read_fleet(program, read, self.said)
         session = Session(CPE, asked.known)
         self.addCleanup(session.end)
-        lines = [line for machine in asked.machines for line in session.ask(machine).lines]
+        return [line for machine in asked.machines for line in session.ask(machine).lines if "ranged" not in line]
+
+    def test_an_item_under_a_removed_name_is_found_as_it_stands(self):
+        gone = fs("openssl", "gone", "1.0")
+        entries = [{"do": "entry", "name": gone}, {"do": "deprecate", "name": gone, "kind": "NAME_REMOVAL", "date": "2024-01-02"}]
+        fact = [{"fact": fs("openssl", "gone")}]
+        asks = [{"do": "statement", "id": "gone", "mode": "follow", "test": {"op": "OR", "of": fact}}]
+        asks.append({"do": "statement", "id": "not", "mode": "follow", "test": {"op": "OR", "negate": True, "of": fact}})
+        lines = self.asked_of([*entries, *asks, *STATEMENTS], f"a {gone} {OPENSSL}\nb {OPENSSL}\nc {gone}\n")
+        self.assertEqual(self.said.told, [f"remark under a removed name {machine} {gone}" for machine in "ac"])
+        wanted = {"a": ["TRUE", "UNKNOWN", "TRUE"], "b": ["FALSE", "TRUE", "TRUE"], "c": ["TRUE", "UNKNOWN", "FALSE"]}
         self.assertEqual(
-            [line for line in lines if "ranged" not in line],
-            ["a gone UNKNOWN", "a named TRUE", "b gone FALSE", "b named TRUE", "c gone UNKNOWN", "c named FALSE"],
+            lines, [f"{name} {id} {truth}" for name, of in wanted.items() for id, truth in zip(("gone", "not", "named"), of)]
         )
+
+    def test_an_item_that_says_less_is_unknown_unless_it_is_strict(self):
+        asks = [{"do": "statement", "id": "update", "test": {"op": "OR", "of": [{"fact": f"cpe:/a:openssl:openssl:1.1.1t:rc1"}]}}]
+        self.assertEqual(self.asked_of(asks, f"a {OPENSSL}\n"), ["a update UNKNOWN"])
+        self.assertEqual(self.asked_of(asks, f"a {OPENSSL}\n", "--strict"), ["a update FALSE"])
 
     def test_a_run_that_dies_is_noticed(self):
         session = self.session()

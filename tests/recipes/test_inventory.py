@@ -46,7 +46,7 @@ class Lists(RecipeCase):
             {"SPDXID":"q"},{"SPDXID":"r","externalRefs":7}]}"""
         self.assertEqual(
             self.items(text),
-            [("p", ITEM % "cpe:/a:x"), ("p", '{"do":"item","name":7}'), ("q", "no CPE name"), ("r", "not of the published form")],
+            [("p", ITEM % "cpe:/a:x"), ("p", "the locator of a reference is no text"), ("q", "no CPE name"), ("r", "its externalRefs are no list")],
         )
 
     def test_a_plain_list(self):
@@ -65,7 +65,14 @@ class Lists(RecipeCase):
             "": "it is empty",
             " \n": "it is empty",
             '<?xml version="1.0"?><bom xmlns="http://cyclonedx.org/schema/bom/1.4"/>': "XML is not read",
-            '{"@context":"https://spdx.org/rdf/3.0.1/spdx-context.jsonld","@graph":[]}': "SPDX 3 is not read",
+            '{"@context":"https://spdx.org/rdf/3.0.1/spdx-context.jsonld"}': "it has no @graph",
+            '{"@context":"https://spdx.org/rdf/3.0.1/spdx-context.jsonld","@graph":{}}': "its @graph are no list",
+            '{"descriptor":{"name":"syft"}}': "it has no artifacts",
+            '{"descriptor":{"name":"syft"},"artifacts":7}': "its artifacts are no list",
+            '{"SchemaVersion":2,"ArtifactName":"x"}': "it has no Results",
+            '{"SchemaVersion":2,"Results":"x"}': "its Results are no list",
+            '{"SchemaVersion":2,"Results":[{"Class":"os-pkgs","Vulnerabilities":[]}]}': "it has no Packages: run trivy",
+            '{"descriptor":{"name":"grype"},"matches":[]}': "neither CycloneDX nor SPDX",
             '{"spdxVersion":"SPDX-3.0","packages":[]}': "SPDX-3.0 is not read",
             '{"bomFormat":"CycloneDX","specVersion":"2.0","components":[]}': "CycloneDX 2.0 is not read",
             '{"bomFormat":"CycloneDX","components":7}': "its components are no list",

@@ -203,7 +203,7 @@ class Products(RecipeCase):
     ]
 
     def products(self, machines, *words):
-        feed = self.file("feed.json", {"vulnerabilities": self.FEED})
+        feed = self.file("feed.json", {"totalResults": len(self.FEED), "vulnerabilities": self.FEED})
         status, lines, said = self.recipe("products", "--machines", self.file("machines", machines), *words, feed)
         kept = json.loads("\n".join(lines))["vulnerabilities"] if lines else None
         return status, kept and [one["cve"]["id"] if isinstance(one, dict) else one for one in kept], said
@@ -212,7 +212,8 @@ class Products(RecipeCase):
         always = ["pattern", "any", "bad", "nothing-vulnerable", "awaiting", "odd", 7]
         status, kept, said = self.products("m cpe:/a:v:p:1\n")
         self.assertEqual(set(map(str, kept)), set(map(str, ["listed", "one-of-two", "case", *always])))
-        self.assertEqual((status, said), (0, ["remark 10 of 15 advisories may concern a product of these machines"]))
+        told = ["remark 9 of 15 advisories may concern a product of these machines", "remark not analysed: 1 advisory"]
+        self.assertEqual((status, said), (0, told))
         self.assertEqual(kept, [one for one in [*(it["cve"]["id"] for it in self.FEED[:-1]), 7] if one in kept])
         self.assertEqual(self.products("m cpe:/a:x:y\n")[1], always)
 

@@ -1,6 +1,8 @@
 """The client over a pipe: many lines, a reader that stalls, lines that are refused, and programs that end early."""
 import itertools
 import json
+import subprocess
+import sys
 import time
 import unittest
 
@@ -98,6 +100,62 @@ class Pipes(RecipeCase):
         client = self.client("advise")
         item = '{"do":"item","name":"cpe:/a:v:p:1"}'
         self.assertEqual([client.ask(item)[1:], client.ask(item)[1:]], [(None, []), ("exists", ["refused 3 exists"])])
+
+    def test_every_word_that_reads_lines_is_served(self):
+        client = self.client("convert")
+        self.assertIn('"do":"item"', client.ask('{"do":"item","name":"cpe:/a:v:p:1"}').lines[0])
+        self.assertEqual((client.ask("x").refusal, client.end()), ("json", ([], 1)))
+        client = self.client("cover")
+        self.assertEqual([client.ask(line).refusal for line in ("cpe:/a:v", "cpe:/a:v:p", "-", "cpe:/a:w")], [None, None, "name 0", None])
+        self.assertEqual(client.end(), (["cpe:2.3:a:v:*:*:*:*:*:*:*:*:*", "cpe:2.3:a:w:*:*:*:*:*:*:*:*:*"], 1))
+        client = self.client("cover")
+        answers = list(client.ask_all(f"cpe:/a:v:p{number}" for number in range(5000)))
+        self.assertEqual({answer.refusal for answer in answers}, {None})
+        lines, status = client.end()
+        self.assertEqual((len(lines), status), (5000, 0))
+
+    def test_certificates_come_at_the_end_and_are_checked(self):
+        records = ['{"do":"item","name":"cpe:/a:v:p:1"}', '{"do":"statement","id":"s","test":{"op":"OR","of":[{"fact":"cpe:/a:v"}]}}']
+        client = self.client("explain")
+        self.assertEqual([client.ask(line).lines for line in records], [[], []])
+        proofs, status = client.end()
+        self.assertEqual((len(proofs), status), (1, 0))
+        client = self.client("check")
+        answers = [client.ask(line) for line in [*records, *proofs, proofs[0].replace('"TRUE"', '"FALSE"', 1)]]
+        self.assertEqual([len(answer.lines) for answer in answers], [0, 0, 1, 1])
+        self.assertEqual(answers[2].lines[0], "proof s holds")
+        self.assertNotEqual(answers[3].lines, answers[2].lines)
+
+    def test_a_snapshot_comes_at_the_end(self):
+        client = self.client("save")
+        with self.assertRaisesRegex(ValueError, "save answers no line"):
+            client.ask(entry(1))
+        for number in range(2000):
+            client.send(entry(number))
+        snapshot, status = client.end()
+        self.assertEqual((snapshot[:8], status), (b"CPESNAP1", 0))
+
+    def test_a_text_that_has_no_bytes_is_refused_and_nothing_stops(self):
+        for word, reason in (("unbind", "name 0"), ("resolve", "json"), ("convert", "json"), ("cover", "name 0")):
+            client = self.client(word)
+            lines = ["\ud800", "cpe:/a:\udfff", "\udcff", "\U0001f600\ud83d"]
+            self.assertEqual([answer.refusal is not None for answer in client.ask_all(lines)], [True] * 4, word)
+            self.assertEqual(client.ask("\ud800").refusal, reason)
+
+    def script(self, word, data):
+        run = subprocess.run([sys.executable, str(ROOT / "recipes/pipe.py"), word], input=data, capture_output=True)
+        return run.returncode, run.stdout, run.stderr
+
+    def test_the_script_serves_what_is_no_text(self):
+        data = b"cpe:/a:v\n\n\xed\xa0\x80\n\xff\r\n\ncpe:/a:w"
+        status, told, said = self.script("unbind", data)
+        lines = told.split(b"\n")
+        self.assertEqual((status, said, len(lines)), (1, b"", 5))
+        self.assertEqual([line.split(b"\t")[0] for line in lines], [b"1", b"2", b"3", b"4", b""])
+        self.assertEqual(self.script("cover", b"cpe:/a:v\n"), (0, b"1\ncpe:2.3:a:v:*:*:*:*:*:*:*:*:*\n", b""))
+        self.assertEqual(self.script("save", b"")[1][:8], b"CPESNAP1")
+        status, told, said = self.script("bind", b"x\n")
+        self.assertEqual((status, told, said.count(b"\n")), (2, b"", 1))
 
     def test_what_is_no_line_is_not_sent(self):
         client = self.client("unbind")

@@ -14,6 +14,10 @@ from cpe_recipes.said import Fatal  # noqa: E402
 from stand_in import Heard  # noqa: E402
 
 
+# The answer to what is asked at the end of a run, of its last line.
+BARRIER = """echo "$last" | sed 's/.*"do":"\\([a-z]*\\)","id":"\\([0-9a-f]*\\)".*/\\1 \\2 absent/'"""
+
+
 class Runs(unittest.TestCase):
     def setUp(self):
         folder = tempfile.TemporaryDirectory()
@@ -44,6 +48,48 @@ class Runs(unittest.TestCase):
             with self.subTest(end), self.assertRaises(Fatal):
                 self.program(f"echo one; {end}").run(["evaluate"], ["a"] * 100000)
 
+    def test_what_is_no_cpe_is_told_with_what_it_answers(self):
+        pair = "SUPERSET EQUAL EQUAL SUPERSET EQUAL EQUAL EQUAL EQUAL EQUAL EQUAL EQUAL EQUAL"
+        bad = {
+            "isn't cpe: it answers one line of compare with 0 lines, not with": "cat > /dev/null",
+            "isn't cpe: it answers one line of compare with 1 line, cpe:/a:gnu cpe:/a:gnu:gnutls, not with": "cat",
+            "isn't cpe: it answers one line of compare with 2 lines, SUPERSET": f"echo {pair}; echo more",
+            "isn't cpe: it answers one line of compare with 2048 lines, y, not with": "yes",
+        }
+        for told, text in bad.items():
+            with self.subTest(text), mock.patch.dict(os.environ, {"CPE": self.program(text).path}):
+                with self.assertRaises(Fatal) as caught:
+                    Program()
+                self.assertIn(told, str(caught.exception))
+        with mock.patch.dict(os.environ, {"CPE": self.program(f"echo {pair}").path}):
+            Program()
+
+    def test_too_few_answers_are_fatal_with_how_many(self):
+        records = ["one", "two", "three"]
+        for text, wrote in (("cat > /dev/null", 0), ("head -n 2", 2), ("cat", 4)):
+            with self.subTest(text), self.assertRaises(Fatal) as caught:
+                self.program(text).run(["resolve"], records)
+            wanted = f"resolve answered too few lines: it wrote {wrote} lines over 3, and the last answer isn't there"
+            self.assertTrue(str(caught.exception).endswith(wanted), caught.exception)
+        whole = self.program(f"tee {self.path}.in > /dev/null; last=$(tail -n 1 {self.path}.in); head -n 3 {self.path}.in; {BARRIER}")
+        for word in ("resolve", "advise"):
+            self.assertEqual(whole.run([word], records), records)
+        for text, answered in (("head -n 2", 2), ("cat; echo more", 4)):
+            with self.subTest(text), self.assertRaises(Fatal) as caught:
+                self.program(text).run(["compare"], records)
+            self.assertIn(f"compare answered too few lines: it wrote {answered} lines over 3", str(caught.exception))
+
+    def test_an_answer_to_another_line_is_fatal(self):
+        for words, number in ((["compare"], 2), (["resolve"], 4), (["resolve"], 0), (["resolve"], "x")):
+            program = self.program(f"last=$(tail -n 1); echo refused {number} name; {BARRIER}")
+            with self.subTest(words, number=number), self.assertRaisesRegex(Fatal, "refused|answered"):
+                program.run(words, ["one", "two", "three"])
+        program = self.program(f"last=$(tail -n 1); echo lookup a; echo refused 1 name; {BARRIER}")
+        with self.assertRaisesRegex(Fatal, "resolve answered question 2 with refused 1 name"):
+            program.answers(["resolve"], ["one", "two"])
+        with self.assertRaisesRegex(Fatal, "resolve answered 2 of 3 questions"):
+            program.answers(["resolve"], ["one", "two", "three"])
+
     def test_faults_of_the_records_are_told(self):
         def records():
             yield "one"
@@ -58,11 +104,12 @@ class Runs(unittest.TestCase):
         lines.close()
 
     def test_accepted_are_in_order_and_the_others_said(self):
-        program = self.program("cat > /dev/null; echo refused 2 exists; echo refused 4 name name 9; exit 1")
+        told = "echo refused 2 exists; echo refused 4 name name 9"
+        program = self.program(f"last=$(tail -n 1); {told}; {BARRIER}; exit 1")
         said = Heard()
         candidates = [Candidate("a", "{1}"), Candidate("b", "{2}"), Candidate("c", reason="rejected"), Candidate("d", "{" + "4" * 200)]
         self.assertEqual(program.accepted(candidates, said), ["{1}"])
-        told = ["left out b: exists: {2}", "left out c: rejected", "left out d: name name 9: {" + "4" * 99 + "..."]
+        told = ["left out b: exists: {2}", "left out c: rejected", "left out d: name name 9: {" + "4" * 199 + "..."]
         self.assertEqual(said.told, told)
         said = Heard()
         self.assertEqual(program.accepted(candidates, said, "exists"), ["{1}"])

@@ -221,8 +221,6 @@ class Refused(ReportCase):
         self.refuses(table(machine("")), f"{form}machine 1 has an empty name")
         self.refuses(table(machine("m"), machine("m")), f"{form}machine 2 comes twice: m")
         for more, words in (
-            ({"score": "7"}, "has a member score that is no number"),
-            ({"score": 1e999}, "has a score that is none"),
             ({"title": 7}, "has a member title that is no text"),
             ({"hangsOn": "x"}, "has a member hangsOn that is no list"),
             ({"hangsOn": [7]}, "has in hangsOn what is no text"),

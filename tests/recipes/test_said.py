@@ -59,12 +59,25 @@ class Lines(unittest.TestCase):
         here.remark("rejected", "CVE-0")
         for id in ("CVE-1", "CVE-2"):
             here.left_out(id, "no configurations")
-        self.assertEqual(here.noted, [("CVE-1", "no configurations"), ("CVE-2", "no configurations")])
+        self.assertEqual(here.noted, [("CVE-1", "no configurations", ""), ("CVE-2", "no configurations", "")])
         self.assertEqual((here.left, self.told()), (2, "remark CVE-0: rejected\nleft out CVE-1: no configurations\n"))
 
     def test_a_line_stays_one_line_and_no_terminal_obeys_it(self):
         said.Said(self.file.fileno()).left_out("a\nb", "\x1b[2J \u202e \U000e0001 “c”")
         self.assertEqual(self.told(), "left out a\\u000ab: \\u001b[2J \\u202e \\U000e0001 “c”\n")
+
+    def test_what_a_message_quotes_is_cut_at_200_bytes(self):
+        here = said.Said(self.file.fileno())
+        here.left_out("C" * 300, f"name name 9: {'n' * 201}: the check {'k' * 200} stands for it", "product 1 of it.json")
+        here.remark("ü" * 101, "CVE-1")
+        wanted = f"left out {'C' * 200}..., product 1 of it.json: name name 9: {'n' * 200}...: the check {'k' * 200} stands for it\n"
+        self.assertEqual(self.told(), f"{wanted}remark CVE-1: {'ü' * 100}...\n")
+
+    def test_a_quotation_is_cut_between_characters(self):
+        self.assertEqual(said.quoted("a" * 200), "a" * 200)
+        self.assertEqual(said.quoted("a" * 199 + "ü"), "a" * 199 + "...")
+        self.assertEqual(said.quoted("\ud800" * 100), said.quoted("\\ud800" * 100))
+        self.assertEqual((said.quoted(7), said.quoted({"a": 1})), ("7", "{'a': 1}"))
 
     def test_output_is_written_at_its_end_alone(self):
         output = said.Output(self.file.fileno())
@@ -79,6 +92,10 @@ class Ends(unittest.TestCase):
     def test_fatal_is_one_sentence_and_nothing_is_written(self):
         run = recipe("output = Output()\noutput.line('a row')\nraise Fatal('there is\\nno cpe')")
         self.assertEqual((run.returncode, run.stdout, run.stderr), (2, "", "it.sh: there is\\u000ano cpe\n"))
+
+    def test_the_reason_of_no_result_is_cut_where_it_quotes(self):
+        run = recipe(f"raise Fatal('{'x' * 70000} is no name')")
+        self.assertEqual((run.returncode, run.stderr), (2, f"it.sh: {'x' * 200}... is no name\n"))
 
     def test_a_fault_of_the_recipe_is_no_result(self):
         for body, fault in (("return {}['a\\nb']", "KeyError 'a\\nb'"), ("raise OSError(5, 'no luck')", "OSError [Errno 5] no luck")):

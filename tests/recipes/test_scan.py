@@ -3,6 +3,7 @@ import io
 import json
 import os
 import random
+import re
 import sys
 import tempfile
 import unittest
@@ -12,19 +13,21 @@ from unittest import mock
 sys.path.insert(0, str(Path(__file__).resolve().parent))
 
 from stand_in import Heard  # noqa: E402 (it knows where the recipes are)
-from cpe_recipes import affected, scan  # noqa: E402
+from cpe_recipes import affected, fleet, scan, verdicts  # noqa: E402
 from cpe_recipes.advisories import Range  # noqa: E402
 from cpe_recipes.cases import Known  # noqa: E402
+from cpe_recipes.components import Component, Machine  # noqa: E402
 from cpe_recipes.decide import Lists  # noqa: E402
 from cpe_recipes.feeds import record_text  # noqa: E402
-from cpe_recipes.machines import Machine  # noqa: E402
 from cpe_recipes.program import Program  # noqa: E402
 from cpe_recipes.progress import Progress  # noqa: E402
 from cpe_recipes.said import Fatal, Said  # noqa: E402
-from cpe_recipes.outcome import Hanging, json_of, machines_with_verdicts, perhaps, tell_perhaps  # noqa: E402
+from cpe_recipes.outcome import Hanging, json_of, machines_with_verdicts  # noqa: E402
 from cpe_recipes.scan import Scan  # noqa: E402
+from cpe_recipes.session import Session  # noqa: E402
 from cpe_recipes.suppressed import Accepted, Suppressed  # noqa: E402
 from cpe_recipes.versions import Letters  # noqa: E402
+from cpe_recipes.words import read_words  # noqa: E402
 
 NO_LETTERS = Letters({})
 SAMPLES = Path(__file__).resolve().parents[2] / "recipes" / "samples" / "ranges"
@@ -51,15 +54,41 @@ def ranged(one):
     return {"op": "AND", "of": [{"fact": one.criteria}, {"check": {"system": "NVD", "href": "cpeMatch", "id": one.key}}]}
 
 
-def scanned(known, machines, listed=None, has_why=False, **more):
+def scanned(known, machines, listed=None, has_why=False, is_strict=False, has_hardware=True, **more):
     program = Program()
-    made = Scan(program, known, Lists(program, listed or {}), NO_LETTERS, Progress(is_shown=False), has_why)
+    progress = Progress(is_shown=False)
+    made = Scan(program, known, Lists(program, listed or {}), NO_LETTERS, progress, has_why, is_strict, has_hardware)
     return made, made.machines(machines, **more)
 
 
 def truths(known, made, found):
     """All verdicts of a machine, by the ids of statements."""
     return {one.id: found.truths.get(place, made.bare[place]) for place, one in enumerate(known.statements)}
+
+
+def evaluated(known, machine, mode):
+    """What cpe says of a machine, where all statements are in this mode."""
+    records = [record.replace('"mode":"follow"', f'"mode":"{mode}"') for record in known.records]
+    items = [record_text({"do": "item", "name": item}) for item in machine.items]
+    lines = Program().run(["evaluate"], [*known.entries, *records, *items])
+    return {id: truth for word, id, truth in (line.split(" ") for line in lines if line.startswith("verdict ")) if word}
+
+
+def of_fleet(known, machines, is_strict):
+    """The lines of a fleet, machine by machine."""
+    with tempfile.TemporaryDirectory() as folder:
+        ranges, records, listed = (Path(folder) / it for it in ("ranges", "records", "machines"))
+        records.write_text("".join(f"{record}\n" for record in [*known.entries, *known.records]))
+        ranges.write_text("".join(record_text(one.record()) + "\n" for one in known.ranges.values()))
+        listed.write_text("".join(f"{machine.line()}\n" for machine in machines))
+        (Path(folder) / "letters").write_text("")
+        words = [str(records), str(listed), "--ranges", str(ranges), "--letters", f"{folder}/letters", *["--strict"] * is_strict]
+        asked = fleet.read_fleet(Program(), read_words(words, fleet.OPTIONS, fleet.USAGE), Heard())
+    session = Session(Program().path, asked.known)
+    try:
+        return [session.ask(machine).lines for machine in asked.machines]
+    finally:
+        session.end()
 
 
 class Drawn:
@@ -107,7 +136,7 @@ class Drawn:
         machines = [Machine(f"m{k}", [self.name(versions) for _ in range(self.draw.randint(1, 4))]) for k in range(6)]
         # (one whose product or vendor is known in part)
         if "1.*" in versions:
-            machines[0].items.append(self.draw.choice([name("v", "p*", "1.0"), name("?w", "q", "1.*")]))
+            machines[0].components.append(Component(names=(self.draw.choice([name("v", "p*", "1.0"), name("?w", "q", "1.*")]),)))
         return machines
 
 
@@ -136,9 +165,33 @@ class Verdicts(unittest.TestCase):
         machines = [Machine("old", [name("v", "p", "1.5")]), Machine("new", [name("v", "p", "2.0")]), Machine("odd", [name("v", "p", "1.0b")])]
         made, found = scanned(known, machines)
         self.assertEqual([truths(known, made, it)["CVE-1"] for it in found], ["TRUE", "FALSE", "UNKNOWN"])
-        self.assertEqual(Hanging(known, found).on("CVE-1", "odd"), [f"{name('v', 'p', '1.0b')}: a letter decides between 1.0b and 1.0"])
+        self.assertEqual(Hanging(known, found).on("CVE-1", "odd"), [f"{name('v', 'p', '1.0b')}: dpkg and PEP 440 differ between 1.0b and 1.0"])
         made, found = scanned(known, machines, {"KEY": [name("v", "p", "1.0b")]})
         self.assertEqual([truths(known, made, it)["CVE-1"] for it in found], ["TRUE", "FALSE", "TRUE"])
+
+    def test_what_a_distribution_may_have_mended_is_remarked(self):
+        one = Range("KEY", name("v", "p"), "1.0", "2.0", end_excluded=True)
+        exact = {"fact": name("v", "p", "1.5")}
+        either = statement("EITHER", {"op": "OR", "of": [ranged(one), exact]})
+        known = self.known(statement("RANGE", ranged(one)), statement("EXACT", exact), either, statement("NOT", ranged(one), negate=True), ranges=[one])
+        deb = Component(names=(name("v", "p", "1.5-1"),), kind="deb")
+        both = [deb, name("v", "p", "1.6")]
+        machines = [Machine("deb", [deb]), Machine("both", both), Machine("bare", [name("v", "p", "1.5-1")]), Machine("npm", [name("v", "p", "1.6")])]
+        made, found = scanned(known, machines)
+        said = [[truths(known, made, it)[id] for id in ("RANGE", "EXACT", "EITHER", "NOT")] for it in found]
+        self.assertEqual(said[:2], [["TRUE", "TRUE", "TRUE", "FALSE"]] * 2)
+        self.assertEqual(said[2:], [["TRUE", "UNKNOWN", "TRUE", "FALSE"], ["TRUE", "FALSE", "TRUE", "FALSE"]])
+        remark = [f"backported? {deb.names[0]}: release 1"]
+        hanging = Hanging(known, found)
+        self.assertEqual([hanging.remarks(id, "deb") for id in ("RANGE", "EXACT", "EITHER", "NOT")], [remark, remark, remark, []])
+        self.assertEqual([hanging.remarks(id, "both") for id in ("RANGE", "EXACT", "EITHER", "NOT")], [[], remark, [], []])
+        self.assertEqual([hanging.remarks(id, "bare") for id in ("RANGE", "EXACT", "EITHER", "NOT")], [remark, [], remark, []])
+        self.assertEqual(hanging.on("EXACT", "bare"), [f"{deb.names[0]}: 1.5-1 may be 1.5 in the release 1 of a distribution"])
+        rows = machines_with_verdicts(known, made.bare, found)
+        value = json_of(known, found, rows, affected.About({}, Suppressed([]), hanging))
+        self.assertEqual([one.get("remarks") for one in value["machines"][0]["verdicts"]], [remark] * 3)
+        table = list(affected.table_of(verdicts.Verdicts(rows[:1]), affected.About({}, Suppressed([]), hanging)))
+        self.assertEqual([line.endswith(remark[0]) for line in table[1:4]], [True] * 3)
 
     def test_a_program_that_answers_less_is_fatal(self):
         known = self.known(statement("CVE-1", {"fact": name("v", "p")}))
@@ -201,7 +254,7 @@ class Verdicts(unittest.TestCase):
         made, found = scanned(known, [Machine("bare"), Machine("a", [name("v", "q", "1.0")])])
         machines = machines_with_verdicts(known, made.bare, found)
         about = affected.About({}, Suppressed([]), Hanging(known, found))
-        rows = json_of(known, found, machines, about, [])["machines"]
+        rows = json_of(known, found, machines, about)["machines"]
         self.assertEqual(rows[0], {"name": "bare", "items": 0})
         self.assertEqual(rows[1]["verdicts"], [{"id": "CVE-1", "verdict": "TRUE"}])
         self.assertEqual((rows[1]["perhaps"], rows[1]["notInDictionary"]), ([], [name("v", "q", "1.0")]))
@@ -214,12 +267,12 @@ class Verdicts(unittest.TestCase):
         made, found = scanned(known, [Machine("a", [name("v", "p", "1.0")])])
         machines = machines_with_verdicts(known, made.bare, found)
         about = affected.About(known.details, Suppressed([Accepted("it line 1", "CVE-1", "*", "not reachable")]), Hanging(known, found))
-        row = json_of(known, found, machines, about, [])["machines"][0]["verdicts"][0]
+        row = json_of(known, found, machines, about)["machines"][0]["verdicts"][0]
         self.assertEqual(row, {"id": "CVE-1", "verdict": "TRUE", "score": 7.5, "title": "A title", "accepted": "not reachable"})
         table = list(affected.table_of(affected.Verdicts(machines), about))
         self.assertIn("accepted a CVE-1 TRUE: not reachable", table)
 
-    def test_an_item_under_a_removed_name_is_unknown_where_it_would_be_another(self):
+    def test_an_item_under_a_removed_name_is_found_as_it_stands(self):
         old, new, gone = (name("v", product, "1.0") for product in ("old", "new", "gone"))
         one = Range("K", name("v", "gone"), None, "2.0")
         asks = [statement("NAME", {"fact": gone}), statement("RANGE", ranged(one)), statement("OTHER", {"fact": new})]
@@ -227,9 +280,10 @@ class Verdicts(unittest.TestCase):
         entries = [entry(old), entry(new), entry(gone), deprecate(old, gone), deprecate(gone)]
         known = self.known(*asks, entries=entries, ranges=[one])
         made, found = scanned(known, [Machine("a", [gone, new]), Machine("b", [new]), Machine("c", [name("v", "gone", "1.5")])])
-        wanted = {"NAME": "UNKNOWN", "RANGE": "UNKNOWN", "OTHER": "TRUE", "NOT": "UNKNOWN", "LEADS": "UNKNOWN"}
+        wanted = {"NAME": "TRUE", "RANGE": "TRUE", "OTHER": "TRUE", "NOT": "UNKNOWN", "LEADS": "TRUE"}
         self.assertEqual(truths(known, made, found[0]), wanted)
-        self.assertEqual(Hanging(known, found).on("RANGE", "a"), [f"{gone} was removed from the dictionary"])
+        why = f"{gone} may have another name than {gone}, and {name('v', 'gone')} is negated"
+        self.assertEqual(Hanging(known, found).on("NOT", "a"), [why])
         wanted = {"NAME": "FALSE", "RANGE": "FALSE", "OTHER": "TRUE", "NOT": "TRUE", "LEADS": "FALSE"}
         self.assertEqual(truths(known, made, found[1]), wanted)
         # (what no entry has, nothing was removed of)
@@ -244,26 +298,175 @@ class Verdicts(unittest.TestCase):
             machine.show_all()
         accepted = Suppressed([Accepted("it line 1", "CVE-2", "*", "not here")])
         about = affected.About({}, accepted, Hanging(known, found))
-        rows = json_of(known, found, machines, about, [])["machines"]
+        rows = json_of(known, found, machines, about)["machines"]
         self.assertEqual(rows[0]["verdicts"], [{"id": "CVE-1", "verdict": "TRUE"}, {"id": "CVE-2", "verdict": "FALSE"}])
         self.assertNotIn("verdicts", rows[1])
         table = list(affected.table_of(affected.Verdicts(machines), about))
         self.assertEqual([line.split() for line in table[1:4]], [["a", "TRUE", "CVE-1"], ["a", "FALSE", "CVE-2"], ["bare", "no", "items"]])
         self.assertEqual(table[-1], "2 machines, 1 without items: 1 TRUE, 0 ERROR, 0 UNKNOWN, 1 FALSE")
 
-    def test_an_item_that_knows_less_is_told_where_the_verdict_is_false(self):
+    def test_an_item_that_says_less_is_unknown_and_counted_apart(self):
         known = self.known(statement("CVE-1", {"fact": name("v", "p", "1.0")}), statement("CVE-2", {"fact": name("v", "p")}, {"fact": name("v", "p", "2.0")}))
-        made, found = scanned(known, [Machine("a machine", [name("v", "p")]), Machine("b", [name("v", "q", "1.0")])])
-        machines = machines_with_verdicts(known, made.bare, found)
-        rows = perhaps(made.pairs(), found, machines)
-        self.assertEqual(rows, [("a machine", "CVE-1", name("v", "p"), name("v", "p", "1.0"))])
-        about = affected.About({}, Suppressed([]), Hanging(known, found))
-        row = json_of(known, found, machines, about, rows)["machines"][0]
-        self.assertEqual(row["perhaps"], [{"id": "CVE-1", "item": name("v", "p"), "fact": name("v", "p", "1.0")}])
-        said = Heard()
-        tell_perhaps(rows * 30, said)
-        self.assertEqual(said.told[:20], [f"remark perhaps a machine CVE-1 {name('v', 'p')} {name('v', 'p', '1.0')}"] * 20)
-        self.assertEqual(said.told[20:], ["remark perhaps: 10 more, which --json and perhaps.sh list"])
+        machines = [Machine("a machine", [name("v", "p")]), Machine("b", [name("v", "q", "1.0")]), Machine("c", [name("v", "p", "1.0")])]
+        for is_strict, wanted in ((False, "UNKNOWN"), (True, "FALSE")):
+            made, found = scanned(known, machines, is_strict=is_strict)
+            self.assertEqual([truths(known, made, one)["CVE-1"] for one in found], [wanted, "FALSE", "TRUE"])
+            shown = machines_with_verdicts(known, made.bare, found)
+            self.assertEqual([one.perhaps for one in shown], [{"CVE-1"}, set(), set()])
+            about = affected.About({}, Suppressed([]), Hanging(known, found))
+            row = json_of(known, found, shown, about)["machines"][0]
+            self.assertEqual(row["perhaps"], [{"id": "CVE-1", "item": name("v", "p"), "fact": name("v", "p", "1.0")}])
+            last = list(affected.table_of(affected.Verdicts(shown), about))[-1]
+            count = "3 FALSE, of which 1 perhaps" if is_strict else "1 perhaps, 2 FALSE"
+            self.assertEqual(last, f"3 machines: 3 TRUE, 0 ERROR, 0 UNKNOWN, {count}")
+        made, found = scanned(known, machines)
+        self.assertEqual(Hanging(known, found).on("CVE-1", "a machine"), [f"{name('v', 'p')}: version: 1.0?"])
+
+    def less(self, *attributes, version="5.3"):
+        """A name of a form, with what stands in the attributes after its version."""
+        return f"cpe:2.3:a:acme:form:{version}:{':'.join(attributes)}:*"
+
+    def test_each_attribute_of_which_an_item_says_nothing(self):
+        wanted = ["sp1", "pro", "de", "home", "wordpress", "x64"]
+        attributes = ("update", "edition", "language", "sw_edition", "target_sw", "target_hw")
+        for place, (attribute, text) in enumerate(zip(attributes, wanted)):
+            said = [text if k == place else "*" for k in range(6)]
+            one = Range("K", self.less(*said, version="*"), "5.0", "5.5")
+            known = self.known(statement("NAME", {"fact": self.less(*said)}), statement("RANGE", ranged(one)), ranges=[one])
+            bare = self.less(*["*"] * 6)
+            machines = [Machine("less", [bare]), Machine("other", [self.less(*["x" if k == place else "*" for k in range(6)])])]
+            machines += [Machine("same", [bare, self.less(*said)]), Machine("out", [self.less(*["*"] * 6, version="6.0")])]
+            made, found = scanned(known, machines)
+            with self.subTest(attribute):
+                verdicts = [list(truths(known, made, it).values()) for it in found]
+                self.assertEqual(verdicts, [["UNKNOWN"] * 2, ["FALSE"] * 2, ["TRUE"] * 2, ["FALSE"] * 2])
+                for id in ("NAME", "RANGE"):
+                    self.assertEqual(Hanging(known, found).on(id, "less"), [f"{bare}: {attribute}: {text}?"])
+
+    def test_what_is_negated_over_an_item_that_says_less_is_unknown(self):
+        plugin = self.less("*", "*", "*", "*", "wordpress", "*")
+        bare = self.less(*["*"] * 6)
+        known = self.known(statement("NOT", {"fact": plugin}, negate=True), statement("PART", {"fact": name("v", "p", "1.5")}, negate=True))
+        made, found = scanned(known, [Machine("a", [bare, name("v", "p", "1.*")]), Machine("b", [name("v", "q", "1")])])
+        self.assertEqual([truths(known, made, it) for it in found], [dict.fromkeys(("NOT", "PART"), truth) for truth in ("UNKNOWN", "TRUE")])
+        self.assertEqual(Hanging(known, found).on("NOT", "a"), [f"{bare}: target_sw: wordpress?"])
+
+    def test_a_name_is_found_as_it_stands_and_as_it_leads_on(self):
+        old, new = name("mysql", "mysql", "5.1.73"), name("oracle", "mysql", "5.1.73")
+        entries = [entry(old), entry(new), deprecate(old, new)]
+        before, after = Range("OLD", name("mysql", "mysql"), None, "5.5"), Range("NEW", name("oracle", "mysql"), None, "5.5")
+        asks = [statement("ANY", {"fact": name("mysql", "mysql")}), statement("OLD", ranged(before)), statement("NEW", ranged(after))]
+        asks += [statement("NAME", {"fact": old}), statement("NOT", {"fact": name("mysql", "mysql")}, negate=True)]
+        asks += [statement("OTHER", {"fact": name("mysql", "mysql", "5.6")})]
+        known = self.known(*asks, entries=entries, ranges=[before, after])
+        machines = [Machine("old", [old]), Machine("new", [new]), Machine("more", [name("oracle", "mysql", "5.1.73").replace("73:*:*:*:*", "73:*:*:*:community")])]
+        machines += [Machine("unlisted", [name("oracle", "mysql", "5.1.70")]), Machine("out", [name("oracle", "mysql", "5.7")])]
+        made, found = scanned(known, machines)
+        found_so = {"ANY": "TRUE", "OLD": "TRUE", "NEW": "TRUE", "NAME": "TRUE", "NOT": "UNKNOWN", "OTHER": "FALSE"}
+        self.assertEqual(truths(known, made, found[0]), found_so)
+        self.assertEqual(truths(known, made, found[1]), found_so)
+        self.assertEqual(truths(known, made, found[2]), found_so)
+        # (all entries of the old product lead to the new one, in the same version, so the product was renamed)
+        self.assertEqual(truths(known, made, found[3]), {**found_so, "NAME": "FALSE"})
+        self.assertEqual(truths(known, made, found[4]), {**found_so, "NAME": "FALSE", "OLD": "FALSE", "NEW": "FALSE"})
+
+    def test_versions_that_were_renamed_too(self):
+        old, new = name("v", "old", "7"), name("v", "new", "1.7")
+        one = Range("K", name("v", "old"), None, "8")
+        known = self.known(statement("RANGE", ranged(one)), statement("NAME", {"fact": old}), entries=[entry(old), entry(new), deprecate(old, new)], ranges=[one])
+        made, found = scanned(known, [Machine("a", [new]), Machine("b", [name("v", "new", "1.6")]), Machine("c", [old])])
+        self.assertEqual([truths(known, made, it) for it in found], [
+            {"RANGE": "UNKNOWN", "NAME": "TRUE"}, {"RANGE": "UNKNOWN", "NAME": "FALSE"}, {"RANGE": "TRUE", "NAME": "TRUE"},
+        ])
+        hanging = Hanging(known, found)
+        self.assertEqual(hanging.on("RANGE", "a"), [f"{new} is {old} by the dictionary, where its version is another"])
+        why = f"{name('v', 'new', '1.6')} may be {name('v', 'old', '1.6')}, since the dictionary calls others of that product so"
+        self.assertEqual(hanging.on("RANGE", "b"), [why])
+
+    def test_a_product_that_goes_on_is_not_its_successor(self):
+        olds = [name("v", "old", str(k)) for k in range(5)]
+        new = name("v", "new", "0")
+        known = self.known(statement("ANY", {"fact": name("v", "old")}), entries=[*map(entry, olds), entry(new), deprecate(olds[0], new)])
+        made, found = scanned(known, [Machine("a", [new]), Machine("b", [name("v", "new", "9")])])
+        self.assertEqual([truths(known, made, it)["ANY"] for it in found], ["TRUE", "FALSE"])
+
+    def test_an_exact_fact_is_held_against_a_version_as_a_bound_is(self):
+        wanted = {
+            ("5.6.1-1", "", "5.6.1"): "UNKNOWN", ("5.6.1-1", "deb", "5.6.1"): "TRUE", ("2.0.0", "", "2.0"): "UNKNOWN",
+            ("2.0.0", "pypi", "2.0"): "TRUE", ("v1.2.3", "", "1.2.3"): "TRUE", ("1.2.3", "", "v1.2.3"): "TRUE",
+            (r"1\:5.6.1-1", "deb", "5.6.1"): "TRUE", ("5.6.2-1", "deb", "5.6.1"): "FALSE", ("5.6.10", "", "5.6.1"): "FALSE",
+        }
+        for (version, kind, fact), truth in wanted.items():
+            known = self.known(statement("CVE-1", {"fact": name("v", "p", fact)}), statement("NOT", {"fact": name("v", "p", fact)}, negate=True))
+            made, found = scanned(known, [Machine("a", [Component("p", (name("v", "p", version),), kind)])])
+            self.assertEqual(truths(known, made, found[0])["CVE-1"], truth, (version, kind, fact))
+            self.assertIn(truths(known, made, found[0])["NOT"], ("TRUE",) if truth == "FALSE" else ("FALSE", "UNKNOWN"))
+            if truth == "UNKNOWN":
+                self.assertTrue(Hanging(known, found).on("CVE-1", "a")[0].startswith(f"{name('v', 'p', version)}: "))
+
+    def test_a_part_of_which_a_list_is_silent(self):
+        app, system, other = {"fact": name("v", "app")}, {"fact": name("v", "os").replace(":a:", ":o:")}, {"fact": name("v", "q")}
+        firmware, board = {"fact": name("v", "fw").replace(":a:", ":o:")}, {"fact": name("v", "board").replace(":a:", ":h:")}
+        one = Range("K", name("v", "kernel").replace(":a:", ":o:"), None, "5")
+        both = {"op": "AND", "of": [{"op": "OR", "of": [app]}, {"op": "OR", "of": [system, ranged(one)]}]}
+        asks = [statement("BOTH", both), statement("ALONE", system), statement("RANGE", ranged(one)), statement("BOARD", firmware, board, op="AND")]
+        asks += [statement("BUT", app, {"op": "OR", "negate": True, "of": [system]}, op="AND"), statement("OTHER", other, system, op="AND")]
+        known = self.known(*asks, ranges=[one])
+        item = name("v", "app", "1")
+        here = [name("v", product, "9").replace(":a:", f":{part}:") for part, product in (("o", "os"), ("o", "kernel"), ("o", "fw"), ("h", "board"))]
+        machines = [Machine("silent", [item]), Machine("on", [item, here[0]]), Machine("off", [item, here[1]])]
+        machines += [Machine("fw", [here[2]]), Machine("board", [here[3]]), Machine("whole", here[2:]), Machine("part", [item, "cpe:2.3:o:v:k*:*:*:*:*:*:*:*:*"])]
+        made, found = scanned(known, machines)
+        wanted = {
+            "silent": ["UNKNOWN", "FALSE", "FALSE", "FALSE", "UNKNOWN", "FALSE"], "on": ["TRUE", "TRUE", "FALSE", "FALSE", "FALSE", "FALSE"],
+            "off": ["FALSE", "FALSE", "FALSE", "FALSE", "TRUE", "FALSE"], "fw": ["FALSE", "FALSE", "FALSE", "UNKNOWN", "FALSE", "FALSE"],
+            "board": ["FALSE", "FALSE", "FALSE", "UNKNOWN", "FALSE", "FALSE"], "whole": ["FALSE", "FALSE", "FALSE", "TRUE", "FALSE", "FALSE"],
+            "part": ["UNKNOWN", "UNKNOWN", "UNKNOWN", "UNKNOWN", "UNKNOWN", "FALSE"],
+        }
+        self.assertEqual({it.machine.name: list(truths(known, made, it).values()) for it in found}, wanted)
+        hanging = Hanging(known, found)
+        self.assertEqual([hanging.on("BOTH", "silent"), hanging.on("BUT", "silent")], [["no operating system is listed"]] * 2)
+        self.assertEqual((hanging.on("BOARD", "fw"), hanging.on("BOARD", "board")), (["no hardware is listed"], ["no operating system is listed"]))
+        made, found = scanned(known, machines[3:5], has_hardware=False)
+        self.assertEqual([truths(known, made, it)["BOARD"] for it in found], ["FALSE", "UNKNOWN"])
+
+    def test_no_machine_is_hidden_that_cpe_finds_in_either_mode(self):
+        counts = {}
+        for seed in range(40):
+            drawn = Drawn(seed)
+            known, machines = drawn.known(), drawn.machines(["1.0", "1.1", "2.0", "-"])
+            # (without ranges, so that cpe alone says what is so)
+            records = [re.sub(r',\{"check":\{"system":"NVD","href":"cpeMatch","id":"K[0-9]+"\}\}', "", record) for record in known.records]
+            known = self.known(*records, entries=known.entries)
+            made, found = scanned(known, machines)
+            for one in found:
+                said = truths(known, made, one)
+                plain, follow = (evaluated(known, one.machine, mode) for mode in ("plain", "follow"))
+                for id, truth in said.items():
+                    counts[truth, plain[id], follow[id]] = counts.get((truth, plain[id], follow[id]), 0) + 1
+                    if truth == "FALSE":
+                        self.assertEqual((plain[id], follow[id]), ("FALSE", "FALSE"), f"seed {seed} {one.machine} {id}")
+                    elif "negate\":true" not in records[list(said).index(id)] and "TRUE" in (plain[id], follow[id]):
+                        self.assertEqual(truth, "TRUE", f"seed {seed} {one.machine} {id}")
+        self.assertGreater(sum(count for (truth, *_), count in counts.items() if truth == "FALSE"), 300, counts)
+        self.assertGreater(sum(count for (_, plain, follow), count in counts.items() if plain != follow), 80, counts)
+
+    def test_a_fleet_says_what_a_scan_says(self):
+        for seed in range(20):
+            drawn = Drawn(seed)
+            known, machines = drawn.known(), drawn.machines(["1.0", "1.1", "2.0", "1.0b", "-", "*"] + ["1.*"] * (seed % 2))
+            for is_strict in (False, True):
+                made, found = scanned(known, machines, is_strict=is_strict)
+                for one, lines in zip(found, of_fleet(known, machines, is_strict)):
+                    wanted = [f"{one.machine.name} {id} {truth}" for id, truth in truths(known, made, one).items()]
+                    self.assertEqual(lines, wanted, f"seed {seed} {one.machine}")
+
+    def test_what_the_match_feed_lists_is_true_before_anything_else(self):
+        one = Range("K", name("mysql", "mysql"), None, "5.5")
+        item = name("mariadb", "server", "9.9")
+        known = self.known(statement("RANGE", ranged(one)), statement("OTHER", {"fact": name("mysql", "mysql", "9.9")}), ranges=[one])
+        made, found = scanned(known, [Machine("a", [item]), Machine("b", [name("mariadb", "server", "9.8")])], {"K": [item]})
+        self.assertEqual([truths(known, made, it)["RANGE"] for it in found], ["TRUE", "FALSE"])
 
     def test_an_item_that_is_known_in_part_is_what_an_unknown_hangs_on(self):
         part, whole = name("v", "p", "1.*"), name("v", "p", "1.5")
@@ -281,7 +484,7 @@ class Verdicts(unittest.TestCase):
         may_be = [f"{name('v', '?q', '1.0')} is known in part, and may be {name('v', product)}" for product in "qr"]
         self.assertEqual((hanging.on("CVE-2", "e"), hanging.on("CVE-1", "b")), (may_be, []))
         about = affected.About({}, Suppressed([]), hanging)
-        row = json_of(known, found, machines_with_verdicts(known, made.bare, found), about, [])["machines"][0]["verdicts"]
+        row = json_of(known, found, machines_with_verdicts(known, made.bare, found), about)["machines"][0]["verdicts"]
         self.assertEqual(row, [{"id": "CVE-1", "verdict": "UNKNOWN", "hangsOn": [f"{part} is known in part, and may be {whole}"]}])
 
     def test_an_item_that_is_known_in_part_follows_names(self):
@@ -291,8 +494,7 @@ class Verdicts(unittest.TestCase):
         self.assertEqual([truths(known, made, one)["CVE-1"] for one in found], ["UNKNOWN", "UNKNOWN"])
         hanging = Hanging(known, found)
         self.assertEqual(hanging.on("CVE-1", "new"), [f"{name('w', 'p', '1.*')} is known in part, and may be {old}"])
-        why = f"{name('v', 'p', '1.*')} is not in the dictionary, and may be {name('w', 'p', '1.*')}"
-        self.assertEqual(hanging.on("CVE-1", "old"), [why])
+        self.assertEqual(hanging.on("CVE-1", "old"), [f"{name('v', 'p', '1.*')} is known in part, and may be {old}"])
 
     def test_a_range_that_an_item_known_in_part_may_be_in(self):
         one = Range("KEY", name("v", "p"), "1.0", "2.0", end_excluded=True)

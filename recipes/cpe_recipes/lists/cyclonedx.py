@@ -1,0 +1,105 @@
+"""CycloneDX 1.x as JSON.
+
+Of each component, of those within components, and of the one that the list is about (`metadata.component`) these are read: `cpe`;
+each value of `properties` that begins as a name does, such as Syft's `syft:cpe23`; of `evidence.identity`, which is an object in 1.5
+and a list in 1.6, the `concludedValue` and each `methods[].value` that begin so; and `purl`. A component of type
+`operating-system` is the platform.
+"""
+from __future__ import annotations
+
+from collections.abc import Iterator
+
+from ..feeds import Json
+from . import kinds
+from .reading import Draft, Listed, list_at, text_of
+from .unread import is_name
+
+# Members that refer to components by their ids, which may be package URLs, and the tools that wrote the list.
+PASSED = frozenset(("bom-ref", "dependencies", "compositions", "annotations", "vulnerabilities", "tools"))
+# Properties by which tools say what a package comes from.
+_KINDS = ("syft:package:type", "aquasecurity:trivy:PkgType")
+
+
+def called(value: dict[str, Json]) -> str | None:
+    """What this form is called in words; None where the document isn't of it."""
+    return f"CycloneDX {value.get('specVersion', '1')}" if value.get("bomFormat") == "CycloneDX" else None
+
+
+def is_read(value: dict[str, Json]) -> bool:
+    version = value.get("specVersion", "1")
+    return isinstance(version, str) and version.split(".")[0] == "1"
+
+
+def read(value: dict[str, Json], listed: Listed) -> None:
+    within = list_at(value, "components", is_needed=False)
+    metadata = value.get("metadata")
+    if metadata is not None and not isinstance(metadata, dict):
+        listed.put_odd(listed.feed, "its metadata are no object")
+    place = 0
+    if isinstance(metadata, dict) and metadata.get("component") is not None:
+        about, *others = _nested([metadata["component"]])
+        # (what a list is about may well have no name, and that is nothing to say)
+        place = _put(about, 0, listed, is_about=True)
+        for one in others:
+            place = _put(one, place, listed)
+    for one in _nested(within):
+        place = _put(one, place, listed)
+
+
+def _nested(components: list[Json]) -> Iterator[Json]:
+    """Components and those within them, and so on, in their order."""
+    waiting = list(reversed(components))
+    while waiting:
+        one = waiting.pop()
+        yield one
+        within = one.get("components") if isinstance(one, dict) else None
+        if isinstance(within, list):
+            waiting.extend(reversed(within))
+
+
+def _put(one: Json, place: int, listed: Listed, is_about: bool = False) -> int:
+    """Puts a component, which stands behind `place` others; how many there are with it."""
+    if not isinstance(one, dict):
+        listed.put_odd(f"component {place + 1} of {listed.feed}")
+        return place + 1
+    given = one.get("bom-ref")
+    id = given if isinstance(given, str) and given else text_of(one, ("group", "name", "version"))
+    draft = Draft(listed, id or f"component {place + 1} of {listed.feed}")
+    draft.add_name(one.get("cpe"), "its cpe")
+    draft.add_purl(one.get("purl"), "its purl")
+    _add_properties(one, draft)
+    _add_evidence(one.get("evidence"), draft)
+    if not isinstance(one.get("components", []), list):
+        draft.faults.append("its components are no list")
+    is_platform = one.get("type") == "operating-system"
+    if is_platform:
+        draft.add_system(one.get("name"), one.get("version"))
+    if is_about and not is_platform and not draft.names and not draft.faults:
+        return place
+    listed.put(draft, is_platform)
+    return place + 1
+
+
+def _add_properties(one: dict[str, Json], draft: Draft) -> None:
+    for each in draft.each(one, "properties"):
+        value = each.get("value")
+        if isinstance(value, str) and is_name(value):
+            draft.add_name(value, "")
+        # (a package URL in a property may be that of another package)
+        if each.get("name") in _KINDS:
+            draft.kind = kinds.of_tool(value)
+
+
+def _add_evidence(evidence: Json, draft: Draft) -> None:
+    """Adds the names of what was looked at for an identity."""
+    if evidence is None:
+        return
+    if not isinstance(evidence, dict):
+        draft.faults.append("its evidence is no object")
+        return
+    identity = evidence.get("identity")
+    found = {"identity": [identity] if isinstance(identity, dict) else identity}
+    for one in draft.each(found, "identity"):
+        draft.add_text(one.get("concludedValue"))
+        for method in draft.each(one, "methods"):
+            draft.add_text(method.get("value"))

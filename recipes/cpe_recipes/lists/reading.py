@@ -1,0 +1,141 @@
+"""What the readers of software lists share: what was found so far, and which texts were read."""
+from __future__ import annotations
+
+from collections.abc import Collection, Iterable, Iterator
+from dataclasses import dataclass
+
+from ..components import Component
+from ..feeds import FeedFault, Json
+from . import kinds, systems
+from .unread import Unread, is_name, is_purl
+
+ODD = "not of the published form"
+
+
+@dataclass(frozen=True, slots=True)
+class Odd:
+    """What of a list is no component, or no name of one: what it is called, and why it wasn't read."""
+
+    id: str
+    reason: str
+
+
+class Listed:
+    """What was found in a list: components, and what is odd, in the order of the list; and the platform where it says which."""
+
+    def __init__(self, feed: str) -> None:
+        self.feed = feed
+        self.parts: list[Component | Odd] = []
+        self.platform: Component | None = None
+        self._unread = Unread()
+
+    def components(self) -> list[Component]:
+        """The components but the platform."""
+        return [one for one in self.parts if isinstance(one, Component)]
+
+    def all(self) -> Iterator[Component | Odd]:
+        """The platform, where it is known, and all parts."""
+        if self.platform is not None:
+            yield self.platform
+        yield from self.parts
+        if self._unread.count:
+            yield Odd(self.feed, self._unread.words())
+
+    def put(self, draft: Draft, is_platform: bool = False) -> None:
+        """Puts a component, and what is odd of it. The first platform is the one of the machine."""
+        one = draft.component()
+        if is_platform and self.platform is None:
+            self.platform = one
+        elif one.names or not draft.faults:
+            self.parts.append(one)
+        self.parts.extend(Odd(draft.id, reason) for reason in draft.faults)
+
+    def put_odd(self, id: str, reason: str = ODD) -> None:
+        self.parts.append(Odd(id, reason))
+
+    def note(self, text: str) -> None:
+        """Notes that this text was read."""
+        self._unread.note(text)
+
+    def count_unread(self, value: Json, passed: Collection[str]) -> None:
+        """Counts the texts of a document that look like names or package URLs, and that no reader took."""
+        self._unread.look_at(value, passed)
+
+
+class Draft:
+    """A component while it is read: what is found of it, and what is odd."""
+
+    def __init__(self, listed: Listed, id: str) -> None:
+        self._listed = listed
+        self.id = id
+        self.names: dict[str, None] = {}
+        self.kind = self.purl = ""
+        self.faults: list[str] = []
+
+    def add_name(self, value: Json, where: str) -> None:
+        """Adds a name; nothing where there is none. What is no text is odd."""
+        if value is None or value == "":
+            return
+        if not isinstance(value, str):
+            self.faults.append(f"{where} is no text")
+            return
+        self._listed.note(value)
+        self.names[value] = None
+
+    def add_purl(self, value: Json, where: str) -> None:
+        """Adds a package URL; the first that comes is the component's."""
+        if value is None or value == "":
+            return
+        if not isinstance(value, str):
+            self.faults.append(f"{where} is no text")
+            return
+        self._listed.note(value)
+        self.purl = self.purl or value
+
+    def add_system(self, id: Json, version: Json) -> None:
+        """Adds the names of an operating system that a list calls so."""
+        for name in systems.names_of(id, version):
+            self.names[name] = None
+
+    def add_text(self, value: Json) -> None:
+        """Adds a text that may be anything, where it is a name or a package URL."""
+        if isinstance(value, str):
+            if is_name(value):
+                self.add_name(value, "")
+            elif is_purl(value):
+                self.add_purl(value, "")
+
+    def component(self) -> Component:
+        return Component(self.id, tuple(self.names), kinds.of_purl(self.purl) or self.kind, self.purl)
+
+    def each(self, holder: Json, key: str) -> Iterator[dict[str, Json]]:
+        """The objects of a list that an object may have. What is no list, and what in it is no object, is odd."""
+        found = holder.get(key)
+        if found is None:
+            return
+        if not isinstance(found, list):
+            self.faults.append(f"its {key} are no list")
+            return
+        for one in found:
+            if isinstance(one, dict):
+                yield one
+            else:
+                self.faults.append(f"one of its {key} is no object")
+
+
+def list_at(value: Json, key: str, is_needed: bool = True) -> list[Json]:
+    """The list that a document has under a key. FeedFault where it has something else there, or nothing though it is needed."""
+    found = value.get(key)
+    if found is None and not is_needed:
+        return []
+    if found is None:
+        raise FeedFault(f"it has no {key}")
+    if not isinstance(found, list):
+        raise FeedFault(f"its {key} are no list")
+    return found
+
+
+def text_of(value: Json, keys: Iterable[str]) -> str:
+    """The texts that an object has under these keys, with spaces between them."""
+    texts = (value.get(key) for key in keys)
+    return " ".join(text for text in texts if isinstance(text, str) and text)

@@ -1,0 +1,71 @@
+"""Trivy's own JSON: of each package of the `Results` its `Identifier.PURL`, its `Type` or that of its result; the platform is
+`Metadata.OS`. Trivy gives no names of products, so each package is said as one without, and is no item."""
+from __future__ import annotations
+
+from ..feeds import FeedFault, Json
+from . import kinds
+from .reading import Draft, Listed, list_at, text_of
+
+# What was found in packages, which refers to them, and references to other packages.
+PASSED = frozenset(("Vulnerabilities", "BOMRef", "DependsOn", "Relationships"))
+# The classes of results that have packages.
+_CLASSES = ("os-pkgs", "lang-pkgs")
+
+
+def called(value: dict[str, Json]) -> str | None:
+    is_one = isinstance(value.get("SchemaVersion"), int) and ("ArtifactName" in value or "ArtifactType" in value or "Results" in value)
+    return "Trivy's JSON" if is_one else None
+
+
+def is_read(value: dict[str, Json]) -> bool:
+    return True
+
+
+def read(value: dict[str, Json], listed: Listed) -> None:
+    _read_system(value.get("Metadata"), listed)
+    results = list_at(value, "Results")
+    if not any(isinstance(one, dict) and "Packages" in one for one in results):
+        raise FeedFault("it has no Packages: run trivy with --format json --list-all-pkgs")
+    for place, result in enumerate(results, 1):
+        id = f"result {place} of {listed.feed}"
+        if not isinstance(result, dict):
+            listed.put_odd(id)
+        elif result.get("Packages") is not None:
+            _read_packages(result, text_of(result, ("Target",)) or id, listed)
+        elif result.get("Class") in _CLASSES:
+            listed.put_odd(text_of(result, ("Target",)) or id, "it has no Packages")
+
+
+def _read_packages(result: dict[str, Json], target: str, listed: Listed) -> None:
+    packages = result["Packages"]
+    if not isinstance(packages, list):
+        listed.put_odd(target, "its Packages are no list")
+        return
+    for place, package in enumerate(packages, 1):
+        id = f"package {place} of {target}"
+        if not isinstance(package, dict):
+            listed.put_odd(id)
+            continue
+        draft = Draft(listed, text_of(package, ("ID",)) or text_of(package, ("Name", "Version")) or id)
+        draft.kind = kinds.of_tool(result.get("Type"))
+        identifier = package.get("Identifier")
+        if isinstance(identifier, dict):
+            draft.add_purl(identifier.get("PURL"), "its PURL")
+        elif identifier is not None:
+            draft.faults.append("its Identifier is no object")
+        listed.put(draft)
+
+
+def _read_system(metadata: Json, listed: Listed) -> None:
+    if metadata is None:
+        return
+    system = metadata.get("OS") if isinstance(metadata, dict) else metadata
+    if system is None:
+        return
+    if not isinstance(system, dict):
+        listed.put_odd(listed.feed, "its Metadata.OS is no object")
+        return
+    draft = Draft(listed, text_of(system, ("Family", "Name")))
+    draft.add_system(system.get("Family"), system.get("Name"))
+    if draft.id:
+        listed.put(draft, is_platform=True)

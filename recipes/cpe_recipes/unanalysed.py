@@ -1,0 +1,90 @@
+"""Advisories that are in the feeds and have no verdict: nobody has analysed them yet, so they have no configurations, or they are
+rejected.
+
+What isn't analysed concerns perhaps every machine, and is neither TRUE nor FALSE on one: it is counted in one remark, listed where all
+is asked for, and is no reason for another status. A verdict that was TRUE before is `none` then, and never FALSE.
+"""
+from __future__ import annotations
+
+from collections.abc import Iterable, Iterator
+from dataclasses import dataclass, field
+
+from .feeds import Json, Page
+from .said import Said, quoted, shown
+
+REJECTED = "Rejected"
+# Of an advisory that doesn't tell its status.
+_NO_STATUS = "of no status"
+
+
+@dataclass
+class States:
+    """The advisories without verdicts, by their ids, and those that are FALSE without being asked for, since they name no product that is
+    here."""
+
+    unanalysed: dict[str, str] = field(default_factory=dict)
+    rejected: dict[str, None] = field(default_factory=dict)
+    elsewhere: dict[str, None] = field(default_factory=dict)
+
+    def sort(self, pages: Iterable[Page]) -> list[Page]:
+        """The pages with those alone that can have a verdict, or that can't be read. The others are noted."""
+        found = []
+        for page in pages:
+            kept = [place for place, record in enumerate(page.records) if not self._note(record)]
+            found.append(page if len(kept) == len(page.records) else page.only(kept))
+        return found
+
+    def _note(self, record: Json) -> bool:
+        """Notes an advisory that has no verdict."""
+        cve = record.get("cve") if isinstance(record, dict) else None
+        if not isinstance(cve, dict):
+            return False
+        id, status = cve.get("id"), cve.get("vulnStatus")
+        if not isinstance(id, str) or not id or not (status is None or isinstance(status, str)):
+            return False
+        if status == REJECTED:
+            self.rejected[id] = None
+        elif cve.get("configurations") in (None, [], False):
+            self.unanalysed[id] = status or _NO_STATUS
+        else:
+            return False
+        return True
+
+    def put_elsewhere(self, pages: Iterable[Page], kept: Iterable[Page]) -> None:
+        """Notes those of the pages that aren't among the kept."""
+        here = {id for page in kept for id in _ids(page)}
+        self.elsewhere.update(dict.fromkeys(id for page in pages for id in _ids(page) if id not in here))
+
+    def drop(self, ids: Iterable[str]) -> None:
+        """Drops those that have a verdict all the same, since they come more than once."""
+        for id in ids:
+            self.unanalysed.pop(id, None)
+            self.rejected.pop(id, None)
+
+    def tell(self, said: Said) -> None:
+        for id in self.rejected:
+            said.remark("rejected", id)
+        if self.unanalysed:
+            number = len(self.unanalysed)
+            said.remark(f"not analysed: {number:,} {'advisory' if number == 1 else 'advisories'}")
+
+    def lines(self) -> Iterator[str]:
+        """Each that isn't analysed, for people."""
+        return (shown(f"not analysed {quoted(id)}: {quoted(status)}") for id, status in self.unanalysed.items())
+
+    def json(self, asked: Iterable[str]) -> dict[str, Json]:
+        """The ids of those that have a verdict, and of those that have none, by their statuses."""
+        by_status: dict[str, list[str]] = {}
+        for id, status in self.unanalysed.items():
+            by_status.setdefault(status, []).append(id)
+        return {"asked": [*asked, *self.elsewhere], "notAnalysed": by_status, "rejected": list(self.rejected)}
+
+
+def _ids(page: Page) -> Iterator[str]:
+    return (id for id in map(_id, page.records) if id is not None)
+
+
+def _id(record: Json) -> str | None:
+    cve = record.get("cve") if isinstance(record, dict) else None
+    id = cve.get("id") if isinstance(cve, dict) else None
+    return id if isinstance(id, str) and id else None

@@ -1,0 +1,225 @@
+"""Whether all pages of a feed are there, as they say themselves; what is missing ends in an error, or is told where that is asked for.
+
+A page of NVD's API 2.0 tells how many records its feed has (`totalResults`), the index of its first one (`startIndex`, from 0), and
+how many it has (`resultsPerPage`). Pages may come in any order. One that has all of its feed stands alone, such as that of a year; the
+others are of one feed where they tell the same total. A feed may grow while it is fetched, by a hundredth at most: then its later
+pages tell a higher total, and no record may be there twice in place of another.
+"""
+from __future__ import annotations
+
+from collections.abc import Iterable, Iterator, Sequence
+from dataclasses import dataclass, field
+
+from . import feeds
+from .feeds import Json, Page
+from .said import Fatal, Said
+from .unpack import LARGE, LIMITS, TOLD_LIMITS, Limits
+from .words import FLAG, Words
+
+OPTIONS = {"--partial": FLAG, "--large": FLAG}
+# What the records of a page are called.
+CALLED = {"products": "products", "vulnerabilities": "advisories", "matchStrings": "match strings"}
+# The members in which records have their ids.
+_IDS = {
+    "products": ("cpe", "cpeNameId"),
+    "vulnerabilities": ("cve", "id"),
+    "matchStrings": ("matchString", "matchCriteriaId"),
+}
+_MOST_TOLD = 3
+_GROWTH = 100
+
+
+@dataclass(frozen=True)
+class Missing:
+    """A feed of which something is missing: the member of its records, its files, how many it has and how many were given."""
+
+    kind: str
+    files: str
+    total: int
+    given: int
+    where: str
+
+    def words(self) -> str:
+        """How much is there, in words."""
+        return f"the feed has {self.total:,} {CALLED[self.kind]}, {self.given:,} were given"
+
+    def json(self) -> dict[str, Json]:
+        return {"feed": self.kind, "files": self.files, "total": self.total, "given": self.given}
+
+
+@dataclass(frozen=True)
+class Reading:
+    """How feeds are read: whether parts of them may be missing, and which are; and to how much a page may unpack."""
+
+    is_partial: bool = False
+    limits: Limits = LIMITS
+    missing: list[Missing] = field(default_factory=list)
+
+    @staticmethod
+    def of(words: Words) -> Reading:
+        return Reading(words.has("--partial"), LARGE if words.has("--large") else TOLD_LIMITS)
+
+    def doubts(self) -> list[str]:
+        """Why a verdict that is FALSE could be another one: names may lead elsewhere, and matches may list more. (An advisory that is
+        missing has no verdict.)"""
+        return [one.words() for one in self.missing if one.kind != "vulnerabilities"]
+
+    def mark(self, value: dict[str, Json]) -> dict[str, Json]:
+        """The result of a scan, with what is missing, and with marks at each FALSE that could be another verdict by that."""
+        doubts = self.doubts()
+        for machine in value["machines"] if doubts else ():
+            for one in machine.get("verdicts", ()):
+                if one["verdict"] == "FALSE":
+                    one["hangsOn"] = doubts
+        return value | ({"missing": [one.json() for one in self.missing]} if self.missing else {})
+
+    def lines(self) -> Iterator[str]:
+        """What stands below a table."""
+        for one in self.missing:
+            what = "the others are not asked for" if one.kind == "vulnerabilities" else "so each FALSE may be another verdict"
+            yield f"not whole: {one.words()}; {what}"
+
+
+@dataclass(frozen=True)
+class _Span:
+    """A page as a part of its feed: the index of its first record, how many it has and says that it has, and of how many."""
+
+    name: str
+    start: int
+    count: int
+    said: int
+    total: int
+    ids: list[Json]
+
+    def end(self) -> int:
+        return self.start + self.count
+
+    def is_alone(self) -> bool:
+        return self.start == 0 and self.count == self.said == self.total
+
+
+def pages(
+    paths: Sequence[str], said: Said, kinds: Sequence[str], strict: bool = False, reading: Reading | None = None
+) -> Iterator[Page]:
+    """The pages at these paths, as feeds.pages has them. When the last has come, it is Fatal where something is missing, or said
+    where it may be."""
+    how = reading or Reading()
+    spans: dict[str, list[_Span]] = {}
+    unsaid: list[str] = []
+    for page in feeds.pages(paths, said, kinds, strict, how.limits):
+        if page.kind in _IDS:
+            if "totalResults" in page.counts:
+                spans.setdefault(page.kind, []).append(_span(page))
+            else:
+                unsaid.append(page.name)
+        yield page
+    if unsaid:
+        said.remark(f"{_some(unsaid)}: no totalResults, so it isn't known whether this is all of the feed")
+    for kind, of_kind in spans.items():
+        for one in [*_odd(kind, of_kind), *_missing(kind, of_kind, said)]:
+            if not how.is_partial:
+                # (a recipe without the option gives no way to read)
+                hint = " (--partial lets it pass)" if reading is not None else ""
+                raise Fatal(f"{one.files}: {one.words()}; {one.where}{hint}")
+            how.missing.append(one)
+            said.left_out(one.files, f"{one.words()}; {one.where}")
+
+
+def _span(page: Page) -> _Span:
+    count, total = len(page.records), page.counts["totalResults"]
+    if "startIndex" not in page.counts and count != total:
+        raise Fatal(f"{page.name}: it has {count:,} of {total:,} {CALLED[page.kind]}, and no startIndex that says which")
+    start, said = page.counts.get("startIndex", 0), page.counts.get("resultsPerPage", count)
+    # (the last page may tell how many it has room for)
+    said = min(said, max(total - start, 0))
+    span = _Span(page.name, start, count, said, total, [])
+    if not span.is_alone():
+        span.ids.extend(_id(record, page.kind) for record in page.records)
+    return span
+
+
+def _id(record: Json, kind: str) -> Json:
+    outer, inner = _IDS[kind]
+    found = record.get(outer) if isinstance(record, dict) else None
+    id = found.get(inner) if isinstance(found, dict) else None
+    return id if isinstance(id, str) else None
+
+
+def _odd(kind: str, spans: Iterable[_Span]) -> Iterator[Missing]:
+    """Pages that have another number of records than they tell, or that end behind their feed."""
+    for span in spans:
+        if span.count and span.end() > span.total:
+            yield Missing(kind, span.name, span.total, span.count, f"it begins at startIndex {span.start:,}, and ends behind them")
+        elif span.count != span.said:
+            yield Missing(kind, span.name, span.total, span.count, f"it says that it has {span.said:,} of them")
+
+
+def _missing(kind: str, spans: Sequence[_Span], said: Said) -> Iterator[Missing]:
+    """The feeds that aren't whole. What is there twice is remarked."""
+    groups: dict[int, list[_Span]] = {}
+    for span in spans:
+        if not span.is_alone() and span.end() <= span.total:
+            groups.setdefault(span.total, []).append(span)
+    grown: list[_Span] = []
+    for total, group in sorted(groups.items()):
+        if not _gaps(group, total):
+            yield from _judged(kind, group, said)
+        elif _is_growing([*grown, *group]):
+            grown.extend(group)
+        else:
+            yield from _judged(kind, grown, said)
+            grown = group
+    if grown:
+        yield from _judged(kind, grown, said)
+
+
+def _is_growing(spans: Sequence[_Span]) -> bool:
+    """Whether these may be pages of one feed that grew while it was fetched. (Of two feeds there are more records than one has.)"""
+    totals = [span.total for span in sorted(spans, key=lambda span: (span.start, span.total))]
+    grew = totals[-1] - totals[0]
+    return totals == sorted(totals) and grew * _GROWTH <= max(totals[-1], _GROWTH) and _distinct(spans) <= totals[-1]
+
+
+def _judged(kind: str, spans: Sequence[_Span], said: Said) -> Iterator[Missing]:
+    """What is missing of one feed."""
+    total, least = max(span.total for span in spans), min(span.total for span in spans)
+    files = _some([span.name for span in spans])
+    gaps = _gaps(spans, total)
+    if gaps:
+        where = ", ".join(f"{start:,} to {end - 1:,}" for start, end in gaps[:_MOST_TOLD])
+        more = f" and {len(gaps) - _MOST_TOLD:,} more parts" if len(gaps) > _MOST_TOLD else ""
+        given = total - sum(end - start for start, end in gaps)
+        yield Missing(kind, files, total, given, f"those of startIndex {where}{more} are missing")
+        return
+    distinct = _distinct(spans)
+    if distinct < total:
+        yield Missing(kind, files, total, distinct, "others come twice in their place")
+        return
+    if least < total:
+        said.remark(f"{files}: the feed grew from {least:,} to {total:,} {CALLED[kind]} while it was fetched")
+    twice = sum(span.count for span in spans) - total
+    if twice > 0:
+        said.remark(f"{files}: pages overlap, {twice:,} {CALLED[kind]} come twice")
+
+
+def _gaps(spans: Iterable[_Span], total: int) -> list[tuple[int, int]]:
+    """The indexes that no page has, as begins and ends."""
+    found, reached = [], 0
+    for span in sorted(spans, key=lambda span: span.start):
+        if span.start > reached:
+            found.append((reached, span.start))
+        reached = max(reached, span.end())
+    return [*found, (reached, total)] if reached < total else found
+
+
+def _distinct(spans: Iterable[_Span]) -> int:
+    """How many records there are, each once; one without an id is one of its own."""
+    ids = [id for span in spans for id in span.ids]
+    return len(set(ids) - {None}) + ids.count(None)
+
+
+def _some(names: Sequence[str]) -> str:
+    """The first of these names, each once, and how many more there are."""
+    found = list(dict.fromkeys(names))
+    more = f" and {len(found) - _MOST_TOLD:,} more" if len(found) > _MOST_TOLD else ""
+    return ", ".join(found[:_MOST_TOLD]) + more
