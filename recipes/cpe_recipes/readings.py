@@ -9,6 +9,7 @@ import functools
 import re
 from collections.abc import Iterator
 from dataclasses import dataclass
+from urllib.parse import unquote
 
 from . import orders
 from .orders.order import KEPT
@@ -72,11 +73,12 @@ def readings(version: str, bound: str, kind: str) -> tuple[str, tuple[Reading, .
 
 
 def without_epoch(version: str, bound: str) -> tuple[str, str]:
-    """Both without a v before the first digit, and without an epoch that only one of them has, since that decides nothing."""
-    found = without_v(version), without_v(bound)
+    """Both without a v before the first digit, and without an epoch that only one of them has, since that decides nothing. (Some
+    tools write the colon of an epoch as %3a, as URLs do.)"""
+    found = [without_v(unquote(text) if "%" in text else text) for text in (version, bound)]
     epochs = [_EPOCH.match(text) for text in found]
     if all(epochs):
-        return found
+        return found[0], found[1]
     version, bound = (without_v(text[match.end() :]) if match else text for text, match in zip(found, epochs))
     return version, bound
 

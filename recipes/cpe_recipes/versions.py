@@ -135,7 +135,7 @@ def orders(version: str, bound: str, kind: str = "", upward: Upward | None = Non
             answer = order.compare(reading.text, bound) if quick is None else quick
             if answer is not None:
                 found.setdefault(answer, []).append(By(order.name, reading))
-        words = words or ("" if is_own else _words_decide(reading.text, bound))
+        words = words or ("" if quick is not None else _words_decide(reading.text, bound, is_own))
     only = next(iter(found)) if len(found) == 1 and not words else None
     return Orders({answer: tuple(by) for answer, by in found.items()}, bound, words, only)
 
@@ -143,7 +143,7 @@ def orders(version: str, bound: str, kind: str = "", upward: Upward | None = Non
 @functools.lru_cache(maxsize=_KEPT)
 def _front(version: str) -> tuple[tuple[int, ...], bool]:
     """The numbers with dots at the beginning, and whether that is all."""
-    is_other = ":" in version or "!" in version or "+really" in version or _HASH.fullmatch(version)
+    is_other = any(mark in version for mark in (":", "!", "%", "+really")) or _HASH.fullmatch(version)
     match = _FRONT.match(version) if not is_other else None
     return (tuple(map(int, match[0].split("."))), match.end() == len(version)) if match and len(version) < 256 else ((), False)
 
@@ -178,13 +178,17 @@ def _possible(version: str, bound: str, kind: str) -> tuple[Iterable[Order[Any]]
     return (own, True) if own and not is_respelled else (ALL, False)
 
 
-def _words_decide(version: str, bound: str) -> str:
-    """In words that two words decide between two versions; empty where it is otherwise, or where both are letters."""
-    here, there = pieces(version), pieces(bound)
-    for one, other in zip(here, there):
-        if not one.same(other):
-            is_of_words = one.is_word and other.is_word and len(one.text) + len(other.text) > 2
-            return f"the words {one.text} and {other.text} decide between {version} and {bound}" if is_of_words else ""
+def _words_decide(version: str, bound: str, is_own: bool) -> str:
+    """In words that words decide between two versions so that no order is trusted: one before all numbers or an x beside a number,
+    and if the order isn't that of a kind, two of more than a letter."""
+    for place, (one, other) in enumerate(zip(pieces(version), pieces(bound))):
+        if one.same(other):
+            continue
+        if one.is_word and other.is_word:
+            is_open = not is_own and len(one.text) + len(other.text) > 2
+            return f"the words {one.text} and {other.text} decide between {version} and {bound}" if is_open else ""
+        word = next((piece.text for piece in (one, other) if piece.is_word), "")
+        return f"the word {word} decides between {version} and {bound}" if word and (place == 0 or word == "x") else ""
     return ""
 
 

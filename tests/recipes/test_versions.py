@@ -113,6 +113,12 @@ class Possible(unittest.TestCase):
         self.assertEqual(found.words, "the words tp and beta decide between 1.0-tp1 and 1.0-beta1")
         self.assertIs(standing("1.0-tp1", None, between(None, "1.0-beta1")).standing, UNSURE)
         self.assertEqual(same("1.0-tp1", "1.0-beta1").sameness, Sameness.UNEQUAL)
+        for version in ("release_1.2", "release/1.2", "r1.2", "openssl-1.2"):
+            for kind in ("", "maven", "rpm"):
+                self.assertIs(standing(version, None, between("1.0", "2.0"), kind).standing, UNSURE, version)
+            self.assertIs(standing(version, None, between(version.replace("2", "1"), None)).standing, INSIDE, version)
+        self.assertEqual(standing("2_x", None, between("2_5", None)).why, "the word x decides between 2_x and 2_5")
+        self.assertIs(standing("1.0rc1", None, between(None, "1.0.1")).standing, INSIDE)
 
     def test_what_has_no_pieces_is_no_version(self):
         for one, other in (("-", "1.0"), ("1.0", "*"), ("_", "_"), ("v", "~")):
@@ -202,6 +208,8 @@ class Readings(unittest.TestCase):
         self.assertEqual(self.meant("32:9.16.23", "rpm"), [("9.16.23", "")])
         self.assertEqual(self.meant("32:9.16.23", "rpm", bound="31:1"), [("32:9.16.23", "")])
         self.assertEqual(self.meant("1:v2.0", ""), [("2.0", "")])
+        self.assertEqual(self.meant("1%3a3.0.7-24.el9", "rpm"), [("3.0.7", "24.el9")])
+        self.assertIs(standing("1%3A3.0.7-24.el9", None, between("3.0.0", "3.0.13"), "rpm").standing, INSIDE)
         self.assertEqual(readings("1.0", "1:v2.0", "")[0], "2.0")
         self.assertEqual([without_v(one) for one in ("v1", "V1.0", "vv1", "version1", "1v2", "")], ["1", "1.0", "vv1", "version1", "1v2", ""])
 
