@@ -94,6 +94,9 @@ reads_lists() {
     set -- --dictionary "$of/dictionary.json" --advisories "$of/advisories.json" --lists
     limited python3 recipes/scan.py "$@" "$of"/shop-* "$of"/java-* "$of"/build-* > "$room/out" 2> "$room/error"
     judge 'the table of the lists of tools' $? 1 "$of/table.out" "$of/table.said"
+    sh recipes/inventory.sh --machines "$of"/shop-* "$of"/java-* "$of"/build-* > "$room/machines.txt" 2> /dev/null
+    limited python3 recipes/scan.py "$1" "$2" "$3" "$4" --machines "$room/machines.txt" > "$room/out" 2> "$room/error"
+    judge 'the same of the lines that inventory.sh writes of them' $? 1 "$of/table.out" "$of/table.said"
     limited python3 recipes/scan.py --json "$@" "$of"/shop-* "$of"/java-* "$of"/build-* > "$room/scan.json" 2> /dev/null
     python3 tests/recipes/truths.py "$of/truths.txt" < "$room/scan.json" > "$room/out"
     status=$?
