@@ -33,8 +33,8 @@ help:
 	@echo 'make install-library  builds the library, and puts it into PREFIX/lib, and cpe.h into PREFIX/include'
 	@echo 'make deb      puts a package for Debian into PACKAGES, of what make install puts, and of the library where it is built'
 	@echo '              (PACKAGES=$(PACKAGES))'
-	@echo 'make bench    measures the program against unproved Rust and OpenSCAP, and edits and the whole way by themselves'
-	@echo '              (needs python3)'
+	@echo 'make bench    measures the program against unproved Rust and OpenSCAP, and edits and the whole way by themselves;'
+	@echo '              what it finds is in build/bench/results.txt then (needs python3)'
 	@echo 'make clean    removes all that was built'
 
 # The program in build/cpe: the one in release/, if it is of exactly these sources, or else the one that is proved here.
@@ -114,16 +114,7 @@ deb: program
 	sh package/deb.sh '$(VERSION)' '$(MAINTAINER)' '$(PACKAGES)'
 
 bench: need_python3 program
-	python3 bench/run.py build/cpe
-	python3 bench/index.py build/cpe
-	python3 bench/convert.py build/cpe
-	python3 bench/explain.py build/cpe
-	python3 bench/advise.py build/cpe
-	python3 bench/cover.py build/cpe
-	python3 bench/scan.py build/cpe
-	python3 bench/near.py build/cpe
-	python3 bench/snapshot.py build/cpe
-	python3 bench/openscap.py build/cpe
+	sh bench/all.sh build/cpe
 
 clean:
 	rm -rf build crates/*/out

@@ -1,9 +1,9 @@
 #!/usr/bin/env python3
-"""Which lemmas of crates below the proofs of each crate cite, as docs/ARCHITECTURE.md has them.
+"""docs/CITATIONS.md: which lemmas of crates below the proofs of each crate cite.
 
 usage: citations.py [--write]
 
-Ends with status 0 where the table in docs/ARCHITECTURE.md is what the sources say, and with 1 where it isn't; --write makes it so.
+Ends with status 0 if docs/CITATIONS.md is what the sources say, and with 1 if it isn't; --write writes it.
 """
 
 import collections
@@ -12,9 +12,16 @@ import re
 import sys
 
 TOP = pathlib.Path(__file__).resolve().parent.parent
-PAGE = TOP / "docs" / "ARCHITECTURE.md"
-BEGIN = "<!-- citations: made by tests/citations.py -->\n"
-END = "<!-- end of citations -->\n"
+PAGE = TOP / "docs" / "CITATIONS.md"
+HEAD = """# Lemmas that proofs of other crates cite
+
+`tests/citations.py --write` writes this file from the sources, and the gate checks it.
+
+A proof cites the contracts of the calls below it, and laws. If crates share one theory, a proof also cites lemmas of a crate below,
+in its `proofs/`. If such a lemma changes, the proofs of the crate in the first column may have to change too. These are all such
+citations, from the bottom up:
+
+"""
 CITED = re.compile(r"\bRattle\.(\w+)\.proofs\.(\w+)")
 
 
@@ -50,16 +57,11 @@ def table():
 def main(words):
     if words not in ([], ["--write"]):
         sys.exit(__doc__)
-    text = PAGE.read_text(encoding="utf-8")
-    if BEGIN not in text or END not in text:
-        sys.exit(f"{PAGE}: the lines that hold the table are not there")
-    front, rest = text.split(BEGIN, 1)
-    kept, back = rest.split(END, 1)
-    made = table()
+    made = HEAD + table()
     if words:
-        PAGE.write_text(front + BEGIN + made + END + back, encoding="utf-8")
-    elif kept != made:
-        sys.exit(f"{PAGE}: the table of citations is not what the sources say; tests/citations.py --write makes it so")
+        PAGE.write_text(made, encoding="utf-8")
+    elif not PAGE.exists() or PAGE.read_text(encoding="utf-8") != made:
+        sys.exit(f"{PAGE}: it is not what the sources say; tests/citations.py --write writes it")
 
 
 if __name__ == "__main__":

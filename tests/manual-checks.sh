@@ -1,6 +1,6 @@
 #!/bin/sh
-# Checks of the manual page: sh tests/manual-checks.sh [PROGRAM]. It renders without a warning, its lists are those of the
-# code, and its examples write what it says.
+# Checks of the manual page and of the pages on crates: sh tests/manual-checks.sh [PROGRAM]. The manual page renders without a
+# warning, its lists are those of the code, and its examples write what it says. The pages on crates are what the sources say.
 . "$(dirname "$0")/checks.sh"
 
 page=docs/cpe.1
@@ -196,16 +196,18 @@ examples() {
         }' "$page"
 }
 
-# What docs/ARCHITECTURE.md says of lemmas that are cited is what the sources say.
-tells_citations() {
-    needs 'the table of citations' python3 || return
-    python3 tests/citations.py > "$room/out" 2> "$room/error"
-    judge 'the table of citations' $? 0 /dev/null
+# docs/CITATIONS.md is what the sources say. docs/ARCHITECTURE.md has each crate in one area, and the lines of its map are right.
+compares_crates() {
+    for it in citations areas; do
+        needs "the pages on crates: tests/$it.py" python3 || continue
+        python3 "tests/$it.py" > "$room/out" 2> "$room/error"
+        judge "the pages on crates: tests/$it.py" $? 0 /dev/null
+    done
 }
 
 renders_page
 installs_page
-tells_citations
+compares_crates
 compares_lists
 examples > "$room/examples"
 answers_sessions 'the examples of the manual page' < "$room/examples"

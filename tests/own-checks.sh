@@ -1567,6 +1567,23 @@ agrees_with_twins() {
     [ "$status" = 0 ] || cat "$room/said"
 }
 
+# make bench runs every measurement, and names those that failed. (A python3 that measures nothing stands in for the real one.)
+names_failed_measurements() {
+    what='make bench runs every measurement, and names those that failed'
+    needs "$what" nproc sha256sum tee || return
+    mkdir -p "$room/measuring"
+    printf '#!/bin/sh\ncase $1 in */cover.py | */near.py) exit 3 ;; *.py) echo "ran ${1##*/}" ;; esac\n' > "$room/measuring/python3"
+    chmod +x "$room/measuring/python3"
+    PATH="$room/measuring:$PATH" limited sh bench/all.sh "$program" "$room/results" > "$room/said" 2> "$room/error"
+    status=$?
+    grep -e '^ran ' -e '^FAILED' "$room/results" > "$room/out"
+    for name in run index convert explain advise scan snapshot openscap; do
+        echo "ran $name.py"
+    done > "$room/wanted"
+    echo 'FAILED: cover near' >> "$room/wanted"
+    judge "$what" "$status" 1 "$room/wanted"
+}
+
 # each CHECK: the check under each command, on its example; under resolve on lines that may be repeated, since they
 # change nothing, and under watch and advise on lines after which nothing is left.
 each() {
@@ -1623,5 +1640,6 @@ checks_of_snapshots
 checks_of_cover
 checks_of_generated
 agrees_with_twins
+names_failed_measurements
 
 end_of_checks 'own checks'

@@ -1,0 +1,104 @@
+#!/usr/bin/env python3
+"""Whether the areas in docs/ARCHITECTURE.md have each crate of crates.txt once, and its map has the lines between them.
+
+usage: areas.py
+
+Ends with status 0 if all of this holds, and with 1 and the differences otherwise:
+- the table below the map has each crate of crates.txt in exactly one area;
+- each area has a section, whose table has a row for each of its crates, in the order of crates.txt;
+- no area stands on itself through others;
+- between the areas there are the lines of LINES, which the map draws, and no others.
+"""
+
+import collections
+import pathlib
+import re
+import sys
+
+TOP = pathlib.Path(__file__).resolve().parent.parent
+PAGE = TOP / "docs" / "ARCHITECTURE.md"
+# What the map draws: an area, and those that it stands on without another one between. Change the drawing with it.
+LINES = {
+    "ground": set(),
+    "names": {"ground"},
+    "session": {"ground"},
+    "rows": {"names"},
+    "records": {"rows"},
+    "index": {"names"},
+    "dictionary": {"index", "rows"},
+    "verdicts": {"dictionary"},
+    "certificates": {"records"},
+    "engine": {"verdicts", "certificates"},
+    "snapshots": {"engine"},
+    "own lists": {"dictionary", "records", "session"},
+    "commands": {"snapshots", "own lists"},
+    "C": {"commands"},
+    "tests": {"commands"},
+}
+
+
+def crates() -> dict[str, list[str]]:
+    """Each crate with what it uses, from the bottom up."""
+    uses = {}
+    for line in (TOP / "crates.txt").read_text(encoding="utf-8").splitlines():
+        if ":" in line and not line.startswith("#"):
+            name, used = line.split(":", 1)
+            uses[name.split()[0]] = used.split()
+    return uses
+
+
+def cells(text: str) -> list[list[str]]:
+    """The cells of each row of the tables in a text."""
+    return [[it.strip() for it in line.strip("|").split("|")] for line in text.splitlines() if line.startswith("| ")]
+
+
+def lines(uses: dict[str, list[str]], area_of: dict[str, str]) -> dict[str, set[str]]:
+    """The areas on which each one stands without another one between."""
+    below: dict[str, set[str]] = {area: set() for area in area_of.values()}
+    for crate, used in uses.items():
+        here = area_of[crate]
+        below[here] |= {area_of[it] for it in used if it in area_of} - {here}
+    far: dict[str, set[str]] = {}
+    while len(far) < len(below):
+        ready = [area for area in below if area not in far and below[area] <= far.keys()]
+        if not ready:
+            sys.exit(f"{PAGE}: some of these areas stand on themselves: {sorted(below.keys() - far.keys())}")
+        for area in ready:
+            far[area] = below[area].union(*(far[it] for it in below[area]))
+    return {area: {it for it in near if not any(it in far[via] for via in near - {it})} for area, near in below.items()}
+
+
+def main() -> None:
+    uses = crates()
+    text = PAGE.read_text(encoding="utf-8")
+    front = text.split("\n## ", 1)[0]
+    said: list[str] = []
+    area_of: dict[str, str] = {}
+    of_area = {row[0]: re.findall(r"`(\w+)`", row[2]) for row in cells(front)[1:]}
+    for area, named in of_area.items():
+        for crate in named:
+            if crate in area_of or crate not in uses:
+                said.append(f"{crate}: in two areas, or no crate of crates.txt")
+            area_of[crate] = area
+    said += [f"{crate}: in no area" for crate in uses if crate not in area_of]
+    if said:
+        sys.exit("\n".join(f"{PAGE}: {it}" for it in said))
+
+    sections = collections.defaultdict(list)
+    for section in text.split("\n### ")[1:]:
+        title, body = section.split("\n", 1)
+        sections[title] += [it[0].strip("`") for it in cells(body) if re.fullmatch(r"`\w+`", it[0])]
+    for area in of_area:
+        wanted = [it for it in uses if area_of[it] == area]
+        if sections[area] != wanted:
+            said.append(f"the section {area} has {sections[area]}, and not {wanted}")
+    found = lines(uses, area_of)
+    for area in sorted(found.keys() | LINES.keys()):
+        if found.get(area) != LINES.get(area):
+            said.append(f"{area} stands on {sorted(found.get(area, ()))}, and the map has {sorted(LINES.get(area, ()))}")
+    if said:
+        sys.exit("\n".join(f"{PAGE}: {it}" for it in said))
+
+
+if __name__ == "__main__":
+    main()
