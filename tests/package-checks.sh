@@ -95,7 +95,7 @@ answers_unpacked() {
     cd "$room/try" || exit 2
     sessions_of docs/RECORDS.md '## The words' > "$room/sessions"
     answers_sessions 'the words, by the program of the package' < "$room/sessions"
-    sessions_of README.md '## Which of my machines is affected' > "$room/sessions"
+    sessions_of README.md '# cpe' > "$room/sessions"
     if needs 'the README, by the recipes of the package' python3; then
         answers_sessions 'the README, by the recipes of the package' < "$room/sessions"
     fi

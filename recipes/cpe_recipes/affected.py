@@ -33,7 +33,7 @@ from .words import ONE, Words, read_words
 
 USAGE = "affected.sh [--details FILE] [--suppress FILE] [--records FILE] [--ranges FILE] [--decided FILE] [FILE]"
 OPTIONS = dict.fromkeys(("--details", "--suppress", "--records", "--ranges", "--decided"), ONE)
-HEADER = ("MACHINE", "VERDICT", "STATEMENT", "SCORE", "TITLE", "HANGS ON")
+HEADER = ("MACHINE", "VERDICT", "ADVISORY", "SCORE", "TITLE", "DEPENDS ON")
 _TITLE_WIDTH = 60
 _MOST_HANGING = 3
 
@@ -111,7 +111,7 @@ def table_of(verdicts: Verdicts, about: About) -> Iterator[str]:
     header = HEADER if verdicts.has_machines else HEADER[1:]
     if not verdicts.has_machines:
         rows = [row[1:] for row in rows]
-    yield from table(header, rows, optional=("SCORE", "TITLE", "HANGS ON"))
+    yield from table(header, rows, optional=("SCORE", "TITLE", "DEPENDS ON"))
     yield ""
     yield from (_accepted_line(*one) for one in about.accepted)
     yield _count(verdicts, about)

@@ -318,7 +318,7 @@ def _result(read: Words, program: Program, said: Noting, progress: Progress) -> 
     scan = Scan(program, known, lists, letters, progress, read.has("--why"), read.has("--strict"), has_hardware(read))
     found = scan.machines(asked)
     scan.tell_items(found, said)
-    platforms.remark_silent(asked, known, said)
+    platforms.remark_silent([one.machine for one in found if one.has_items()], known, said)
     machines = machines_with_verdicts(known, scan.bare, found)
     if read.has("--all"):
         for machine in machines:

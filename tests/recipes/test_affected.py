@@ -78,12 +78,12 @@ class Affected(RecipeCase):
     def test_a_table_of_one_inventory(self):
         status, lines, said = self.affected(TABLE)
         self.assertEqual(
-            lines, ["VERDICT  STATEMENT", "TRUE     a", "UNKNOWN  c", "", "3 statements: 1 TRUE, 0 ERROR, 1 UNKNOWN, 1 FALSE"]
+            lines, ["VERDICT  ADVISORY", "TRUE     a", "UNKNOWN  c", "", "3 statements: 1 TRUE, 0 ERROR, 1 UNKNOWN, 1 FALSE"]
         )
         self.assertEqual((status, said), (1, ["left out the records: 1 line refused"]))
         self.assertEqual(
             self.affected("verdicts 0\n")[:2],
-            (0, ["VERDICT  STATEMENT", "", "0 statements: 0 TRUE, 0 ERROR, 0 UNKNOWN, 0 FALSE"]),
+            (0, ["VERDICT  ADVISORY", "", "0 statements: 0 TRUE, 0 ERROR, 0 UNKNOWN, 0 FALSE"]),
         )
 
     def test_a_table_of_machines(self):
@@ -91,7 +91,7 @@ class Affected(RecipeCase):
         self.assertEqual(
             lines,
             [
-                "MACHINE  VERDICT  STATEMENT",
+                "MACHINE  VERDICT  ADVISORY",
                 "m        TRUE     a",
                 "m        UNKNOWN  b",
                 "bare              no items",
@@ -111,9 +111,9 @@ class Affected(RecipeCase):
         self.assertEqual(
             lines[:4],
             [
-                "VERDICT  STATEMENT  SCORE  TITLE",
-                f"TRUE     b          9.8    {'B' * 57}...",
-                "TRUE     a          5.0    A\\u0009title\\u001b[0m",
+                "VERDICT  ADVISORY  SCORE  TITLE",
+                f"TRUE     b         9.8    {'B' * 57}...",
+                "TRUE     a         5.0    A\\u0009title\\u001b[0m",
                 "TRUE     c",
             ],
         )
@@ -127,7 +127,7 @@ class Affected(RecipeCase):
         self.assertEqual(
             lines,
             [
-                "MACHINE  VERDICT  STATEMENT",
+                "MACHINE  VERDICT  ADVISORY",
                 "bare              no items",
                 "",
                 "accepted m a TRUE: backported by us",
@@ -163,8 +163,8 @@ class Affected(RecipeCase):
         words = ["--ranges", self.file("ranges", [range_of]), "--records"]
         records = self.file("records", "no JSON with check\n" + "".join(f"{json.dumps(one)}\n" for one in tests))
         _, lines, _ = self.affected(FLEET, *words, records)
-        self.assertEqual(lines[0], "MACHINE  VERDICT  STATEMENT  HANGS ON")
-        self.assertEqual(lines[2], "m        UNKNOWN  b          cpe:2.3:a:v:p:*:*:*:*:*:*:*:* from 1, before 2; s h i")
+        self.assertEqual(lines[0], "MACHINE  VERDICT  ADVISORY  DEPENDS ON")
+        self.assertEqual(lines[2], "m        UNKNOWN  b         cpe:2.3:a:v:p:*:*:*:*:*:*:*:* from 1, before 2; s h i")
         results = [{"do": "check", **OTHER["check"], "result": "ERROR"}, {"do": "drop-check", "system": "x"}]
         _, lines, _ = self.affected(
             FLEET,
@@ -176,10 +176,10 @@ class Affected(RecipeCase):
             self.file("decided", "m\tkey\tFALSE\n"),
         )
         self.assertEqual(lines[2], "m        UNKNOWN  b")
-        self.assertEqual(lines[4], "n        UNKNOWN  b          cpe:2.3:a:v:p:*:*:*:*:*:*:*:* from 1, before 2")
+        self.assertEqual(lines[4], "n        UNKNOWN  b         cpe:2.3:a:v:p:*:*:*:*:*:*:*:* from 1, before 2")
         results[0]["result"] = "UNKNOWN"
         _, lines, _ = self.affected(FLEET, "--records", records, "--records", self.file("results", results))
-        self.assertEqual(lines[2], "m        UNKNOWN  b          NVD cpeMatch key; s h i")
+        self.assertEqual(lines[2], "m        UNKNOWN  b         NVD cpeMatch key; s h i")
 
     def test_nothing_is_written_of_what_is_cut_short(self):
         status, lines, said = self.affected(FLEET[:-1])

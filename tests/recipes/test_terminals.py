@@ -109,7 +109,7 @@ class Tables(RecipeCase):
         for bad in ("1e999", "-1", "11", "true", '"9.8"'):
             details = self.file("details", f'{{"id":"a","score":{bad},"title":"T"}}\n{{"id":"c","score":5,"title":"U"}}\n')
             _, lines, _ = self.recipe("affected", "--details", details, self.file("v", "verdicts 2\nverdict a TRUE\nverdict c TRUE\n"))
-            self.assertEqual(lines[:3], ["VERDICT  STATEMENT  SCORE  TITLE", "TRUE     c          5      U", "TRUE     a                 T"])
+            self.assertEqual(lines[:3], ["VERDICT  ADVISORY  SCORE  TITLE", "TRUE     c         5      U", "TRUE     a                T"])
 
 
 if __name__ == "__main__":
