@@ -48,6 +48,15 @@ class Hangs(Protocol):
         ...
 
 
+@dataclass(frozen=True, slots=True)
+class Told:
+    """The score of an advisory, below 0 if it has none, and its cells in a table: the score and the title."""
+
+    score: float
+    score_cell: str
+    title_cell: str
+
+
 @dataclass
 class About:
     """What is known of advisories beside their verdicts; `doubts` are reasons why what is FALSE could be another verdict."""
@@ -57,10 +66,17 @@ class About:
     hanging: Hangs
     doubts: list[str] = field(default_factory=list)
     accepted: list[tuple[str | None, str, str, str]] = field(default_factory=list)
+    _told: dict[str, Told] = field(default_factory=dict)
 
-    def score(self, id: str) -> float:
-        score = score_of(self.details.get(id, {}).get("score"))
-        return -1.0 if score is None else float(score)
+    def told(self, id: str) -> Told:
+        """What a table has of an advisory, whichever the machine is."""
+        found = self._told.get(id)
+        if found is None:
+            detail = self.details.get(id, {})
+            score = score_of(detail.get("score"))
+            title = cut(str(detail.get("title") or ""), _TITLE_WIDTH)
+            found = self._told[id] = Told(-1.0 if score is None else float(score), "" if score is None else str(score), title)
+        return found
 
     def accepted_for(self, id: str, truth: str, machine: str | None) -> str | None:
         """Why this verdict is accepted, None where it isn't; there is nothing to accept where it is FALSE."""
@@ -121,15 +137,14 @@ def _rows(machine: Machine, about: About) -> Iterator[list[str]]:
     name = machine.name or ""
     if not machine.has_items:
         yield [name, "", "no items", "", "", ""]
-    shown = sorted(machine.shown.items(), key=lambda row: (machine.rank(row[0]), -about.score(row[0])))
+    shown = sorted(machine.shown.items(), key=lambda row: (machine.rank(row[0]), -about.told(row[0]).score))
     for id, truth in shown:
         reason = about.accepted_for(id, truth, machine.name)
         if reason is not None:
             about.accepted.append((machine.name, id, truth, reason))
             continue
-        detail = about.details.get(id, {})
-        score, title = score_of(detail.get("score")), detail.get("title")
-        yield [name, truth, id, "" if score is None else str(score), cut(str(title or ""), _TITLE_WIDTH), _some(_told(machine, id, truth, about))]
+        told = about.told(id)
+        yield [name, truth, id, told.score_cell, told.title_cell, _some(_told(machine, id, truth, about))]
 
 
 def _told(machine: Machine, id: str, truth: str, about: About) -> list[str]:

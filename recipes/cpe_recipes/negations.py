@@ -61,18 +61,30 @@ class Negations:
                     decided.unsure[key] = Unsure(key, "", _SILENT[part])
                 else:
                     decided.truths[key] = False
+        by_name: dict[str, list[Sequence[Lead]]] = {}
+        for leads in components if self._negated else ():
+            for lead in leads:
+                by_name.setdefault(lead.name, []).append(leads)
         for one in self._negated:
-            self._put_negated(one, components, here, decided, silent)
+            self._put_negated(one, by_name, here, decided, silent)
 
     def _put_negated(
-        self, one: Negated, components: Components, here: Mapping[str, Called], decided: Decided, silent: Sequence[str]
+        self,
+        one: Negated,
+        by_name: Mapping[str, Sequence[Sequence[Lead]]],
+        here: Mapping[str, Called],
+        decided: Decided,
+        silent: Sequence[str],
     ) -> None:
-        """Puts what is decided of what is negated, on a machine with these names."""
+        """Puts what is decided of what is negated, on a machine with these names, and components by their names."""
         fact = self._facts[one.key]
         near = [here[name] for name in self._near[fact] if name in here and self._stand(one, here[name]) is not False]
         if not near and names.part_of(fact) in silent:
             decided.unsure[one.key] = Unsure(one.key, "", _SILENT[names.part_of(fact)])
-        elif near and not any(leads and all(self._is_met(one, lead) for lead in leads) for leads in components):
+        # (a component that meets it by each of its names has one that is near)
+        elif near and not any(
+            all(self._is_met(one, lead) for lead in leads) for it in near for leads in by_name.get(it.name, ())
+        ):
             words = "; ".join(dict.fromkeys(self._words(one, it) for it in near))
             decided.unsure[one.key] = Unsure(one.key, "", words)
         else:

@@ -106,8 +106,10 @@ class Hanging:
 
     def remarks(self, advisory: str, machine: str | None) -> list[str]:
         """The packages of distributions that alone make it TRUE, each once."""
-        backported = self._found[machine or ""].backported
-        found = [backported.get(place) for place in self._parts.get(advisory, ()) if self._found[machine or ""].truths.get(place) == "TRUE"]
+        one = self._found[machine or ""]
+        if not one.backported:
+            return []
+        found = [one.backported.get(place) for place in self._parts.get(advisory, ()) if one.truths.get(place) == "TRUE"]
         return list(dict.fromkeys(remark for remarks in found for remark in remarks or ())) if all(found) else []
 
 
@@ -203,7 +205,7 @@ def _decided_json(one: Found, truth: str, places: Iterable[int]) -> dict[str, Js
 
 def _in_order(machine: verdicts.Machine, about: affected.About) -> list[tuple[str, str]]:
     """What is shown, in the order of the table."""
-    return sorted(machine.shown.items(), key=lambda row: (machine.rank(row[0]), -about.score(row[0])))
+    return sorted(machine.shown.items(), key=lambda row: (machine.rank(row[0]), -about.told(row[0]).score))
 
 
 def _verdict_json(id: str, truth: str, machine: verdicts.Machine, about: affected.About) -> dict[str, Json]:

@@ -119,7 +119,7 @@ def _of_fleet(verdicts: Verdicts, read: Words) -> Scanned:
 def _advisory(id: str, about: affected.About) -> Advisory:
     detail = about.details.get(id, {})
     texts = [detail.get(key) if isinstance(detail.get(key), str) else "" for key in ("title", "severity", "published", "url")]
-    score = about.score(id)
+    score = about.told(id).score
     return Advisory(id, texts[0], None if score < 0 else score, *texts[1:])
 
 
