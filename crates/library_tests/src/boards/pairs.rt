@@ -1,8 +1,7 @@
 // A board in use, and how many looks a change takes.
-ghost use Rattle.std.specs.Prelude.{◌≡◌, ◌≢◌, true, ◌+◌, ◌≤◌, ◌<◌, ℕ, [], ◌∷◌, List, length};
+ghost use Rattle.std.specs.Prelude.{◌≡◌, ◌≢◌, true, ◌+◌, ◌≤◌, ◌<◌, ℕ, [], ◌∷◌, List};
 ghost use Rattle.name_index.specs.Prelude.{IsLive, kept_at, SameElements};
-ghost use Rattle.level_board.specs.Rows.{number_at};
-ghost use Rattle.level_board.specs.Board.{FitsBoard, covers_at, maybe_at, target_times, probe_times};
+ghost use Rattle.level_board.specs.Board.{AreMarked, FitsBoard, covers_at, is_marked, maybe_at, target_times, probe_times};
 ghost use Rattle.level_board.specs.declared.level.Level.TheVariants.{Covered, Maybe, Free};
 ghost use Rattle.library_tests.specs.Tried.{plain};
 
@@ -30,13 +29,14 @@ fn add_target_two_looks<L: Ledger>(
     requires room { 1 ≤ board.old.target_room }
     requires product { (kept_at table.now target.0).product < board.old.wide }
     requires new { target_times board.old target.0 ≡ 0 }
+    requires marked { AreMarked board.old }
     ensures { steps.new ≤ steps.old + 2 }
 {
     board.add_target(table, target, steps);
 }
 
 // Two targets come, and a probe that covers both. The first target goes, and then the second: what holds after each, and that the
-// probe is flipped then.
+// probe is marked then.
 fn drop_two_targets<L: Ledger>(
     board: &mut LevelBoard,
     table: &NameTable,
@@ -58,18 +58,17 @@ fn drop_two_targets<L: Ledger>(
     requires second_product { (kept_at table.now second.0).product < board.old.wide }
     requires probe_product { (kept_at table.now probe.0).product < board.old.wide }
     requires covers_second { covers_at table.now probe.0 second.0 ≡ true }
+    requires all_marked { AreMarked board.old }
     ensures one_left { result.0 ≡ Covered }
     ensures none_left { result.1 ≡ Free }
-    ensures flipped { (k : ℕ) × (k < length board.new.flips) × (number_at board.new.flips k ≡ probe.0) }
+    ensures marked { is_marked board.new probe.0 ≡ true }
 {
     board.add_target(table, first, steps);
     board.add_target(table, second, steps);
     board.add_probe(table, probe, steps);
-    board.lawful();
     board.drop_target(table, first, steps);
     let one_left = board.level(probe);
     board.drop_target(table, second, steps);
-    board.lawful();
     (one_left, board.level(probe))
 }
 
@@ -88,6 +87,7 @@ fn add_target_known_in_part<L: Ledger>(
     requires room { 1 ≤ board.old.target_room }
     requires product { (kept_at table.now target.0).product < board.old.wide }
     requires may { maybe_at table.now probe.0 target.0 ≡ true }
+    requires marked { AreMarked board.old }
     ensures { result ≡ Maybe }
 {
     cpe_relation::law::maybe_laws();
@@ -112,6 +112,7 @@ fn drop_target_known_in_part<L: Ledger>(
     requires asked { 1 ≤ probe_times board.old probe.0 }
     requires may { maybe_at table.now probe.0 part.0 ≡ true }
     requires covers { covers_at table.now probe.0 whole.0 ≡ true }
+    requires marked { AreMarked board.old }
     ensures { result ≡ Covered }
 {
     board.drop_target(table, part, steps);

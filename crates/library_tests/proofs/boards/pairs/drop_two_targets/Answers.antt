@@ -1,10 +1,7 @@
-use Rattle.std.proofs.Common.{◌≡◌, ◌<◌, ◌≤◌, ℕ, List, Some, sym, ap, subst, ◌∙◌, inl, inr, arith}
-use Rattle.std.proofs.lemmas.Option.{same_Some}
-use Rattle.std.proofs.lemmas.Bool.{cases_eq}
-use Rattle.level_board.specs.Rows.{differs, level_now, level_of}
+use Rattle.std.proofs.Common.{◌≡◌, ◌<◌, ◌≤◌, ℕ, List, sym, ap, ◌∙◌, inl, inr, arith}
+use Rattle.std.proofs.lemmas.Bool.{cases_Bool, cases_eq}
 use Rattle.level_board.specs.declared.level.Level.TheVariants.{Covered, Free}
-use Rattle.level_board.specs.Board.{Board, HasLevel, probe_times, target_times, was_in, find_times, or_none}
-use Rattle.kept_facts.proofs.Answers.{seen_there}
+use Rattle.level_board.specs.Board.{Board, is_marked, probe_times, target_times, find_times, or_none}
 use Rattle.library_tests.proofs.Levels.{is_covered, is_free}
 use Rattle.library_tests.proofs.boards.pairs.drop_two_targets.Goals as goal
 
@@ -63,23 +60,16 @@ returns-clause-none_left g c =
       ]
     ]
 
-pub returns-clause-flipped : goal.returns-clause-flipped
-returns-clause-flipped g c =
-    let names = c.args.table.now in
+pub drop_target-requires-clause-marked : goal.drop_target-requires-clause-marked
+drop_target-requires-clause-marked g c = c.add_probe.ensures.marked c.add_target-2.ensures.changes.marked
+
+pub returns-clause-marked : goal.returns-clause-marked
+returns-clause-marked g c =
     let p = c.args.probe.0 in
-    let before = c.add_target-2.new.self in
-    let mid = c.add_probe.new.self in
     let last = c.drop_target-2.new.self in
-    let fresh : probe_times before p ≡ 0 = omega (arith, c.add_target-2.ensures.changes.probes p, c.add_target.ensures.changes.probes p, c.requires.no_probes p) in
-    let one : probe_times mid p ≡ 1 = omega (arith, c.add_probe.ensures.changes.times_now, fresh) in
-    let t = seen_there mid p (omega (arith, one)) in
-    let s = seen_there last p (omega (arith, one, c.drop_target.ensures.changes.probes p, c.drop_target-2.ensures.changes.probes p)) in
-    let counted = c.add_probe.ensures.changes.fits in
-    let known : t.0.was ≡ level_now t.0 = same_Some t.0.was (level_now t.0) (sym (ap was_in t.1) ∙ c.add_probe.ensures.changes.was_new fresh ∙ (λ i. Some (level_of (sym (counted.counts p t.0 t.1) i) (sym (counted.maybes p t.0 t.1) i)))) in
-    let more : 0 < target_times mid c.args.second.0 = omega (arith, same_times before mid c.add_probe.ensures.changes.targets c.args.second.0, c.add_target-2.ensures.changes.times_now) in
-    let held : level_now t.0 ≡ Covered = is_covered mid names p (level_now t.0) (c.lawful.ensures.answers names p t.0 c.add_probe.ensures.changes.fits t.1) (c.args.second.0, more, c.requires.covers_second) in
-    let stayed : s.0.was ≡ t.0.was = same_Some s.0.was t.0.was (sym (ap was_in s.1) ∙ c.drop_target-2.ensures.changes.was p ∙ c.drop_target.ensures.changes.was p ∙ ap was_in t.1) in
-    let asked : 1 ≤ probe_times last p = omega (arith, one, c.drop_target.ensures.changes.probes p, c.drop_target-2.ensures.changes.probes p) in
-    let nothing = subst (HasLevel last names p) (returns-clause-none_left g c) (c.level.ensures.probe asked names c.drop_target-2.ensures.changes.fits) in
-    let none : level_now s.0 ≡ Free = is_free last names p (level_now s.0) (c.lawful-2.ensures.answers names p s.0 c.drop_target-2.ensures.changes.fits s.1) nothing.0 nothing.1 in
-    c.lawful-2.ensures.flips.whole p (s.0, s.1, λ i. differs ((stayed ∙ known ∙ held) i) (none i))
+    let one : 0 < probe_times c.drop_target.new.self p = omega (arith, c.drop_target.ensures.changes.probes p, c.add_probe.ensures.changes.times_now) in
+    let still : 0 < probe_times last p = omega (arith, one, c.drop_target-2.ensures.changes.probes p) in
+    elim (cases_Bool (is_marked last p)) [
+      | inl on ↦ on
+      | inr off ↦ absurd (let same : Free ≡ Covered = sym (returns-clause-none_left g c) ∙ c.level.ensures.value ∙ c.drop_target-2.ensures.changes.levels.levels p one still off ∙ sym c.level-one_left.ensures.value ∙ returns-clause-one_left g c in cc)
+    ]
