@@ -1,0 +1,4 @@
+mod Contents
+mod Lexemes
+pub mod Values
+pub mod Prints

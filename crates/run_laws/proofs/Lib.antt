@@ -1,0 +1,10 @@
+mod Reads
+mod Strings
+mod NamesRead
+mod TestReads
+mod RecordReads
+mod Kept
+mod Folded
+mod Saved
+mod Writing
+mod Explained

@@ -1,0 +1,113 @@
+-- What runs of the program promise together: a snapshot that one saves and another loads, and certificates that one writes and another checks.
+-- Each is said of what `run` writes by the meaning of its words (`cpe_command`).
+use Rattle.std.specs.Prelude.{◌≡◌, ℕ, List, [], ◌∷◌, ◌++◌, map, codes, find, Some, Ok}
+use Rattle.std.specs.declared.option.Option.{Option}
+use Rattle.std.specs.List.{flat_map}
+use Rattle.cpe_io.specs.Lines.{lines}
+use Rattle.cpe_session.specs.Session.{Session, start, stage_after, out_from, next_writes}
+use Rattle.cpe_session.specs.Folding.{folded}
+use Rattle.cpe_session.specs.Task.{Transcript, Says}
+use Rattle.cpe_rows.specs.Rows.{Rows, no_rows, has_id}
+use Rattle.cpe_rows.specs.Lawful.{IsLawful}
+use Rattle.cpe_rows.specs.Reach.{Among}
+use Rattle.cpe_rows.specs.Verdict.{verdict}
+use Rattle.cpe_rows.specs.declared.statement.Statement.{Statement}
+use Rattle.cpe_records.specs.Edited.{line_edited}
+use Rattle.cpe_snapshot.specs.States.{AreTexts}
+use Rattle.checked_certificates.specs.Certificates.{given_truth}
+use Rattle.checked_certificates.specs.Good.{Good}
+use Rattle.checked_certificates.specs.declared.proof.Checked.TheVariants.{Holds}
+use Rattle.checked_certificates.specs.declared.proof.Proof.{Proof}
+use Rattle.cpe_explain.specs.Choices.{certificate}
+use Rattle.proof_lines.specs.Reading.{proof_of}
+use Rattle.proof_lines.specs.Written.{proof_text}
+use Rattle.cpe_replies.specs.Proofs.{certificate_lines, checked_line}
+use Rattle.cpe_replies.specs.Replies.{verdict_table}
+use Rattle.record_lines.specs.Records.{record_session}
+use Rattle.record_lines.specs.declared.records.RecordCommand.TheVariants.{Check}
+use Rattle.cpe_command.specs.Loading.{state_told}
+use Rattle.cpe_command.specs.Meaning.{meaning}
+
+-- ---- rows
+
+-- the rows that these lines leave, one after the other, where there were none before
+abbrev pub rows_of : List (Option (List ℕ)) → Rows
+rows_of ls = folded line_edited no_rows ls
+
+-- lawful rows, whose texts are UTF-8
+pub record AreKept (rows : Rows) : Type 0 where
+  pub lawful : IsLawful rows
+  pub texts : AreTexts rows
+
+-- whatever lines are read, the rows that they leave are
+abbrev pub RowsAreKept : Type 0
+RowsAreKept = (ls : List (Option (List ℕ))) → AreKept (rows_of ls)
+
+-- ---- save, then load
+
+-- this is written under this word for this input
+abbrev pub Writes : List ℕ → List ℕ → Transcript → Type 0
+Writes word input it = Says (meaning (word ∷ [])).task input it
+
+-- `evaluate` writes its answers, and then the table of the rows; `load` writes how many rows there are, and the same table
+pub record HaveSameTable (input : List ℕ) (loaded table : Transcript) : Type 0 where
+  pub answers : List ℕ
+  pub loads : loaded ≡ state_told (rows_of (lines input))
+  pub evaluates : table.text ≡ answers ++ verdict_table (rows_of (lines input))
+
+-- what `save` writes of an input, given to `load`, has the table that `evaluate` writes of that input
+abbrev pub SavedIsLoaded : Type 0
+SavedIsLoaded =
+    (input : List ℕ) (saved loaded table : Transcript)
+    → Writes (codes "save") input saved → Writes (codes "load") saved.text loaded → Writes (codes "evaluate") input table → HaveSameTable input loaded table
+
+-- ---- explain, then check
+
+-- what `check` writes for a line that follows these lines
+abbrev pub check_writes : List (Option (List ℕ)) → Option (List ℕ) → List ℕ
+check_writes before line = next_writes (record_session Check) (stage_after (record_session Check) (start no_rows) before) line
+
+-- that stands in what a run of `check` writes, behind what it writes for those lines
+pub record StandsIn (before : List (Option (List ℕ))) (line : Option (List ℕ)) (text : List ℕ) : Type 0 where
+  pub later : List ℕ
+  pub is : text ≡ out_from (record_session Check) (start no_rows) before ++ (check_writes before line ++ later)
+
+abbrev pub LinesAreCheckedInTurn : Type 0
+LinesAreCheckedInTurn =
+    (input : List ℕ) (checked : Transcript) (before more : List (Option (List ℕ))) (line : Option (List ℕ))
+    → Writes (codes "check") input checked → lines input ≡ before ++ line ∷ more → StandsIn before line checked.text
+
+-- the certificates of these rows, a line each
+abbrev pub certificates : Rows → List (Option (List ℕ))
+certificates rows = map (λ s. Some (proof_text (certificate rows s))) rows.statements
+
+-- what `explain` writes of an input ends with the certificates of its rows
+pub record EndsWithCertificates (input : List ℕ) (explained : Transcript) : Type 0 where
+  pub answers : List ℕ
+  pub text : explained.text ≡ answers ++ certificate_lines (rows_of (lines input))
+
+-- and `check` says of each, behind the same lines, that it holds
+pub record EndsWithHolds (input : List ℕ) (checked : Transcript) : Type 0 where
+  pub answers : List ℕ
+  pub text : checked.text ≡ answers ++ flat_map (λ s. checked_line s.id Holds) (rows_of (lines input)).statements
+
+abbrev pub ExplainedIsChecked : Type 0
+ExplainedIsChecked =
+    (input both : List ℕ) (explained checked : Transcript)
+    → Writes (codes "explain") input explained → lines both ≡ lines input ++ certificates (rows_of (lines input)) → Writes (codes "check") both checked
+    → EndsWithCertificates input explained × EndsWithHolds input checked
+
+-- ---- what holds is the verdict
+
+-- a statement has the certificate's id, the certificate is good for it, and gives its verdict
+pub record HasVerdict (rows : Rows) (p : Proof) : Type 0 where
+  pub statement : Statement
+  pub found : find (has_id p.id) rows.statements ≡ Some statement
+  pub good : Good rows statement p.why
+  pub gives : given_truth p.why ≡ verdict rows statement
+
+-- of a certificate of which `check` says that it holds
+abbrev pub HeldIsVerdict : Type 0
+HeldIsVerdict =
+    (before : List (Option (List ℕ))) (line : List ℕ) (p : Proof)
+    → proof_of line ≡ Ok (Some p) → check_writes before (Some line) ≡ checked_line p.id Holds → HasVerdict (rows_of before) p
