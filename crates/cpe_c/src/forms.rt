@@ -1,8 +1,8 @@
 // Calls that write a name in another form.
-ghost use Rattle.name_calls.specs.Forms.{form_of};
-ghost use Rattle.name_calls.specs.Told.{Gives, Tells};
+ghost use Rattle.talks.specs.Forms.{form_of};
+ghost use Rattle.talks.specs.Told.{Gives, Tells};
 
-use name_calls::{Answer, Form, give_form};
+use talks::{Answer, Form, give_form};
 use std::alloc::Global;
 
 /// Writes the text of the name that has this formatted string or URI (NIST IR 7695, 6.1.3 and 6.2.3).

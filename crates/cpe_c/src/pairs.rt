@@ -1,9 +1,9 @@
 // Calls that tell how two names relate.
 ghost use Rattle.cpe_uri.specs.EitherBinding.{read_any};
-ghost use Rattle.name_calls.specs.Pairs.{Covers, IsRelated};
-ghost use Rattle.name_calls.specs.Told.{Tells};
+ghost use Rattle.talks.specs.Pairs.{Covers, IsRelated};
+ghost use Rattle.talks.specs.Told.{Tells};
 
-use name_calls::{Answer, RelationNumbers, relate, tell_covers};
+use talks::{Answer, RelationNumbers, relate, tell_covers};
 use std::alloc::Global;
 
 /// Tells how two names relate, formatted strings or URIs (NIST IR 7696, 6). Where no name has a text, `numbers` stay as they

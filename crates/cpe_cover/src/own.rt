@@ -3,13 +3,12 @@ ghost use Rattle.std.specs.Prelude.{◌≡◌, ◌++◌, ◌∷◌, [], List, On
 ghost use Rattle.std.specs.List.{list_any};
 ghost use Rattle.names_in_order.specs.InOrder.{names_numbered};
 ghost use Rattle.cpe_name.specs.Prelude.{IsLower, same_name, Values};
-ghost use Rattle.owned_names.specs.Owned.{AreOwn};
+ghost use Rattle.names_in_order.specs.Owned.{AreOwn};
 
 use cpe_name::Wfn;
 use cpe_values::Memory;
 use name_index::NameTable;
-use names_in_order::{GrowingNames, NamesInOrder};
-use owned_names::add_name;
+use names_in_order::{GrowingNames, NamesInOrder, add_name};
 use std::alloc::Global;
 use std::marker::Model;
 

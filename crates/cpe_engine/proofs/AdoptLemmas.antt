@@ -25,12 +25,12 @@ use Rattle.cpe_rows.proofs.Limited.{each_within}
 use Rattle.cpe_rows.proofs.Lists.{no_element}
 use Rattle.cpe_rows.proofs.NameTests.{same_is}
 use Rattle.cpe_weight.specs.Capped.{capped}
-use Rattle.asked_names.specs.Asked.{names_kept}
+use Rattle.fact_laws.specs.Asked.{names_kept}
 use Rattle.cpe_dictionary.specs.Given.{each_deprecated}
 use Rattle.cpe_dictionary.specs.Kept.{rows_of}
 use Rattle.cpe_dictionary.proofs.GivenLemmas.{any_given, length_given, names_given}
 use Rattle.name_index.specs.Table.{Names}
-use Rattle.numbered_names.specs.Shown.{holds_in, Shows}
+use Rattle.fact_laws.specs.Shown.{holds_in, Shows}
 use Rattle.cpe_registry.specs.Registered.{Registered}
 use Rattle.kept_verdicts.specs.Kept.{Stands, Verdicts}
 use Rattle.cpe_engine.specs.Adopting.{given_weight, IsBare, with_deprecations}

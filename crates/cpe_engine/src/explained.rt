@@ -6,14 +6,14 @@ ghost use Rattle.checked_certificates.specs.Leading.{followed};
 ghost use Rattle.checked_certificates.specs.Relates.{related};
 
 use crate::engine::Engine;
+use crate::leading::{ends_of, first_followed, first_shown};
+use crate::slots::{first_by_product, first_related, item_of};
+use crate::truths::kept_truth;
 use checked_certificates::{PlainRows, Relates};
 use cpe_explain::ExplainedRows;
 use cpe_name::Wfn;
 use cpe_rows::{CheckKey, Deprecation, EntryRef, Mode, Statement, Text, Truth};
 use cpe_values::Memory;
-use shown_items::{
-    ends_of, first_by_product, first_followed, first_related, first_shown, item_of, kept_truth,
-};
 use std::alloc::Global;
 
 fn truth_of(is_covered: bool, may_be: bool) -> Truth

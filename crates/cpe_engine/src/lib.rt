@@ -3,12 +3,19 @@
 //!
 //! What it keeps are its parts (`engine_parts`): a registry of names, and the verdict of each statement. An edit gets its numbers there, and
 //! is looked at, which tells its fault or that it may be made; then it is made (`made_edits`), and is refused only where memory runs out.
-//! Refused, it lets its names go. Made, it answers the verdicts that it changed; to ask for a verdict evaluates nothing.
+//! Refused, it releases its names. Made, it answers the verdicts that it changed; to ask for a verdict evaluates nothing.
+//!
+//! Certificates ask an engine for items that facts show and for truths of facts: where a name leads is known by the registry, and which
+//! items lead to an end by the verdicts; both lend the names. A name that isn't in lower case, which no statement has, is compared with
+//! each item.
 #![tactic(auto)]
 
 mod adopting;
 mod engine;
 mod explained;
+mod leading;
+mod slots;
+mod truths;
 
 pub use adopting::AdoptFault;
 pub use engine::Engine;

@@ -5,14 +5,13 @@ ghost use Rattle.std.specs.List.{list_any};
 ghost use Rattle.cpe_rows.specs.Prelude.{is_same, IsLower, Values, without_first};
 ghost use Rattle.name_index.specs.Table.{kept_at};
 ghost use Rattle.names_in_order.specs.InOrder.{names_numbered, same_id};
-ghost use Rattle.owned_names.specs.Owned.{AreOwn};
+ghost use Rattle.names_in_order.specs.Owned.{AreOwn};
 
 use crate::view::ItemView;
 use cpe_name::Wfn;
 use cpe_values::Memory;
 use name_index::{NameId, NameTable};
-use names_in_order::ChangingNames;
-use owned_names::add_name;
+use names_in_order::{ChangingNames, add_name};
 use std::alloc::Global;
 use std::marker::Model;
 

@@ -13,7 +13,7 @@ use Rattle.name_index.specs.Table.{IsLive, Names, kept_at}
 use Rattle.names_in_order.specs.InOrder.{AreLive as AreLiveAt}
 use Rattle.names_in_order.specs.Places.{rows_at}
 use Rattle.names_in_order.proofs.Rows.{rows_from}
-use Rattle.numbered_names.specs.Shown.{names_at}
+use Rattle.fact_laws.specs.Shown.{names_at}
 use Rattle.deprecation_graph.proofs.Rising.{Contains-filter_range, filter_range_rising, same_rising}
 use Rattle.cpe_dictionary.specs.Numbers.{entries_at}
 use Rattle.cpe_dictionary.specs.Kept.{entries_in, FitsTable, Stored, names_at as entry_names_at}

@@ -12,7 +12,7 @@ use Rattle.name_index.proofs.Fitting.{held_live, held_name}
 use Rattle.names_in_order.specs.InOrder.{AreInOrder, IsSafe, names_numbered}
 use Rattle.names_in_order.specs.Laws.{OrdersStay}
 use Rattle.names_in_order.proofs.StayLemmas.{hold_stays, names_stay}
-use Rattle.numbered_names.specs.Shown.{holds_in, Shows, times_named}
+use Rattle.fact_laws.specs.Shown.{holds_in, Shows, times_named}
 use Rattle.cpe_rows.specs.Names.{is_same}
 use Rattle.cpe_rows.specs.Rows.{is_named}
 use Rattle.cpe_rows.specs.declared.entry.Entry.{Entry}

@@ -8,7 +8,7 @@ use Rattle.std.proofs.lemmas.List.Sums.{sum_by-append, sum_by-cons}
 use Rattle.cpe_name.specs.Eleven.{Values}
 use Rattle.cpe_name.specs.Equal.{same_name, same_name-Decides}
 use Rattle.product_orders.specs.Elements.{SameElements}
-use Rattle.numbered_names.specs.Shown.{times_named}
+use Rattle.fact_laws.specs.Shown.{times_named}
 use Rattle.cpe_rows.specs.After.{without_first}
 use Rattle.cpe_rows.specs.Names.{is_same}
 use Rattle.cpe_rows.specs.declared.entry.Deprecation.{Deprecation}

@@ -13,7 +13,7 @@ use Rattle.name_index.specs.declared.table.NameId.{NameId}
 use Rattle.name_index.specs.Table.{AreNames, IsLive, Names}
 use Rattle.names_in_order.specs.InOrder.{AreLive as AreLiveAt, names_numbered, same_id}
 use Rattle.names_in_order.proofs.ChangeLemmas.{name_among}
-use Rattle.numbered_names.specs.Shown.{names_at}
+use Rattle.fact_laws.specs.Shown.{names_at}
 use Rattle.cpe_dictionary.proofs.DictionaryLemmas.{no_entry}
 use Rattle.cpe_dictionary.proofs.SeenLemmas.{unknown_by_place}
 use Rattle.cpe_registry.specs.Registered.{AreLive, items_leading, name_in}

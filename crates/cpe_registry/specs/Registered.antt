@@ -9,7 +9,7 @@ use Rattle.cpe_rows.specs.declared.entry.Entry.{Entry}
 use Rattle.name_index.specs.declared.table.NameId.{NameId}
 use Rattle.name_index.specs.Table.{IsLive, Names, kept_at}
 use Rattle.names_in_order.specs.InOrder.{names_numbered}
-use Rattle.numbered_names.specs.Shown.{Shows, holds_in}
+use Rattle.fact_laws.specs.Shown.{Shows, holds_in}
 use Rattle.cpe_dictionary.specs.Kept.{entries_in, FitsTable, names_of, Stored}
 use Rattle.items_in_order.specs.InOrder.{AreItems, ItemRoll}
 

@@ -4,7 +4,7 @@ ghost use Rattle.std.specs.List.{list_any};
 ghost use Rattle.cpe_rows.specs.Prelude.{ends, is_named, is_same, leads_to};
 ghost use Rattle.cpe_rows.specs.declared.entry.Entry.{Entry};
 ghost use Rattle.name_index.specs.Table.{IsLive};
-ghost use Rattle.numbered_names.specs.Shown.{names_at};
+ghost use Rattle.fact_laws.specs.Shown.{names_at};
 ghost use Rattle.cpe_dictionary.specs.Kept.{names_at as entry_names_at};
 ghost use Rattle.cpe_dictionary.specs.Plans.{IsAllowed, ends_by};
 ghost use Rattle.cpe_registry.specs.Registered.{AreLive, items_leading, name_in};

@@ -8,7 +8,7 @@ ghost use Rattle.cpe_dictionary.specs.Kept.{new_entry, rewritten, written};
 ghost use Rattle.cpe_rows.specs.Lent.{entry_lent};
 ghost use Rattle.cpe_dictionary.specs.Plans.{IsAllowed, numbered};
 ghost use Rattle.cpe_registry.specs.Moved.{EntryAdded, EntryChanged, ItemAdded, NameHeld};
-ghost use Rattle.numbered_names.specs.Shown.{names_at};
+ghost use Rattle.fact_laws.specs.Shown.{names_at};
 ghost use Rattle.cpe_registry.specs.Registered.{AreHeld, AreLive, name_in};
 
 use cpe_dictionary::{Dictionary, KeptDictionary, Plan};
@@ -46,7 +46,7 @@ impl Registry {
         ensures rows { result ≡ record { table = []; entries = []; items = [] } }
         ensures held { AreHeld result [] }
     {
-        numbered_names::law::lists_are_shown();
+        fact_laws::law::lists_are_shown();
         names_in_order::law::orders_stay();
         cpe_rows::law::rows_stay_lawful();
         Registry {
@@ -174,7 +174,7 @@ impl Registry {
     {
         names_in_order::law::orders_stay();
         items_in_order::law::items_stay();
-        numbered_names::law::tables_are_lists();
+        fact_laws::law::tables_are_lists();
         self.table.hold(name)
     }
 
@@ -189,7 +189,7 @@ impl Registry {
     {
         names_in_order::law::orders_stay();
         items_in_order::law::items_stay();
-        numbered_names::law::tables_are_lists();
+        fact_laws::law::tables_are_lists();
         self.table.hold_moved(name)
     }
 
@@ -205,7 +205,7 @@ impl Registry {
         self.table.lawful();
         names_in_order::law::orders_stay();
         items_in_order::law::items_stay();
-        numbered_names::law::tables_are_lists();
+        fact_laws::law::tables_are_lists();
         self.table.release(id);
     }
 
@@ -225,7 +225,7 @@ impl Registry {
         requires lawful { IsDictionary (self.old.entries ++ new_entry (name_in self.old.table id) title provenance ∷ []) }
         ensures { EntryAdded self.old self.new id (new_entry (name_in self.old.table id) title provenance) result }
     {
-        numbered_names::law::lists_are_shown();
+        fact_laws::law::lists_are_shown();
         self.dictionary.add(&self.table, id, title, provenance)
     }
 
@@ -258,7 +258,7 @@ impl Registry {
     {
         cpe_inventory::law::item_laws();
         names_in_order::law::orders_stay();
-        numbered_names::law::lists_are_shown();
+        fact_laws::law::lists_are_shown();
         self.items.push(&self.table, id)
     }
 
@@ -273,7 +273,7 @@ impl Registry {
     {
         self.table.lawful();
         cpe_inventory::law::item_laws();
-        numbered_names::law::lists_are_shown();
+        fact_laws::law::lists_are_shown();
         self.items.remove(&self.table, id);
     }
 }

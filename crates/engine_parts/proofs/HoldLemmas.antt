@@ -13,9 +13,9 @@ use Rattle.cpe_name.specs.Eleven.{Values}
 use Rattle.product_orders.specs.Elements.{SameElements}
 use Rattle.name_index.specs.declared.table.NameId.{NameId}
 use Rattle.name_index.specs.Table.{AreNames, find_kept, Holds, IsLive, kept_at, kept_or, Names, Releases}
-use Rattle.numbered_names.specs.Shown.{holds_in, IsKnown, name_at, names_at, Shows, times_named}
-use Rattle.numbered_names.proofs.Shown.{live_is, named_first, named_both, same_names}
-use Rattle.numbered_names.proofs.Tables.{keeps, keeps_live, name_stays, was_live}
+use Rattle.fact_laws.specs.Shown.{holds_in, IsKnown, name_at, names_at, Shows, times_named}
+use Rattle.fact_laws.proofs.Shown.{live_is, named_first, named_both, same_names}
+use Rattle.fact_laws.proofs.Tables.{keeps, keeps_live, name_stays, was_live}
 use Rattle.cpe_rows.specs.FactNames.{fact_names}
 use Rattle.cpe_rows.specs.Rows.{Rows}
 use Rattle.cpe_rows.specs.declared.entry.Entry.{Entry}
@@ -26,7 +26,7 @@ use Rattle.cpe_rows.specs.declared.test.Test.{Test, Logic}
 use Rattle.cpe_rows.specs.declared.test.Test.TheFolds.{fold-roll-Test}
 use Rattle.cpe_rows.specs.declared.test.Test.TheOpen.{Test-F}
 use Rattle.cpe_rows.specs.declared.test.Test.TheVariants.{rolls-Logic}
-use Rattle.asked_names.specs.Asked.{entry_names, names_kept}
+use Rattle.fact_laws.specs.Asked.{entry_names, names_kept}
 use Rattle.cpe_registry.specs.Registered.{AreHeld, AreLive, Registered}
 use Rattle.kept_verdicts.specs.Kept.{Stands, Verdicts}
 use Rattle.engine_parts.specs.Holding.{AreFew, Grows}

@@ -24,8 +24,8 @@ use Rattle.cpe_weight.specs.Capped.{capped}
 use Rattle.cpe_name.specs.Eleven.{Values}
 use Rattle.name_index.specs.Table.{kept_at, Names}
 use Rattle.name_index.specs.declared.table.NameId.{NameId}
-use Rattle.numbered_names.specs.Shown.{holds_in, name_at, names_at, Shows}
-use Rattle.asked_names.specs.Asked.{names_kept}
+use Rattle.fact_laws.specs.Shown.{holds_in, name_at, names_at, Shows}
+use Rattle.fact_laws.specs.Asked.{names_kept}
 use Rattle.cpe_registry.specs.Registered.{Registered}
 use Rattle.kept_verdicts.specs.Kept.{checks_in, Stands, statements_in, Verdicts}
 use Rattle.engine_parts.specs.Parts.{AreKept, AreOf, rows_in}

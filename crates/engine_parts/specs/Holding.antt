@@ -4,7 +4,7 @@ use Rattle.cpe_name.specs.Eleven.{Values}
 use Rattle.cpe_rows.specs.Rows.{Rows}
 use Rattle.name_index.specs.declared.table.NameId.{NameId}
 use Rattle.name_index.specs.Table.{Names}
-use Rattle.numbered_names.specs.Shown.{holds_in, names_at, Shows}
+use Rattle.fact_laws.specs.Shown.{holds_in, names_at, Shows}
 use Rattle.cpe_registry.specs.Registered.{AreLive, Registered}
 use Rattle.kept_verdicts.specs.Kept.{Verdicts}
 use Rattle.engine_parts.specs.Parts.{AreOf}

@@ -11,7 +11,7 @@ use Rattle.cpe_rows.specs.declared.entry.Note.{Note}
 use Rattle.cpe_rows.specs.declared.entry.NoteKind.{NoteKind}
 use Rattle.cpe_rows.specs.declared.entry.NoteKind.TheVariants as kind
 use Rattle.cpe_rows.specs.declared.statement.Statement.{Statement}
-use Rattle.numbered_names.specs.Shown.{names_at}
+use Rattle.fact_laws.specs.Shown.{names_at}
 use Rattle.cpe_dictionary.specs.Kept.{new_entry}
 use Rattle.cpe_registry.specs.Registered.{AreLive, name_in}
 use Rattle.engine_parts.specs.declared.numbered.Coming.{Coming}

@@ -7,8 +7,8 @@ use Rattle.cpe_rows.specs.Rows.{Rows}
 use Rattle.cpe_rows.specs.Valid.{is_valid_edit}
 use Rattle.cpe_rows.specs.Weight.{weight}
 use Rattle.cpe_rows.specs.declared.edit.Edit.{Edit}
-use Rattle.numbered_names.specs.Shown.{holds_in, Shows}
-use Rattle.asked_names.specs.Asked.{names_kept}
+use Rattle.fact_laws.specs.Shown.{holds_in, Shows}
+use Rattle.fact_laws.specs.Asked.{names_kept}
 use Rattle.cpe_registry.specs.Registered.{Registered}
 use Rattle.kept_verdicts.specs.Kept.{Stands, Verdicts, checks_in, statements_in}
 use Rattle.engine_parts.specs.Numbered.{edit_of, IsFound, names_coming}

@@ -3,7 +3,7 @@ ghost use Rattle.std.specs.Prelude.{◌≡◌, ◌≤◌, ◌+◌, ◌∷◌, �
 ghost use Rattle.cpe_rows.specs.Prelude.{fact_names, is_lower, Rows, Values};
 ghost use Rattle.cpe_rows.specs.Shape.{is_sound};
 ghost use Rattle.name_index.specs.Table.{IsLive};
-ghost use Rattle.numbered_names.specs.Shown.{names_at};
+ghost use Rattle.fact_laws.specs.Shown.{names_at};
 ghost use Rattle.cpe_registry.specs.Registered.{AreLive, name_in};
 ghost use Rattle.kept_verdicts.specs.Kept.{Verdicts};
 ghost use Rattle.engine_parts.specs.Holding.{AreFew, Grows};
@@ -55,8 +55,8 @@ fn hold_fact(registry: &mut Registry, name: &Wfn, ids: &mut Vec<NameId>) -> Resu
     ensures few { (n : ℕ) → AreFew registry.old.table (1 + n) → OnOk result (AreFew registry.new.table n) }
 {
     cpe_rows::law::names_are_equal();
-    numbered_names::law::lists_are_shown();
-    numbered_names::law::tables_are_lists();
+    fact_laws::law::lists_are_shown();
+    fact_laws::law::tables_are_lists();
     kept_verdicts::law::verdicts_stand();
     reserve_one(ids)?;
     let id = registry.hold(name)?;
@@ -118,8 +118,8 @@ fn release_one(registry: &mut Registry, id: NameId)
         → AreOf registry.old v rows (name_in registry.old.table id ∷ (names_at registry.old.table rest ++ others))
         → AreLive registry.new.table rest × AreOf registry.new v rows (names_at registry.new.table rest ++ others) }
 {
-    numbered_names::law::lists_are_shown();
-    numbered_names::law::tables_are_lists();
+    fact_laws::law::lists_are_shown();
+    fact_laws::law::tables_are_lists();
     kept_verdicts::law::verdicts_stand();
     registry.lawful();
     registry.release(id);

@@ -31,10 +31,10 @@ impl Parts {
         ensures err { OnErr result (AreOf self.new.registry self.new.verdicts (rows_in self.old) []) }
     {
         cpe_rows::law::names_are_equal();
-        numbered_names::law::lists_are_shown();
-        numbered_names::law::tables_are_lists();
+        fact_laws::law::lists_are_shown();
+        fact_laws::law::tables_are_lists();
         kept_verdicts::law::verdicts_stand();
-        asked_names::law::lawful_rows_ask_few();
+        fact_laws::law::lawful_rows_ask_few();
         let id = self.registry.hold_moved(name)?;
         Ok(id)
     }

@@ -60,7 +60,7 @@ impl Parts {
         ensures are { IfOk result (λ n. AreOf self.new.registry self.new.verdicts (rows_in self.old) (names_coming self.new.registry.table n)) }
         ensures left { OnErr result (AreOf self.new.registry self.new.verdicts (rows_in self.old) []) }
     {
-        asked_names::law::lawful_rows_ask_few();
+        fact_laws::law::lawful_rows_ask_few();
         let mut ids = Vec::new(alloc);
         match hold_facts(&mut self.registry, &statement.test, &mut ids) {
             Ok(()) => Ok(Numbered::PutStatement { statement, ids }),

@@ -11,12 +11,12 @@ use Rattle.cpe_snapshot.specs.States.{AreMeantEntries}
 use Rattle.cpe_snapshot.specs.declared.rows.PlacedDeprecation.{PlacedDeprecation}
 use Rattle.cpe_snapshot.specs.declared.rows.PlacedEntry.{PlacedEntry}
 use Rattle.cpe_snapshot.proofs.Readers.{some_is}
-use Rattle.adopted_rows.specs.Begun.{AreFine}
+use Rattle.engine_snapshot.specs.Begun.{AreFine}
 use Rattle.engine_snapshot.specs.Meant.{active_placed, AreGiven, AreMeantDeprecations, undeprecated}
-use Rattle.adopted_rows.specs.Plain.{entries_alone}
+use Rattle.engine_snapshot.specs.Begun.{entries_alone}
 use Rattle.engine_snapshot.specs.Read.{AreEntriesLoaded, AreEntriesPut, NoEntries, with_placed}
 use Rattle.engine_snapshot.proofs.MeantLemmas.{active_placed_each, deprecations_in, deprecations_meant, entries_meant, even_placed, from_seen, given_back, given_in, nones, nones_are_meant, seen, still_active, to_seen}
-use Rattle.adopted_rows.proofs.RowLemmas.{fine}
+use Rattle.engine_snapshot.proofs.RowLemmas.{fine}
 
 bare_each : (ps : List PlacedEntry) → IsBare (entries_alone (map active_placed ps))
 bare_each ps = record { active = active_placed_each ps; items = refl; statements = refl; checks = refl }

@@ -1,3 +1,8 @@
+mod WriteLemmas
+mod PartLemmas
+mod Taken
+mod RowLemmas
+mod EditLemmas
 mod MeantLemmas
 mod RunLemmas
 mod PartsRead

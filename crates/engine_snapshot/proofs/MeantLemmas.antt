@@ -13,7 +13,7 @@ use Rattle.cpe_snapshot.specs.declared.rows.PlacedDeprecation.{PlacedDeprecation
 use Rattle.cpe_snapshot.specs.declared.rows.PlacedEntry.{PlacedEntry}
 use Rattle.cpe_snapshot.proofs.StateLemmas.{deprecation_once, name_at}
 use Rattle.engine_snapshot.specs.Meant.{active_placed, AreMeantDeprecations, name_in, undeprecated}
-use Rattle.adopted_rows.proofs.RowLemmas.{AreActive}
+use Rattle.engine_snapshot.proofs.RowLemmas.{AreActive}
 
 -- ---- names
 

@@ -6,9 +6,9 @@ use Rattle.cpe_snapshot.specs.Reading.{many, name_at, result_at, statement_at}
 use Rattle.cpe_snapshot.specs.States.{pair_of}
 use Rattle.cpe_snapshot.specs.declared.load.Head.{Head}
 use Rattle.cpe_snapshot.proofs.Readers.{some_is}
-use Rattle.adopted_rows.specs.Begun.{with_items, with_statements}
+use Rattle.engine_snapshot.specs.Begun.{with_items, with_statements}
 use Rattle.engine_snapshot.specs.Read.{ArePut, Others, with_others, with_results}
-use Rattle.adopted_rows.proofs.Taken.{lawful_before_checks, lawful_before_statements}
+use Rattle.engine_snapshot.proofs.Taken.{lawful_before_checks, lawful_before_statements}
 
 module _ {A : Type 0} (put : Rows → List A → Rows) (read : Option (List A × List ℕ)) (left : List ℕ) (old new : Rows) (are : ArePut put read left old new) (xs : List A) (other : List ℕ)
     (found : read ≡ Some (xs, other)) where

@@ -15,7 +15,7 @@ use Rattle.cpe_snapshot.specs.declared.rows.KeptResult.{KeptResult}
 use Rattle.cpe_snapshot.specs.declared.rows.PlacedDeprecation.{PlacedDeprecation}
 use Rattle.cpe_snapshot.specs.declared.rows.PlacedEntry.{PlacedEntry}
 use Rattle.cpe_snapshot.proofs.Loop.{ends, goes_on, is_done, with_prefix}
-use Rattle.adopted_rows.specs.Begun.{with_items, with_statements}
+use Rattle.engine_snapshot.specs.Begun.{with_items, with_statements}
 use Rattle.engine_snapshot.specs.Meant.{active_placed}
 use Rattle.engine_snapshot.specs.Read.{ArePut, NonePut, NotAfter, with_placed, with_results}
 

@@ -15,11 +15,11 @@ use Rattle.cpe_snapshot.specs.declared.rows.PlacedRows.{PlacedRows}
 use Rattle.cpe_snapshot.proofs.Readers.{bind_some, IsBytes, some_is}
 use Rattle.cpe_snapshot.proofs.RowsReader.{rows_spelled, spelled_are_read}
 use Rattle.cpe_snapshot.proofs.StateLemmas.{one_state}
-use Rattle.adopted_rows.specs.Begun.{with_items, with_statements}
-use Rattle.adopted_rows.specs.Plain.{entries_alone}
+use Rattle.engine_snapshot.specs.Begun.{with_items, with_statements}
+use Rattle.engine_snapshot.specs.Begun.{entries_alone}
 use Rattle.engine_snapshot.specs.Read.{AreEntriesLoaded, NoEntries, Others, with_others}
 use Rattle.engine_snapshot.proofs.PartsRead.{in_both}
-use Rattle.adopted_rows.proofs.Taken.{lawful_before_checks, lawful_before_items, lawful_before_statements}
+use Rattle.engine_snapshot.proofs.Taken.{lawful_before_checks, lawful_before_items, lawful_before_statements}
 
 -- ---- the end
 

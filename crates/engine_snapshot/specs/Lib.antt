@@ -1,3 +1,4 @@
+pub mod Begun
 pub mod Meant
 pub mod Read
 pub mod Runs

@@ -13,9 +13,9 @@ use Rattle.cpe_snapshot.specs.declared.load.Head.{Head}
 use Rattle.cpe_snapshot.specs.declared.rows.KeptResult.{KeptResult}
 use Rattle.cpe_snapshot.specs.declared.rows.PlacedDeprecation.{PlacedDeprecation}
 use Rattle.cpe_snapshot.specs.declared.rows.PlacedEntry.{PlacedEntry}
-use Rattle.adopted_rows.specs.Begun.{with_checks, with_entries, with_items, with_statements}
+use Rattle.engine_snapshot.specs.Begun.{with_checks, with_entries, with_items, with_statements}
 use Rattle.engine_snapshot.specs.Meant.{active_placed}
-use Rattle.adopted_rows.specs.Plain.{entries_alone}
+use Rattle.engine_snapshot.specs.Begun.{entries_alone}
 
 -- ---- more rows behind those that are there
 

@@ -1,16 +1,20 @@
-//! An engine that keeps what the bytes of a snapshot say.
+//! The snapshot of an engine, both ways: what it keeps as bytes, and an engine that keeps what bytes say.
 //!
-//! A snapshot is read row by row ([`read_snapshot`]): the edit that puts a row is made before the next is read, so that no rows stand
-//! beside the engine, its own are lawful as those of any engine, and what isn't the snapshot of lawful rows is refused. How an engine
-//! puts rows is said by `adopted_rows`. The snapshot of an engine is written by `snapshot_writer`.
+//! It is written row by row, in time by its length ([`write_snapshot`]). It is read row by row too ([`read_snapshot`]): the edit that puts
+//! a row is made before the next is read. So no rows stand beside the engine, its own are lawful as those of any engine, and what isn't
+//! the snapshot of lawful rows is refused.
 #![tactic(auto)]
 
 mod boxed;
+mod edits;
 pub mod law;
 mod loops;
 mod meant;
 mod puts;
 mod read;
 mod runs;
+mod texts;
+mod write;
 
 pub use read::{MOST_BYTES, read_snapshot};
+pub use write::write_snapshot;

@@ -2,7 +2,7 @@
 ghost use Rattle.std.specs.Prelude.{◌≡◌, [], IfErr, OnOk};
 ghost use Rattle.cpe_rows.specs.Prelude.{IsLawful};
 ghost use Rattle.cpe_snapshot.specs.Reading.{entry_at, many, name_at, result_at, statement_at};
-ghost use Rattle.adopted_rows.specs.Begun.{AreFine, with_items, with_statements};
+ghost use Rattle.engine_snapshot.specs.Begun.{AreFine, with_items, with_statements};
 ghost use Rattle.engine_snapshot.specs.Read.{AreEntriesPut, ArePut, NonePut, with_placed, with_results};
 
 use crate::puts::{put_entry, put_item, put_result, put_statement};

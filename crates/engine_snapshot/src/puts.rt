@@ -1,11 +1,11 @@
 // Rows that an engine puts as they are read, one at a time.
 ghost use Rattle.std.specs.Prelude.{◌≡◌, ◌++◌, ◌∷◌, [], IfErr, OnOk, true};
 ghost use Rattle.cpe_rows.specs.Prelude.{after, is_lower, is_valid_edit, IsLawful};
-ghost use Rattle.adopted_rows.specs.Begun.{AreFine, IsTaken, with_items, with_statements};
+ghost use Rattle.engine_snapshot.specs.Begun.{AreFine, IsTaken, with_items, with_statements};
 ghost use Rattle.engine_snapshot.specs.Read.{NotAfter, with_placed, with_results};
 
+use crate::edits::{add_check, make, make_valid};
 use crate::runs::PlacedDeprecations;
-use adopted_rows::{add_check, make, make_valid};
 use cpe_engine::{AdoptFault, Engine};
 use cpe_name::Wfn;
 use cpe_rows::{Edit, Entry, Statement};

@@ -35,8 +35,8 @@ pub(crate) fn add_entry(
     ensures changes { IfOk result (λ cs. cs ≡ changes (rows_in parts.old) (edit_in parts.old (Numbered.Entry id title provenance))) }
 {
     cpe_changes::law::entries_change_nothing();
-    asked_names::law::entries_lead_to_themselves();
-    numbered_names::law::lists_are_shown();
+    fact_laws::law::entries_lead_to_themselves();
+    fact_laws::law::lists_are_shown();
     cpe_rows::law::rows_stay_lawful();
     kept_verdicts::law::verdicts_stand();
     match parts.registry.add_entry(id, title, provenance) {
@@ -135,7 +135,7 @@ fn lead_change<L: Ledger>(
 {
     edits_by_number();
     cpe_changes::law::deprecations_touch();
-    asked_names::law::deprecations_lead_elsewhere();
+    fact_laws::law::deprecations_lead_elsewhere();
     let (deprecation, note) = change.into_parts();
     match parts.registry.change(plan, deprecation, Some(note)) {
         Ok(()) => {

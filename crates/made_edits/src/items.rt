@@ -63,9 +63,9 @@ fn bring_item<L: Ledger>(
     ensures weight { parts.new.weight ≡ parts.old.weight }
     ensures steps { StepsWithin steps.old steps.new (item_looks (rows_in parts.old) (name_in parts.old.registry.table id)) }
 {
-    asked_names::law::items_arrive();
-    asked_names::law::lawful_rows_ask_few();
-    numbered_names::law::lists_are_shown();
+    fact_laws::law::items_arrive();
+    fact_laws::law::lawful_rows_ask_few();
+    fact_laws::law::lists_are_shown();
     let ends = parts.registry.ends_of(alloc, id)?;
     parts.verdicts.reserve_item(parts.registry.table(), &ends)?;
     parts.registry.add_item(id)?;
@@ -118,8 +118,8 @@ fn take_item<L: Ledger>(
     ensures weight { parts.new.weight ≡ parts.old.weight }
     ensures steps { StepsWithin steps.old steps.new (item_looks (rows_in parts.old) (name_in parts.old.registry.table id)) }
 {
-    asked_names::law::items_arrive();
-    numbered_names::law::lists_are_shown();
+    fact_laws::law::items_arrive();
+    fact_laws::law::lists_are_shown();
     let ends = parts.registry.ends_of(alloc, id)?;
     parts
         .verdicts

@@ -39,9 +39,9 @@ pub(crate) fn put_statement<L: Ledger>(
     ensures changes { IfOk result (λ cs. cs ≡ changes (rows_in parts.old) (edit_in parts.old (Numbered.PutStatement statement ids))) }
     ensures steps { StepsWithin steps.old steps.new (made_looks (rows_in parts.old) (edit_in parts.old (Numbered.PutStatement statement ids))) }
 {
-    asked_names::law::statements_ask();
+    fact_laws::law::statements_ask();
     cpe_rows::law::statements_stand_alone();
-    numbered_names::law::lists_are_shown();
+    fact_laws::law::lists_are_shown();
     let place = parts.verdicts.len();
     match parts
         .verdicts
@@ -103,8 +103,8 @@ fn take_statement<L: Ledger>(
     ensures weight { parts.new.weight ≡ parts.old.weight }
     ensures steps { steps.new ≡ steps.old }
 {
-    asked_names::law::statements_ask();
-    numbered_names::law::lists_are_shown();
+    fact_laws::law::statements_ask();
+    fact_laws::law::lists_are_shown();
     let ids = parts
         .verdicts
         .drop_statement(alloc, parts.registry.table(), id, steps)?;

@@ -1,3 +1,4 @@
+pub mod OwnLemmas
 pub mod Rising
 pub mod Places
 pub mod Rows

@@ -1,3 +1,4 @@
+pub mod Owned
 pub mod Places
 pub mod Held
 pub mod InOrder

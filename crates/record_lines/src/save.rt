@@ -6,7 +6,7 @@ ghost use Rattle.cpe_snapshot.specs.States.{snapshot};
 use cpe_engine::Engine;
 use cpe_io::{Sink, SinkFault};
 use cpe_session::{Page, pour_text};
-use snapshot_writer::write_snapshot;
+use engine_snapshot::write_snapshot;
 use std::alloc::Global;
 
 /// Gives what is gathered, and then the snapshot of the rows, to the sink.

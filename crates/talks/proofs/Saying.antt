@@ -3,9 +3,9 @@ use Rattle.std.proofs.Common.{◌≡◌, ℕ, List, [], ◌∷◌, Option}
 use Rattle.cpe_io.specs.Lines.{line_of}
 use Rattle.cpe_session.specs.Statuses.{number_of}
 use Rattle.cpe_session.specs.declared.status.Status.{Status}
-use Rattle.name_calls.specs.declared.told.Told.{Told}
-use Rattle.name_calls.specs.declared.told.Told.TheVariants as told
-use Rattle.name_calls.specs.Told.{Fits}
+use Rattle.talks.specs.declared.told.Told.{Told}
+use Rattle.talks.specs.declared.told.Told.TheVariants as told
+use Rattle.talks.specs.Told.{Fits}
 use Rattle.talks.specs.declared.talk.Talk.{Talk}
 use Rattle.talks.specs.declared.talk.Phase.TheVariants.{Open, Ended}
 use Rattle.talks.specs.Talk.{Ends, Says}

@@ -2,10 +2,10 @@
 use Rattle.std.specs.Prelude.{◌≡◌, ℕ, true, false, List, Some, None}
 use Rattle.std.specs.declared.option.Option.{Option}
 use Rattle.cpe_command.specs.Meaning.{meaning}
-use Rattle.name_calls.specs.declared.told.Told.{Told}
-use Rattle.name_calls.specs.declared.told.Told.TheVariants.{Done, Memory, NoCommand}
-use Rattle.name_calls.specs.declared.told.Answer.{Answer}
-use Rattle.name_calls.specs.Told.{Tells}
+use Rattle.talks.specs.declared.told.Told.{Told}
+use Rattle.talks.specs.declared.told.Told.TheVariants.{Done, Memory, NoCommand}
+use Rattle.talks.specs.declared.told.Answer.{Answer}
+use Rattle.talks.specs.Told.{Tells}
 use Rattle.talks.specs.declared.talk.Talk.{Talk}
 use Rattle.talks.specs.Beginning.{answers_lines, Opens, words_of}
 

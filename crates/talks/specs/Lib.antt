@@ -1,3 +1,7 @@
+pub mod Told
+pub mod Forms
+pub mod Pairs
+pub mod Compared
 pub mod Talks
 pub mod Talk
 pub mod Beginning

@@ -4,9 +4,9 @@ use Rattle.std.specs.declared.option.Option.{Option}
 use Rattle.cpe_io.specs.Lines.{has_newline, line_of}
 use Rattle.cpe_session.specs.Statuses.{number_of}
 use Rattle.cpe_session.specs.declared.status.Status.{Status}
-use Rattle.name_calls.specs.declared.told.Told.{Told}
-use Rattle.name_calls.specs.declared.told.Told.TheVariants.{Memory, NotALine, Over}
-use Rattle.name_calls.specs.Told.{Fits}
+use Rattle.talks.specs.declared.told.Told.{Told}
+use Rattle.talks.specs.declared.told.Told.TheVariants.{Memory, NotALine, Over}
+use Rattle.talks.specs.Told.{Fits}
 use Rattle.talks.specs.declared.talk.Talk.{Talk}
 use Rattle.talks.specs.declared.talk.Phase.TheVariants.{Open, Ended, Broken}
 use Rattle.talks.specs.Talks.{behind, goes_on}

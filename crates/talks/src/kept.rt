@@ -7,7 +7,7 @@ ghost use Rattle.talks.specs.declared.talk.Talk.{Talk};
 use crate::beginning::begin;
 use crate::parts::{Parts, boxed};
 use crate::talk::Talk;
-use name_calls::Told;
+use crate::told::Told;
 use std::alloc::Global;
 use std::marker::Model;
 use std::ptr::null_mut;

@@ -2,8 +2,8 @@ use Rattle.std.proofs.Common.{List, inr, sym, subst, ap, ◌∙◌}
 use Rattle.name_index.specs.declared.table.NameId.{NameId}
 use Rattle.names_in_order.specs.InOrder.{AreInOrder, names_numbered}
 use Rattle.names_in_order.proofs.ChangeLemmas.{stands_at}
-use Rattle.owned_names.specs.Owned.{AreOwn}
-use Rattle.owned_names.proofs.OwnLemmas.{removed_own}
+use Rattle.names_in_order.specs.Owned.{AreOwn}
+use Rattle.names_in_order.proofs.OwnLemmas.{removed_own}
 use Rattle.cpe_ranges.proofs.items.remove_number.Goals as goal
 
 pub release-requires : goal.release-requires

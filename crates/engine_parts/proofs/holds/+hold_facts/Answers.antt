@@ -5,7 +5,7 @@ use Rattle.cpe_rows.specs.FactNames.{fact_names}
 use Rattle.cpe_rows.specs.Shape.{depth_of, is_sound}
 use Rattle.cpe_rows.specs.declared.test.Test.{Logic}
 use Rattle.cpe_rows.proofs.TestNames.{names-logic}
-use Rattle.numbered_names.specs.Shown.{names_at}
+use Rattle.fact_laws.specs.Shown.{names_at}
 use Rattle.engine_parts.specs.Holding.{AreFew}
 use Rattle.engine_parts.proofs.HoldLemmas.{depth_falls, few_less, grows_both, rest_length, sound_child, taken_next}
 use Rattle.engine_parts.proofs.holds.+hold_facts.Goals as goal

@@ -2,7 +2,7 @@ use Rattle.std.proofs.Common.{◌≡◌, ◌+◌, ◌++◌, ℕ, length, take, d
 use Rattle.std.specs.List.{flat_map}
 use Rattle.cpe_rows.specs.FactNames.{fact_names}
 use Rattle.cpe_rows.specs.Shape.{depth_of}
-use Rattle.numbered_names.specs.Shown.{names_at}
+use Rattle.fact_laws.specs.Shown.{names_at}
 use Rattle.engine_parts.specs.Holding.{AreFew, Grows}
 use Rattle.engine_parts.proofs.holds.+hold_facts.Given as goal
 

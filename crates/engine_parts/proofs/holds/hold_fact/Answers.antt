@@ -1,6 +1,6 @@
 use Rattle.std.proofs.Common.{◌≡◌, ◌∷◌, ◌++◌, List, [], arith, sym, ap, subst, ◌∙◌}
 use Rattle.name_index.specs.declared.table.NameId.{NameId}
-use Rattle.numbered_names.specs.Shown.{holds_in, names_at}
+use Rattle.fact_laws.specs.Shown.{holds_in, names_at}
 use Rattle.engine_parts.specs.Holding.{Grows}
 use Rattle.engine_parts.proofs.HoldLemmas.{few_more, grows_one, names_more}
 use Rattle.engine_parts.proofs.holds.hold_fact.Goals as goal

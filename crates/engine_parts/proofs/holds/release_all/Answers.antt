@@ -2,7 +2,7 @@ use Rattle.std.proofs.Common.{◌∷◌, ◌++◌, ◌+◌, List, drop, get_or, 
 use Rattle.std.proofs.lemmas.List.{drop_all}
 use Rattle.name_index.specs.declared.table.NameId.{NameId}
 use Rattle.name_index.specs.Index.{name_id}
-use Rattle.numbered_names.specs.Shown.{names_at}
+use Rattle.fact_laws.specs.Shown.{names_at}
 use Rattle.cpe_registry.specs.Registered.{AreLive}
 use Rattle.engine_parts.specs.Parts.{AreOf}
 use Rattle.engine_parts.proofs.HoldLemmas.{first_there}

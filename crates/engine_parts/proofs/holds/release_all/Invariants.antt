@@ -1,7 +1,7 @@
 use Rattle.std.proofs.Common.{◌++◌, List, drop}
 use Rattle.cpe_name.specs.Eleven.{Values}
 use Rattle.cpe_rows.specs.Rows.{Rows}
-use Rattle.numbered_names.specs.Shown.{names_at}
+use Rattle.fact_laws.specs.Shown.{names_at}
 use Rattle.cpe_registry.specs.Registered.{AreLive}
 use Rattle.kept_verdicts.specs.Kept.{Verdicts}
 use Rattle.engine_parts.specs.Parts.{AreOf}

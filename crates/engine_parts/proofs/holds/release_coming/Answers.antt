@@ -1,6 +1,6 @@
 use Rattle.std.proofs.Common.{◌++◌, List, sym, subst}
 use Rattle.name_index.specs.declared.table.NameId.{NameId}
-use Rattle.numbered_names.specs.Shown.{names_at}
+use Rattle.fact_laws.specs.Shown.{names_at}
 use Rattle.engine_parts.specs.Numbered.{numbers_of}
 use Rattle.engine_parts.specs.Parts.{AreOf}
 use Rattle.engine_parts.specs.declared.numbered.Coming.{Coming}

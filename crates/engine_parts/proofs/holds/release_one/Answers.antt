@@ -1,4 +1,4 @@
-use Rattle.numbered_names.specs.Shown.{holds_in}
+use Rattle.fact_laws.specs.Shown.{holds_in}
 use Rattle.cpe_registry.specs.Registered.{name_in}
 use Rattle.cpe_registry.proofs.FitLemmas.{own_name}
 use Rattle.engine_parts.proofs.HoldLemmas.{are_held, left}

@@ -3,9 +3,9 @@ use Rattle.std.proofs.lemmas.List.{map-append}
 use Rattle.cpe_snapshot.specs.Reading.{entry_at, many}
 use Rattle.cpe_snapshot.specs.declared.rows.PlacedDeprecation.{PlacedDeprecation}
 use Rattle.cpe_snapshot.specs.declared.rows.PlacedEntry.{PlacedEntry}
-use Rattle.adopted_rows.specs.Begun.{AreFine}
+use Rattle.engine_snapshot.specs.Begun.{AreFine}
 use Rattle.engine_snapshot.specs.Read.{with_placed}
-use Rattle.adopted_rows.proofs.EditLemmas.{handed_on}
+use Rattle.engine_snapshot.proofs.EditLemmas.{handed_on}
 use Rattle.engine_snapshot.proofs.PartsRead.{entry_lower}
 use Rattle.engine_snapshot.proofs.ReadLemmas.{are_done, more_placed, no_placed, starts, steps, unput, unread}
 use Rattle.engine_snapshot.proofs.loops.read_entries.Goals as goal

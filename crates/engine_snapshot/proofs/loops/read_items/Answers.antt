@@ -1,6 +1,6 @@
 use Rattle.cpe_rows.specs.Lawful.{IsLawful}
 use Rattle.cpe_snapshot.specs.Reading.{name_at}
-use Rattle.adopted_rows.proofs.EditLemmas.{handed_on}
+use Rattle.engine_snapshot.proofs.EditLemmas.{handed_on}
 use Rattle.engine_snapshot.proofs.PartsRead.{name_lower}
 use Rattle.engine_snapshot.proofs.ReadLemmas.{more_items, steps, unput}
 use Rattle.engine_snapshot.proofs.loops.read_items.Goals as goal

@@ -1,6 +1,6 @@
 use Rattle.std.proofs.Common.{◌-◌}
 use Rattle.cpe_snapshot.specs.Reading.{many, name_at}
-use Rattle.adopted_rows.specs.Begun.{with_items}
+use Rattle.engine_snapshot.specs.Begun.{with_items}
 use Rattle.engine_snapshot.proofs.ReadLemmas.{ArePutSoFar}
 use Rattle.engine_snapshot.proofs.loops.read_items.Given as goal
 

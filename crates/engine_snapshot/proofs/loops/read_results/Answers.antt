@@ -1,6 +1,6 @@
 use Rattle.cpe_rows.specs.Lawful.{IsLawful}
 use Rattle.cpe_snapshot.specs.Reading.{result_at}
-use Rattle.adopted_rows.proofs.EditLemmas.{handed_on}
+use Rattle.engine_snapshot.proofs.EditLemmas.{handed_on}
 use Rattle.engine_snapshot.proofs.ReadLemmas.{more_results, steps, unput}
 use Rattle.engine_snapshot.proofs.loops.read_results.Goals as goal
 

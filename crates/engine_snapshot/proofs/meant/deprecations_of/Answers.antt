@@ -2,7 +2,7 @@ use Rattle.std.proofs.Common.{Option, map, subst, sym}
 use Rattle.cpe_snapshot.specs.States.{IsMeantDeprecation}
 use Rattle.cpe_snapshot.specs.declared.rows.PlacedDeprecation.{PlacedDeprecation}
 use Rattle.engine_snapshot.specs.Meant.{undeprecated}
-use Rattle.adopted_rows.proofs.EditLemmas.{handed_on}
+use Rattle.engine_snapshot.proofs.EditLemmas.{handed_on}
 use Rattle.engine_snapshot.proofs.MeantLemmas.{next_meant, none_meant}
 use Rattle.engine_snapshot.proofs.meant.deprecations_of.Goals as goal
 

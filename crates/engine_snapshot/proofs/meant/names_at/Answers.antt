@@ -1,7 +1,7 @@
 use Rattle.std.proofs.Common.{get_or, map, ◌∙◌}
 use Rattle.cpe_snapshot.proofs.NameLemmas.{next_named, none_named}
 use Rattle.engine_snapshot.specs.Meant.{undeprecated}
-use Rattle.adopted_rows.proofs.EditLemmas.{handed_on}
+use Rattle.engine_snapshot.proofs.EditLemmas.{handed_on}
 use Rattle.engine_snapshot.proofs.MeantLemmas.{name_there}
 use Rattle.engine_snapshot.proofs.meant.names_at.Goals as goal
 

@@ -1,6 +1,6 @@
 use Rattle.std.proofs.Common.{map, refl, sym, ◌∙◌}
 use Rattle.engine_snapshot.specs.Meant.{active_placed}
-use Rattle.adopted_rows.proofs.Taken.{entry_taken}
+use Rattle.engine_snapshot.proofs.Taken.{entry_taken}
 use Rattle.engine_snapshot.proofs.puts.put_entry.Goals as goal
 
 pub returns-in-Err-clause-refused : goal.returns-in-Err-clause-refused

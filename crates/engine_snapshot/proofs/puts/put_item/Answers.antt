@@ -1,5 +1,5 @@
 use Rattle.std.proofs.lemmas.Result.{IfErr-weaker}
-use Rattle.adopted_rows.proofs.Taken.{item_taken}
+use Rattle.engine_snapshot.proofs.Taken.{item_taken}
 use Rattle.engine_snapshot.proofs.puts.put_item.Goals as goal
 
 pub returns-clause-refused : goal.returns-clause-refused

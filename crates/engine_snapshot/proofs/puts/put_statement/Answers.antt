@@ -1,4 +1,4 @@
-use Rattle.adopted_rows.proofs.Taken.{statement_taken}
+use Rattle.engine_snapshot.proofs.Taken.{statement_taken}
 use Rattle.engine_snapshot.proofs.puts.put_statement.Goals as goal
 
 pub returns-in-Err-clause-refused : goal.returns-in-Err-clause-refused

@@ -2,9 +2,9 @@ use Rattle.std.proofs.Common.{List, Some, ap, sym, ◌∙◌}
 use Rattle.std.proofs.lemmas.Bool.{eqb-true}
 use Rattle.std.proofs.lemmas.List.{nil_from_length}
 use Rattle.cpe_rows.specs.Rows.{Rows}
-use Rattle.adopted_rows.specs.Begun.{with_statements}
+use Rattle.engine_snapshot.specs.Begun.{with_statements}
 use Rattle.engine_snapshot.specs.Read.{with_results}
-use Rattle.adopted_rows.proofs.EditLemmas.{handed_on}
+use Rattle.engine_snapshot.proofs.EditLemmas.{handed_on}
 use Rattle.engine_snapshot.proofs.OtherLemmas.{lawful_items, results_fit, results_there, statements_fit, statements_there}
 use Rattle.engine_snapshot.proofs.read.read_others.Goals as goal
 

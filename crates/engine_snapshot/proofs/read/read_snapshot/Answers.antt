@@ -1,6 +1,6 @@
 use Rattle.std.proofs.Common.{ap, arith, sym, ◌∙◌}
 use Rattle.cpe_snapshot.specs.Reading.{head_at}
-use Rattle.adopted_rows.proofs.EditLemmas.{handed_on}
+use Rattle.engine_snapshot.proofs.EditLemmas.{handed_on}
 use Rattle.engine_snapshot.proofs.SnapshotLemmas.{has_entries, has_head, has_others, is_snap}
 use Rattle.engine_snapshot.proofs.read.read_snapshot.Goals as goal
 

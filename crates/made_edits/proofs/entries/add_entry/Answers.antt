@@ -2,8 +2,8 @@ use Rattle.std.proofs.Common.{◌∷◌, [], sym, subst, ◌∙◌}
 use Rattle.cpe_rows.specs.After.{after}
 use Rattle.cpe_rows.specs.declared.edit.Edit.TheVariants as edit
 use Rattle.cpe_dictionary.specs.Kept.{new_entry}
-use Rattle.numbered_names.specs.Shown.{holds_in, names_at}
-use Rattle.asked_names.specs.Asked.{names_kept}
+use Rattle.fact_laws.specs.Shown.{holds_in, names_at}
+use Rattle.fact_laws.specs.Asked.{names_kept}
 use Rattle.cpe_registry.specs.Registered.{name_in, Registered}
 use Rattle.engine_parts.specs.Parts.{AreOf, rows_in}
 use Rattle.engine_parts.proofs.PartsLemmas.{by_lists}

@@ -7,7 +7,7 @@ use Rattle.cpe_steps.specs.Within.{StepsWithin}
 use Rattle.cpe_dictionary.specs.Kept.{rewritten, written}
 use Rattle.cpe_dictionary.proofs.DictionaryLemmas.{written_changed}
 use Rattle.name_index.specs.Table.{Names}
-use Rattle.numbered_names.specs.Shown.{holds_in, Shows}
+use Rattle.fact_laws.specs.Shown.{holds_in, Shows}
 use Rattle.cpe_registry.specs.Registered.{name_in}
 use Rattle.kept_verdicts.specs.Kept.{IsLead, Stands}
 use Rattle.engine_parts.specs.Numbered.{given, note_of}

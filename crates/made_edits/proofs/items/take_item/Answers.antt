@@ -2,8 +2,8 @@ use Rattle.std.proofs.Common.{true, ◌≡◌, ◌∷◌, [], sym, subst}
 use Rattle.cpe_rows.specs.After.{after}
 use Rattle.cpe_rows.specs.declared.edit.Edit.TheVariants as edit
 use Rattle.name_index.specs.Table.{Names}
-use Rattle.numbered_names.specs.Shown.{holds_in, name_at}
-use Rattle.asked_names.specs.Asked.{names_kept}
+use Rattle.fact_laws.specs.Shown.{holds_in, name_at}
+use Rattle.fact_laws.specs.Asked.{names_kept}
 use Rattle.cpe_steps.specs.Within.{StepsWithin}
 use Rattle.cpe_registry.specs.Registered.{name_in}
 use Rattle.told_facts.specs.Facts.{AreEnds}

@@ -4,8 +4,8 @@ use Rattle.cpe_rows.specs.After.{after}
 use Rattle.cpe_rows.specs.Changes.{change}
 use Rattle.cpe_rows.specs.declared.edit.Edit.TheVariants as edit
 use Rattle.product_orders.specs.Elements.{SameElements}
-use Rattle.numbered_names.specs.Shown.{holds_in, names_at}
-use Rattle.asked_names.specs.Asked.{names_kept}
+use Rattle.fact_laws.specs.Shown.{holds_in, names_at}
+use Rattle.fact_laws.specs.Asked.{names_kept}
 use Rattle.engine_parts.specs.Parts.{rows_in}
 use Rattle.engine_parts.proofs.PartsLemmas.{by_verdicts, no_others}
 use Rattle.made_edits.proofs.StatementLemmas.{put_told}

@@ -6,8 +6,8 @@ use Rattle.cpe_rows.specs.Rows.{has_id}
 use Rattle.cpe_rows.specs.declared.edit.Edit.TheVariants as edit
 use Rattle.product_orders.specs.Elements.{SameElements}
 use Rattle.name_index.specs.Table.{Names}
-use Rattle.numbered_names.specs.Shown.{holds_in, names_at}
-use Rattle.asked_names.specs.Asked.{names_kept}
+use Rattle.fact_laws.specs.Shown.{holds_in, names_at}
+use Rattle.fact_laws.specs.Asked.{names_kept}
 use Rattle.kept_verdicts.specs.Kept.{Stands}
 use Rattle.engine_parts.specs.Parts.{AreOf, rows_in}
 use Rattle.engine_parts.proofs.PartsLemmas.{no_others}

@@ -1,5 +1,5 @@
 use Rattle.std.proofs.Common.{List, ℕ, refl, subst}
-use Rattle.name_calls.specs.Told.{Fits}
+use Rattle.talks.specs.Told.{Fits}
 use Rattle.talks.specs.declared.talk.Talk.{Talk}
 use Rattle.talks.specs.declared.talk.Phase.TheVariants.{Ended}
 use Rattle.talks.proofs.Saying.{Ends-fits}

@@ -1,5 +1,5 @@
 use Rattle.std.proofs.Common.{List, ℕ, subst}
-use Rattle.name_calls.specs.Told.{Fits}
+use Rattle.talks.specs.Told.{Fits}
 use Rattle.talks.proofs.Saying.{Says-fits}
 use Rattle.talks.proofs.talk.say_line.Goals as goal
 

@@ -2,7 +2,7 @@ use Rattle.std.proofs.Common.{◌≡◌, ◌++◌, ◌∷◌, [], List, sym, ap,
 use Rattle.std.specs.Prelude.{OnOk}
 use Rattle.cpe_name.specs.Eleven.{Values}
 use Rattle.names_in_order.specs.InOrder.{names_numbered}
-use Rattle.numbered_names.specs.Shown.{holds_in, Shows}
+use Rattle.fact_laws.specs.Shown.{holds_in, Shows}
 use Rattle.cpe_dictionary.specs.Kept.{entries_in, names_of, new_entry, Stored}
 use Rattle.cpe_registry.specs.Registered.{AreHeld, name_in, Registered, registered}
 use Rattle.cpe_registry.proofs.FitLemmas.{on_err, on_ok}

@@ -3,7 +3,7 @@ use Rattle.std.specs.Prelude.{OnOk}
 use Rattle.cpe_name.specs.Eleven.{Values}
 use Rattle.name_index.specs.declared.table.NameId.{NameId}
 use Rattle.names_in_order.specs.InOrder.{names_numbered}
-use Rattle.numbered_names.specs.Shown.{holds_in, Shows}
+use Rattle.fact_laws.specs.Shown.{holds_in, Shows}
 use Rattle.cpe_dictionary.specs.Kept.{entries_in, names_of}
 use Rattle.cpe_registry.specs.Registered.{AreHeld, name_in, Registered}
 use Rattle.cpe_registry.proofs.FitLemmas.{on_err, on_ok}

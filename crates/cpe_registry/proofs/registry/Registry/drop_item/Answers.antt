@@ -4,7 +4,7 @@ use Rattle.cpe_name.specs.Eleven.{Values}
 use Rattle.name_index.specs.Table.{IsLive}
 use Rattle.names_in_order.proofs.ChangeLemmas.{name_among}
 use Rattle.names_in_order.specs.InOrder.{names_numbered, same_id}
-use Rattle.numbered_names.specs.Shown.{holds_in, Shows}
+use Rattle.fact_laws.specs.Shown.{holds_in, Shows}
 use Rattle.cpe_rows.specs.After.{without_first}
 use Rattle.cpe_rows.specs.Names.{is_same}
 use Rattle.cpe_dictionary.specs.Kept.{entries_in, names_of}

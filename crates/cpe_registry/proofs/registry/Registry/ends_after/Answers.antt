@@ -1,6 +1,6 @@
 use Rattle.std.proofs.Common.{sym, ap, ◌∙◌}
 use Rattle.std.proofs.lemmas.Result.{IfOk-weaker}
-use Rattle.numbered_names.specs.Shown.{names_at}
+use Rattle.fact_laws.specs.Shown.{names_at}
 use Rattle.cpe_registry.specs.Registered.{name_in}
 use Rattle.cpe_registry.proofs.EndLemmas.{alone_by, alone_live}
 use Rattle.cpe_registry.proofs.registry.Registry.ends_after.Goals as goal

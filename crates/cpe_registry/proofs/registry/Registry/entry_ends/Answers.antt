@@ -1,7 +1,7 @@
 use Rattle.std.proofs.Common.{◌≡◌, List, ap, subst, ◌∙◌}
 use Rattle.std.specs.Prelude.{IfOk}
 use Rattle.cpe_name.specs.Eleven.{Values}
-use Rattle.numbered_names.specs.Shown.{names_at}
+use Rattle.fact_laws.specs.Shown.{names_at}
 use Rattle.cpe_rows.specs.Chains.{ends}
 use Rattle.cpe_rows.specs.declared.entry.Entry.{Entry}
 use Rattle.cpe_dictionary.specs.Kept.{names_at as entry_names_at}

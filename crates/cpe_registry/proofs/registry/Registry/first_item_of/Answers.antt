@@ -5,7 +5,7 @@ use Rattle.cpe_name.specs.Eleven.{Values}
 use Rattle.cpe_rows.specs.Names.{is_same}
 use Rattle.name_index.specs.declared.table.NameId.{NameId}
 use Rattle.names_in_order.specs.InOrder.{same_id}
-use Rattle.numbered_names.specs.Shown.{names_at}
+use Rattle.fact_laws.specs.Shown.{names_at}
 use Rattle.cpe_registry.specs.Registered.{AreLive, name_in, Registered}
 use Rattle.cpe_registry.proofs.ItemLemmas.{first_numbered, found_live}
 use Rattle.cpe_registry.proofs.registry.Registry.first_item_of.Goals as goal

@@ -1,6 +1,6 @@
 use Rattle.std.proofs.Common.{◌≡◌, sym, ap, subst, ◌∙◌}
 use Rattle.std.proofs.lemmas.Result.{IfOk-weaker}
-use Rattle.numbered_names.specs.Shown.{names_at}
+use Rattle.fact_laws.specs.Shown.{names_at}
 use Rattle.cpe_dictionary.specs.Kept.{names_at as entry_names_at}
 use Rattle.cpe_registry.specs.Registered.{AreLive, Registered}
 use Rattle.cpe_registry.proofs.EndLemmas.{live_found, names_found}

@@ -1,7 +1,7 @@
 use Rattle.std.proofs.Common.{◌≡◌, drop, filter, take}
 use Rattle.std.specs.List.{list_any}
 use Rattle.cpe_rows.specs.Names.{is_same}
-use Rattle.numbered_names.specs.Shown.{names_at}
+use Rattle.fact_laws.specs.Shown.{names_at}
 use Rattle.cpe_registry.specs.Registered.{AreLive}
 use Rattle.cpe_registry.proofs.registry.Registry.items_among.Given as goal
 

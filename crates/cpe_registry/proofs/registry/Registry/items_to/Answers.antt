@@ -4,7 +4,7 @@ use Rattle.std.proofs.lemmas.Result.{IfOk-weaker}
 use Rattle.cpe_name.specs.Eleven.{Values}
 use Rattle.cpe_rows.specs.Names.{is_same}
 use Rattle.name_index.specs.declared.table.NameId.{NameId}
-use Rattle.numbered_names.specs.Shown.{names_at}
+use Rattle.fact_laws.specs.Shown.{names_at}
 use Rattle.cpe_registry.specs.Registered.{name_in}
 use Rattle.cpe_registry.proofs.ItemLemmas.{led_to_entry, led_to_other}
 use Rattle.cpe_registry.proofs.registry.Registry.items_to.Goals as goal

@@ -1,5 +1,5 @@
-use Rattle.numbered_names.specs.Shown.{holds_in}
-use Rattle.asked_names.specs.Asked.{names_kept}
+use Rattle.fact_laws.specs.Shown.{holds_in}
+use Rattle.fact_laws.specs.Asked.{names_kept}
 use Rattle.engine_parts.specs.Parts.{rows_in}
 use Rattle.engine_parts.proofs.PartsLemmas.{by_hold, few_holds}
 use Rattle.engine_parts.proofs.parts.Parts.hold_name.Goals as goal

@@ -2,8 +2,8 @@ use Rattle.std.proofs.Common.{arith, ◌++◌, List, [], sym, subst}
 use Rattle.std.proofs.lemmas.List.{append-nil}
 use Rattle.cpe_name.specs.Eleven.{Values}
 use Rattle.name_index.specs.declared.table.NameId.{NameId}
-use Rattle.numbered_names.specs.Shown.{names_at}
-use Rattle.asked_names.specs.Asked.{names_kept}
+use Rattle.fact_laws.specs.Shown.{names_at}
+use Rattle.fact_laws.specs.Asked.{names_kept}
 use Rattle.engine_parts.specs.Parts.{AreOf, rows_in}
 use Rattle.engine_parts.proofs.PartsLemmas.{no_others, rows_are}
 use Rattle.engine_parts.proofs.StatementLemmas.{few_facts}

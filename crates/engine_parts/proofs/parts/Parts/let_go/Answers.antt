@@ -1,5 +1,5 @@
 use Rattle.std.proofs.Common.{◌++◌, [], refl, sym, subst}
-use Rattle.numbered_names.specs.Shown.{names_at}
+use Rattle.fact_laws.specs.Shown.{names_at}
 use Rattle.cpe_registry.specs.Registered.{AreLive}
 use Rattle.engine_parts.specs.Numbered.{coming, numbers_of}
 use Rattle.engine_parts.specs.Parts.{AreOf, rows_in}

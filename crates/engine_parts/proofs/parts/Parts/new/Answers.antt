@@ -1,6 +1,6 @@
 use Rattle.std.proofs.Common.{ap, subst, ◌++◌}
 use Rattle.cpe_dictionary.specs.Kept.{names_of}
-use Rattle.numbered_names.specs.Shown.{holds_in, Shows}
+use Rattle.fact_laws.specs.Shown.{holds_in, Shows}
 use Rattle.cpe_registry.specs.Registered.{Registered}
 use Rattle.engine_parts.proofs.parts.Parts.new.Goals as goal
 

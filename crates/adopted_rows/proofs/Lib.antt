@@ -1,4 +1,0 @@
-pub mod PartLemmas
-pub mod Taken
-pub mod RowLemmas
-pub mod EditLemmas

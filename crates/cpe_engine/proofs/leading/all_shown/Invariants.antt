@@ -1,0 +1,18 @@
+use Rattle.std.proofs.Common.{drop, map, take}
+use Rattle.std.specs.Borrow.{Bor}
+use Rattle.std.specs.List.{AllByRecursion}
+use Rattle.cpe_name.specs.Eleven.{Values}
+use Rattle.cpe_name.specs.Lower.{IsLower}
+use Rattle.cpe_rows.specs.Rows.{Rows}
+use Rattle.fact_laws.specs.Shown.{names_at}
+use Rattle.cpe_registry.specs.Registered.{AreLive}
+use Rattle.kept_verdicts.specs.Leading.{AreOfRows}
+use Rattle.cpe_engine.specs.Shown.{AreShown}
+use Rattle.cpe_engine.proofs.leading.all_shown.Given as goal
+
+abbrev pub invariant-loop-name : goal.invariant-loop-name
+invariant-loop-name l = record {
+  rest : AllByRecursion IsLower (map (λ (n : Bor Values). n.now) (drop l.name-index l.names));
+  live : AreLive l.registry.table l.all.items;
+  items : (rows : Rows) → AreOfRows l.registry l.verdicts rows → AreShown rows l.relates (map (λ (n : Bor Values). n.now) (take l.name-index l.names)) (names_at l.registry.table l.all.items);
+}

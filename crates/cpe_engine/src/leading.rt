@@ -1,0 +1,184 @@
+// Where names lead, and the first item by the ends of both.
+ghost use Rattle.std.specs.Prelude.{◌≡◌, ◌∷◌, [], ℕ, IfOk, find, map, true, option_copied};
+ghost use Rattle.std.specs.List.{AllByRecursion, filter_map, list_any};
+ghost use Rattle.cpe_rows.specs.Prelude.{ends, is_followed, IsLower, Rows};
+ghost use Rattle.name_index.specs.Table.{IsLive};
+ghost use Rattle.fact_laws.specs.Shown.{names_at};
+ghost use Rattle.cpe_registry.specs.Registered.{AreLive, name_in};
+ghost use Rattle.kept_verdicts.specs.Leading.{AreItemsTo, AreOfRows};
+ghost use Rattle.checked_certificates.specs.Relates.{related};
+ghost use Rattle.cpe_engine.specs.Shown.{AreShown};
+
+use checked_certificates::Relates;
+use cpe_inventory::ItemSlots;
+use cpe_name::Wfn;
+use cpe_registry::Registry;
+use cpe_values::Memory;
+use kept_verdicts::KeptVerdicts;
+use name_index::NameId;
+use std::alloc::Global;
+
+fn alone<'a>(alloc: Global, name: &'a Wfn) -> Result<Vec<&'a Wfn>, Memory>
+    ensures { IfOk result (λ names. map (λ n. n.now) names.items ≡ name.now ∷ []) }
+{
+    let mut names = Vec::with_capacity(alloc, 1)?;
+    names.push(name)?;
+    Ok(names)
+}
+
+fn names_of<'a>(
+    registry: &'a Registry,
+    alloc: Global,
+    ids: &[NameId],
+) -> Result<Vec<&'a Wfn>, Memory>
+    requires { AreLive registry.now.table ids.now }
+    ensures { IfOk result (λ names. map (λ n. n.now) names.items ≡ names_at registry.now.table ids.now) }
+{
+    let mut names = Vec::with_capacity(alloc, ids.len())?;
+    for id in ids {
+        names.push(registry.name(*id))?;
+    }
+    Ok(names)
+}
+
+fn numbered_ends<'a>(
+    registry: &'a Registry,
+    alloc: Global,
+    id: NameId,
+) -> Result<Vec<&'a Wfn>, Memory>
+    requires { IsLive registry.now.table id.0 }
+    ensures { IfOk result (λ names. map (λ n. n.now) names.items ≡ ends registry.now.entries (name_in registry.now.table id)) }
+{
+    let ids = registry.ends_of(alloc, id)?;
+    names_of(registry, alloc, &ids)
+}
+
+/// The ends of a name, in the order of their entries.
+///
+/// # Errors
+/// Only that memory ran out.
+pub(crate) fn ends_of<'a>(
+    registry: &'a Registry,
+    alloc: Global,
+    name: &'a Wfn,
+) -> Result<Vec<&'a Wfn>, Memory>
+    ensures { IfOk result (λ names. map (λ n. n.now) names.items ≡ ends registry.now.entries name.now) }
+{
+    cpe_rows::law::absent_names_stand_alone();
+    match registry.find(name) {
+        Some(id) => numbered_ends(registry, alloc, id),
+        None => alone(alloc, name),
+    }
+}
+
+fn relates_to_one(relates: Relates, name: &Wfn, others: &[&Wfn]) -> bool
+    ensures { result ≡ list_any (λ other. related relates name.now other.now) others.now }
+{
+    others.iter().any(|other| relates.holds(name, *other))
+}
+
+fn one_relates(relates: Relates, names: &[&Wfn], others: &[&Wfn]) -> bool
+    ensures { result ≡ list_any (λ name. list_any (λ other. related relates name.now other.now) others.now) names.now }
+{
+    names
+        .iter()
+        .any(|name| relates_to_one(relates, *name, others))
+}
+
+// Whether one of these stands so to an end of an item.
+fn is_met(
+    registry: &Registry,
+    alloc: Global,
+    relates: Relates,
+    fact_ends: &[&Wfn],
+    item: &Wfn,
+) -> Result<bool, Memory>
+    ensures { IfOk result (λ met. met ≡ list_any (λ name. list_any (related relates name) (ends registry.now.entries item.now)) (map (λ n. n.now) fact_ends.now)) }
+{
+    let item_ends = ends_of(registry, alloc, item)?;
+    Ok(one_relates(relates, fact_ends, &item_ends))
+}
+
+/// The first item to an end of which some end of the name stands so. It goes over the items.
+///
+/// # Errors
+/// Only that memory ran out.
+pub(crate) fn first_followed<'t>(
+    registry: &Registry,
+    alloc: Global,
+    slots: &ItemSlots<'t>,
+    relates: Relates,
+    name: &Wfn,
+) -> Result<Option<&'t Wfn>, Memory>
+    ensures { IfOk result (λ item. option_copied item ≡ find (is_followed (related relates) registry.now.entries name.now) (filter_map (λ slot. slot) slots.now)) }
+{
+    let fact_ends = ends_of(registry, alloc, name)?;
+    for slot in 0..slots.len() {
+        if let Some(item) = slots.at(slot) {
+            if is_met(registry, alloc, relates, &fact_ends, item)? {
+                return Ok(Some(item));
+            }
+        }
+    }
+    Ok(None)
+}
+
+// The items to an end of which a name in lower case stands so.
+fn items_shown(
+    registry: &Registry,
+    verdicts: &KeptVerdicts,
+    alloc: Global,
+    relates: Relates,
+    name: &Wfn,
+) -> Result<Vec<NameId>, Memory>
+    requires lower { IsLower name.now }
+    requires stood { (rows : Rows) × AreOfRows registry.now verdicts.now rows }
+    ensures live { IfOk result (λ v. AreLive registry.now.table v.items) }
+    ensures items { (rows : Rows) → AreOfRows registry.now verdicts.now rows → IfOk result (λ v. AreItemsTo rows (related relates name.now) (names_at registry.now.table v.items)) }
+{
+    match relates {
+        Relates::Covers => verdicts.items_covered(alloc, registry, name),
+        Relates::MayCover => verdicts.items_maybe(alloc, registry, name),
+    }
+}
+
+// The items to an end of which one of these names stands so.
+fn all_shown(
+    registry: &Registry,
+    verdicts: &KeptVerdicts,
+    alloc: Global,
+    relates: Relates,
+    names: &[&Wfn],
+) -> Result<Vec<NameId>, Memory>
+    requires lower { AllByRecursion IsLower (map (λ n. n.now) names.now) }
+    requires stood { (rows : Rows) × AreOfRows registry.now verdicts.now rows }
+    ensures live { IfOk result (λ v. AreLive registry.now.table v.items) }
+    ensures items { (rows : Rows) → AreOfRows registry.now verdicts.now rows → IfOk result (λ v. AreShown rows relates (map (λ n. n.now) names.now) (names_at registry.now.table v.items)) }
+{
+    let mut all = Vec::new(alloc);
+    for name in names {
+        let items = items_shown(registry, verdicts, alloc, relates, *name)?;
+        all.extend_from_slice(&items)?;
+    }
+    Ok(all)
+}
+
+/// The first item to an end of which some end of a name in lower case stands so. It is found by the products of these ends.
+///
+/// # Errors
+/// Only that memory ran out.
+pub(crate) fn first_shown<'a>(
+    registry: &'a Registry,
+    verdicts: &KeptVerdicts,
+    alloc: Global,
+    relates: Relates,
+    name: &Wfn,
+) -> Result<Option<&'a Wfn>, Memory>
+    requires lower { IsLower name.now }
+    requires stood { (rows : Rows) × AreOfRows registry.now verdicts.now rows }
+    ensures { (rows : Rows) → AreOfRows registry.now verdicts.now rows → IfOk result (λ item. option_copied item ≡ find (is_followed (related relates) rows.entries name.now) rows.items) }
+{
+    let ends = ends_of(registry, alloc, name)?;
+    let items = all_shown(registry, verdicts, alloc, relates, &ends)?;
+    Ok(registry.first_item_of(&items))
+}

@@ -1,0 +1,71 @@
+// Items by their slots, and the first to which a name stands so.
+ghost use Rattle.std.specs.Prelude.{◌≡◌, IfOk, find, length, slice_get, filter_map, option_copied};
+ghost use Rattle.cpe_name.specs.Lower.{IsLower};
+ghost use Rattle.checked_certificates.specs.Relates.{related};
+
+use checked_certificates::Relates;
+use cpe_inventory::ItemSlots;
+use cpe_name::Wfn;
+use cpe_values::Memory;
+use items_in_order::Items;
+use std::alloc::Global;
+
+// The item at a place, where some slots may be empty.
+fn nth_item<'t>(slots: &ItemSlots<'t>, k: usize) -> Option<&'t Wfn>
+    ensures { option_copied result ≡ slice_get (filter_map (λ slot. slot) slots.now) k }
+{
+    let mut left = k;
+    for slot in 0..slots.len() {
+        if let Some(item) = slots.at(slot) {
+            if left == 0 {
+                return Some(item);
+            }
+            left -= 1;
+        }
+    }
+    None
+}
+
+/// The item at a place, where some slots may be empty, and it is known how many items there are: where no slot is empty it is found in one step.
+pub(crate) fn item_of<'t>(slots: &ItemSlots<'t>, count: usize, k: usize) -> Option<&'t Wfn>
+    requires { count ≡ length (filter_map (λ slot. slot) slots.now) }
+    ensures { option_copied result ≡ slice_get (filter_map (λ slot. slot) slots.now) k }
+{
+    if slots.len() == count {
+        return slots.at(k);
+    }
+    nth_item(slots, k)
+}
+
+/// The first item to which a name in lower case stands so. It is found by the name's product.
+///
+/// # Errors
+/// Only that memory ran out.
+pub(crate) fn first_by_product<'t>(
+    items: &Items<'t>,
+    alloc: Global,
+    relates: Relates,
+    name: &Wfn,
+) -> Result<Option<&'t Wfn>, Memory>
+    requires { IsLower name.now }
+    ensures { IfOk result (λ item. option_copied item ≡ find (related relates name.now) items.now) }
+{
+    match relates {
+        Relates::Covers => items.first_covered(alloc, name),
+        Relates::MayCover => items.first_maybe(alloc, name),
+    }
+}
+
+/// The first item to which a name stands so. It goes over the items.
+pub(crate) fn first_related<'t>(slots: &ItemSlots<'t>, relates: Relates, name: &Wfn) -> Option<&'t Wfn>
+    ensures { option_copied result ≡ find (related relates name.now) (filter_map (λ slot. slot) slots.now) }
+{
+    for slot in 0..slots.len() {
+        if let Some(item) = slots.at(slot) {
+            if relates.holds(name, item) {
+                return Some(item);
+            }
+        }
+    }
+    None
+}

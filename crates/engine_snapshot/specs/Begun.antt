@@ -1,0 +1,57 @@
+-- Rows that an engine puts one after the other.
+use Rattle.std.specs.Prelude.{◌≡◌, ◌++◌, List, true, Ok}
+use Rattle.cpe_name.specs.Eleven.{Values}
+use Rattle.std.specs.List.{list_all}
+use Rattle.cpe_rows.specs.After.{after}
+use Rattle.cpe_rows.specs.Lawful.{are_different, is_entry_name}
+use Rattle.cpe_rows.specs.Limits.{AreWithin}
+use Rattle.cpe_rows.specs.Rows.{Rows, no_rows, is_named}
+use Rattle.cpe_rows.specs.Step.{step}
+use Rattle.cpe_rows.specs.Valid.{is_valid_edit}
+use Rattle.cpe_rows.specs.declared.edit.Edit.{Edit}
+use Rattle.cpe_rows.specs.declared.entry.Entry.{Entry}
+use Rattle.cpe_rows.specs.declared.fault.EditFault.{EditFault}
+use Rattle.cpe_rows.specs.declared.fault.EditFault.TheVariants as edit
+use Rattle.cpe_rows.specs.declared.statement.Statement.{Statement}
+use Rattle.cpe_rows.specs.declared.test.CheckKey.{CheckKey}
+use Rattle.cpe_rows.specs.declared.truth.Truth.{Truth}
+use Rattle.cpe_engine.specs.declared.adopting.AdoptFault.{AdoptFault}
+use Rattle.cpe_engine.specs.declared.adopting.AdoptFault.TheVariants.{Unlawful, Memory}
+
+-- ---- more rows behind those that are there
+
+abbrev pub with_entries : Rows → List Entry → Rows
+with_entries rows es = record rows { entries = rows.entries ++ es }
+
+abbrev pub with_items : Rows → List Values → Rows
+with_items rows ns = record rows { items = rows.items ++ ns }
+
+abbrev pub with_statements : Rows → List Statement → Rows
+with_statements rows ss = record rows { statements = rows.statements ++ ss }
+
+abbrev pub with_checks : Rows → List (CheckKey × Truth) → Rows
+with_checks rows cs = record rows { checks = rows.checks ++ cs }
+
+-- entries and nothing else
+abbrev pub entries_alone : List Entry → Rows
+entries_alone es = record no_rows { entries = es }
+
+-- ---- entries that may be put one after the other
+
+-- as active ones: their names are those of entries, and differ, and they are no more than may be
+pub record AreFine (rows : Rows) : Type 0 where
+  pub names : list_all (λ e. is_entry_name e.name) rows.entries ≡ true
+  pub names_differ : are_different (λ e. is_named e.name) rows.entries ≡ true
+  pub within : AreWithin rows
+
+-- ---- an edit that puts one
+
+-- it is in order and has no fault
+pub record IsTaken (rows : Rows) (e : Edit) : Type 0 where
+  pub valid : is_valid_edit e ≡ true
+  pub taken : step rows e ≡ Ok (after rows e)
+
+-- what isn't taken is no part of lawful rows
+abbrev pub adopt_fault : EditFault → AdoptFault
+adopt_fault edit.Memory = Memory
+adopt_fault f = Unlawful

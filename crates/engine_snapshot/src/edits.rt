@@ -1,0 +1,99 @@
+// The edits that put rows. Each puts one row, and is taken if the rows that are meant are lawful.
+ghost use Rattle.std.specs.Prelude.{◌≡◌, ◌∷◌, [], IfErr, List as Items, OnErr, OnOk, true};
+ghost use Rattle.cpe_rows.specs.Prelude.{after, is_valid_edit, IsLawful};
+ghost use Rattle.cpe_rows.specs.declared.test.CheckKey.{CheckKey as KeyRow};
+ghost use Rattle.cpe_rows.specs.declared.truth.Truth.{Truth as TruthRow};
+ghost use Rattle.cpe_snapshot.specs.States.{pair_of};
+ghost use Rattle.engine_snapshot.specs.Begun.{adopt_fault, IsTaken, with_checks};
+
+use cpe_engine::{AdoptFault, Engine};
+use cpe_rows::{Edit, EditFault};
+use cpe_snapshot::KeptResult;
+use cpe_steps::Steps;
+use std::sync::ledger::Ledger;
+
+// Lets an edit go that isn't in order, or a key for which a result is kept already.
+fn refuse<T: Drop>(refused: T) -> AdoptFault
+    ensures { result ≡ AdoptFault.Unlawful }
+{
+    drop(refused);
+    AdoptFault::Unlawful
+}
+
+fn fault_of(fault: EditFault) -> AdoptFault
+    ensures { result ≡ adopt_fault fault }
+{
+    match fault {
+        EditFault::Memory => AdoptFault::Memory,
+        other => {
+            drop(other);
+            AdoptFault::Unlawful
+        }
+    }
+}
+
+/// Makes an edit that is in order.
+///
+/// # Errors
+/// The edit has a fault, or memory ran out; the rows are then as they were.
+pub(crate) fn make_valid<L: Ledger>(
+    engine: &mut Engine,
+    edit: Edit,
+    steps: &mut Steps<L>,
+) -> Result<(), AdoptFault>
+    requires { is_valid_edit edit ≡ true }
+    ensures taken { OnOk result (IsTaken engine.old edit) }
+    ensures ok { OnOk result (engine.new ≡ after engine.old edit) }
+    ensures err { OnErr result (engine.new ≡ engine.old) }
+    ensures unlawful { IfErr result (λ f. f ≡ AdoptFault.Unlawful → IsTaken engine.old edit → ⊥) }
+{
+    match engine.apply(edit, steps) {
+        Ok(changes) => {
+            drop(changes);
+            Ok(())
+        }
+        Err(fault) => Err(fault_of(fault)),
+    }
+}
+
+/// Makes an edit, if it is in order.
+///
+/// # Errors
+/// The edit isn't in order or has a fault, or memory ran out; the rows are then as they were.
+pub(crate) fn make<L: Ledger>(
+    engine: &mut Engine,
+    edit: Edit,
+    steps: &mut Steps<L>,
+) -> Result<(), AdoptFault>
+    ensures taken { OnOk result (IsTaken engine.old edit) }
+    ensures ok { OnOk result (engine.new ≡ after engine.old edit) }
+    ensures err { OnErr result (engine.new ≡ engine.old) }
+    ensures unlawful { IfErr result (λ f. f ≡ AdoptFault.Unlawful → IsTaken engine.old edit → ⊥) }
+{
+    if edit.valid() {
+        make_valid(engine, edit, steps)
+    } else {
+        Err(refuse(edit))
+    }
+}
+
+/// Puts this result last, of a key for which none is kept.
+///
+/// # Errors
+/// A result is kept for the key, so no lawful rows have this one next, or there are too many, or memory ran out; the rows are then as they
+/// were.
+pub(crate) fn add_check<L: Ledger>(
+    engine: &mut Engine,
+    kept: KeptResult,
+    steps: &mut Steps<L>,
+) -> Result<(), AdoptFault>
+    ensures ok { OnOk result (engine.new ≡ with_checks engine.old (pair_of kept ∷ [])) }
+    ensures err { OnErr result (engine.new ≡ engine.old) }
+    ensures unlawful { IfErr result (λ f. f ≡ AdoptFault.Unlawful → (more : Items (KeyRow × TruthRow)) → IsLawful (with_checks engine.old (pair_of kept ∷ more)) → ⊥) }
+{
+    let KeptResult { key, result } = kept;
+    if engine.has_check(&key) {
+        return Err(refuse(key));
+    }
+    make(engine, Edit::SetCheck { key, result }, steps)
+}

@@ -1,0 +1,10 @@
+pub mod Names
+pub mod Moves
+pub mod Facts
+pub mod Kept
+pub mod Sources
+pub mod Few
+pub mod Counted
+pub mod Shown
+pub mod Tables
+pub mod Different

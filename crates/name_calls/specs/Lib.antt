@@ -1,4 +1,0 @@
-pub mod Told
-pub mod Forms
-pub mod Pairs
-pub mod Compared

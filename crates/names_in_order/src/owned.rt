@@ -1,0 +1,81 @@
+// A name is put last, into the table and into the list that has it for itself.
+ghost use Rattle.std.specs.Prelude.{◌≡◌, ◌++◌, ◌∷◌, [], OnOk, OnErr, false};
+ghost use Rattle.std.specs.List.{list_any};
+ghost use Rattle.name_index.specs.Prelude.{IsLive, IsLower, kept_at, same_name};
+ghost use Rattle.names_in_order.specs.InOrder.{AreInOrder, Roll, names_numbered};
+ghost use Rattle.names_in_order.specs.Owned.{AreOwn, IsNew};
+
+use crate::changing::ChangingNames;
+use crate::growing::GrowingNames;
+use cpe_name::Wfn;
+use cpe_values::Memory;
+use name_index::{NameId, NameTable};
+
+/// Names in an order, by their numbers in a table, after which one more may be put.
+pub trait PushHeld {
+    /// What its index holds, and the numbers.
+    ghost roll: { Self → Roll };
+
+    /// Puts a number of the table last whose name isn't there.
+    ///
+    /// # Errors
+    /// Only that memory ran out; the numbers are then as they were.
+    fn push_held(&mut self, table: &NameTable, id: NameId) -> Result<(), Memory>
+        requires order { AreInOrder table.now (roll self.old).held (roll self.old).numbers }
+        requires live { IsLive table.now id.0 }
+        requires fresh { list_any (same_name (kept_at table.now id.0).name) (names_numbered table.now (roll self.old).numbers) ≡ false }
+        ensures order { AreInOrder table.now (roll self.new).held (roll self.new).numbers }
+        ensures ok { OnOk result ((roll self.new).numbers ≡ (roll self.old).numbers ++ id ∷ []) }
+        ensures err { OnErr result (roll self.new ≡ roll self.old) };
+}
+
+impl PushHeld for GrowingNames {
+    ghost roll = { λ n. n };
+
+    fn push_held(&mut self, table: &NameTable, id: NameId) -> Result<(), Memory> {
+        self.push(table, id)
+    }
+}
+
+impl PushHeld for ChangingNames {
+    ghost roll = { λ n. n };
+
+    fn push_held(&mut self, table: &NameTable, id: NameId) -> Result<(), Memory> {
+        self.push(table, id)
+    }
+}
+
+// Puts a held number last, or lets its name go where memory ran out.
+fn put_last<N: PushHeld>(table: &mut NameTable, names: &mut N, id: NameId) -> Result<(), Memory>
+    requires own { IsNew table.old (N.roll names.old).held (N.roll names.old).numbers id }
+    ensures own { AreOwn table.new (N.roll names.new).held (N.roll names.new).numbers }
+    ensures ok { OnOk result (names_numbered table.new (N.roll names.new).numbers ≡ names_numbered table.old (N.roll names.old).numbers ++ (kept_at table.old id.0).name ∷ []) }
+    ensures err { OnErr result (names_numbered table.new (N.roll names.new).numbers ≡ names_numbered table.old (N.roll names.old).numbers) }
+{
+    names_in_order::law::orders_stay();
+    match names.push_held(table, id) {
+        Ok(()) => Ok(()),
+        Err(memory) => {
+            table.release(id);
+            Err(memory)
+        }
+    }
+}
+
+/// Puts a name in lower case last that is new. The name is moved.
+///
+/// # Errors
+/// Only that memory ran out; the names are then as they were.
+pub fn add_name<N: PushHeld>(table: &mut NameTable, names: &mut N, name: Wfn) -> Result<(), Memory>
+    requires own { AreOwn table.old (N.roll names.old).held (N.roll names.old).numbers }
+    requires lower { IsLower name }
+    requires fresh { list_any (same_name name) (names_numbered table.old (N.roll names.old).numbers) ≡ false }
+    ensures own { AreOwn table.new (N.roll names.new).held (N.roll names.new).numbers }
+    ensures ok { OnOk result (names_numbered table.new (N.roll names.new).numbers ≡ names_numbered table.old (N.roll names.old).numbers ++ name ∷ []) }
+    ensures err { OnErr result (names_numbered table.new (N.roll names.new).numbers ≡ names_numbered table.old (N.roll names.old).numbers) }
+{
+    name_index::law::fitting_laws();
+    names_in_order::law::orders_stay();
+    let id = table.hold_moved(name)?;
+    put_last(table, names, id)
+}

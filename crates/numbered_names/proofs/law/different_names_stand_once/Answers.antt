@@ -1,5 +1,0 @@
-use Rattle.numbered_names.proofs.Different.{fewer_different, less_different, once_different, one_once}
-use Rattle.numbered_names.proofs.law.different_names_stand_once.Goals as goal
-
-pub returns : goal.returns
-returns c = record { once = one_once; few = fewer_different; numbers = once_different; less = less_different }

@@ -1,8 +1,0 @@
-use Rattle.numbered_names.proofs.Tables.{held_list, released_list}
-use Rattle.numbered_names.proofs.law.tables_are_lists.Goals as goal
-
-pub returns-clause-held : goal.returns-clause-held
-returns-clause-held c old new id name list h = held_list old new id name h list
-
-pub returns-clause-released : goal.returns-clause-released
-returns-clause-released c old new id name list are has r s = released_list old new id r name list are has s

@@ -1,3 +1,0 @@
-pub mod SlotLemmas
-pub mod ShownLemmas
-pub mod UseLemmas

@@ -1,7 +1,0 @@
-use Rattle.cpe_rows.specs.Verdict.{is_followed}
-use Rattle.checked_certificates.specs.Relates.{related}
-use Rattle.shown_items.proofs.SlotLemmas.{IsLeft}
-use Rattle.shown_items.proofs.leading.first_followed.Given as goal
-
-abbrev pub invariant-loop-slot : goal.invariant-loop-slot
-invariant-loop-slot l = IsLeft (is_followed (related l.relates) l.registry.entries l.name) l.slots l.slot

@@ -1,8 +1,0 @@
-use Rattle.std.proofs.Common.{◌≡◌, map, take}
-use Rattle.std.specs.Borrow.{Bor}
-use Rattle.cpe_name.specs.Eleven.{Values}
-use Rattle.numbered_names.specs.Shown.{names_at}
-use Rattle.shown_items.proofs.leading.names_of.Given as goal
-
-abbrev pub invariant-loop-id : goal.invariant-loop-id
-invariant-loop-id l = map (λ (n : Bor Values). n.now) l.names.items ≡ names_at l.registry.table (take l.id-index l.ids)

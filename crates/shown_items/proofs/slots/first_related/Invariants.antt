@@ -1,6 +1,0 @@
-use Rattle.checked_certificates.specs.Relates.{related}
-use Rattle.shown_items.proofs.SlotLemmas.{IsLeft}
-use Rattle.shown_items.proofs.slots.first_related.Given as goal
-
-abbrev pub invariant-loop-slot : goal.invariant-loop-slot
-invariant-loop-slot l = IsLeft (related l.relates l.name) l.slots l.slot

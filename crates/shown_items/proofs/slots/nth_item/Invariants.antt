@@ -1,5 +1,0 @@
-use Rattle.shown_items.proofs.SlotLemmas.{IsNth}
-use Rattle.shown_items.proofs.slots.nth_item.Given as goal
-
-abbrev pub invariant-loop-slot : goal.invariant-loop-slot
-invariant-loop-slot l = IsNth l.slots l.k l.slot l.left

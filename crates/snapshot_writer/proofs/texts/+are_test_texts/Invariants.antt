@@ -1,7 +1,0 @@
-use Rattle.std.proofs.Common.{take}
-use Rattle.std.specs.List.{AllByRecursion, flat_map}
-use Rattle.cpe_snapshot.specs.States.{IsTextKey, keys_of}
-use Rattle.snapshot_writer.proofs.texts.+are_test_texts.Given as goal
-
-abbrev pub invariant-loop-child : goal.invariant-loop-child
-invariant-loop-child l = AllByRecursion IsTextKey (flat_map keys_of (take l.child-index l.child-items))

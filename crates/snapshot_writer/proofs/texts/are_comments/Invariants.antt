@@ -1,8 +1,0 @@
-use Rattle.std.proofs.Common.{take}
-use Rattle.std.specs.List.{AllByRecursion}
-use Rattle.cpe_rows.specs.declared.entry.Note.{Note}
-use Rattle.cpe_snapshot.specs.States.{IsString}
-use Rattle.snapshot_writer.proofs.texts.are_comments.Given as goal
-
-abbrev pub invariant-loop-note : goal.invariant-loop-note
-invariant-loop-note l = AllByRecursion (λ (n : Note). IsString n.comment) (take l.note-index l.notes)

@@ -1,0 +1,86 @@
+// A name in another form.
+ghost use Rattle.std.specs.Prelude.{◌≡◌, ◌≤◌, ◌+◌, ◌-◌, ◌*◌, ◌^◌, min, IfOk, MatchResult, Ok, Err, length, take};
+ghost use Rattle.cpe_uri.specs.declared.TheConstants.{UNBOUND_FRAME};
+ghost use Rattle.talks.specs.Forms.{form_of};
+ghost use Rattle.talks.specs.Told.{Fits, Gives};
+
+use crate::told::Told;
+use cpe_fs::write_bound;
+use cpe_room::put;
+use cpe_uri::{UNBOUND_FRAME, write_bound_uri, write_unbound_any};
+use std::alloc::Global;
+
+/// The form in which a name is written.
+#[derive(Clone, Copy)]
+pub enum Form {
+    /// The text of the well-formed name, of a formatted string or a URI.
+    Wfn,
+    /// The formatted string, of the text of a well-formed name.
+    Fs,
+    /// The canonical URI, of the text of a well-formed name.
+    Uri,
+}
+
+/// Writes a name in a form, of its text in another (NIST IR 7695, 6.1 and 6.2).
+///
+/// Where no name has the text the place of the refusal is told, and 0 where it has none. Where what is to be written is longer than
+/// `out`, nothing is written, and its length is told. Memory is taken only where `out` has no room for the longest form that a text of this
+/// length may have.
+pub fn give_form(alloc: Global, form: Form, text: &[u8], out: &mut [u8]) -> Told
+    ensures { Gives (form_of form text.now) out.old out.new result }
+{
+    let most = most_of(text);
+    if most <= out.len() {
+        return match write_form(form, out, text) {
+            Ok(end) => Told::Done(end),
+            Err(place) => Told::Refused(place),
+        };
+    }
+    match Vec::from_elem(alloc, 0u8, most) {
+        Ok(mut room) => give_by_room(form, text, &mut room, out),
+        Err(_) => Told::Memory,
+    }
+}
+
+// So many bytes are room enough for any form, or as many as can be told.
+fn most_of(text: &[u8]) -> usize
+    ensures { result ≡ min (3 * length text.now + UNBOUND_FRAME) (2 ^ 64 - 1) }
+{
+    text.len().saturating_mul(3).saturating_add(UNBOUND_FRAME)
+}
+
+// Writes the form into a room that is long enough, and then into what C gave.
+fn give_by_room(form: Form, text: &[u8], room: &mut [u8], out: &mut [u8]) -> Told
+    requires { 3 * length text.now + UNBOUND_FRAME ≤ length room.old }
+    ensures { Gives (form_of form text.now) out.old out.new result }
+{
+    match write_form(form, room, text) {
+        Ok(end) => give(&room[..end], out),
+        Err(place) => Told::Refused(place),
+    }
+}
+
+// No form has more than three bytes for each of the text, and those of the frame.
+fn write_form(form: Form, room: &mut [u8], text: &[u8]) -> Result<usize, usize>
+    requires { 3 * length text.now + UNBOUND_FRAME ≤ length room.old }
+    ensures form { MatchResult result (λ end. form_of form text.now ≡ Ok (take end room.new)) (λ place. form_of form text.now ≡ Err place) }
+    ensures within { IfOk result (λ end. end ≤ length room.old) }
+    ensures length { length room.new ≡ length room.old }
+{
+    match form {
+        Form::Wfn => write_unbound_any(room, 0, text),
+        Form::Fs => write_bound(room, 0, text).ok_or(0),
+        Form::Uri => write_bound_uri(room, 0, text).ok_or(0),
+    }
+}
+
+/// Gives a text to C: writes it at the start of `out`, or tells how long it is.
+pub fn give(text: &[u8], out: &mut [u8]) -> Told
+    ensures { Fits text.now out.old out.new result }
+{
+    if text.len() <= out.len() {
+        Told::Done(put(out, 0, text))
+    } else {
+        Told::Short(text.len())
+    }
+}
