@@ -52,7 +52,7 @@ fn put_last<N: PushHeld>(table: &mut NameTable, names: &mut N, id: NameId) -> Re
     ensures ok { OnOk result (names_numbered table.new (N.roll names.new).numbers ≡ names_numbered table.old (N.roll names.old).numbers ++ (kept_at table.old id.0).name ∷ []) }
     ensures err { OnErr result (names_numbered table.new (N.roll names.new).numbers ≡ names_numbered table.old (N.roll names.old).numbers) }
 {
-    names_in_order::law::orders_stay();
+    crate::law::orders_stay();
     match names.push_held(table, id) {
         Ok(()) => Ok(()),
         Err(memory) => {
@@ -75,7 +75,7 @@ pub fn add_name<N: PushHeld>(table: &mut NameTable, names: &mut N, name: Wfn) ->
     ensures err { OnErr result (names_numbered table.new (N.roll names.new).numbers ≡ names_numbered table.old (N.roll names.old).numbers) }
 {
     name_index::law::fitting_laws();
-    names_in_order::law::orders_stay();
+    crate::law::orders_stay();
     let id = table.hold_moved(name)?;
     put_last(table, names, id)
 }
