@@ -3,6 +3,8 @@ pub mod Lists
 pub mod LineLemmas
 pub mod LowerNames
 pub mod YieldLemmas
+pub mod ReadLemmas
+pub mod NamesRead
 pub mod FilledNames
 pub mod Depths
 pub mod DraftDepth
@@ -11,4 +13,5 @@ pub mod FormedTests
 pub mod InTurn
 pub mod SoundTests
 pub mod StatementTests
+pub mod BuiltTests
 pub mod TestsRead

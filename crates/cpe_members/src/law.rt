@@ -1,12 +1,23 @@
 // Laws of the definitions. These functions do nothing: their clauses are the laws.
-ghost use Rattle.std.specs.Prelude.{◌≡◌, codes};
-ghost use Rattle.serde_json.specs.Data.{Members, object};
+ghost use Rattle.std.specs.Prelude.{◌≡◌, codes, IfOk};
+ghost use Rattle.std.specs.List.{AllByRecursion};
+ghost use Rattle.serde_json.specs.Data.{Data, Members, object};
 ghost use Rattle.serde_json.specs.Find.{get};
-ghost use Rattle.cpe_members.specs.Tests.{children_at, children_in};
+ghost use Rattle.cpe_name.specs.Names.{IsName};
+ghost use Rattle.cpe_rows.specs.FactNames.{fact_names};
+ghost use Rattle.cpe_members.specs.Names.{name_at, successors_at};
+ghost use Rattle.cpe_members.specs.Tests.{children_at, children_in, test_at};
 ghost use Rattle.cpe_members.specs.declared.format.Format.{Format};
 
 /// The children of a logical test are those in the value that its object has at the key `of`, whatever else stands before or after
 /// it; an object without this key is refused.
 pub fn children_stand_at_of()
     ensures { (f : Format) (ms : Members) → children_in f ms ≡ children_at f (get (codes "of") (object ms)) }
+{}
+
+/// Names that are read are well-formed (NIST IR 7695, 5): that of a record, its successors, and those of its test.
+pub fn names_are_formed()
+    ensures name { (f : Format) (d : Data) → IfOk (name_at f d) IsName }
+    ensures successors { (f : Format) (d : Data) → IfOk (successors_at f d) (AllByRecursion IsName) }
+    ensures test { (f : Format) (d : Data) → IfOk (test_at f d) (λ t. AllByRecursion IsName (fact_names t)) }
 {}

@@ -1,6 +1,4 @@
-mod Reads
 mod Strings
-mod NamesRead
 mod TestReads
 mod RecordReads
 mod Kept

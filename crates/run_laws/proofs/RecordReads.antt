@@ -50,16 +50,14 @@ use Rattle.cpe_records.specs.declared.read.Record.TheVariants.{Edit as AnEdit, Q
 use Rattle.cpe_records.specs.declared.record_kind.RecordKind.{RecordKind}
 use Rattle.cpe_records.specs.declared.record_kind.RecordKind.TheVariants as record_kind
 use Rattle.cpe_snapshot.specs.States.{IsString, IsTextEntry, IsTextKey, IsTextStatement, keys_of}
+use Rattle.run_laws.specs.Read.{IsReadTest}
 use Rattle.run_laws.specs.Texts.{IsTextEdit}
-use Rattle.run_laws.proofs.Reads.{then_if, behind_if, all_if, required_if, some_if, tested_if}
+use Rattle.cpe_members.proofs.ReadLemmas.{then_if, behind_if, all_if, required_if, some_if, tested_if}
 use Rattle.run_laws.proofs.Strings.{get_has, text_in_is, text_at_is, text_or_empty_is, list_or_empty_has, empty_is}
-use Rattle.run_laws.proofs.NamesRead.{name_is, successors_are}
-use Rattle.run_laws.proofs.TestReads.{IsReadTest, test_is}
+use Rattle.cpe_members.proofs.NamesRead.{name_is, successors_are}
+use Rattle.run_laws.proofs.TestReads.{test_is}
 
 -- ---- members
-
-yes : (b : Bool) → b ≡ true → IsTrue b
-yes b e = subst IsTrue (sym e) tt
 
 date_is : (m : Member) (d : Data) → HasTexts d → IfOk (date_at m d) (λ date. IsTrue (is_date date))
 date_is m d h =
@@ -69,7 +67,7 @@ date_is m d h =
     dated : (s : List ℕ) → IsString s → IfSome (tested is_date s) (λ date. IsTrue (is_date date))
     dated s k = by (tested is_date s) (tested_if is_date IsString s k) where
       by : (o : Option (List ℕ)) → IfSome o (λ t. IsString t × (is_date t ≡ true)) → IfSome o (λ date. IsTrue (is_date date))
-      by (Some t) both = yes (is_date t) both.1
+      by (Some t) both = both.1
       by None both = tt
 
 id_is : (d : Data) → HasTexts d → IfOk (id_at d) IsString

@@ -15,7 +15,7 @@ use Rattle.cpe_members.specs.Keys.{key_of}
 use Rattle.cpe_members.specs.declared.member.Member.{Member}
 use Rattle.cpe_members.specs.declared.member.RecordFault.{RecordFault}
 use Rattle.cpe_snapshot.specs.States.{IsString}
-use Rattle.run_laws.proofs.Reads.{required_if, some_if, map_if, default_if}
+use Rattle.cpe_members.proofs.ReadLemmas.{required_if, some_if, map_if, default_if}
 
 members_have : (k : List ℕ) (ms : Members) → MembersHaveTexts ms → IfSome (get_member k ms) HasTexts
 members_have k no_members h = tt

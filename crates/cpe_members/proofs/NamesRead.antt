@@ -1,7 +1,7 @@
 -- Names that are read of records are well-formed (NIST IR 7695, 5).
-use Rattle.std.proofs.Common.{◌≡◌, ℕ, List, [], ◌∷◌, Bool, true, false, Option, Some, None, IfSome, if◌then◌else◌, codes, refl, sym, ap, ◌∙◌, subst}
-use Rattle.std.specs.Prelude.{Result, Ok, Err, IfOk, IsTrue, MatchBool, option_and_then, unwrap_or, is_none, is_some, find, map}
-use Rattle.std.specs.List.{AllByRecursion, list_all}
+use Rattle.std.proofs.Common.{◌≡◌, ℕ, List, [], ◌∷◌, Bool, true, false, Option, Some, None, IfSome, if◌then◌else◌, codes, refl}
+use Rattle.std.specs.Prelude.{Result, Ok, Err, IfOk, MatchBool, option_and_then, unwrap_or, is_none, is_some, find}
+use Rattle.std.specs.List.{AllByRecursion}
 use Rattle.serde_json.specs.Data.{Data}
 use Rattle.serde_json.specs.Find.{get, as_str, as_object}
 use Rattle.cpe_values.specs.declared.value.Value.{Value}
@@ -11,13 +11,12 @@ use Rattle.cpe_name.specs.declared.attribute.Attribute.{Attribute}
 use Rattle.cpe_name.specs.declared.attribute.Attribute.TheVariants.{Part, Vendor, Product, Version, Update, Edition, Language, SwEdition, TargetSw, TargetHw, Other}
 use Rattle.cpe_name.specs.Eleven.{Values}
 use Rattle.cpe_name.specs.Names.{attributes, Suits, IsName}
-use Rattle.cpe_name.specs.Shapes.{is_part, is_language}
 use Rattle.cpe_name.specs.Text.{attribute_name}
 use Rattle.cpe_name.proofs.LowerNames.{lower_lawful}
 use Rattle.cpe_fs.specs.Component.{read_component}
 use Rattle.cpe_fs.specs.Grammar.{Fs}
 use Rattle.cpe_fs.proofs.Components.{read_has}
-use Rattle.cpe_uri.specs.EitherBinding.{begins_as_uri, UriOrFs, read_any}
+use Rattle.cpe_uri.specs.EitherBinding.{begins_as_uri, read_any}
 use Rattle.cpe_uri.specs.Grammar.{Uri}
 use Rattle.cpe_uri.proofs.EitherBinding.{either}
 use Rattle.cpe_members.specs.Forms.{required, or_default, member_at, list_or_empty}
@@ -31,8 +30,7 @@ use Rattle.cpe_members.specs.declared.member.NameSpot.{NameSpot}
 use Rattle.cpe_members.specs.declared.member.NameSpot.TheVariants as spot
 use Rattle.cpe_members.specs.declared.member.NotName.{NotName}
 use Rattle.cpe_members.specs.declared.member.NotName.TheVariants as not_name
-use Rattle.cpe_members.specs.declared.member.RecordFault.{RecordFault}
-use Rattle.run_laws.proofs.Reads.{then_if, behind_if, all_if, required_if, some_if, default_if}
+use Rattle.cpe_members.proofs.ReadLemmas.{then_if, behind_if, all_if, required_if, some_if}
 
 abbrev pub IsNamed : Result Values NotName → Type 0
 IsNamed r = IfOk r IsName
@@ -55,9 +53,6 @@ text_named text = by (read_any text) refl where
 
 -- ---- an object
 
-truth_of : (b : Bool) → b ≡ true → IsTrue b
-truth_of b e = subst IsTrue (sym e) tt
-
 component_value : (s : List ℕ) → IfSome (read_component s) IsValue
 component_value s = by (read_component s) refl where
   by : (o : Option Value) → read_component s ≡ o → IfSome o IsValue
@@ -77,8 +72,8 @@ component_at_value a d = by (get (attribute_name a) d) where
   by None = tt
 
 suits : (a : Attribute) (v : Value) → IsValue v → has_shape a v ≡ true → Suits a v
-suits Part v h shape = (h, truth_of (is_part v) shape)
-suits Language v h shape = (h, truth_of (is_language v) shape)
+suits Part v h shape = (h, shape)
+suits Language v h shape = (h, shape)
 suits Vendor v h shape = h
 suits Product v h shape = h
 suits Version v h shape = h

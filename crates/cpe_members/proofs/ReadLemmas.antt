@@ -2,6 +2,7 @@
 use Rattle.std.proofs.Common.{◌≡◌, ℕ, ◌+◌, List, [], ◌∷◌, Bool, true, false, Option, Some, None, IfSome, if◌then◌else◌, refl}
 use Rattle.std.specs.Prelude.{Result, Ok, Err, IfOk, option_and_then, option_map}
 use Rattle.std.specs.List.{AllByRecursion}
+use Rattle.serde_json.specs.Data.{Data}
 use Rattle.cpe_members.specs.FirstFault.{◌>>=◌, all_from}
 use Rattle.cpe_members.specs.Forms.{required, or_default, tested}
 use Rattle.cpe_members.specs.declared.member.Member.{Member}
@@ -33,7 +34,8 @@ pub map_if : {A B : Type 0} (P : A → Type 0) (Q : B → Type 0) (o : Option A)
 map_if P Q (Some x) f h k = k x h
 map_if P Q None f h k = tt
 
-pub default_if : {A D : Type 0} (P : A → Type 0) (Q : D → Type 0) (default : A) (form : D → Option A) (o : Option D) → P default → ((d : D) → Q d → IfSome (form d) P) → IfSome o Q → IfSome (or_default default form o) P
+pub default_if : {A : Type 0} (P : A → Type 0) (Q : Data → Type 0) (default : A) (form : Data → Option A) (o : Option Data) → P default → ((d : Data) → Q d → IfSome (form d) P) → IfSome o Q
+    → IfSome (or_default default form o) P
 default_if P Q default form (Some d) at_default each h = each d h
 default_if P Q default form None at_default each h = at_default
 
