@@ -1,0 +1,56 @@
+#!/usr/bin/env python3
+"""Whether the lines and cells of all documents are short enough.
+
+usage: documents.py
+
+Ends with status 0 if no line of a document has more than 120 letters, except in tables and examples, and no cell of a
+table more than 200; and with 1 and the places otherwise. A cell that is one example, in backquotes alone, may be longer.
+"""
+
+import pathlib
+import re
+import sys
+from collections.abc import Iterator
+
+TOP = pathlib.Path(__file__).resolve().parent.parent
+PLACES = ("*.md", "docs/*.md", "bench/*.md", "recipes/*.md", "examples/*.md", "bindings/*/*.md", "crates/*/*.md")
+MOST_LINE = 120
+MOST_CELL = 200
+# A cell of examples: code, and what parts it.
+EXAMPLE = re.compile(r"(?:`[^`]*`(?:<br>)?)+(?: ?\.\.)?")
+
+
+def cells(line: str) -> list[str]:
+    """The cells of a row; a bar in code or behind a backslash is no border."""
+    return [it.strip() for it in re.split(r"(?<!\\)\|(?=(?:[^`]*`[^`]*`)*[^`]*$)", line.strip().strip("|"))]
+
+
+def faults(text: str) -> Iterator[tuple[int, str]]:
+    """The number of each line that is too long, or has a cell that is, with what is wrong."""
+    is_fenced = is_example = False
+    before = ""
+    for number, line in enumerate(text.splitlines(), 1):
+        is_example = line.startswith("    ") and (is_example or not before.strip())
+        before = line
+        if line.lstrip().startswith("```"):
+            is_fenced = not is_fenced
+        elif is_fenced or is_example:
+            continue
+        elif line.startswith("|"):
+            for cell in cells(line):
+                if len(cell) > MOST_CELL and not EXAMPLE.fullmatch(cell):
+                    yield number, f"a cell of {len(cell)} letters: {cell[:50]}.."
+        elif len(line) > MOST_LINE:
+            yield number, f"{len(line)} letters"
+
+
+def main() -> None:
+    said = []
+    for path in sorted({it for place in PLACES for it in TOP.glob(place)}):
+        said += [f"{path.relative_to(TOP)}:{number}: {it}" for number, it in faults(path.read_text(encoding="utf-8"))]
+    if said:
+        sys.exit("\n".join(said))
+
+
+if __name__ == "__main__":
+    main()
