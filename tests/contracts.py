@@ -12,7 +12,9 @@ import re
 import sys
 import textwrap
 
-import areas
+sys.dont_write_bytecode = True
+
+import areas  # noqa: E402
 
 TOP = pathlib.Path(__file__).resolve().parent.parent
 PAGE = TOP / "docs" / "CONTRACTS.md"
@@ -43,10 +45,15 @@ class Call:
     is_law: bool
 
 
+def plain(text: str) -> str:
+    """A comment without its links."""
+    return re.sub(r"\[(`[^`]+`)\]", r"\1", re.sub(r"\[([^\]]+)\]\([^)]*\)", r"\1", text))
+
+
 def first_sentence(comment: list[str]) -> str:
     """Of the first paragraph, with links as plain code."""
     text = " ".join(comment).strip()
-    text = re.sub(r"\[(`[^`]+`)\](?:\([^)]*\))?", r"\1", text)
+    text = plain(text)
     found = re.match(r".*?[.:](?=\s+[A-Z`]|$)", text)
     return (found[0] if found else text).strip()
 
@@ -154,7 +161,7 @@ def section(crate: str) -> str:
     folder = TOP / "crates" / crate
     root = next(it for it in (folder / "src" / "lib.rt", folder / "src" / "main.rt") if it.exists())
     front = [line for line in root.read_text(encoding="utf-8").splitlines() if line.startswith("//!")]
-    said = re.sub(r"\[(`[^`]+`)\](?:\([^)]*\))?", r"\1", " ".join(paragraph(front, "//!")))
+    said = plain(" ".join(paragraph(front, "//!")))
     made = textwrap.fill(said, 118, break_long_words=False, break_on_hyphens=False)
     rows = [row(it) for it in calls(folder)]
     wrong = sorted(it.stem for it in (folder / "must-fail").glob("*.edit")) if (folder / "must-fail").is_dir() else []

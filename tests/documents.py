@@ -1,10 +1,11 @@
 #!/usr/bin/env python3
-"""Whether the lines and cells of all documents are short enough.
+"""Whether the lines and cells of all documents are short enough, and their links lead somewhere.
 
 usage: documents.py
 
-Ends with status 0 if no line of a document has more than 120 letters, except in tables and examples, and no cell of a
-table more than 200; and with 1 and the places otherwise. A cell that is one example, in backquotes alone, may be longer.
+Ends with status 0 if no line of a document has more than 120 letters, except in tables and examples, no cell of a table
+has more than 200, and each link within the repository has its file and heading; and with 1 and the places otherwise. A
+cell that is one example, in backquotes alone, may be longer.
 """
 
 import pathlib
@@ -44,10 +45,31 @@ def faults(text: str) -> Iterator[tuple[int, str]]:
             yield number, f"{len(line)} letters"
 
 
+def headings(path: pathlib.Path) -> set[str]:
+    """The headings of a document, as links name them."""
+    found = re.findall(r"(?m)^#+ (.*)$", path.read_text(encoding="utf-8"))
+    return {re.sub(r"[^\w\- ]", "", it.lower()).replace(" ", "-") for it in found}
+
+
+def lost_links(path: pathlib.Path, text: str) -> Iterator[str]:
+    """The links that lead to no file, or to no heading of one."""
+    for link in re.findall(r"\]\(([^)\s]+)\)", text):
+        if "://" in link:
+            continue
+        name, _, heading = link.partition("#")
+        led = (path.parent / name).resolve() if name else path
+        if not led.exists():
+            yield f"no such file: {link}"
+        elif heading and led.suffix == ".md" and heading not in headings(led):
+            yield f"no such heading: {link}"
+
+
 def main() -> None:
     said = []
     for path in sorted({it for place in PLACES for it in TOP.glob(place)}):
-        said += [f"{path.relative_to(TOP)}:{number}: {it}" for number, it in faults(path.read_text(encoding="utf-8"))]
+        text = path.read_text(encoding="utf-8")
+        said += [f"{path.relative_to(TOP)}:{number}: {it}" for number, it in faults(text)]
+        said += [f"{path.relative_to(TOP)}: {it}" for it in lost_links(path, text)]
     if said:
         sys.exit("\n".join(said))
 

@@ -197,7 +197,7 @@ examples() {
 }
 
 # docs/CITATIONS.md and docs/CONTRACTS.md are what the sources say. docs/ARCHITECTURE.md has each crate in one area, and the lines of its
-# map are right. No line of a document is too long, and no cell of a table.
+# map are right. No line of a document is too long, no cell of a table, and each link has its target.
 compares_documents() {
     for it in citations contracts areas documents; do
         needs "the documents: tests/$it.py" python3 || continue
