@@ -55,7 +55,7 @@ def first_sentence(comment: list[str]) -> str:
     text = " ".join(comment).strip()
     text = plain(text)
     found = re.match(r".*?[.:](?=\s+[A-Z`]|$)", text)
-    return (found[0] if found else text).strip()
+    return re.sub(r":$", ".", (found[0] if found else text).strip())
 
 
 def paragraph(lines: list[str], mark: str) -> list[str]:
@@ -135,7 +135,7 @@ def calls_in(path: pathlib.Path, lines: list[str]) -> list[Call]:
         head = CALL.match(text)
         if head and (text.startswith("pub ") or (is_trait and line.startswith("    fn "))) and not is_passed:
             clauses, is_empty = clauses_at(lines, place)
-            is_law = is_empty and f"fn {head[1]}()" in text
+            is_law = is_empty and bool(re.search(rf"fn {head[1]}(<.*>)?\(\)", text))
             said = first_sentence(paragraph(comment, "///"))
             found.append(Call(owner if line[0].isspace() else "", head[1], said, tuple(clauses), is_law))
         if not text.startswith("#["):
