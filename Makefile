@@ -26,8 +26,8 @@ help:
 	@echo '              manual page, of the recipes, of the library for C where make library was run before, and of the package and'
 	@echo '              the completions'
 	@echo 'make release  makes release/ from what make test built, in a tree without changes'
-	@echo 'make limits   fills the program up to its limits, and refuses each allocation of short sessions: minutes, and 6 GB of'
-	@echo '              memory; not in the gate'
+	@echo 'make limits   fills the program up to its limits, refuses each allocation of short sessions, and measures the stack that'
+	@echo '              each word needs: minutes, and 6 GB of memory; not in the gate'
 	@echo 'make install  puts the program into PREFIX/bin, and its manual page, its completions for bash and zsh and the recipes'
 	@echo '              into PREFIX/share (PREFIX=$(PREFIX))'
 	@echo 'make install-library  builds the library, and puts it into PREFIX/lib, and cpe.h into PREFIX/include'
@@ -86,11 +86,11 @@ release: need_rt
 limits: program
 	sh tests/limits.sh build/cpe
 	@if command -v python3 > /dev/null; then \
-	for it in 'tests/snapshots.py build/cpe --all' 'tests/refused-memory.py build/cpe' 'bench/memory.py build/cpe --most 3' 'bench/deprecations.py build/cpe' \
+	for it in 'tests/snapshots.py build/cpe --all' 'tests/refused-memory.py build/cpe' 'tests/stack.py build/cpe' 'bench/memory.py build/cpe --most 3' 'bench/deprecations.py build/cpe' \
 		'bench/drops.py build/cpe'; do \
 		echo "python3 $$it"; python3 $$it || exit 1; \
 	done; \
-	else echo 'SKIPPED: each allocation refused in turn, what rows take of memory, how what edits cost grows: there is no python3'; fi
+	else echo 'SKIPPED: each allocation refused in turn, the stack that each word needs, what rows take of memory, how what edits cost grows: there is no python3'; fi
 
 install: program
 	mkdir -p '$(DESTDIR)$(PREFIX)/bin'

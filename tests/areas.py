@@ -52,6 +52,12 @@ def cells(text: str) -> list[list[str]]:
     return [[it.strip() for it in line.strip("|").split("|")] for line in text.splitlines() if line.startswith("| ")]
 
 
+def areas(text: str) -> dict[str, list[str]]:
+    """The crates of each area, as the table below the map has them."""
+    front = text.split("\n## ", 1)[0]
+    return {row[0]: re.findall(r"`(\w+)`", row[2]) for row in cells(front)[1:]}
+
+
 def lines(uses: dict[str, list[str]], area_of: dict[str, str]) -> dict[str, set[str]]:
     """The areas on which each one stands without another one between."""
     below: dict[str, set[str]] = {area: set() for area in area_of.values()}
@@ -71,10 +77,9 @@ def lines(uses: dict[str, list[str]], area_of: dict[str, str]) -> dict[str, set[
 def main() -> None:
     uses = crates()
     text = PAGE.read_text(encoding="utf-8")
-    front = text.split("\n## ", 1)[0]
     said: list[str] = []
     area_of: dict[str, str] = {}
-    of_area = {row[0]: re.findall(r"`(\w+)`", row[2]) for row in cells(front)[1:]}
+    of_area = areas(text)
     for area, named in of_area.items():
         for crate in named:
             if crate in area_of or crate not in uses:

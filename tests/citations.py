@@ -10,16 +10,17 @@ import collections
 import pathlib
 import re
 import sys
+import textwrap
 
 TOP = pathlib.Path(__file__).resolve().parent.parent
 PAGE = TOP / "docs" / "CITATIONS.md"
 HEAD = """# Lemmas that proofs of other crates cite
 
-`tests/citations.py --write` writes this file from the sources, and the gate checks it.
+`python3 tests/citations.py --write` writes this file from the sources, and the gate checks it.
 
-A proof cites the contracts of the calls below it, and laws. If crates share one theory, a proof also cites lemmas of a crate below,
-in its `proofs/`. If such a lemma changes, the proofs of the crate in the first column may have to change too. These are all such
-citations, from the bottom up:
+A proof cites the contracts of the calls below it, and laws. If crates share one theory, a proof also cites lemmas of a
+crate below, in its `proofs/`. If such a lemma changes, the proofs of the crate at the beginning of an item may have to
+change too. These are all such citations, from the bottom up. The proofs of
 
 """
 CITED = re.compile(r"\bRattle\.(\w+)\.proofs\.(\w+)")
@@ -42,22 +43,22 @@ def citations(crate, ours):
     return found
 
 
-def table():
-    """A row for each crate whose proofs cite lemmas of crates below."""
+def rows():
+    """An item for each crate whose proofs cite lemmas of crates below."""
     ours = crates()
-    rows = ["| The proofs of | cite lemmas of |\n", "|---|---|\n"]
+    made = []
     for crate in ours:
         found = citations(crate, ours)
         if found:
-            cells = [f"`{below}` ({', '.join(f'`{it}`' for it in sorted(found[below]))})" for below in ours if below in found]
-            rows.append(f"| `{crate}` | {', '.join(cells)} |\n")
-    return "".join(rows)
+            cited = [f"`{below}` ({', '.join(f'`{it}`' for it in sorted(found[below]))})" for below in ours if below in found]
+            made.append(textwrap.fill(f"- `{crate}` cite {', '.join(cited)}", 118, subsequent_indent="  ", break_on_hyphens=False) + "\n")
+    return "".join(made)
 
 
 def main(words):
     if words not in ([], ["--write"]):
         sys.exit(__doc__)
-    made = HEAD + table()
+    made = HEAD + rows()
     if words:
         PAGE.write_text(made, encoding="utf-8")
     elif not PAGE.exists() or PAGE.read_text(encoding="utf-8") != made:

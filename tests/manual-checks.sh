@@ -196,18 +196,19 @@ examples() {
         }' "$page"
 }
 
-# docs/CITATIONS.md is what the sources say. docs/ARCHITECTURE.md has each crate in one area, and the lines of its map are right.
-compares_crates() {
-    for it in citations areas; do
-        needs "the pages on crates: tests/$it.py" python3 || continue
+# docs/CITATIONS.md and docs/CONTRACTS.md are what the sources say. docs/ARCHITECTURE.md has each crate in one area, and the lines of its
+# map are right. No line of a document is too long, no cell of a table, and each link has its target.
+compares_documents() {
+    for it in citations contracts areas documents; do
+        needs "the documents: tests/$it.py" python3 || continue
         python3 "tests/$it.py" > "$room/out" 2> "$room/error"
-        judge "the pages on crates: tests/$it.py" $? 0 /dev/null
+        judge "the documents: tests/$it.py" $? 0 /dev/null
     done
 }
 
 renders_page
 installs_page
-compares_crates
+compares_documents
 compares_lists
 examples > "$room/examples"
 answers_sessions 'the examples of the manual page' < "$room/examples"
