@@ -7,7 +7,7 @@
 #include <stdlib.h>
 #include <string.h>
 
-/* As crates/cpe_c declares them, of types of crates/name_calls and crates/talks. A slice is its pointer and its length. */
+/* As crates/cpe_c declares them, of types of crates/talks. A slice is its pointer and its length. */
 struct answer {
     uint32_t code;
     size_t number;
