@@ -2,7 +2,7 @@
 
     python3 scan.py --dictionary FILE.. | --records FILE.. --advisories FILE.. [--matches FILE..]
         --machines FILE | --lists FILE.. [--suppress FILE] [--letters FILE] [--partial] [--large] [--strict] [--platform NAME]
-        [--hardware none] [--all] [--json [--why]]
+        [--hardware none] [--all] [--json [--why]] [--kev FILE] [--epss FILE]
 
 - --dictionary, --advisories, --matches: pages of NVD's API 2.0, or its feeds, as they come, packed or in archives; advisories may be CVE
   records of format 5 too (cve5.py). --records: what dictionary.sh
@@ -19,6 +19,7 @@
 - --hardware none: there is no hardware to ask for, as of containers; else what a list doesn't say of it is UNKNOWN.
 - --json: the same as one value of JSON, with what was left out (`leftOut`). report.py makes a page of it.
 - --why: the JSON tells of each verdict that is TRUE which items make it so (`decidedBy`); deciding.py says how, and what it takes.
+- --kev, --epss: CISA's list of known exploited vulnerabilities, and EPSS (threats.py).
 
 What machines are asked for, cases.py says; all verdicts come from one run of cpe.
 
@@ -42,7 +43,7 @@ import json
 from collections.abc import Collection, Iterable, Iterator, Mapping, Sequence
 from dataclasses import dataclass, field, replace
 
-from . import advisories, affected, dictionary, latest, matches, platforms, products, suppressed, unlisted, verdicts, whole
+from . import advisories, affected, dictionary, latest, matches, platforms, products, suppressed, threats, unlisted, verdicts, whole
 from .called import Called, Sure
 from .calling import Calling, Wanted, listed_by_name
 from .cases import Cases, Index, Items, Known, Product, Results, lines_of, verdicts_of
@@ -57,6 +58,7 @@ from .program import Candidate, Program
 from .progress import Progress
 from .reasons import Reasons
 from .said import Fatal, Noting, Output, Said
+from .threats import Threats
 from .unanalysed import States
 from .versions import Letters, read_letters
 from .words import FLAG, MANY, ONE, Words, read_words
@@ -64,7 +66,7 @@ from .words import FLAG, MANY, ONE, Words, read_words
 USAGE = (
     "scan.py --dictionary FILE.. | --records FILE.. --advisories FILE.. [--matches FILE..] "
     "--machines FILE | --lists FILE.. [--suppress FILE] [--letters FILE] [--partial] [--large] [--strict] [--platform NAME] [--hardware none] "
-    "[--all] [--json [--why]]"
+    "[--all] [--json [--why]] [--kev FILE] [--epss FILE]"
 )
 OPTIONS = {
     "--dictionary": MANY,
@@ -82,6 +84,7 @@ OPTIONS = {
     "--platform": ONE,
     "--hardware": ONE,
     **whole.OPTIONS,
+    **threats.OPTIONS,
 }
 
 
@@ -306,6 +309,7 @@ def run(words: Sequence[str]) -> int:
 def _result(read: Words, program: Program, said: Noting, progress: Progress) -> list[str]:
     """The lines of the result."""
     progress.step("reading what the machines have")
+    beside = Threats.of(read, said)
     accepted = suppressed.read_suppressed(read.many("--suppress"), said)
     letters = read_letters(read.one("--letters") or LETTERS)
     asked = read_asked(read, said)
@@ -323,10 +327,13 @@ def _result(read: Words, program: Program, said: Noting, progress: Progress) -> 
     if read.has("--all"):
         for machine in machines:
             machine.show_all()
-    about = affected.About(known.details, accepted, Hanging(known, found), reading.doubts())
+    about = affected.About(known.details, accepted, Hanging(known, found), reading.doubts(), beside)
+    asked_of = verdicts.Statements([statement.id for statement in known.statements]).advisories
+    left_out = (id for id, _, _ in said.noted)
+    beside.tell({*asked_of, *states.elsewhere}, {*states.unanalysed, *states.rejected, *left_out}, said)
     if read.has("--json"):
         value = reading.mark(json_of(known, found, machines, about))
-        value |= states.json(verdicts.Statements([statement.id for statement in known.statements]).advisories)
+        value |= states.json(asked_of) | beside.about()
         value["leftOut"] = said.json()
         lines = [json_shown(json.dumps(value, ensure_ascii=False, indent=1))]
     else:
