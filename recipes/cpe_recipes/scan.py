@@ -2,7 +2,7 @@
 
     python3 scan.py --dictionary FILE.. | --records FILE.. --advisories FILE.. [--matches FILE..]
         --machines FILE | --lists FILE.. [--suppress FILE] [--letters FILE] [--partial] [--large] [--strict] [--platform NAME]
-        [--hardware none] [--all] [--json [--why]] [--kev FILE] [--epss FILE]
+        [--hardware none] [--all] [--json | --format FORMAT] [--time TIME] [--why] [--kev FILE] [--epss FILE]
 
 - --dictionary, --advisories, --matches: pages of NVD's API 2.0, or its feeds, as they come, packed or in archives; advisories may be CVE
   records of format 5 too (cve5.py). --records: what dictionary.sh
@@ -18,7 +18,9 @@
 - --platform NAME: the operating system of the machines whose lists name none; without it platforms.py says what is FALSE.
 - --hardware none: there is no hardware to ask for, as of containers; else what a list doesn't say of it is UNKNOWN.
 - --json: the same as one value of JSON, with what was left out (`leftOut`). report.py makes a page of it.
-- --why: the JSON tells of each verdict that is TRUE which items make it so (`decidedBy`); deciding.py says how, and what it takes.
+- --format: table, json, csv, sarif, cyclonedx-vex or openvex; formats/ has how each says what a result has. --time is when it was made.
+- --why: the JSON tells of each verdict that is TRUE which items make it so (`decidedBy`), and so do the formats but the table; deciding.py
+  says how, and what it takes.
 - --kev, --epss: CISA's list of known exploited vulnerabilities, and EPSS (threats.py).
 
 What machines are asked for, cases.py says; all verdicts come from one run of cpe.
@@ -39,18 +41,19 @@ result: then nothing was written, but why.
 """
 from __future__ import annotations
 
-import json
 from collections.abc import Collection, Iterable, Iterator, Mapping, Sequence
 from dataclasses import dataclass, field, replace
 
-from . import advisories, affected, dictionary, latest, matches, platforms, products, suppressed, threats, unlisted, verdicts, whole
+from . import advisories, affected, dictionary, formats, latest, matches, platforms, products, suppressed, threats, unlisted, whole
+from . import verdicts
 from .called import Called, Sure
 from .calling import Calling, Wanted, listed_by_name
 from .cases import Cases, Index, Items, Known, Product, Results, lines_of, verdicts_of
 from .components import Machine
 from .decide import LETTERS, Decider, Lead, Leads, Lists, decide, leads_of
 from .deciding import Deciding
-from .feeds import FeedFault, Page, json_shown, name_of, read_feed, text_lines
+from .feeds import FeedFault, Json, Page, name_of, read_feed, text_lines
+from .formats import Form
 from .machines import read_lists, read_machines
 from .negations import Negations, has_hardware
 from .outcome import MOST_ALIKE, Found, Hanging, json_of, machines_with_verdicts, tell_items
@@ -66,7 +69,7 @@ from .words import FLAG, MANY, ONE, Words, read_words
 USAGE = (
     "scan.py --dictionary FILE.. | --records FILE.. --advisories FILE.. [--matches FILE..] "
     "--machines FILE | --lists FILE.. [--suppress FILE] [--letters FILE] [--partial] [--large] [--strict] [--platform NAME] [--hardware none] "
-    "[--all] [--json [--why]] [--kev FILE] [--epss FILE]"
+    "[--all] [--json | --format FORMAT] [--time TIME] [--why] [--kev FILE] [--epss FILE]"
 )
 OPTIONS = {
     "--dictionary": MANY,
@@ -78,12 +81,12 @@ OPTIONS = {
     "--suppress": ONE,
     "--letters": ONE,
     "--all": FLAG,
-    "--json": FLAG,
     "--why": FLAG,
     "--strict": FLAG,
     "--platform": ONE,
     "--hardware": ONE,
     **whole.OPTIONS,
+    **formats.OPTIONS,
     **threats.OPTIONS,
 }
 
@@ -292,13 +295,16 @@ def read_asked(read: Words, said: Said) -> list[Machine]:
 def run(words: Sequence[str]) -> int:
     read = read_words(words, OPTIONS, USAGE)
     one_of = [("--dictionary", "--records"), ("--advisories",), ("--machines", "--lists")]
-    is_odd = read.has("--machines") and read.has("--lists") or read.has("--why") and not read.has("--json")
+    form = Form.of(read)
+    is_odd = read.has("--machines") and read.has("--lists") or read.has("--why") and form.is_table()
     if read.files or is_odd or not all(any(map(read.has, options)) for options in one_of):
         raise Fatal(f"usage: {USAGE}")
     program = Program()
     with Progress() as progress:
         said = Noting(before=progress.clear, most_alike=MOST_ALIKE)
-        lines = _result(read, program, said, progress)
+        beside = Threats.of(read, said)
+        result = _result(read, program, said, progress, beside)
+        lines = _lines(form, result, said)
         said.tell_others()
     output = Output()
     output.lines(lines)
@@ -306,10 +312,24 @@ def run(words: Sequence[str]) -> int:
     return said.status()
 
 
-def _result(read: Words, program: Program, said: Noting, progress: Progress) -> list[str]:
-    """The lines of the result."""
+@dataclass(frozen=True)
+class _Result:
+    """What comes of the machines, and what is told beside that."""
+
+    known: Known
+    states: States
+    reading: whole.Reading
+    found: list[Found]
+    machines: list[verdicts.Machine]
+    about: affected.About
+
+    def asked(self) -> Collection[str]:
+        """The ids of the advisories that have verdicts."""
+        return verdicts.Statements([statement.id for statement in self.known.statements]).advisories
+
+
+def _result(read: Words, program: Program, said: Noting, progress: Progress, beside: Threats) -> _Result:
     progress.step("reading what the machines have")
-    beside = Threats.of(read, said)
     accepted = suppressed.read_suppressed(read.many("--suppress"), said)
     letters = read_letters(read.one("--letters") or LETTERS)
     asked = read_asked(read, said)
@@ -328,16 +348,21 @@ def _result(read: Words, program: Program, said: Noting, progress: Progress) -> 
         for machine in machines:
             machine.show_all()
     about = affected.About(known.details, accepted, Hanging(known, found), reading.doubts(), beside)
-    asked_of = verdicts.Statements([statement.id for statement in known.statements]).advisories
+    return _Result(known, states, reading, found, machines, about)
+
+
+def _lines(form: Form, result: _Result, said: Noting) -> list[str]:
+    """The lines of the result, when all that it tells is said."""
+    states, reading, about = result.states, result.reading, result.about
     left_out = (id for id, _, _ in said.noted)
-    beside.tell({*asked_of, *states.elsewhere}, {*states.unanalysed, *states.rejected, *left_out}, said)
-    if read.has("--json"):
-        value = reading.mark(json_of(known, found, machines, about))
-        value |= states.json(asked_of) | beside.about()
-        value["leftOut"] = said.json()
-        lines = [json_shown(json.dumps(value, ensure_ascii=False, indent=1))]
+    about.threats.tell({*result.asked(), *states.elsewhere}, {*states.unanalysed, *states.rejected, *left_out}, said)
+    if form.is_table():
+        lines = list(affected.table_of(verdicts.Verdicts(result.machines), about))
+        lines += [*reading.lines(), *(states.lines() if form.is_all else ())]
     else:
-        lines = list(affected.table_of(verdicts.Verdicts(machines), about))
-        lines += [*reading.lines(), *(states.lines() if read.has("--all") else ())]
-    accepted.tell_unused(said)
+        value: dict[str, Json] = reading.mark(json_of(result.known, result.found, result.machines, about))
+        value |= states.json(result.asked()) | about.threats.about()
+        value["leftOut"] = said.json()
+        lines = form.lines(value)
+    about.suppressed.tell_unused(said)
     return lines
