@@ -2,7 +2,7 @@
 
     python3 scan.py --dictionary FILE.. | --records FILE.. --advisories FILE.. [--matches FILE..]
         --machines FILE | --lists FILE.. [--suppress FILE] [--letters FILE] [--partial] [--large] [--strict] [--platform NAME]
-        [--hardware none] [--all] [--json | --format FORMAT] [--time TIME] [--why] [--kev FILE] [--epss FILE]
+        [--hardware none] [--all] [--json | --format FORMAT] [--time TIME] [--why] [--kev FILE] [--epss FILE] [--fail-on GATE].. [--since FILE]
 
 - --dictionary, --advisories, --matches: pages of NVD's API 2.0, or its feeds, as they come, packed or in archives; advisories may be CVE
   records of format 5 too (cve5.py). --records: what dictionary.sh
@@ -22,6 +22,7 @@
 - --why: the JSON tells of each verdict that is TRUE which items make it so (`decidedBy`), and so do the formats but the table; deciding.py
   says how, and what it takes.
 - --kev, --epss: CISA's list of known exploited vulnerabilities, and EPSS (threats.py).
+- --fail-on: the status is 3 if a verdict fits one of these gates (gates.py, gating.py); --since is the kept result for the term `new`.
 
 What machines are asked for, cases.py says; all verdicts come from one run of cpe.
 
@@ -37,14 +38,14 @@ those of items that say less are counted apart, as `perhaps`. With --strict they
 the same. Of a range an item is FALSE where all that it may be is outside; decide.py says when.
 
 The status is 0 where every verdict came and nothing was left out, 1 where something was, which is said, and 2 where there is no
-result: then nothing was written, but why.
+result: then nothing was written, but why. It is 3 where a verdict fits a gate, whether or not something was left out.
 """
 from __future__ import annotations
 
 from collections.abc import Collection, Iterable, Iterator, Mapping, Sequence
 from dataclasses import dataclass, field, replace
 
-from . import advisories, affected, dictionary, formats, latest, matches, platforms, products, suppressed, threats, unlisted, whole
+from . import advisories, affected, dictionary, formats, gating, latest, matches, platforms, products, suppressed, threats, unlisted, whole
 from . import verdicts
 from .called import Called, Sure
 from .calling import Calling, Wanted, listed_by_name
@@ -54,6 +55,7 @@ from .decide import LETTERS, Decider, Lead, Leads, Lists, decide, leads_of
 from .deciding import Deciding
 from .feeds import FeedFault, Json, Page, name_of, read_feed, text_lines
 from .formats import Form
+from .gating import Gates
 from .machines import read_lists, read_machines
 from .negations import Negations, has_hardware
 from .outcome import MOST_ALIKE, Found, Hanging, json_of, machines_with_verdicts, tell_items
@@ -69,7 +71,7 @@ from .words import FLAG, MANY, ONE, Words, read_words
 USAGE = (
     "scan.py --dictionary FILE.. | --records FILE.. --advisories FILE.. [--matches FILE..] "
     "--machines FILE | --lists FILE.. [--suppress FILE] [--letters FILE] [--partial] [--large] [--strict] [--platform NAME] [--hardware none] "
-    "[--all] [--json | --format FORMAT] [--time TIME] [--why] [--kev FILE] [--epss FILE]"
+    "[--all] [--json | --format FORMAT] [--time TIME] [--why] [--kev FILE] [--epss FILE] [--fail-on GATE].. [--since FILE]"
 )
 OPTIONS = {
     "--dictionary": MANY,
@@ -88,6 +90,7 @@ OPTIONS = {
     **whole.OPTIONS,
     **formats.OPTIONS,
     **threats.OPTIONS,
+    **gating.OPTIONS,
 }
 
 
@@ -303,13 +306,15 @@ def run(words: Sequence[str]) -> int:
     with Progress() as progress:
         said = Noting(before=progress.clear, most_alike=MOST_ALIKE)
         beside = Threats.of(read, said)
+        gates = Gates.of(read, beside)
         result = _result(read, program, said, progress, beside)
         lines = _lines(form, result, said)
+        does_fit = gates.fit(result.machines, result.about, said)
         said.tell_others()
     output = Output()
     output.lines(lines)
     output.end()
-    return said.status()
+    return gating.FITS if does_fit else said.status()
 
 
 @dataclass(frozen=True)
