@@ -5,21 +5,22 @@ standard error and by the status all the same; gaps.py has what each of them has
 """
 from __future__ import annotations
 
-import json
-from collections.abc import Callable, Mapping
+import importlib
+from collections.abc import Mapping
 from dataclasses import dataclass
 
-from ..feeds import Json, json_shown
+from ..feeds import Json, json_text
 from ..said import Fatal, quoted
 from ..words import FLAG, ONE, Words
-from . import csv_rows, cyclonedx_vex, openvex, sarif
 from .stamp import TIME, stamp
 
 FORMAT, JSON = "--format", "--json"
 OPTIONS = {FORMAT: ONE, JSON: FLAG, TIME: ONE}
-TABLE = "table"
-
-Value = Mapping[str, Json]
+TABLE, OWN = "table", "json"
+# The modules of the others, of which a scan loads the one that it needs. Those that are JSON have the time when they were made.
+_MODULES = {"csv": "csv_rows", "sarif": "sarif", "cyclonedx-vex": "cyclonedx_vex", "openvex": "openvex"}
+_UNSTAMPED = (TABLE, OWN, "csv")
+NAMES = (TABLE, OWN, *_MODULES)
 
 
 @dataclass(frozen=True)
@@ -34,32 +35,18 @@ class Form:
     def of(read: Words) -> Form:
         """What the options ask for. Fatal if there is no such form, or if they ask for two."""
         given = read.only(FORMAT)
-        name = given if given is not None else "json" if read.has(JSON) else TABLE
+        name = given if given is not None else OWN if read.has(JSON) else TABLE
         if name not in NAMES:
             raise Fatal(f"{FORMAT} is {quoted(name)}, which is none of {', '.join(NAMES)}")
-        if read.has(JSON) and name != "json":
-            raise Fatal(f"{JSON} is {FORMAT} json, and {FORMAT} {name} is given beside it")
-        return Form(name, stamp(read) if name in _STAMPED else "", read.has("--all"))
+        if read.has(JSON) and name != OWN:
+            raise Fatal(f"{JSON} is {FORMAT} {OWN}, and {FORMAT} {name} is given beside it")
+        return Form(name, "" if name in _UNSTAMPED else stamp(read), read.has("--all"))
 
     def is_table(self) -> bool:
         return self.name == TABLE
 
-    def lines(self, value: Value) -> list[str]:
+    def lines(self, value: Mapping[str, Json]) -> list[str]:
         """The lines of a result. Fatal if the form has none for it."""
-        return _LINES[self.name](value, self)
-
-
-def _as_json(value: Json) -> list[str]:
-    return [json_shown(json.dumps(value, ensure_ascii=False, indent=1))]
-
-
-_LINES: Mapping[str, Callable[[Value, Form], list[str]]] = {
-    "json": lambda value, form: _as_json(value),
-    "csv": lambda value, form: csv_rows.lines(value),
-    "sarif": lambda value, form: _as_json(sarif.log(value, form.time)),
-    "cyclonedx-vex": lambda value, form: _as_json(cyclonedx_vex.document(value, form.time, form.is_all)),
-    "openvex": lambda value, form: _as_json(openvex.document(value, form.time, form.is_all)),
-}
-# The forms that tell when the result was made.
-_STAMPED = ("sarif", "cyclonedx-vex", "openvex")
-NAMES = (TABLE, *_LINES)
+        if self.name == OWN:
+            return [json_text(value)]
+        return list(importlib.import_module(f".{_MODULES[self.name]}", __name__).lines(value, self.time, self.is_all))

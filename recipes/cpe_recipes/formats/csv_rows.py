@@ -25,7 +25,7 @@ _COLUMNS = ("machine", "verdict", "advisory", "score", "severity", "kev", "epss"
 _GIVEN = ("kev", "epss")
 
 
-def lines(value: Mapping[str, Json]) -> list[str]:
+def lines(value: Mapping[str, Json], _time: str = "", _is_all: bool = False) -> list[str]:
     """The lines, without the LF at their ends."""
     columns = [column for column in _COLUMNS if column not in _GIVEN or column in value]
     text = io.StringIO()

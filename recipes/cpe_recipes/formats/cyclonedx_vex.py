@@ -7,7 +7,7 @@ from __future__ import annotations
 
 from collections.abc import Mapping, Sequence
 
-from ..feeds import Json
+from ..feeds import Json, json_text
 from .claims import Claim, Claims, State, claims_of
 from .gaps import Gaps
 from .links import address
@@ -17,6 +17,10 @@ from .stamp import published
 _STATES = {State.AFFECTED: "exploitable", State.NOT_AFFECTED: "not_affected", State.UNDER_INVESTIGATION: "in_triage"}
 _SEVERITIES = ("critical", "high", "medium", "low", "none")
 _PROPERTY = "cpe:scan"
+
+
+def lines(value: Mapping[str, Json], time: str, is_all: bool) -> list[str]:
+    return [json_text(document(value, time, is_all))]
 
 
 def document(value: Mapping[str, Json], time: str, is_all: bool) -> dict[str, Json]:

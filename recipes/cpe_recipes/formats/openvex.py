@@ -11,7 +11,7 @@ import urllib.parse
 import uuid
 from collections.abc import Mapping, Sequence
 
-from ..feeds import Json
+from ..feeds import Json, json_text
 from ..said import Fatal
 from .claims import Claim, State, claims_of
 from .gaps import Gaps
@@ -20,6 +20,10 @@ CONTEXT = "https://openvex.dev/ns/v0.2.0"
 _TOOL = "scan.py, of the recipes of cpe"
 _AUTHOR = "Unknown Author"
 _MOST_TOLD = 20
+
+
+def lines(value: Mapping[str, Json], time: str, is_all: bool) -> list[str]:
+    return [json_text(document(value, time, is_all))]
 
 
 def document(value: Mapping[str, Json], time: str, is_all: bool) -> dict[str, Json]:

@@ -11,7 +11,7 @@ from __future__ import annotations
 import urllib.parse
 from collections.abc import Iterator, Mapping
 
-from ..feeds import Json
+from ..feeds import Json, json_text
 from .claims import reasons_of
 from .gaps import Gaps
 from .links import address
@@ -21,6 +21,10 @@ SCHEMA = "https://docs.oasis-open.org/sarif/sarif/v2.1.0/errata01/os/schemas/sar
 _LEVELS = ((7.0, "error"), (4.0, "warning"), (0.0, "note"))
 _KINDS = {"TRUE": "fail", "FALSE": "pass"}
 _EXPLOITED = "known-exploited"
+
+
+def lines(value: Mapping[str, Json], time: str, _is_all: bool) -> list[str]:
+    return [json_text(log(value, time))]
 
 
 def log(value: Mapping[str, Json], time: str) -> dict[str, Json]:
