@@ -62,14 +62,15 @@ class _Rules:
 
 def _rule(verdict: Mapping[str, Json]) -> dict[str, Json]:
     score, title, url = verdict.get("score"), verdict.get("title"), address(verdict.get("url"))
-    tags = ["security", *([_EXPLOITED] if "kev" in verdict else [])]
-    severity = {} if score is None else {"security-severity": f"{float(score):.1f}"}
     rule: dict[str, Json] = {"id": verdict["id"]}
     if title:
         rule["shortDescription"] = _text(title)
     if url:
         rule["helpUri"] = url
-    return rule | {"properties": {"tags": tags, **severity, **{key: verdict[key] for key in ("kev", "epss") if key in verdict}}}
+    properties: dict[str, Json] = {"tags": ["security", *([_EXPLOITED] if "kev" in verdict else [])]}
+    if score is not None:
+        properties["security-severity"] = f"{float(score):.1f}"
+    return rule | {"properties": properties | {key: verdict[key] for key in ("kev", "epss") if key in verdict}}
 
 
 def _text(text: str) -> dict[str, str]:
