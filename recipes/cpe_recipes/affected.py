@@ -111,6 +111,9 @@ def run(words: list[str]) -> int:
 def tell_left_out(verdicts: Verdicts, about: About, said: Said) -> None:
     """What the verdicts know nothing of."""
     about.suppressed.tell_unused(said)
+    # (most machines share theirs)
+    statements = {id(machine.statements): machine.statements for machine in verdicts.machines}.values()
+    about.threats.tell({advisory for one in statements for advisory in one.advisories}, (), said, "not among the statements")
     if verdicts.refused:
         said.left_out("the records", f"{counted(verdicts.refused, 'line')} refused")
     for machine in verdicts.machines:

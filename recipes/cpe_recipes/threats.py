@@ -67,13 +67,13 @@ class Threats:
         """What the JSON has of the files."""
         return ({} if self.kev is None else {"kev": self.kev.json()}) | ({} if self.epss is None else {"epss": self.epss.json()})
 
-    def tell(self, asked: Collection[str], unasked: Collection[str], said: Said) -> None:
+    def tell(self, asked: Collection[str], unasked: Collection[str], said: Said, elsewhere: str = "not in the feeds") -> None:
         """Says what the table doesn't show: what is known exploited and has no verdict, and what EPSS knows nothing of. `unasked` are
-        the advisories of the feeds that have no verdict."""
+        the advisories of the feeds that have no verdict, and `elsewhere` are the words for those that are neither."""
         known = list(self.kev.found) if self.kev else []
-        elsewhere = sum(id not in asked and id not in unasked for id in known)
-        if elsewhere:
-            said.remark(f"known exploited: {_advisories(elsewhere)} not in the feeds")
+        others = sum(id not in asked and id not in unasked for id in known)
+        if others:
+            said.remark(f"known exploited: {_advisories(others)} {elsewhere}")
         without = [id for id in known if id in unasked and id not in asked]
         if without:
             more = f" and {len(without) - _MOST_TOLD} more" if len(without) > _MOST_TOLD else ""

@@ -218,6 +218,7 @@ class Scans(RecipeCase):
                 ],
             ),
         )
+        self.assertEqual(said, ["remark known exploited: 2 advisories are not among the statements", "left out bare: no items"])
 
 
 class Pages(ReportCase):
