@@ -277,6 +277,48 @@ reads_machines() {
     judge 'files that begin with a hyphen, and packed ones' $? 0 "$room/wanted"
 }
 
+# Known exploited vulnerabilities, EPSS and gates over the samples, the status before all; and what each form has of the same.
+fits_gates() {
+    threats=recipes/samples/threats
+    # gated WORD..: a scan of two machines, with a line of accepted advisories that is none, so that something is left out.
+    gated() {
+        scans --suppress "$ranges/suppress.txt" --lists "$ranges/web-1.cdx.json" "$ranges/legacy-1.txt" \
+            --time 2024-05-01T12:00:00Z "$@" 2> "$room/error" > "$room/out"
+    }
+    kev=$threats/known_exploited_vulnerabilities epss=$threats/epss_scores-2024-04-30.csv
+    for form in table csv sarif cyclonedx-vex openvex; do
+        gated --kev "$kev.json" --epss "$epss" --fail-on 'score>=9' --fail-on 'unknown and kev' --format "$form"
+        judge "known exploited, EPSS and gates, as $form" $? 3 "$threats/$form.out" "$threats/table.said"
+    done
+    grep -v ' --fail-on ' "$threats/table.said" > "$room/ungated.said"
+    gated --kev "$kev.csv" --epss "$epss" --fail-on 'score>=9.9'
+    judge 'a gate that nothing fits, where something was left out' $? 1 "$threats/table.out" "$room/ungated.said"
+    gated --kev "$kev.csv" --epss "$epss" --json
+    cp "$room/out" "$room/kept.json"
+    gated --kev "$kev.csv" --epss "$epss" --fail-on new --since "$room/kept.json"
+    judge 'nothing is new against the same result' $? 1 "$threats/table.out" "$room/ungated.said"
+    limited sh recipes/changes.sh "$room/kept.json" "$room/kept.json" > "$room/out" 2> "$room/error"
+    judge 'nothing changed against the same result' $? 0 /dev/null
+    limited python3 recipes/report.py "$room/kept.json" 2> "$room/error" |
+        grep -o -e '>CVE-2024-980[01][09]<' -e 'known exploited since [0-9-]*' -e 'EPSS 0.[59]' > "$room/out"
+    printf '%s\n' '>CVE-2024-98009<' 'known exploited since 2024-04-19' 'EPSS 0.5' '>CVE-2024-98010<' 'known exploited since 2024-04-11' \
+        'EPSS 0.9' > "$room/wanted"
+    echo 'left out suppress.txt line 5: it is not an id, a machine or *, and a reason' > "$room/wanted.said"
+    judge 'the page has what is known exploited, and EPSS' 0 0 "$room/wanted" "$room/wanted.said"
+    set -- --dictionary "$ranges/dictionary.json" --advisories "$ranges/advisories.json" --lists "$ranges/app-1.txt"
+    head -c 900 "$kev.json" > "$room/kev.json"
+    head -c 200 "$epss" > "$room/epss.csv"
+    refuses 'a list of known exploited vulnerabilities that is cut off' "$@" --kev "$room/kev.json"
+    refuses 'an EPSS that is cut off' "$@" --epss "$room/epss.csv"
+    refuses 'a gate that is none' "$@" --fail-on 'score>9'
+    refuses 'a form that is none' "$@" --format xml
+    if needs 'EPSS that gzip packed' gzip; then
+        gzip -c "$epss" > "$room/epss_scores.csv.gz"
+        gated --kev "$kev.csv" --epss "$room/epss_scores.csv.gz"
+        judge 'EPSS that gzip packed' $? 1 "$threats/table.out" "$room/ungated.said"
+    fi
+}
+
 # The page of report.py over the samples, and as it stands in a browser, where there is one.
 shows_pages() {
     scans --json --why --suppress "$ranges/suppress.txt" --lists "$ranges/web-1.cdx.json" "$ranges/app-1.txt" \
@@ -306,6 +348,7 @@ if needs 'the recipes in Python' python3; then
     counts_doubts
     reads_lists
     shows_tables
+    fits_gates
     shows_pages
     goes_step_by_step
     refuses_feeds

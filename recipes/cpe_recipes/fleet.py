@@ -3,7 +3,7 @@
 from __future__ import annotations
 
 import json
-from collections.abc import Iterator, Sequence
+from collections.abc import Iterator, Mapping, Sequence
 from dataclasses import dataclass, field, replace
 
 from . import decide, matches, unlisted, whole
@@ -19,11 +19,30 @@ from .program import Program
 from .said import Fatal, Said
 from .session import Asked, Known
 from .versions import read_letters
-from .words import FLAG, MANY, ONE, Words
+from .words import FLAG, MANY, ONE, Words, read_words
 
 OPTIONS = {"--ranges": ONE, "--matches": MANY, "--letters": ONE, "--decided": ONE, "--strict": FLAG, "--hardware": ONE}
 USAGE = "RECORDS MACHINES [--strict] [--hardware none] [--ranges FILE [--letters FILE] [--matches FILE..] | --decided FILE]"
 MACHINES_MISSING = 5
+# What other recipes do with the truths that a fleet writes.
+_ELSEWHERE = {
+    "--kev": "affected.sh and report.py take it for what a fleet wrote",
+    "--epss": "affected.sh and report.py take it for what a fleet wrote",
+    "--fail-on": "scan.py takes it",
+    "--since": "scan.py takes it; changes.sh compares what fleets wrote",
+    "--format": "scan.py takes it",
+}
+
+
+def read_fleet_words(words: Sequence[str], options: Mapping[str, int], usage: str) -> Words:
+    """The words of a fleet. Fatal where one is an option of another recipe alone, since a fleet writes truths and nothing else."""
+    found = next((word for word in words if word in _ELSEWHERE), None)
+    if found is not None:
+        raise Fatal(f"{found} is no option of a fleet, which writes truths alone: {_ELSEWHERE[found]}")
+    read = read_words(words, options, usage)
+    if len(read.files) != 2:
+        raise Fatal(f"usage: {usage}")
+    return read
 
 
 def read_text(path: str) -> str:

@@ -205,12 +205,12 @@ def _decided_json(one: Found, truth: str, places: Iterable[int]) -> dict[str, Js
 
 def _in_order(machine: verdicts.Machine, about: affected.About) -> list[tuple[str, str]]:
     """What is shown, in the order of the table."""
-    return sorted(machine.shown.items(), key=lambda row: (machine.rank(row[0]), -about.told(row[0]).score))
+    return sorted(machine.shown.items(), key=lambda row: (machine.rank(row[0]), about.told(row[0]).order))
 
 
 def _verdict_json(id: str, truth: str, machine: verdicts.Machine, about: affected.About) -> dict[str, Json]:
     known = {key: value for key, value in about.details.get(id, {}).items() if key != "id"}
-    row: dict[str, Json] = {"id": id, "verdict": truth, **known}
+    row: dict[str, Json] = {"id": id, "verdict": truth, **known, **about.threats.json(id)}
     if truth == "UNKNOWN":
         row["hangsOn"] = about.hanging.on(id, machine.name)
     remarks = about.hanging.remarks(id, machine.name) if truth == "TRUE" else []

@@ -54,7 +54,8 @@ def page(scanned: Scanned, parts: Parts, changed: Sequence[str] | None = None) -
     if rows:
         yield _filter()
         number = _advisory_count(len(scanned.advisories))
-        yield f'<section id="advisories"><h2>Advisories <small>{number}, highest score first</small></h2>\n'
+        first = "known exploited first, then the highest score" if any(one.exploited for one in scanned.advisories) else "highest score first"
+        yield f'<section id="advisories"><h2>Advisories <small>{number}, {first}</small></h2>\n'
         for advisory in scanned.advisories:
             yield from _advisory(advisory, is_open=rows <= MOST_OPEN)
         yield "</section>\n"
@@ -185,6 +186,7 @@ def _score(score: float | None) -> str:
 def _advisory(advisory: Advisory, is_open: bool) -> Iterator[str]:
     parts = [f'<span class="{group}">{len(rows):,} {group}</span>' for group, rows in advisory.rows.items() if rows]
     yield f'<details class="advisory"{_open(is_open)}><summary>{_score(advisory.score)}<b class="id">{text(advisory.id)}</b>'
+    yield '<span class="exploited">known exploited</span>' if advisory.exploited else ""
     yield f'<span class="counts">{" ".join(parts)}</span><bdi class="title">{text(advisory.title)}</bdi></summary>\n'
     yield from _about(advisory)
     for group, rows in advisory.rows.items():
@@ -199,6 +201,8 @@ def _advisory(advisory: Advisory, is_open: bool) -> Iterator[str]:
 
 def _about(advisory: Advisory) -> Iterator[str]:
     about = [text(advisory.severity), f"published {text(advisory.published[:10])}" if advisory.published else ""]
+    about.append(f"known exploited since {text(advisory.exploited)}" if advisory.exploited else "")
+    about.append("" if advisory.epss is None else f"EPSS {advisory.epss:.5f}")
     if advisory.url.startswith(("https://", "http://")):
         about.append(f'<a href="{text(advisory.url)}" rel="noreferrer">{text(advisory.url)}</a>')
     elif advisory.url:

@@ -1,11 +1,11 @@
 """One page to look at, of what `scan.py --json` wrote, or a fleet, or `cpe evaluate`.
 
     python3 report.py [--title TEXT] [--before FILE] [--details FILE] [--suppress FILE] [--records FILE] [--ranges FILE] [--decided FILE]
-        [FILE] > page.html
+        [--kev FILE] [--epss FILE] [FILE] > page.html
 
 It is one file of HTML without outside parts: it opens from a disk, on a telephone too, in light and in dark, and loads nothing.
-What was left out stands at its top, then how many rows there are of each verdict, then the advisories by their scores, each with
-the machines on which it isn't FALSE and what that hangs on where it is known, then the machines with their counts. The filter
+What was left out stands at its top, then how many rows there are of each verdict, then the advisories, those that are known to be
+exploited first where the verdicts have that, and then by their scores, each with the machines on which it isn't FALSE and what that hangs on where it is known, then the machines with their counts. The filter
 looks at texts, machines and verdicts; without scripts it is all that is missing. It stands in the address too, as
 `page.html#q=openssl&machine=web-1&truth=UNKNOWN`.
 
@@ -32,7 +32,8 @@ from .verdicts import Verdicts, verdicts_of
 from .words import ONE, Words, read_words
 
 USAGE = (
-    "report.py [--title TEXT] [--before FILE] [--details FILE] [--suppress FILE] [--records FILE] [--ranges FILE] [--decided FILE] [FILE]"
+    "report.py [--title TEXT] [--before FILE] [--details FILE] [--suppress FILE] [--records FILE] [--ranges FILE] [--decided FILE] "
+    "[--kev FILE] [--epss FILE] [FILE]"
 )
 TITLE = "Advisories by machine"
 # Of lines that are alike, and of bytes that are written at once.
@@ -120,7 +121,7 @@ def _advisory(id: str, about: affected.About) -> Advisory:
     detail = about.details.get(id, {})
     texts = [detail.get(key) if isinstance(detail.get(key), str) else "" for key in ("title", "severity", "published", "url")]
     score = about.told(id).score
-    return Advisory(id, texts[0], None if score < 0 else score, *texts[1:])
+    return Advisory(id, texts[0], None if score < 0 else score, *texts[1:], about.threats.added(id), about.threats.probability(id))
 
 
 def _note(advisory: Advisory, machine: Machine, name: str | None, truth: str, about: affected.About) -> None:

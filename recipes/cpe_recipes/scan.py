@@ -2,7 +2,7 @@
 
     python3 scan.py --dictionary FILE.. | --records FILE.. --advisories FILE.. [--matches FILE..]
         --machines FILE | --lists FILE.. [--suppress FILE] [--letters FILE] [--partial] [--large] [--strict] [--platform NAME]
-        [--hardware none] [--all] [--json [--why]]
+        [--hardware none] [--all] [--json | --format FORMAT] [--time TIME] [--why] [--kev FILE] [--epss FILE] [--fail-on GATE].. [--since FILE]
 
 - --dictionary, --advisories, --matches: pages of NVD's API 2.0, or its feeds, as they come, packed or in archives; advisories may be CVE
   records of format 5 too (cve5.py). --records: what dictionary.sh
@@ -18,7 +18,11 @@
 - --platform NAME: the operating system of the machines whose lists name none; without it platforms.py says what is FALSE.
 - --hardware none: there is no hardware to ask for, as of containers; else what a list doesn't say of it is UNKNOWN.
 - --json: the same as one value of JSON, with what was left out (`leftOut`). report.py makes a page of it.
-- --why: the JSON tells of each verdict that is TRUE which items make it so (`decidedBy`); deciding.py says how, and what it takes.
+- --format: table, json, csv, sarif, cyclonedx-vex or openvex; formats/ has how each says what a result has. --time is when it was made.
+- --why: the JSON tells of each verdict that is TRUE which items make it so (`decidedBy`), and so do the formats but the table; deciding.py
+  says how, and what it takes.
+- --kev, --epss: CISA's list of known exploited vulnerabilities, and EPSS (threats.py).
+- --fail-on: the status is 3 if a verdict fits one of these gates (gates.py, gating.py); --since is the kept result for the term `new`.
 
 What machines are asked for, cases.py says; all verdicts come from one run of cpe.
 
@@ -34,22 +38,24 @@ those of items that say less are counted apart, as `perhaps`. With --strict they
 the same. Of a range an item is FALSE where all that it may be is outside; decide.py says when.
 
 The status is 0 where every verdict came and nothing was left out, 1 where something was, which is said, and 2 where there is no
-result: then nothing was written, but why.
+result: then nothing was written, but why. It is 3 where a verdict fits a gate, whether or not something was left out.
 """
 from __future__ import annotations
 
-import json
 from collections.abc import Collection, Iterable, Iterator, Mapping, Sequence
 from dataclasses import dataclass, field, replace
 
-from . import advisories, affected, dictionary, latest, matches, platforms, products, suppressed, unlisted, verdicts, whole
+from . import advisories, affected, dictionary, formats, gating, latest, matches, platforms, products, suppressed, threats, unlisted, whole
+from . import verdicts
 from .called import Called, Sure
 from .calling import Calling, Wanted, listed_by_name
 from .cases import Cases, Index, Items, Known, Product, Results, lines_of, verdicts_of
 from .components import Machine
 from .decide import LETTERS, Decider, Lead, Leads, Lists, decide, leads_of
 from .deciding import Deciding
-from .feeds import FeedFault, Page, json_shown, name_of, read_feed, text_lines
+from .feeds import FeedFault, Json, Page, name_of, read_feed, text_lines
+from .formats import Form
+from .gating import Gates
 from .machines import read_lists, read_machines
 from .negations import Negations, has_hardware
 from .outcome import MOST_ALIKE, Found, Hanging, json_of, machines_with_verdicts, tell_items
@@ -57,6 +63,7 @@ from .program import Candidate, Program
 from .progress import Progress
 from .reasons import Reasons
 from .said import Fatal, Noting, Output, Said
+from .threats import Threats
 from .unanalysed import States
 from .versions import Letters, read_letters
 from .words import FLAG, MANY, ONE, Words, read_words
@@ -64,7 +71,7 @@ from .words import FLAG, MANY, ONE, Words, read_words
 USAGE = (
     "scan.py --dictionary FILE.. | --records FILE.. --advisories FILE.. [--matches FILE..] "
     "--machines FILE | --lists FILE.. [--suppress FILE] [--letters FILE] [--partial] [--large] [--strict] [--platform NAME] [--hardware none] "
-    "[--all] [--json [--why]]"
+    "[--all] [--json | --format FORMAT] [--time TIME] [--why] [--kev FILE] [--epss FILE] [--fail-on GATE].. [--since FILE]"
 )
 OPTIONS = {
     "--dictionary": MANY,
@@ -76,12 +83,14 @@ OPTIONS = {
     "--suppress": ONE,
     "--letters": ONE,
     "--all": FLAG,
-    "--json": FLAG,
     "--why": FLAG,
     "--strict": FLAG,
     "--platform": ONE,
     "--hardware": ONE,
     **whole.OPTIONS,
+    **formats.OPTIONS,
+    **threats.OPTIONS,
+    **gating.OPTIONS,
 }
 
 
@@ -289,22 +298,42 @@ def read_asked(read: Words, said: Said) -> list[Machine]:
 def run(words: Sequence[str]) -> int:
     read = read_words(words, OPTIONS, USAGE)
     one_of = [("--dictionary", "--records"), ("--advisories",), ("--machines", "--lists")]
-    is_odd = read.has("--machines") and read.has("--lists") or read.has("--why") and not read.has("--json")
+    form = Form.of(read)
+    is_odd = read.has("--machines") and read.has("--lists") or read.has("--why") and form.is_table()
     if read.files or is_odd or not all(any(map(read.has, options)) for options in one_of):
         raise Fatal(f"usage: {USAGE}")
     program = Program()
     with Progress() as progress:
         said = Noting(before=progress.clear, most_alike=MOST_ALIKE)
-        lines = _result(read, program, said, progress)
+        beside = Threats.of(read, said)
+        gates = Gates.of(read, beside)
+        result = _result(read, program, said, progress, beside)
+        lines = _lines(form, result, said)
+        does_fit = gates.fit(result.machines, result.about, said)
         said.tell_others()
     output = Output()
     output.lines(lines)
     output.end()
-    return said.status()
+    return gating.FITS if does_fit else said.status()
 
 
-def _result(read: Words, program: Program, said: Noting, progress: Progress) -> list[str]:
-    """The lines of the result."""
+@dataclass(frozen=True)
+class _Result:
+    """What comes of the machines, and what is told beside that."""
+
+    known: Known
+    states: States
+    reading: whole.Reading
+    found: list[Found]
+    machines: list[verdicts.Machine]
+    about: affected.About
+
+    def asked(self) -> Collection[str]:
+        """The ids of the advisories that have verdicts."""
+        return verdicts.Statements([statement.id for statement in self.known.statements]).advisories
+
+
+def _result(read: Words, program: Program, said: Noting, progress: Progress, beside: Threats) -> _Result:
     progress.step("reading what the machines have")
     accepted = suppressed.read_suppressed(read.many("--suppress"), said)
     letters = read_letters(read.one("--letters") or LETTERS)
@@ -323,14 +352,22 @@ def _result(read: Words, program: Program, said: Noting, progress: Progress) -> 
     if read.has("--all"):
         for machine in machines:
             machine.show_all()
-    about = affected.About(known.details, accepted, Hanging(known, found), reading.doubts())
-    if read.has("--json"):
-        value = reading.mark(json_of(known, found, machines, about))
-        value |= states.json(verdicts.Statements([statement.id for statement in known.statements]).advisories)
-        value["leftOut"] = said.json()
-        lines = [json_shown(json.dumps(value, ensure_ascii=False, indent=1))]
+    about = affected.About(known.details, accepted, Hanging(known, found), reading.doubts(), beside)
+    return _Result(known, states, reading, found, machines, about)
+
+
+def _lines(form: Form, result: _Result, said: Noting) -> list[str]:
+    """The lines of the result, when all that it tells is said."""
+    states, reading, about = result.states, result.reading, result.about
+    left_out = (id for id, _, _ in said.noted)
+    about.threats.tell({*result.asked(), *states.elsewhere}, {*states.unanalysed, *states.rejected, *left_out}, said)
+    if form.is_table():
+        lines = list(affected.table_of(verdicts.Verdicts(result.machines), about))
+        lines += [*reading.lines(), *(states.lines() if form.is_all else ())]
     else:
-        lines = list(affected.table_of(verdicts.Verdicts(machines), about))
-        lines += [*reading.lines(), *(states.lines() if read.has("--all") else ())]
-    accepted.tell_unused(said)
+        value: dict[str, Json] = reading.mark(json_of(result.known, result.found, result.machines, about))
+        value |= states.json(result.asked()) | about.threats.about()
+        value["leftOut"] = said.json()
+        lines = form.lines(value)
+    about.suppressed.tell_unused(said)
     return lines

@@ -10,7 +10,7 @@ from collections.abc import Iterable, Iterator
 from dataclasses import dataclass, field
 
 from .feeds import FeedFault, Json, name_of, read_feed, values_of
-from .said import Fatal
+from .said import Fatal, quoted
 from .scores import score_of
 from .verdicts import TRUTHS
 
@@ -32,7 +32,8 @@ class Row:
 
 @dataclass
 class Advisory:
-    """An advisory, what the feed told of it, and its rows by their groups."""
+    """An advisory, what the feed told of it, the day since when it is known to be exploited and its EPSS where they are known, and its rows by
+    their groups."""
 
     id: str
     title: str
@@ -40,16 +41,20 @@ class Advisory:
     severity: str
     published: str
     url: str
+    exploited: str = ""
+    epss: float | None = None
     rows: dict[str, list[Row]] = field(default_factory=lambda: {group: [] for group in GROUPS})
 
     def is_open(self) -> bool:
         """Whether a row isn't accepted."""
         return any(rows for group, rows in self.rows.items() if group != ACCEPTED)
 
-    def order(self) -> tuple[bool, float, tuple[int, ...], str]:
-        """What comes first: the highest score, then what more machines have; without a score, and then accepted alone, last."""
+    def order(self) -> tuple[bool, bool, float, float, tuple[int, ...], str]:
+        """What comes first: known exploited, then the highest score, then the highest EPSS, then what more machines have; without a
+        score, and then accepted alone, last."""
         counts = tuple(-len(rows) for rows in self.rows.values())
-        return not self.is_open(), -1.0 if self.score is None else -self.score, counts, self.id
+        score, epss = (1.0 if value is None else -value for value in (self.score, self.epss))
+        return not self.is_open(), not self.exploited, score, epss, counts, self.id
 
 
 @dataclass
@@ -195,7 +200,16 @@ class _Reader:
             self._given(one, key, str, where) or "" for key in ("title", "severity", "published", "url")
         )
         score = score_of(one.get("score"))
-        return Advisory(id, title, None if score is None else float(score), severity, published, url)
+        kev, epss = (self._given(one, key, dict, where) for key in ("kev", "epss"))
+        exploited = "" if kev is None else self._needed(kev, "dateAdded", str, where)
+        probability = None if epss is None else self._probability(epss, where)
+        return Advisory(id, title, None if score is None else float(score), severity, published, url, exploited, probability)
+
+    def _probability(self, epss: Json, where: str) -> float:
+        found = self._needed(epss, "epss", (int, float), where)
+        if not 0 <= found <= 1:
+            raise self._fault(where, f"has the EPSS {quoted(found)}, which is no number from 0 to 1")
+        return float(found)
 
     def _texts(self, one: Json, key: str, where: str) -> list[str]:
         """The texts of a list that may be missing."""
@@ -213,7 +227,7 @@ class _Reader:
             raise self._fault(where, f"has a member {key} that is no {_WORDS[kind]}")
         return found
 
-    def _needed(self, value: Json, key: str, kind: type, where: str) -> Json:
+    def _needed(self, value: Json, key: str, kind: type | tuple[type, ...], where: str) -> Json:
         found = self._given(value, key, kind, where)
         if found is None:
             raise self._fault(where, f"has no member {key}")
