@@ -18,7 +18,7 @@ from dataclasses import dataclass, replace
 from . import names, package_urls
 from .candidates import candidates_of, forms_of, target_of
 from .components import Component, Machine, Supposed
-from .feeds import FormFault
+from .feeds import FormFault, Json
 from .names_table import Product, Settled, Tables
 from .package_urls import PackageUrl
 from .product_index import ProductIndex, as_formatted
@@ -151,6 +151,13 @@ class Unnamed:
             if count:
                 packages, machines = counted(count, "package"), counted(len(found), "machine")
                 said.hint(f"{what}: {packages}, on {machines}", hint)
+
+    def json(self, machine: str) -> dict[str, Json]:
+        """The packages of a machine that have none or only perhaps one, as the JSON of a scan has them."""
+        supposed = [{"id": one.called(), "lines": list(lines)} for one, lines in self.supposed.get(machine, ())]
+        unknown = [one.called() for one in self.unknown.get(machine, ())]
+        found: dict[str, Json] = {"candidates": supposed, "withoutCandidates": unknown}
+        return {key: value for key, value in found.items() if value}
 
     def lines(self) -> Iterator[str]:
         """A line for each, as unlisted.sh writes it."""

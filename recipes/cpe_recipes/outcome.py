@@ -11,6 +11,7 @@ from .cases import Known, Product, Statement
 from .components import Machine
 from .decide import Decided, Lead
 from .feeds import Json
+from .naming import Unnamed
 from .said import Said
 from .table import counted
 
@@ -169,10 +170,12 @@ def tell_items(
         said.hint(f"not in the dictionary: {items}, on {machines}", hint)
 
 
-def json_of(known: Known, found: Sequence[Found], machines: Sequence[verdicts.Machine], about: affected.About) -> dict[str, Json]:
-    """The result as one value, with the verdicts that the machines show."""
+def json_of(
+    known: Known, found: Sequence[Found], machines: Sequence[verdicts.Machine], about: affected.About, unnamed: Unnamed
+) -> dict[str, Json]:
+    """The result as one value, with the verdicts that the machines show, and the packages that have no sure name."""
     parts = _parts(known)
-    of_machines = [_machine_json(one, machine, about, parts) for one, machine in zip(found, machines)]
+    of_machines = [_machine_json(one, machine, about, parts) | unnamed.json(machine.name or "") for one, machine in zip(found, machines)]
     advisories_of = verdicts.Statements([statement.id for statement in known.statements]).advisories
     return {"advisories": len(advisories_of), "machines": of_machines}
 

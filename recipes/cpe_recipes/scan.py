@@ -335,7 +335,7 @@ def _result(read: Words, program: Program, said: Noting, progress: Progress) -> 
             machine.show_all()
     about = affected.About(known.details, accepted, Hanging(known, found), reading.doubts())
     if read.has("--json"):
-        value = reading.mark(json_of(known, found, machines, about))
+        value = reading.mark(json_of(known, found, machines, about, unnamed))
         value |= states.json(verdicts.Statements([statement.id for statement in known.statements]).advisories)
         value["leftOut"] = said.json()
         lines = [json_shown(json.dumps(value, ensure_ascii=False, indent=1))]
