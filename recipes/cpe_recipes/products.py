@@ -20,8 +20,7 @@ from .advisories import KINDS, Configuration
 from .decide import Leads, leads_of, read_entries
 from .feeds import FormFault, Json, Page, member, members, record_text, text_at
 from .machines import read_machines
-from .names_table import read_tables
-from .naming import name_machines
+from .naming import name_machines, read_names
 from .program import Program
 from .said import Fatal, Output, Said
 from .unanalysed import REJECTED, States
@@ -39,7 +38,12 @@ def run(words: Sequence[str]) -> int:
         raise Fatal(f"usage: {USAGE}")
     said, output, program = Said(), Output(), Program()
     records, machines = read_entries(read.many("--records")), read_machines(machines_path, said)
-    name_machines(machines, read_tables(read.many("--names")), records).tell(said, hints.unlisted(read))
+    unnamed = name_machines(machines, read_names(read.many("--names"), machines), records)
+    if read.has("--records"):
+        unnamed.tell(said, hints.unlisted(read))
+    else:
+        # (which products these may be, the dictionary alone knows)
+        unnamed.leave_out(said)
     items = dict.fromkeys(name for machine in machines for name in machine.asked_names())
     leads = leads_of(program, records, items, deprecated_names(records))
     say_items(machines, leads, said)

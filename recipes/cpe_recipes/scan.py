@@ -53,8 +53,7 @@ from .decide import LETTERS, Decider, Leads, Lists, decide, leads_in, leads_of
 from .deciding import Deciding
 from .feeds import FeedFault, Page, json_shown, name_of, read_feed, text_lines
 from .machines import read_lists, read_machines
-from .names_table import read_tables
-from .naming import name_machines
+from .naming import name_machines, read_names
 from .negations import Negations, has_hardware
 from .outcome import MOST_ALIKE, Found, Hanging, json_of, machines_with_verdicts, tell_items
 from .program import Candidate, Program
@@ -318,7 +317,7 @@ def _result(read: Words, program: Program, said: Noting, progress: Progress) -> 
     letters = read_letters(read.one("--letters") or LETTERS)
     asked = read_asked(read, said)
     reading = whole.Reading.of(read)
-    tables = read_tables(read.many("--names"))
+    tables = read_names(read.many("--names"), asked)
     progress.step("reading the dictionary")
     entries = read_entries(read, program, said, reading)
     unnamed = name_machines(asked, tables, entries)
