@@ -1,4 +1,6 @@
-"""Advisories of the products that the machines have: sh products.sh --machines FILE [--records FILE] [--names FILE] [--partial] [--large] [FILE..] > page.
+"""Advisories of the products that the machines have.
+
+    sh products.sh --machines FILE [--records FILE] [--names FILE] [--partial] [--large] [FILE..] > page
 
 `cpe` takes 100,000 statements; NVD has more advisories. This cuts its feeds (the JSON of /rest/json/cves/2.0) down to the
 advisories that could be other than FALSE on some machine, as one page of the same form, for `advisories.sh` or `scan.py`. An

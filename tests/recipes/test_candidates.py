@@ -17,7 +17,6 @@ from cpe_recipes.components import Component, Machine  # noqa: E402
 from cpe_recipes.feeds import FormFault  # noqa: E402
 from cpe_recipes.names_table import Product, Tables, read_table  # noqa: E402
 from cpe_recipes.naming import name_machines  # noqa: E402
-from cpe_recipes.package_urls import Package  # noqa: E402
 from cpe_recipes.product_index import ProductIndex  # noqa: E402
 from cpe_recipes.said import Fatal  # noqa: E402
 
