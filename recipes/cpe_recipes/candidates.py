@@ -3,7 +3,8 @@
 A package's own name, the name of its source package and the last parts of its path are looked for as they are, without what says only
 of which language it is (`python3-`, `node-`, `golang-github-`..), and without the vendor before it (`acme-agent`). Only if none of these
 is in the dictionary come looser forms: without a version behind the name (tomcat9), without `lib` before it, and without what says which
-part of a source it is (`-dev`, `-common`..). NVD writes some names with `_` and others with `-`, so both are looked for.
+part of a source it is (`-dev`, `-common`..). What separates words makes no difference: NVD writes some names with `_`, some with `-`, and
+others with none.
 
 What a package is written for (`target_sw`) leaves out the products that are written for something else alone: a module of npm is no
 plugin of WordPress. The others come in this order: first those of which an entry has a version of the package's line, then by the
@@ -18,7 +19,7 @@ from dataclasses import dataclass
 from . import names
 from .names_table import Product
 from .package_urls import PackageUrl
-from .product_index import Front, Listed, ProductIndex, front_of
+from .product_index import Front, Listed, ProductIndex, front_of, squeezed
 from .readings import DISTRIBUTIONS, readings
 
 # What NVD writes as target_sw of packages of a kind.
@@ -26,11 +27,11 @@ TARGETS = {"pypi": "python", "npm": "node.js", "gem": "ruby", "golang": "go", "c
 # Fronts by which distributions say of which language a package is, and its target_sw; none is known of some.
 _FRONTS = (
     ("python3-", "python"), ("python2-", "python"), ("python-", "python"), ("py3-", "python"), ("pypy3-", "python"),
-    ("node-", "node.js"), ("nodejs-", "node.js"), ("npm-", "node.js"), ("ruby-", "ruby"), ("rubygem-", "ruby"), ("rubygems-", "ruby"),
+    ("libjs-", "node.js"), ("node-", "node.js"), ("nodejs-", "node.js"), ("npm-", "node.js"), ("ruby-", "ruby"), ("rubygem-", "ruby"), ("rubygems-", "ruby"),
     ("golang-", "go"), ("rust-", "rust"), ("librust-", "rust"), ("perl-", ""), ("php-", ""), ("r-cran-", ""),
 )
 # What stands between such a front and the name of a module of Go.
-_HOSTS = re.compile(r"(?:github|gitlab|gopkg|golang|google|k8s|bitbucket|go)-(?:com-|org-|in-)?")
+_HOSTS = re.compile(r"^(?:github|gitlab|gopkg|golang|google|k8s|bitbucket|go)-(?:com-|org-|in-)?")
 # Other things that a product may be written for alone, which is then none of a distribution's packages.
 _ELSEWHERE = frozenset(
     "wordpress drupal joomla\\! joomla magento jenkins typo3 moodle android iphone_os ipados shopify prestashop confluence jira".split()
@@ -89,9 +90,7 @@ def _near(purl: PackageUrl) -> Iterator[str]:
     for text in (purl.source.name if purl.source else "", own.name):
         if text:
             yield text
-            bare = _without_front(text)
-            if bare:
-                yield bare
+            yield from _without_front(text)
     if own.type not in DISTRIBUTIONS and own.namespace:
         # (such as angular of @angular/core, tomcat of org.apache.tomcat, and consul of github.com/hashicorp/consul/api)
         last = re.split(r"[./]" if own.type == "maven" else "/", own.namespace)[-1].removeprefix("@")
@@ -101,18 +100,16 @@ def _near(purl: PackageUrl) -> Iterator[str]:
         yield last
 
 
-def _without_front(text: str) -> str:
-    """The name without what says of which language it is; empty where nothing does."""
+def _without_front(text: str) -> Iterator[str]:
+    """The name without what says of which language it is, where something does; of a module of Go all that it may be."""
     front = next((front for front, _ in _FRONTS if text.startswith(front)), "")
-    if not front:
-        return ""
     rest = text[len(front) :]
     if front == "golang-":
-        rest = _HOSTS.sub("", rest, count=1) if _HOSTS.match(rest) else rest
-        rest = rest.removesuffix("-dev")
-        # (owner and name stand behind the host, and neither says where it ends)
-        return rest.rpartition("-")[2] if "-" in rest else rest
-    return rest.removesuffix("-dev") if front in ("rust-", "librust-") else rest
+        parts = _HOSTS.sub("", rest.removesuffix("-dev"), count=1).split("-")
+        # (who wrote it and its name stand behind the host, and neither says where it ends)
+        yield from ("-".join(parts[place:]) for place in range(min(1, len(parts) - 1), len(parts)))
+    elif front:
+        yield rest.removesuffix("-dev") if front in ("rust-", "librust-") else rest
 
 
 def _loose(text: str) -> Iterator[str]:
@@ -136,9 +133,8 @@ def _cut(pattern: re.Pattern[str], text: str) -> str:
 
 
 def _spelled(texts: Iterable[str]) -> Iterator[str]:
-    """The texts as components, with `_` and with `-`."""
-    found = (form for text in texts for form in (text, text.replace("-", "_"), text.replace("_", "-")))
-    return iter(dict.fromkeys(names.spelled(form) for form in found if form != names.NA))
+    """The texts as components."""
+    return iter(dict.fromkeys(names.spelled(text) for text in texts if text != names.NA))
 
 
 def target_of(purl: PackageUrl) -> str:
@@ -167,7 +163,7 @@ def candidates_of(purl: PackageUrl, index: ProductIndex) -> list[Candidate]:
     target, kind, forms = target_of(purl), purl.package.type, forms_of(purl)
     front = line_of(purl.version, kind)
     source_front = line_of(purl.source_version, kind) if purl.source_version else front
-    source_names = set(_spelled([purl.source.name])) if purl.source else set()
+    source = squeezed(names.spelled(purl.source.name)) if purl.source else ""
     near = [[*map(index.of, forms.near), *(_of_vendor(index, *pair) for pair in forms.owned)], [*map(index.of, forms.loose)]]
     for tier in near:
         found: dict[Product, tuple[_Rank, Candidate]] = {}
@@ -175,7 +171,7 @@ def candidates_of(purl: PackageUrl, index: ProductIndex) -> list[Candidate]:
             for listed in products:
                 if listed.product in found or not _is_for(listed, kind, target):
                     continue
-                is_source = listed.product.name in source_names
+                is_source = squeezed(listed.product.name) == source
                 is_of_line = listed.has_line_of(source_front if is_source else front)
                 version = purl.source_version if is_source and purl.source_version else purl.version
                 rank = (not is_of_line, place, target not in listed.targets, -_nearness(listed, purl), -listed.count, listed.product.vendor)
