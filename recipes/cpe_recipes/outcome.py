@@ -171,11 +171,13 @@ def tell_items(
 
 
 def json_of(
-    known: Known, found: Sequence[Found], machines: Sequence[verdicts.Machine], about: affected.About, unnamed: Unnamed
+    known: Known, found: Sequence[Found], machines: Sequence[verdicts.Machine], about: affected.About, unnamed: Unnamed | None = None
 ) -> dict[str, Json]:
     """The result as one value, with the verdicts that the machines show, and the packages that have no sure name."""
     parts = _parts(known)
-    of_machines = [_machine_json(one, machine, about, parts) | unnamed.json(machine.name or "") for one, machine in zip(found, machines)]
+    of_machines = [_machine_json(one, machine, about, parts) for one, machine in zip(found, machines)]
+    for row in of_machines if unnamed is not None else ():
+        row |= unnamed.json(row["name"])
     advisories_of = verdicts.Statements([statement.id for statement in known.statements]).advisories
     return {"advisories": len(advisories_of), "machines": of_machines}
 
