@@ -3,7 +3,7 @@ import unittest
 
 from recipe_case import RecipeCase, needs_cpe
 
-from cpe_recipes import inventory
+from cpe_recipes import inventory, lists
 from cpe_recipes.feeds import FeedFault
 from cpe_recipes.said import Fatal
 
@@ -12,7 +12,7 @@ ITEM = '{"do":"item","name":"%s"}'
 
 class Lists(RecipeCase):
     def items(self, text, feed="list"):
-        return [(one.id, one.record or one.reason) for one in inventory.candidates_of(feed, text.encode())]
+        return [(one.id, one.record or one.reason) for one in inventory.candidates_of(lists.read(feed, text.encode()))]
 
     def refused(self, text):
         with self.assertRaises(FeedFault) as caught:
