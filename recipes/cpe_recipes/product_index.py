@@ -1,0 +1,114 @@
+"""The products of a dictionary by their names, for those names alone that are looked for, in one pass over its records."""
+from __future__ import annotations
+
+import json
+import re
+from collections.abc import Collection, Iterable, Iterator
+from dataclasses import dataclass, field
+
+from . import names
+from .names_table import Product
+
+_MARK = '"cpe:2.3:'
+_FRONT = re.compile(r"[0-9]+(?:\.[0-9]+)?")
+
+# The first two numbers of a version, by which two versions are of one line.
+Front = tuple[int, ...]
+
+
+def front_of(version: str) -> Front:
+    """The first two numbers of a version; none where it doesn't begin with a number."""
+    found = _FRONT.match(version)
+    return tuple(map(int, found[0].split("."))) if found else ()
+
+
+@dataclass
+class Listed:
+    """A product of the dictionary: how many entries it has, of which lines these are, and their target_sw."""
+
+    product: Product
+    count: int = 0
+    fronts: set[Front] = field(default_factory=set)
+    targets: set[str] = field(default_factory=set)
+
+    def has_line_of(self, front: Front) -> bool:
+        """Whether an entry has a version of this line: the same first two numbers, or the first if there is no second."""
+        return bool(front) and any(front[: len(one)] == one[: len(front)] for one in self.fronts)
+
+
+class ProductIndex:
+    """The applications (part a) of a dictionary whose product is one of these texts."""
+
+    def __init__(self, records: Iterable[str], wanted: Collection[str]) -> None:
+        self._by_name: dict[str, dict[Product, Listed]] = {}
+        for parts in _applications(records, wanted) if wanted else ():
+            product = Product(*parts[:3])
+            found = self._by_name.setdefault(parts[2], {})
+            listed = found.get(product)
+            if listed is None:
+                listed = found[product] = Listed(product)
+            listed.count += 1
+            listed.fronts.add(front_of(parts[names.VERSION]))
+            listed.targets.add(parts[_TARGET] if len(parts) > _TARGET else names.ANY)
+
+    def of(self, name: str) -> list[Listed]:
+        """The products of this name, spelled as in CPE names."""
+        return list(self._by_name.get(name, {}).values())
+
+    def has(self, vendor: str, name: str) -> bool:
+        """Whether this vendor has a product of this name."""
+        return any(listed.product.vendor == vendor for listed in self.of(name))
+
+
+_TARGET = names.ATTRIBUTES.index("target_sw")
+
+
+def _applications(records: Iterable[str], wanted: Collection[str]) -> Iterator[list[str]]:
+    """The components of the names of these records, whose product is wanted."""
+    for record in records:
+        at = record.find(_MARK)
+        if at < 0:
+            name = _named(record)
+        else:
+            # (the name ends where the text does; a quoting stands there with two backslashes)
+            front = record[at + 1 : record.find('"', at + len(_MARK))]
+            if "\\" not in front:
+                parts = front.split(":", 5)
+                if len(parts) > 4 and parts[4] in wanted or front.isascii() and not front.islower():
+                    yield from _wanted(front, wanted)
+                continue
+            name = _named(record)
+        yield from _wanted(name, wanted)
+
+
+def _wanted(name: str, wanted: Collection[str]) -> Iterator[list[str]]:
+    parts = names.components(name.lower())
+    if len(parts) == len(names.ATTRIBUTES) and parts[0] == "a" and parts[names.PRODUCT] in wanted:
+        yield parts
+
+
+def _named(record: str) -> str:
+    """The name of a record, as a formatted string; empty where it has none."""
+    try:
+        value = json.loads(record)
+    except (ValueError, RecursionError):
+        return ""
+    name = value.get("name") if isinstance(value, dict) else None
+    if isinstance(name, dict):
+        return names.joined([str(name.get(attribute, names.ANY)) for attribute in names.ATTRIBUTES])
+    return as_formatted(name) if isinstance(name, str) else ""
+
+
+_ENCODED = re.compile(r"%([0-9a-f]{2})")
+
+
+def as_formatted(name: str) -> str:
+    """The vendor, product and version of a name in either binding, as a formatted string; empty where it is none. (`cpe` says what a
+    name is; here it is enough to see which product it has.)"""
+    text = name.lower()
+    if text.startswith(names.PREFIX):
+        return text
+    if not text.startswith("cpe:/"):
+        return ""
+    parts = [_ENCODED.sub(lambda found: names.spelled(chr(int(found[1], 16))), part) or names.ANY for part in text[5:].split(":")[:4]]
+    return names.joined([*parts, *[names.ANY] * (len(names.ATTRIBUTES) - len(parts))])
