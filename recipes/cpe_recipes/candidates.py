@@ -1,7 +1,7 @@
 """Which products of a dictionary a package may be: those whose name is that of the package, in the forms that it may have there.
 
-A package's own name, the name of its source package and the last parts of its path are looked for as they are, and without what says
-only of which language it is (`python3-`, `node-`, `golang-github-`..). Only if none of these is in the dictionary come looser forms:
+A package's own name, the name of its source package and the last parts of its path are looked for as they are, without what says
+only of which language it is (`python3-`, `node-`, `golang-github-`..), and without the vendor before it (`acme-agent`). Only if none of these is in the dictionary come looser forms:
 without a version behind the name (tomcat9), without `lib` before it, and without what says which part of a source it is (`-dev`,
 `-common`..). NVD writes some names with `_` and others with `-`, so both are looked for.
 
@@ -55,17 +55,33 @@ class Candidate:
 
 @dataclass(frozen=True)
 class Forms:
-    """The names under which a package may be in a dictionary: as they are, and looser ones."""
+    """The names under which a package may be in a dictionary: as they are, and looser ones; and those of which the name begins with
+    the vendor, as of acme-agent, each with that."""
 
     near: tuple[str, ...]
     loose: tuple[str, ...]
+    owned: tuple[tuple[str, str], ...] = ()
+
+    def all(self) -> Iterator[str]:
+        """The names of products of all forms."""
+        yield from self.near
+        yield from self.loose
+        yield from (name for _, name in self.owned)
 
 
 def forms_of(purl: PackageUrl) -> Forms:
     """The names of products to look for, each once and in order, spelled as in CPE names."""
     near = list(dict.fromkeys(_near(purl)))
     loose = [form for form in dict.fromkeys(form for text in near for form in _loose(text)) if form not in near]
-    return Forms(tuple(_spelled(near)), tuple(_spelled(loose)))
+    owned = dict.fromkeys(pair for text in (*near, *loose) for pair in _owned(text))
+    return Forms(tuple(_spelled(near)), tuple(_spelled(loose)), tuple(owned))
+
+
+def _owned(text: str) -> Iterator[tuple[str, str]]:
+    """The vendors and the products that a name may be made of."""
+    for place in (place for place, one in enumerate(text) if one in "-_" and 0 < place < len(text) - 1):
+        for name in _spelled([text[place + 1 :]]):
+            yield names.spelled(text[:place]), name
 
 
 def _near(purl: PackageUrl) -> Iterator[str]:
@@ -152,19 +168,30 @@ def candidates_of(purl: PackageUrl, index: ProductIndex) -> list[Candidate]:
     front = line_of(purl.version, kind)
     source_front = line_of(purl.source_version, kind) if purl.source_version else front
     source_names = set(_spelled([purl.source.name])) if purl.source else set()
-    for tier in (forms.near, forms.loose):
-        found = []
-        for place, form in enumerate(tier):
-            is_source = form in source_names
-            for listed in index.of(form):
-                if _is_for(listed, kind, target):
-                    is_of_line = listed.has_line_of(source_front if is_source else front)
-                    rank = (not is_of_line, place, target not in listed.targets, -_nearness(listed, purl), -listed.count, listed.product.vendor)
-                    version = purl.source_version if is_source and purl.source_version else purl.version
-                    found.append((rank, Candidate(listed.product, version)))
+    near = [[*map(index.of, forms.near), *(_of_vendor(index, *pair) for pair in forms.owned)], [*map(index.of, forms.loose)]]
+    for tier in near:
+        found: dict[Product, tuple[_Rank, Candidate]] = {}
+        for place, products in enumerate(tier):
+            for listed in products:
+                if listed.product in found or not _is_for(listed, kind, target):
+                    continue
+                is_source = listed.product.name in source_names
+                is_of_line = listed.has_line_of(source_front if is_source else front)
+                version = purl.source_version if is_source and purl.source_version else purl.version
+                rank = (not is_of_line, place, target not in listed.targets, -_nearness(listed, purl), -listed.count, listed.product.vendor)
+                found[listed.product] = rank, Candidate(listed.product, version)
         if found:
-            return [candidate for _, candidate in sorted(found, key=lambda one: one[0])]
+            return [candidate for _, candidate in sorted(found.values(), key=lambda one: one[0])]
     return []
+
+
+# By what candidates are ordered.
+_Rank = tuple[bool, int, bool, int, int, str]
+
+
+def _of_vendor(index: ProductIndex, vendor: str, name: str) -> list[Listed]:
+    """The products of this name and vendor."""
+    return [listed for listed in index.of(name) if listed.product.vendor == vendor]
 
 
 def _nearness(listed: Listed, purl: PackageUrl) -> int:

@@ -53,16 +53,11 @@ class Naming:
         found = self._named.get(key)
         if found is None:
             found = self._named[key] = self._look(component.purl, has_product)
-        # (a component that the list names is an item of that name at least)
-        return replace(found, is_unknown=False) if component.names else found
+        return found
 
     def put(self, component: Component) -> Component:
         """A component with what is known of its names."""
-        if not component.purl:
-            return component
-        named = self.named(component)
-        found = tuple(dict.fromkeys((*component.names, *named.names)))
-        return replace(component, names=found, supposed=named.supposed)
+        return _with_names(component, self.named(component)) if component.purl else component
 
     def _has_product(self, name: str) -> bool:
         parts = names.components(as_formatted(name) or names.PREFIX)
@@ -95,6 +90,11 @@ class Naming:
             why = f"{shown(purl.words())} may be {product}, and names.txt settles it: {lines[-1]}"
             supposed += [Supposed(name, why) for name in _names_of(one.product, one.version, target_of(purl))]
         return Named((), tuple(supposed), tuple(lines), not found)
+
+
+def _with_names(component: Component, named: Named) -> Component:
+    found = tuple(dict.fromkeys((*component.names, *named.names)))
+    return Component(component.id, found, component.kind, component.purl, named.supposed)
 
 
 def _by_table(purl: PackageUrl, settled: Settled) -> Named:
@@ -132,9 +132,7 @@ def _wanted(components: Iterable[Component], tables: Tables) -> Iterator[str]:
         if settled is not None:
             yield from (product.name for product in settled.line.products())
         if settled is None or settled.line.choices:
-            forms = forms_of(purl)
-            yield from forms.near
-            yield from forms.loose
+            yield from forms_of(purl).all()
 
 
 @dataclass
@@ -177,8 +175,10 @@ def name_machines(machines: Sequence[Machine], tables: Tables, records: Iterable
             if not one.purl:
                 continue
             named = naming.named(one)
-            machine.components[place] = naming.put(one)
-            if named.is_unknown:
+            if named.names or named.supposed:
+                machine.components[place] = _with_names(one, named)
+            # (a component that the list names is an item of that name at least)
+            if named.is_unknown and not one.names:
                 unnamed.unknown.setdefault(machine.name, []).append(one)
             elif named.lines:
                 unnamed.supposed.setdefault(machine.name, []).append((one, named.lines))

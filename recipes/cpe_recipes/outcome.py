@@ -200,9 +200,9 @@ def _machine_json(
     return row
 
 
-def _decided_json(one: Found, truth: str, places: Iterable[int]) -> dict[str, Json]:
+def _decided_json(one: Found, truth: str, places: Sequence[int]) -> dict[str, Json]:
     """Which items make it TRUE, in words, where it was asked for."""
-    if truth != "TRUE" or one.deciding is None:
+    if truth != "TRUE" or one.deciding is None or not any(place in one.deciding for place in places):
         return {}
     return {"decidedBy": list(dict.fromkeys(reason for place in places for reason in one.deciding.get(place, ())))}
 
@@ -215,8 +215,11 @@ def _in_order(machine: verdicts.Machine, about: affected.About) -> list[tuple[st
 def _verdict_json(id: str, truth: str, machine: verdicts.Machine, about: affected.About) -> dict[str, Json]:
     known = {key: value for key, value in about.details.get(id, {}).items() if key != "id"}
     row: dict[str, Json] = {"id": id, "verdict": truth, **known}
-    if truth == "UNKNOWN":
+    settled = machine.settled.get(id)
+    if truth == "UNKNOWN" or settled is not None and settled.before == "UNKNOWN":
         row["hangsOn"] = about.hanging.on(id, machine.name)
+    if settled is not None:
+        row |= {"settled": settled.reason, "before": settled.before}
     remarks = about.hanging.remarks(id, machine.name) if truth == "TRUE" else []
     if remarks:
         row["remarks"] = remarks

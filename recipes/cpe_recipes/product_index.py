@@ -9,7 +9,8 @@ from dataclasses import dataclass, field
 from . import names
 from .names_table import Product
 
-_MARK = '"cpe:2.3:'
+# An entry of a dictionary whose name has nothing quoted before its version, in lower case.
+_PLAIN = re.compile(r'\{"do":"entry","name":"cpe:2\.3:[aoh]:[^:"\\A-Z]+:([^:"\\A-Z]+):')
 _FRONT = re.compile(r"[0-9]+(?:\.[0-9]+)?")
 
 # The first two numbers of a version, by which two versions are of one line.
@@ -65,20 +66,14 @@ _TARGET = names.ATTRIBUTES.index("target_sw")
 
 def _applications(records: Iterable[str], wanted: Collection[str]) -> Iterator[list[str]]:
     """The components of the names of these records, whose product is wanted."""
+    look = _PLAIN.match
     for record in records:
-        at = record.find(_MARK)
-        if at < 0:
-            name = _named(record)
-        else:
-            # (the name ends where the text does; a quoting stands there with two backslashes)
-            front = record[at + 1 : record.find('"', at + len(_MARK))]
-            if "\\" not in front:
-                parts = front.split(":", 5)
-                if len(parts) > 4 and parts[4] in wanted or front.isascii() and not front.islower():
-                    yield from _wanted(front, wanted)
-                continue
-            name = _named(record)
-        yield from _wanted(name, wanted)
+        # (nearly all of a million are so, and most are of products that nobody looks for)
+        found = look(record)
+        if found is None:
+            yield from _wanted(_named(record), wanted)
+        elif found[1] in wanted:
+            yield from _wanted(_named(record), wanted)
 
 
 def _wanted(name: str, wanted: Collection[str]) -> Iterator[list[str]]:

@@ -1,7 +1,7 @@
 """The whole way, from feeds and what machines have to the advisories that concern each machine.
 
     python3 scan.py --dictionary FILE.. | --records FILE.. --advisories FILE.. [--matches FILE..]
-        --machines FILE | --lists FILE.. [--names FILE] [--suppress FILE] [--letters FILE] [--partial] [--large] [--strict] [--platform NAME]
+        --machines FILE | --lists FILE.. [--names FILE] [--suppress FILE] [--settled FILE] [--letters FILE] [--partial] [--large] [--strict] [--platform NAME]
         [--hardware none] [--all] [--json [--why]]
 
 - --dictionary, --advisories, --matches: pages of NVD's API 2.0, or its feeds, as they come, packed or in archives; advisories may be CVE
@@ -11,6 +11,7 @@
   machine.
 - --names: tables of what packages are called (names_table.py), before the one that comes along, names.txt.
 - --suppress: accepted advisories, lines `ID MACHINE REASON`, where * is every machine. They are told below the table.
+- --settled: UNKNOWNs that a user settled, lines `MACHINE ID TRUE|FALSE REASON`, where * is every machine (settled.py).
 - --letters: the products of which letters in versions count upward, in place of letters.txt.
 - --large: pages may unpack to as much as they do; unpack.py says what they else may.
 - --partial: pages of a feed may be missing. What is, is said, and each FALSE that could be another verdict by it is marked.
@@ -60,13 +61,14 @@ from .program import Candidate, Program
 from .progress import Progress
 from .reasons import Reasons
 from .said import Fatal, Noting, Output, Said
+from .settled import read_settled
 from .unanalysed import States
 from .versions import Letters, read_letters
 from .words import FLAG, MANY, ONE, Words, read_words
 
 USAGE = (
     "scan.py --dictionary FILE.. | --records FILE.. --advisories FILE.. [--matches FILE..] "
-    "--machines FILE | --lists FILE.. [--names FILE] [--suppress FILE] [--letters FILE] [--partial] [--large] [--strict] [--platform NAME] [--hardware none] "
+    "--machines FILE | --lists FILE.. [--names FILE] [--suppress FILE] [--settled FILE] [--letters FILE] [--partial] [--large] [--strict] [--platform NAME] [--hardware none] "
     "[--all] [--json [--why]]"
 )
 OPTIONS = {
@@ -78,6 +80,7 @@ OPTIONS = {
     "--lists": MANY,
     "--names": ONE,
     "--suppress": ONE,
+    "--settled": ONE,
     "--letters": ONE,
     "--all": FLAG,
     "--json": FLAG,
@@ -311,6 +314,7 @@ def _result(read: Words, program: Program, said: Noting, progress: Progress) -> 
     """The lines of the result."""
     progress.step("reading what the machines have")
     accepted = suppressed.read_suppressed(read.many("--suppress"), said)
+    settled = read_settled(read.many("--settled"), said)
     letters = read_letters(read.one("--letters") or LETTERS)
     asked = read_asked(read, said)
     reading = whole.Reading.of(read)
@@ -330,6 +334,7 @@ def _result(read: Words, program: Program, said: Noting, progress: Progress) -> 
     unnamed.tell(said, hint)
     platforms.remark_silent([one.machine for one in found if one.has_items()], known, said)
     machines = machines_with_verdicts(known, scan.bare, found)
+    settled.settle(machines, said)
     if read.has("--all"):
         for machine in machines:
             machine.show_all()

@@ -215,6 +215,12 @@ class Candidates(unittest.TestCase):
         self.assertEqual(found(TOMCAT, *names), ["apache:tomcat"])
         self.assertEqual(found("pkg:deb/debian/libxml2@2.9.14", *names), ["xmlsoft:libxml2"])
 
+    def test_a_vendor_before_the_name(self):
+        names = [fs("acme", "agent", "5.1"), fs("other", "agent", "5.1"), fs("apache", "airflow", "2.0"), fs("org", "server", "1")]
+        self.assertEqual(found("pkg:deb/debian/acme-agent@5.1-2", *names), ["acme:agent"])
+        self.assertEqual(found("pkg:pypi/apache-airflow@2.3", *names), ["apache:airflow"])
+        self.assertEqual(found("pkg:deb/debian/mongodb-org-server@5", *names), [])
+
     def test_names_are_found_in_each_form_of_a_record(self):
         records = [
             '{"do":"entry","name":"cpe:/a:acme:wid%2bget:1.0"}',
