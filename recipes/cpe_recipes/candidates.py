@@ -23,12 +23,13 @@ from .readings import DISTRIBUTIONS, readings
 
 # What NVD writes as target_sw of packages of a kind.
 TARGETS = {"pypi": "python", "npm": "node.js", "gem": "ruby", "golang": "go", "cargo": "rust"}
-# Fronts by which distributions say of which language a package is, and its target_sw; none is known of some.
+# Fronts by which distributions say of which language a package is, and its target_sw; NVD has none for some.
 _FRONTS = (
     ("python3-", "python"), ("python2-", "python"), ("python-", "python"), ("py3-", "python"), ("pypy3-", "python"),
-    ("node-", "node.js"), ("nodejs-", "node.js"), ("npm-", "node.js"), ("ruby-", "ruby"), ("rubygem-", "ruby"), ("rubygems-", "ruby"),
+    ("node-", "node.js"), ("nodejs-", "node.js"), ("npm-", "node.js"), ("libjs-", "node.js"), ("ruby-", "ruby"), ("rubygem-", "ruby"), ("rubygems-", "ruby"),
     ("golang-", "go"), ("rust-", "rust"), ("librust-", "rust"), ("perl-", ""), ("php-", ""), ("r-cran-", ""),
 )
+_SAYS_GO = frozenset({"go", "golang"})
 # What stands between such a front and the name of a module of Go.
 _HOSTS = re.compile(r"(?:github|gitlab|gopkg|golang|google|k8s|bitbucket|go)-(?:com-|org-|in-)?")
 # Other things that a product may be written for alone, which is then none of a distribution's packages.
@@ -42,6 +43,8 @@ _PARTS = re.compile(
     r"java|ruby|dev-bin|compat|full|light|all|main|openrc|systemd|bash-completion|fonts?|themes?|api|impl|parent))+"
 )
 _NUMBERS = re.compile(r"[-_.]?v?[0-9]+(?:\.[0-9]+)*[a-z]?")
+# From how many letters on a name in one word isn't another one by chance.
+_LONG = 8
 _T64 = re.compile(r"t64|v5")
 
 
@@ -89,9 +92,7 @@ def _near(purl: PackageUrl) -> Iterator[str]:
     for text in (purl.source.name if purl.source else "", own.name):
         if text:
             yield text
-            bare = _without_front(text)
-            if bare:
-                yield bare
+            yield from _without_front(text)
     if own.type not in DISTRIBUTIONS and own.namespace:
         # (such as angular of @angular/core, tomcat of org.apache.tomcat, and consul of github.com/hashicorp/consul/api)
         last = re.split(r"[./]" if own.type == "maven" else "/", own.namespace)[-1].removeprefix("@")
@@ -101,18 +102,22 @@ def _near(purl: PackageUrl) -> Iterator[str]:
         yield last
 
 
-def _without_front(text: str) -> str:
-    """The name without what says of which language it is; empty where nothing does."""
-    front = next((front for front, _ in _FRONTS if text.startswith(front)), "")
-    if not front:
-        return ""
+def _front_of(text: str) -> tuple[str, str]:
+    """What says of which language a package of a distribution is, and its target_sw; empty where nothing does."""
+    return next((one for one in _FRONTS if text.startswith(one[0])), ("", ""))
+
+
+def _without_front(text: str) -> Iterator[str]:
+    """The name without what says of which language it is; nothing where nothing does."""
+    front, _ = _front_of(text)
     rest = text[len(front) :]
     if front == "golang-":
-        rest = _HOSTS.sub("", rest, count=1) if _HOSTS.match(rest) else rest
-        rest = rest.removesuffix("-dev")
-        # (owner and name stand behind the host, and neither says where it ends)
-        return rest.rpartition("-")[2] if "-" in rest else rest
-    return rest.removesuffix("-dev") if front in ("rust-", "librust-") else rest
+        words = (_HOSTS.sub("", rest, count=1) if _HOSTS.match(rest) else rest).removesuffix("-dev").split("-")
+        # (owner and name stand behind the host, and neither says where it ends: prometheus-client-golang)
+        behind = ["-".join(words[place:]) for place in range(1, len(words))] or words
+        yield from (one for one in behind if one not in _SAYS_GO)
+    elif front:
+        yield rest.removesuffix("-dev") if front in ("rust-", "librust-") else rest
 
 
 def _loose(text: str) -> Iterator[str]:
@@ -136,9 +141,14 @@ def _cut(pattern: re.Pattern[str], text: str) -> str:
 
 
 def _spelled(texts: Iterable[str]) -> Iterator[str]:
-    """The texts as components, with `_` and with `-`."""
-    found = (form for text in texts for form in (text, text.replace("-", "_"), text.replace("_", "-")))
+    """The texts as components, with `_`, with `-`, and in one word, as networkmanager of network-manager."""
+    found = (form for text in texts for form in (text, text.replace("-", "_"), text.replace("_", "-"), _in_one_word(text)))
     return iter(dict.fromkeys(names.spelled(form) for form in found if form != names.NA))
+
+
+def _in_one_word(text: str) -> str:
+    joined = text.replace("-", "").replace("_", "")
+    return joined if len(joined) >= _LONG else text
 
 
 def target_of(purl: PackageUrl) -> str:
@@ -149,22 +159,28 @@ def target_of(purl: PackageUrl) -> str:
     if own.type == "composer":
         return {"wpackagist-plugin": "wordpress", "wpackagist-theme": "wordpress", "drupal": "drupal"}.get(own.namespace, "")
     if own.type in DISTRIBUTIONS:
-        return next((target for front, target in _FRONTS if own.name.startswith(front)), "")
+        return _front_of(own.name)[1]
     return TARGETS.get(own.type, "")
 
 
-def _is_for(listed: Listed, kind: str, target: str) -> bool:
+def _others_of(purl: PackageUrl) -> frozenset[str]:
+    """What a product that the package may be isn't written for alone."""
+    own = purl.package
+    if own.type in DISTRIBUTIONS and not _front_of(own.name)[0]:
+        # (a program may be written in any language; but what is in Rust alone is a library, and has its front)
+        return _ELSEWHERE | {TARGETS["cargo"]}
+    return _ELSEWHERE | _OF_LANGUAGES
+
+
+def _is_for(listed: Listed, others: frozenset[str], target: str) -> bool:
     """Whether a product may be what is written for this."""
     said = listed.targets - {names.ANY, names.NA}
-    if said < listed.targets or target in listed.targets:
-        return True
-    others = _ELSEWHERE if kind in DISTRIBUTIONS and not target else _ELSEWHERE | _OF_LANGUAGES
-    return not said <= others
+    return said < listed.targets or target in listed.targets or not said <= others
 
 
 def candidates_of(purl: PackageUrl, index: ProductIndex) -> list[Candidate]:
     """The products of a dictionary that a package may be, the likeliest first."""
-    target, kind, forms = target_of(purl), purl.package.type, forms_of(purl)
+    target, kind, forms, others = target_of(purl), purl.package.type, forms_of(purl), _others_of(purl)
     front = line_of(purl.version, kind)
     source_front = line_of(purl.source_version, kind) if purl.source_version else front
     source_names = set(_spelled([purl.source.name])) if purl.source else set()
@@ -173,7 +189,7 @@ def candidates_of(purl: PackageUrl, index: ProductIndex) -> list[Candidate]:
         found: dict[Product, tuple[_Rank, Candidate]] = {}
         for place, products in enumerate(tier):
             for listed in products:
-                if listed.product in found or not _is_for(listed, kind, target):
+                if listed.product in found or not _is_for(listed, others, target):
                     continue
                 is_source = listed.product.name in source_names
                 is_of_line = listed.has_line_of(source_front if is_source else front)
