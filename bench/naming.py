@@ -1,6 +1,6 @@
 """How many packages get the right name first: python3 bench/naming.py [--all]
 
-Over some 950 packages of Debian, PyPI and npm whose product of NVD is known by hand (tests/recipes/naming/), and a dictionary that has
+Over 976 packages of Debian, PyPI and npm whose product of NVD is known by hand (tests/recipes/naming/), and a dictionary that has
 these products beside more that aren't theirs. What names the packages is the recipes' own code. It prints the count of all, by kind, of
 those that names.txt has and those that it doesn't have, and what the dictionary alone brings. With --all it prints the packages that
 aren't right, with what came first.
@@ -22,7 +22,8 @@ def main(words):
     rows += [(kind, [one for one in some if one.component().kind == kind], tables) for kind in kinds]
     rows += [("in names.txt", listed, tables), ("not in names.txt", others, tables)]
     rows += [(f"not in names.txt, {kind}", [one for one in others if one.component().kind == kind], tables) for kind in kinds]
-    rows += [("that NVD has, not in names.txt", [one for one in others if one.products], tables)]
+    rows += [("not in names.txt, that NVD has", [one for one in others if one.products], tables)]
+    rows += [("not in names.txt, of several candidates", truth.of_several(others, tables, dictionary), tables)]
     rows += [("without source packages", [one.without_source() for one in some], tables)]
     rows += [("without names.txt", some, truth.NO_TABLES)]
     for what, packages, by in rows:

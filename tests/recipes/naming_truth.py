@@ -1,7 +1,8 @@
 """Packages whose product of NVD is known by hand, beside a dictionary: how many get the right name first.
 
-`naming/truth.txt` has the packages, and `naming/dictionary.txt` the products; both say how their lines are read. What names a package is
-the recipes' own code (cpe_recipes/naming.py).
+`naming/truth.txt` has the packages, and `naming/dictionary.txt` the products; both say how their lines are read. Beside these products
+are the names of the Official CPE Dictionary of which bench/official-names.txt is a sample. What names a package is the recipes' own code
+(cpe_recipes/naming.py).
 """
 import json
 import sys
@@ -71,20 +72,32 @@ def records():
             if successor:
                 told = {"do": "deprecate", "name": name, "kind": "NAME_CORRECTION", "successors": [_name(successor, version, target)]}
                 yield json.dumps({**told, "date": "2024-01-02"}, separators=(",", ":"))
+    for name in (HERE.parents[1] / "bench" / "official-names.txt").read_text(encoding="utf-8").splitlines():
+        yield json.dumps({"do": "entry", "name": name}, separators=(",", ":"))
 
 
 def count(some, tables, dictionary):
     """What comes of these packages by these tables and this dictionary."""
-    machine = Machine("m", [one.component() for one in some])
-    naming = Naming(tables, [machine], dictionary)
     counted = Counted()
-    for one in some:
-        first = _first(naming.named(one.component()))
+    for one, named in _named(some, tables, dictionary):
+        first = _first(named)
         outcome = RIGHT if first in (one.products or ("",)) else WRONG if first else NONE
         counted.outcomes[outcome] += 1
         if outcome != RIGHT:
             counted.others.append((one, first))
     return counted
+
+
+def of_several(some, tables, dictionary):
+    """Those of these packages for which the dictionary has more than one product."""
+    return [one for one, named in _named(some, tables, dictionary) if len(named.lines) > 1]
+
+
+def _named(some, tables, dictionary):
+    """The packages, each with what is known of its names."""
+    machine = Machine("m", [one.component() for one in some])
+    naming = Naming(tables, [machine], dictionary)
+    return [(one, naming.named(one.component())) for one in some]
 
 
 def is_listed(package, tables):
