@@ -1,9 +1,9 @@
 """Which products of a dictionary a package may be: those whose name is that of the package, in the forms that it may have there.
 
-A package's own name, the name of its source package and the last parts of its path are looked for as they are, without what says
-only of which language it is (`python3-`, `node-`, `golang-github-`..), and without the vendor before it (`acme-agent`). Only if none of these is in the dictionary come looser forms:
-without a version behind the name (tomcat9), without `lib` before it, and without what says which part of a source it is (`-dev`,
-`-common`..). NVD writes some names with `_` and others with `-`, so both are looked for.
+A package's own name, the name of its source package and the last parts of its path are looked for as they are, without what says only
+of which language it is (`python3-`, `node-`, `golang-github-`..), and without the vendor before it (`acme-agent`). Only if none of these
+is in the dictionary come looser forms: without a version behind the name (tomcat9), without `lib` before it, and without what says which
+part of a source it is (`-dev`, `-common`..). NVD writes some names with `_` and others with `-`, so both are looked for.
 
 What a package is written for (`target_sw`) leaves out the products that are written for something else alone: a module of npm is no
 plugin of WordPress. The others come in this order: first those of which an entry has a version of the package's line, then by the

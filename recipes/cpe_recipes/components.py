@@ -20,6 +20,8 @@ from dataclasses import dataclass
 
 from .feeds import FormFault, Json, record_text
 
+NO_NAME = "no CPE name"
+
 _MACHINE = {"machine", "platform", "components"}
 _COMPONENT = {"id", "names", "kind", "purl"}
 

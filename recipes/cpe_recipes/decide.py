@@ -31,8 +31,7 @@ from .called import Called, Sure
 from .components import Component, Machine
 from .feeds import FeedFault, FormFault, name_of, read_feed, record_text, text_lines, values_of
 from .machines import read_machines
-from .names_table import read_tables
-from .naming import name_machines
+from .naming import name_machines, read_names
 from .program import Program
 from .readings import without_v
 from .said import Fatal, Output, Said
@@ -572,7 +571,7 @@ def run(words: Sequence[str]) -> int:
     said, output, program = Said(), Output(), Program()
     ranges, records = read_ranges(read.many("--ranges"), said), read_entries(read.many("--records"))
     machines = read_machines(machines_path, said)
-    unnamed = name_machines(machines, read_tables(read.many("--names")), records)
+    unnamed = name_machines(machines, read_names(read.many("--names"), machines), records)
     unnamed.tell(said, hints.unlisted(read))
     feed = whole.pages(read.many("--matches"), said, matches.KINDS, strict=True) if read.has("--matches") else []
     lists = Lists(program, matches.listed(feed, ranges.keys(), said))

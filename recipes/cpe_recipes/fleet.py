@@ -14,8 +14,7 @@ from .calling import Calling, Wanted, listed_by_name
 from .components import Machine
 from .feeds import FeedFault, name_of, read_feed, record_text
 from .machines import read_machines
-from .names_table import read_tables
-from .naming import name_machines
+from .naming import name_machines, read_names
 from .negations import Negations, has_hardware
 from .program import Program
 from .said import Fatal, Said
@@ -187,7 +186,7 @@ class _Names:
     ) -> None:
         entries = decide.read_entries([words.files[0]])
         hint = hints.command("unlisted.sh", [*words.files, *hints.table_words(words)])
-        name_machines(machines, read_tables(words.many("--names")), entries).tell(said, hint)
+        name_machines(machines, read_names(words.many("--names"), machines), entries).tell(said, hint)
         items = dict.fromkeys(name for machine in machines for name in machine.asked_names())
         facts = dict.fromkeys([*records.facts, *(one.criteria for one in ranges.values())])
         self.leads = decide.leads_of(program, entries, items, dict.fromkeys([*facts, *unlisted.deprecated_names(entries)]))

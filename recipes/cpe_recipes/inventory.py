@@ -25,10 +25,9 @@ from collections.abc import Iterator, Sequence
 from dataclasses import replace
 
 from . import lists, machines
-from .components import Component, Machine
+from .components import NO_NAME, Component, Machine
 from .decide import Leads, leads_of
 from .feeds import FeedFault, name_of, read_feed, record_text
-from .machines import NO_NAME
 from .names_table import read_tables
 from .naming import Naming
 from .program import Candidate, Program, prefix_of
@@ -82,13 +81,13 @@ def _taken(component: Component, machine: str, leads: Leads, said: Said) -> Comp
     return replace(component, names=tuple(names.values()))
 
 
-# By what components are the same: their names as cpe writes them, their kind, and where there is no name their id and package URL.
+# By what components are the same: their names as cpe writes them, their kind, their package URL, and where there is no name their id.
 _Key = tuple[frozenset[str], str, str, str]
 
 
 def _key(component: Component, leads: Leads) -> _Key:
     names = frozenset(leads.found[name].name for name in component.names)
-    return (names, component.kind, "", "") if names else (names, component.kind, component.id, component.purl)
+    return names, component.kind, component.purl, "" if names else component.id
 
 
 def _record(name: str) -> str:

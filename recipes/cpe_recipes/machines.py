@@ -4,11 +4,9 @@ from __future__ import annotations
 from collections.abc import Sequence
 
 from . import lists
-from .components import Machine, machine_of
+from .components import NO_NAME, Machine, machine_of
 from .feeds import FeedFault, FormFault, name_of, read_feed, values_of
 from .said import Fatal, Said, shown
-
-NO_NAME = "no CPE name"
 
 _ENDINGS = (".gz", ".json", ".txt", ".cdx", ".spdx")
 

@@ -9,11 +9,11 @@ A line has a package, and what NVD calls it:
     comment  = "#" and what is behind it                    ; at the beginning of a line, or behind a space
 
 - `-`: NVD has no product for it, so no name is looked for.
-- Choices, with spaces between them, are alternatives, of which the right one isn't known: TRUE or FALSE only if all agree.
+- Choices, with spaces between them, are alternatives, of which the right one isn't known: FALSE only if all of them are, else UNKNOWN.
 - Products with commas between them are all names of it, as where NVD has it under two vendors: one of them is enough.
 - A namespace that is left out is any, as of `pkg:deb/openssl`, which is Debian's and Ubuntu's. Only for npm, golang, composer and swift,
   where a package with a namespace is another one, it is none.
-- A `*` in a name stands for a number, perhaps with dots: `postgresql-*` is postgresql-15, and not postgresql-common.
+- A `*` in a name stands for a number, perhaps with dots or hyphens in it: `postgresql-*` is postgresql-15, and not postgresql-common.
 - A package is looked for by its own name first, and then by that of its source package; a line with its namespace counts before one
   without, one with its whole name before one with a `*`, and those of the user's table before all of the other.
 
@@ -35,7 +35,7 @@ TABLE = str(Path(__file__).resolve().parents[1] / "names.txt")
 
 _WITH_NAMESPACE = frozenset({"npm", "golang", "composer", "swift"})
 _COMMENT = re.compile(r"(^|\s)#.*")
-_NUMBER = re.compile(r"[0-9]+(?:\.[0-9]+)*")
+_NUMBER = re.compile(r"[0-9]+(?:[.-][0-9]+)*")
 _PRODUCT = re.compile(r"(?:(?P<part>[aoh]):)?(?P<vendor>(?:[a-z0-9._-]|\\[!-~])+):(?P<product>(?:[a-z0-9._-]|\\[!-~])+)")
 
 
@@ -105,9 +105,9 @@ def _keys(package: Package) -> Iterator[Package]:
             yield Package(package.type, namespace, name)
 
 
-def read_tables(paths: Iterable[str]) -> Tables:
-    """The user's tables, and the one that comes along. Fatal where a line is none."""
-    return Tables([*map(read_table, paths), read_table(TABLE)])
+def read_tables(paths: Iterable[str], are_needed: bool = True) -> Tables:
+    """The user's tables, and the one that comes along if it is needed. Fatal where a line is none."""
+    return Tables([*map(read_table, paths), *([read_table(TABLE)] if are_needed else [])])
 
 
 def read_table(path: str) -> list[Line]:

@@ -17,9 +17,9 @@ from dataclasses import dataclass, replace
 
 from . import names, package_urls
 from .candidates import candidates_of, forms_of, target_of
-from .components import Component, Machine, Supposed
+from .components import NO_NAME, Component, Machine, Supposed
 from .feeds import FormFault, Json
-from .names_table import Product, Settled, Tables
+from .names_table import Product, Settled, Tables, read_tables
 from .package_urls import PackageUrl
 from .product_index import ProductIndex, as_formatted
 from .said import Said, shown
@@ -150,6 +150,12 @@ class Unnamed:
                 packages, machines = counted(count, "package"), counted(len(found), "machine")
                 said.hint(f"{what}: {packages}, on {machines}", hint)
 
+    def leave_out(self, said: Said) -> None:
+        """Says of each that it has no name."""
+        for machine, packages in self.unknown.items():
+            for one in packages:
+                said.left_out(f"{machine} {one.called()}", NO_NAME)
+
     def json(self, machine: str) -> dict[str, Json]:
         """The packages of a machine that have none or only perhaps one, as the JSON of a scan has them."""
         supposed = [{"id": one.called(), "lines": list(lines)} for one, lines in self.supposed.get(machine, ())]
@@ -164,6 +170,11 @@ class Unnamed:
                 yield f"perhaps {machine} {one.called()} names.txt: {' | '.join(lines)}"
             for one in self.unknown.get(machine, ()):
                 yield f"no candidate {machine} {one.called()}"
+
+
+def read_names(paths: Iterable[str], machines: Iterable[Machine]) -> Tables:
+    """The tables for these machines: those of the user, and the one that comes along if there is a package URL."""
+    return read_tables(paths, any(one.purl for machine in machines for one in machine.components))
 
 
 def name_machines(machines: Sequence[Machine], tables: Tables, records: Iterable[str]) -> Unnamed:

@@ -242,6 +242,7 @@ def _counts(machine: Machine, is_cut_short: bool) -> Iterator[str]:
         (machine.unlisted, "not in the dictionary"),
         (machine.removed, "under a removed name"),
         (machine.perhaps, "perhaps meant"),
+        (machine.nameless, "without a name, so not asked for"),
     ):
         if number:
             yield f"{number:,} {what}"

@@ -28,8 +28,7 @@ from .decide import LETTERS, Decider, Lead, Leads, leads_of, read_entries, read_
 from .feeds import Json
 from .fleet import read_text
 from .machines import read_machines
-from .names_table import read_tables
-from .naming import name_machines
+from .naming import name_machines, read_names
 from .program import Program
 from .said import Fatal, Output, Said, shown
 from .unlisted import say_items
@@ -67,7 +66,7 @@ def run(words: Sequence[str]) -> int:
     said, output, program = Said(), Output(), Program()
     records, machines = read_entries(read.files[:1]), read_machines(read.files[1], said)
     hint = hints.command("unlisted.sh", [*read.files, *hints.table_words(read)])
-    name_machines(machines, read_tables(read.many("--names")), records).tell(said, hint)
+    name_machines(machines, read_names(read.many("--names"), machines), records).tell(said, hint)
     facts = facts_of(read_text(read.files[0]).split("\n"))
     if not facts:
         raise Fatal("no facts of statements in the records")

@@ -1,7 +1,7 @@
 """One page to look at, of what `scan.py --json` wrote, or a fleet, or `cpe evaluate`.
 
-    python3 report.py [--title TEXT] [--before FILE] [--details FILE] [--suppress FILE] [--settled FILE] [--records FILE] [--ranges FILE] [--decided FILE]
-        [FILE] > page.html
+    python3 report.py [--title TEXT] [--before FILE] [--details FILE] [--suppress FILE] [--settled FILE] [--records FILE]
+        [--ranges FILE] [--decided FILE] [FILE] > page.html
 
 It is one file of HTML without outside parts: it opens from a disk, on a telephone too, in light and in dark, and loads nothing.
 What was left out stands at its top, then how many rows there are of each verdict, then the advisories by their scores, each with
@@ -33,7 +33,8 @@ from .verdicts import Verdicts, verdicts_of
 from .words import ONE, Words, read_words
 
 USAGE = (
-    "report.py [--title TEXT] [--before FILE] [--details FILE] [--suppress FILE] [--settled FILE] [--records FILE] [--ranges FILE] [--decided FILE] [FILE]"
+    "report.py [--title TEXT] [--before FILE] [--details FILE] [--suppress FILE] [--settled FILE] [--records FILE] [--ranges FILE] "
+    "[--decided FILE] [FILE]"
 )
 TITLE = "Advisories by machine"
 # Of lines that are alike, and of bytes that are written at once.

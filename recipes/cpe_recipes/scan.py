@@ -1,8 +1,8 @@
 """The whole way, from feeds and what machines have to the advisories that concern each machine.
 
     python3 scan.py --dictionary FILE.. | --records FILE.. --advisories FILE.. [--matches FILE..]
-        --machines FILE | --lists FILE.. [--names FILE] [--suppress FILE] [--settled FILE] [--letters FILE] [--partial] [--large] [--strict] [--platform NAME]
-        [--hardware none] [--all] [--json [--why]]
+        --machines FILE | --lists FILE.. [--names FILE] [--suppress FILE] [--settled FILE] [--letters FILE] [--partial] [--large]
+        [--strict] [--platform NAME] [--hardware none] [--all] [--json [--why]]
 
 - --dictionary, --advisories, --matches: pages of NVD's API 2.0, or its feeds, as they come, packed or in archives; advisories may be CVE
   records of format 5 too (cve5.py). --records: what dictionary.sh
@@ -53,8 +53,7 @@ from .decide import LETTERS, Decider, Leads, Lists, decide, leads_in, leads_of
 from .deciding import Deciding
 from .feeds import FeedFault, Page, json_shown, name_of, read_feed, text_lines
 from .machines import read_lists, read_machines
-from .names_table import read_tables
-from .naming import name_machines
+from .naming import name_machines, read_names
 from .negations import Negations, has_hardware
 from .outcome import MOST_ALIKE, Found, Hanging, json_of, machines_with_verdicts, tell_items
 from .program import Candidate, Program
@@ -68,8 +67,8 @@ from .words import FLAG, MANY, ONE, Words, read_words
 
 USAGE = (
     "scan.py --dictionary FILE.. | --records FILE.. --advisories FILE.. [--matches FILE..] "
-    "--machines FILE | --lists FILE.. [--names FILE] [--suppress FILE] [--settled FILE] [--letters FILE] [--partial] [--large] [--strict] [--platform NAME] [--hardware none] "
-    "[--all] [--json [--why]]"
+    "--machines FILE | --lists FILE.. [--names FILE] [--suppress FILE] [--settled FILE] [--letters FILE] [--partial] [--large] "
+    "[--strict] [--platform NAME] [--hardware none] [--all] [--json [--why]]"
 )
 OPTIONS = {
     "--dictionary": MANY,
@@ -318,7 +317,7 @@ def _result(read: Words, program: Program, said: Noting, progress: Progress) -> 
     letters = read_letters(read.one("--letters") or LETTERS)
     asked = read_asked(read, said)
     reading = whole.Reading.of(read)
-    tables = read_tables(read.many("--names"))
+    tables = read_names(read.many("--names"), asked)
     progress.step("reading the dictionary")
     entries = read_entries(read, program, said, reading)
     unnamed = name_machines(asked, tables, entries)

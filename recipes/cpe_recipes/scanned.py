@@ -76,6 +76,7 @@ class Machine:
     perhaps: int = 0
     unlisted: int = 0
     removed: int = 0
+    nameless: int = 0
 
     def order(self) -> tuple[bool, float, tuple[int, ...]]:
         return (
@@ -174,6 +175,7 @@ class _Reader:
             machine.perhaps = len(self._needed(row, "perhaps", list, where))
             machine.unlisted = len(self._needed(row, "notInDictionary", list, where))
             machine.removed = len(self._needed(row, "underRemovedName", list, where))
+            machine.nameless = len(self._given(row, "withoutCandidates", list, where) or ())
             seen: set[str] = set()
             for place, one in self._list(row, "verdicts", where):
                 id = self._verdict(one, machine, place)

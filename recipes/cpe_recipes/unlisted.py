@@ -26,8 +26,7 @@ from . import dictionary, names, whole
 from .components import Machine
 from .decide import Lead, Leads, leads_of, read_entries
 from .machines import read_lists, read_machines
-from .names_table import read_tables
-from .naming import name_machines
+from .naming import name_machines, read_names
 from .program import Program
 from .said import Fatal, Output, Said, shown
 from .words import MANY, ONE, Words, read_words
@@ -50,7 +49,7 @@ def run(words: Sequence[str]) -> int:
     records = _records(read, program, said) if is_long else read_entries(read.files[:1])
     path = read.one("--machines") if is_long else read.files[1]
     machines = read_lists(read.many("--lists"), said) if path is None else read_machines(path, said)
-    unnamed = name_machines(machines, read_tables(read.many("--names")), records)
+    unnamed = name_machines(machines, read_names(read.many("--names"), machines), records)
     items = dict.fromkeys(item for machine in machines for item in machine.asked_names())
     leads = leads_of(program, records, items, ())
     say_items(machines, leads, said)

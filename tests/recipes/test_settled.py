@@ -14,7 +14,7 @@ from recipe_case import RECIPES, RecipeCase, fs, needs_cpe  # noqa: E402 (it kno
 from cpe_recipes.said import Fatal  # noqa: E402
 from cpe_recipes.settled import read_settled  # noqa: E402
 from cpe_recipes.verdicts import Machine, Statements  # noqa: E402
-from test_candidates import ranged  # noqa: E402
+from named_case import ranged  # noqa: E402
 from test_platforms import page  # noqa: E402
 
 U, T, F = "CVE-2024-1", "CVE-2024-2", "CVE-2024-3"
