@@ -26,7 +26,8 @@ TARGETS = {"pypi": "python", "npm": "node.js", "gem": "ruby", "golang": "go", "c
 # Fronts by which distributions say of which language a package is, and its target_sw; NVD has none for some.
 _FRONTS = (
     ("python3-", "python"), ("python2-", "python"), ("python-", "python"), ("py3-", "python"), ("pypy3-", "python"),
-    ("node-", "node.js"), ("nodejs-", "node.js"), ("npm-", "node.js"), ("libjs-", "node.js"), ("ruby-", "ruby"), ("rubygem-", "ruby"), ("rubygems-", "ruby"),
+    ("node-", "node.js"), ("nodejs-", "node.js"), ("npm-", "node.js"),
+    ("libjs-", "node.js"), ("ruby-", "ruby"), ("rubygem-", "ruby"), ("rubygems-", "ruby"),
     ("golang-", "go"), ("rust-", "rust"), ("librust-", "rust"), ("perl-", ""), ("php-", ""), ("r-cran-", ""),
 )
 _SAYS_GO = frozenset({"go", "golang"})
@@ -75,7 +76,7 @@ class Forms:
 def forms_of(purl: PackageUrl) -> Forms:
     """The names of products to look for, each once and in order, spelled as in CPE names."""
     near = list(dict.fromkeys(_near(purl)))
-    loose = [form for form in dict.fromkeys(form for text in near for form in _loose(text)) if form not in near]
+    loose = [form for form in dict.fromkeys(form for text in near for form in (*_loose(text), _in_one_word(text))) if form not in near]
     owned = dict.fromkeys(pair for text in (*near, *loose) for pair in _owned(text))
     return Forms(tuple(_spelled(near)), tuple(_spelled(loose)), tuple(owned))
 
@@ -141,12 +142,13 @@ def _cut(pattern: re.Pattern[str], text: str) -> str:
 
 
 def _spelled(texts: Iterable[str]) -> Iterator[str]:
-    """The texts as components, with `_`, with `-`, and in one word, as networkmanager of network-manager."""
-    found = (form for text in texts for form in (text, text.replace("-", "_"), text.replace("_", "-"), _in_one_word(text)))
+    """The texts as components, with `_` and with `-`."""
+    found = (form for text in texts for form in (text, text.replace("-", "_"), text.replace("_", "-")))
     return iter(dict.fromkeys(names.spelled(form) for form in found if form != names.NA))
 
 
 def _in_one_word(text: str) -> str:
+    """A long name without what stands between its words, as networkmanager of network-manager; others as they are."""
     joined = text.replace("-", "").replace("_", "")
     return joined if len(joined) >= _LONG else text
 

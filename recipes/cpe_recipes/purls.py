@@ -42,7 +42,8 @@ class Purl:
     def full_version(self) -> str:
         """The version with the epoch, which rpm's packages have as a qualifier, and Trivy's of Debian too."""
         epoch = self.qualifier("epoch")
-        return f"{epoch}:{self.version}" if epoch not in ("", "0") and self.version and ":" not in self.version else self.version
+        has_one = epoch.isdecimal() and epoch.strip("0") and self.version and ":" not in self.version
+        return f"{epoch}:{self.version}" if has_one else self.version
 
     def text(self) -> str:
         """How it is written."""
@@ -74,7 +75,7 @@ def with_upstream(text: str, source: str) -> str:
 def parsed(text: str) -> Purl:
     """The parts of a package URL. PurlFault where it is none; its words say why."""
     found = _SCHEME.match(text)
-    _needs(found is not None, "it doesn't begin with pkg:")
+    _needs(found is not None, "it doesn't begin as one")
     _needs(not _ODD.search(text), "a space or a control character is in it")
     _needs(not _BAD_PERCENT.search(text), "a percent sign has no two digits behind it")
     rest, _, subpath = text[found.end() :].partition("#")
@@ -87,7 +88,7 @@ def parsed(text: str) -> Purl:
     if not at or not before or "/" in version:
         before, version = path, ""
     namespace, _, name = before.rpartition("/")
-    _needs(name != "", "it has no name")
+    _needs(unquote(name).strip() != "", "it has no name")
     inner = "/".join(unquote(one) for one in _segments(subpath) if one not in (".", ".."))
     spaces = "/".join(unquote(one) for one in _segments(namespace))
     return Purl(kind.lower(), unquote(name), spaces, unquote(version), tuple(_qualifiers(behind)), inner)

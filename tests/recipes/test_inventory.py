@@ -41,7 +41,7 @@ class Lists(RecipeCase):
 
     def test_both_types_of_names_of_a_package(self):
         text = """{"spdxVersion":"SPDX-2.2","packages":[{"SPDXID":"p","externalRefs":[
-            {"referenceType":"cpe22Type","referenceLocator":"cpe:/a:x"},{"referenceType":"purl","referenceLocator":"pkg:x"},
+            {"referenceType":"cpe22Type","referenceLocator":"cpe:/a:x"},{"referenceType":"purl","referenceLocator":"pkg:npm/x"},
             {"referenceType":"http://spdx.org/rdf/references/cpe23Type","referenceLocator":7}]},
             {"SPDXID":"q"},{"SPDXID":"r","externalRefs":7}]}"""
         self.assertEqual(

@@ -67,7 +67,7 @@ class Purls(unittest.TestCase):
 
     def test_what_is_none(self):
         for text, reason in {
-            "cpe:/a:x": "begin with pkg:",
+            "cpe:/a:x": "begin as one",
             "pkg:": "no type",
             "pkg:1/x": "no type",
             "pkg:npm": "no name",
@@ -262,6 +262,21 @@ class Texts(ListCase):
                 self.assertIn("dpkg-query -W", self.refused(text))
         for data in (b"\x7fELF\x02\x01\x01\x00\xff", b"\xff\xfea", b"Package: \xff\n"):
             self.assertIn("no text", self.refused(data))
+
+    def test_package_urls_of_lists_that_are_none(self):
+        components = [{"bom-ref": "a", "purl": "pkg:deb"}, {"bom-ref": "b", "cpe": "cpe:/a:x", "purl": "openssl"}, {"bom-ref": "c", "purl": "pkg:npm/c@1"}]
+        identity = [{"concludedValue": "pkg:npm/d@%"}]
+        components.append({"bom-ref": "d", "evidence": {"identity": identity}})
+        text = json.dumps({"bomFormat": "CycloneDX", "components": components})
+        self.assertEqual([one.id for one in self.read(text).components()], ["b", "c"])
+        self.assertEqual(
+            self.odd(text),
+            [
+                ("a", "its purl is no package URL: it has no name"),
+                ("b", "its purl is no package URL: it doesn't begin as one"),
+                ("d", "a text of its evidence is no package URL: a percent sign has no two digits behind it"),
+            ],
+        )
 
     def test_a_bad_line_among_good_ones(self):
         good = "".join(f"lib{number}:amd64\t1.{number}-1\n" for number in range(20))

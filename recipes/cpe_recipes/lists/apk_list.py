@@ -35,7 +35,11 @@ class _Apk:
 
 
 def fits(text: Text) -> bool:
-    return any(text.any(one.fullmatch) and text.most(lambda line: one.fullmatch(line) or _VIRTUAL.fullmatch(line)) for one in (_LISTED, _INFO))
+    return any(text.any(one.fullmatch) and text.most(lambda line: _is_of(line, one)) for one in (_LISTED, _INFO))
+
+
+def _is_of(line: str, form: re.Pattern[str]) -> bool:
+    return bool(form.fullmatch(line) or _VIRTUAL.fullmatch(line))
 
 
 def read(text: Text, listed: Listed) -> None:

@@ -4,7 +4,6 @@ from __future__ import annotations
 
 import re
 
-from ..purls import PurlFault, parsed
 from .reading import Draft, Listed
 from .texts import Text
 from .unread import is_name, is_purl
@@ -25,7 +24,7 @@ def read(text: Text, listed: Listed) -> None:
         if bare:
             draft = Draft(listed, f"line {line.number} of {listed.feed}")
             if is_purl(bare):
-                _add_purl(bare, draft)
+                draft.add_purl(bare, "it")
             else:
                 draft.add_name(bare, "")
             listed.put(draft)
@@ -33,12 +32,3 @@ def read(text: Text, listed: Listed) -> None:
 
 def _bare(line: str) -> str:
     return _COMMENT.sub("", line).strip()
-
-
-def _add_purl(text: str, draft: Draft) -> None:
-    try:
-        parsed(text)
-    except PurlFault as fault:
-        draft.faults.append(f"no package URL: {fault}")
-    else:
-        draft.add_purl(text, "")

@@ -93,7 +93,12 @@ class Draft:
             self.faults.append(f"{where} is no text")
             return
         self._listed.note(value)
-        self.purl = self.purl or value
+        try:
+            purls.parsed(value.strip())
+        except purls.PurlFault as fault:
+            self.faults.append(f"{where} is no package URL: {fault}")
+        else:
+            self.purl = self.purl or value
 
     def add_system(self, id: Json, version: Json) -> None:
         """Adds the names of an operating system that a list calls so."""
@@ -106,7 +111,7 @@ class Draft:
             if is_name(value):
                 self.add_name(value, "")
             elif is_purl(value):
-                self.add_purl(value, "")
+                self.add_purl(value, "a text of its evidence")
 
     def add_source(self, name: str, version: str = "") -> None:
         """Adds of which source package a distribution built it, perhaps with the version of that."""
