@@ -12,7 +12,8 @@ from cpe_recipes.lists import texts
 from cpe_recipes.purls import Purl, PurlFault, parsed, with_upstream
 
 PACKAGES = SAMPLES / "lists" / "packages"
-LISTED = sorted(one for one in PACKAGES.iterdir() if one.name != "read.out")
+NO_LISTS = ("read.out", "truths.txt", "truths.out", "table.out", "table.said")
+LISTED = sorted(one for one in PACKAGES.iterdir() if one.name not in NO_LISTS)
 TEXTS = [one for one in LISTED if one.suffix == ".txt"]
 DEBIAN_L = b"ii  openssl  3.0.11-1~deb12u2  amd64  toolkit\n"
 
