@@ -3,7 +3,8 @@
 A package's own name, the name of its source package and the last parts of its path are looked for as they are, without what says only
 of which language it is (`python3-`, `node-`, `golang-github-`..), and without the vendor before it (`acme-agent`). Only if none of these
 is in the dictionary come looser forms: without a version behind the name (tomcat9), without `lib` before it, and without what says which
-part of a source it is (`-dev`, `-common`..). NVD writes some names with `_` and others with `-`, so both are looked for.
+part of a source it is (`-dev`, `-common`..). What separates words makes no difference: NVD writes some names with `_`, some with `-`, and
+others with none.
 
 What a package is written for (`target_sw`) leaves out the products that are written for something else alone: a module of npm is no
 plugin of WordPress. The others come in this order: first those of which an entry has a version of the package's line, then by the
@@ -18,7 +19,7 @@ from dataclasses import dataclass
 from . import names
 from .names_table import Product
 from .package_urls import PackageUrl
-from .product_index import Front, Listed, ProductIndex, front_of
+from .product_index import Front, Listed, ProductIndex, front_of, squeezed
 from .readings import DISTRIBUTIONS, readings
 
 # What NVD writes as target_sw of packages of a kind.
@@ -26,13 +27,13 @@ TARGETS = {"pypi": "python", "npm": "node.js", "gem": "ruby", "golang": "go", "c
 # Fronts by which distributions say of which language a package is, and its target_sw; NVD has none for some.
 _FRONTS = (
     ("python3-", "python"), ("python2-", "python"), ("python-", "python"), ("py3-", "python"), ("pypy3-", "python"),
-    ("node-", "node.js"), ("nodejs-", "node.js"), ("npm-", "node.js"),
-    ("libjs-", "node.js"), ("ruby-", "ruby"), ("rubygem-", "ruby"), ("rubygems-", "ruby"),
+    ("node-", "node.js"), ("nodejs-", "node.js"), ("npm-", "node.js"), ("libjs-", "node.js"),
+    ("ruby-", "ruby"), ("rubygem-", "ruby"), ("rubygems-", "ruby"),
     ("golang-", "go"), ("rust-", "rust"), ("librust-", "rust"), ("perl-", ""), ("php-", ""), ("r-cran-", ""),
 )
 _SAYS_GO = frozenset({"go", "golang"})
 # What stands between such a front and the name of a module of Go.
-_HOSTS = re.compile(r"(?:github|gitlab|gopkg|golang|google|k8s|bitbucket|go)-(?:com-|org-|in-)?")
+_HOSTS = re.compile(r"^(?:github|gitlab|gopkg|golang|google|k8s|bitbucket|go)-(?:com-|org-|in-)?")
 # Other things that a product may be written for alone, which is then none of a distribution's packages.
 _ELSEWHERE = frozenset(
     "wordpress drupal joomla\\! joomla magento jenkins typo3 moodle android iphone_os ipados shopify prestashop confluence jira".split()
@@ -44,8 +45,6 @@ _PARTS = re.compile(
     r"java|ruby|dev-bin|compat|full|light|all|main|openrc|systemd|bash-completion|fonts?|themes?|api|impl|parent))+"
 )
 _NUMBERS = re.compile(r"[-_.]?v?[0-9]+(?:\.[0-9]+)*[a-z]?")
-# From how many letters on a name in one word isn't another one by chance.
-_LONG = 8
 _T64 = re.compile(r"t64|v5")
 
 
@@ -76,7 +75,7 @@ class Forms:
 def forms_of(purl: PackageUrl) -> Forms:
     """The names of products to look for, each once and in order, spelled as in CPE names."""
     near = list(dict.fromkeys(_near(purl)))
-    loose = [form for form in dict.fromkeys(form for text in near for form in (*_loose(text), _in_one_word(text))) if form not in near]
+    loose = [form for form in dict.fromkeys(form for text in near for form in _loose(text)) if form not in near]
     owned = dict.fromkeys(pair for text in (*near, *loose) for pair in _owned(text))
     return Forms(tuple(_spelled(near)), tuple(_spelled(loose)), tuple(owned))
 
@@ -109,14 +108,14 @@ def _front_of(text: str) -> tuple[str, str]:
 
 
 def _without_front(text: str) -> Iterator[str]:
-    """The name without what says of which language it is; nothing where nothing does."""
+    """The name without what says of which language it is, where something does; of a module of Go all that it may be."""
     front, _ = _front_of(text)
     rest = text[len(front) :]
     if front == "golang-":
-        words = (_HOSTS.sub("", rest, count=1) if _HOSTS.match(rest) else rest).removesuffix("-dev").split("-")
-        # (owner and name stand behind the host, and neither says where it ends: prometheus-client-golang)
-        behind = ["-".join(words[place:]) for place in range(1, len(words))] or words
-        yield from (one for one in behind if one not in _SAYS_GO)
+        parts = _HOSTS.sub("", rest.removesuffix("-dev"), count=1).split("-")
+        # (who wrote it and its name stand behind the host, and neither says where it ends: prometheus-client-golang)
+        found = ("-".join(parts[place:]) for place in range(min(1, len(parts) - 1), len(parts)))
+        yield from (one for one in found if one not in _SAYS_GO)
     elif front:
         yield rest.removesuffix("-dev") if front in ("rust-", "librust-") else rest
 
@@ -142,15 +141,8 @@ def _cut(pattern: re.Pattern[str], text: str) -> str:
 
 
 def _spelled(texts: Iterable[str]) -> Iterator[str]:
-    """The texts as components, with `_` and with `-`."""
-    found = (form for text in texts for form in (text, text.replace("-", "_"), text.replace("_", "-")))
-    return iter(dict.fromkeys(names.spelled(form) for form in found if form != names.NA))
-
-
-def _in_one_word(text: str) -> str:
-    """A long name without what stands between its words, as networkmanager of network-manager; others as they are."""
-    joined = text.replace("-", "").replace("_", "")
-    return joined if len(joined) >= _LONG else text
+    """The texts as components."""
+    return iter(dict.fromkeys(names.spelled(text) for text in texts if text != names.NA))
 
 
 def target_of(purl: PackageUrl) -> str:
@@ -185,7 +177,7 @@ def candidates_of(purl: PackageUrl, index: ProductIndex) -> list[Candidate]:
     target, kind, forms, others = target_of(purl), purl.package.type, forms_of(purl), _others_of(purl)
     front = line_of(purl.version, kind)
     source_front = line_of(purl.source_version, kind) if purl.source_version else front
-    source_names = set(_spelled([purl.source.name])) if purl.source else set()
+    source = squeezed(names.spelled(purl.source.name)) if purl.source else ""
     near = [[*map(index.of, forms.near), *(_of_vendor(index, *pair) for pair in forms.owned)], [*map(index.of, forms.loose)]]
     for tier in near:
         found: dict[Product, tuple[_Rank, Candidate]] = {}
@@ -193,7 +185,7 @@ def candidates_of(purl: PackageUrl, index: ProductIndex) -> list[Candidate]:
             for listed in products:
                 if listed.product in found or not _is_for(listed, others, target):
                     continue
-                is_source = listed.product.name in source_names
+                is_source = squeezed(listed.product.name) == source
                 is_of_line = listed.has_line_of(source_front if is_source else front)
                 version = purl.source_version if is_source and purl.source_version else purl.version
                 rank = (not is_of_line, place, target not in listed.targets, -_nearness(listed, purl), -listed.count, listed.product.vendor)

@@ -17,6 +17,14 @@ _FRONT = re.compile(r"[0-9]+(?:\.[0-9]+)?")
 Front = tuple[int, ...]
 
 
+_SEPARATORS = str.maketrans("", "", "-_.")
+
+
+def squeezed(name: str) -> str:
+    """A name of a product without what separates its words, since NVD writes `mbed_tls` where others write mbedtls."""
+    return name.translate(_SEPARATORS)
+
+
 def front_of(version: str) -> Front:
     """The first two numbers of a version; none where it doesn't begin with a number."""
     found = _FRONT.match(version)
@@ -38,13 +46,14 @@ class Listed:
 
 
 class ProductIndex:
-    """The applications (part a) of a dictionary whose product is one of these texts."""
+    """The applications (part a) of a dictionary whose product is one of these names, or another one only in what separates its words."""
 
-    def __init__(self, records: Iterable[str], wanted: Collection[str]) -> None:
+    def __init__(self, records: Iterable[str], wanted: Iterable[str]) -> None:
         self._by_name: dict[str, dict[Product, Listed]] = {}
-        for parts in _applications(records, wanted) if wanted else ():
+        keys = set(map(squeezed, wanted))
+        for parts in _applications(records, keys) if keys else ():
             product = Product(*parts[:3])
-            found = self._by_name.setdefault(parts[2], {})
+            found = self._by_name.setdefault(squeezed(parts[names.PRODUCT]), {})
             listed = found.get(product)
             if listed is None:
                 listed = found[product] = Listed(product)
@@ -53,32 +62,32 @@ class ProductIndex:
             listed.targets.add(parts[_TARGET] if len(parts) > _TARGET else names.ANY)
 
     def of(self, name: str) -> list[Listed]:
-        """The products of this name, spelled as in CPE names."""
-        return list(self._by_name.get(name, {}).values())
+        """The products of this name, spelled as in CPE names, with any separators."""
+        return list(self._by_name.get(squeezed(name), {}).values())
 
     def has(self, vendor: str, name: str) -> bool:
         """Whether this vendor has a product of this name."""
-        return any(listed.product.vendor == vendor for listed in self.of(name))
+        return Product("a", vendor, name) in self._by_name.get(squeezed(name), ())
 
 
 _TARGET = names.ATTRIBUTES.index("target_sw")
 
 
 def _applications(records: Iterable[str], wanted: Collection[str]) -> Iterator[list[str]]:
-    """The components of the names of these records, whose product is wanted."""
+    """The components of the names of these records, whose product is wanted, without separators."""
     look = _PLAIN.match
     for record in records:
         # (nearly all of a million are so, and most are of products that nobody looks for)
         found = look(record)
         if found is None:
             yield from _wanted(_named(record), wanted)
-        elif found[1] in wanted:
+        elif found[1].translate(_SEPARATORS) in wanted:
             yield from _wanted(_named(record), wanted)
 
 
 def _wanted(name: str, wanted: Collection[str]) -> Iterator[list[str]]:
     parts = names.components(name.lower())
-    if len(parts) == len(names.ATTRIBUTES) and parts[0] == "a" and parts[names.PRODUCT] in wanted:
+    if len(parts) == len(names.ATTRIBUTES) and parts[0] == "a" and squeezed(parts[names.PRODUCT]) in wanted:
         yield parts
 
 
