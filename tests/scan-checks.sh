@@ -116,6 +116,29 @@ reads_lists() {
     judge 'no inventory of package URLs that no table names' "$status" 2 /dev/null "$room/wanted.said"
 }
 
+# Lists that have no CPE names: package URLs alone, what package managers write, and locks, each against what is there by hand.
+reads_package_lists() {
+    of=recipes/samples/lists
+    lists=$(for list in "$of"/packages/*.json "$of"/packages/*.txt; do case $list in */truths.txt) ;; *) echo "$list" ;; esac; done)
+    # shellcheck disable=SC2086 # a word each
+    limited python3 recipes/scan.py --json --dictionary "$of/dictionary.json" --advisories "$of/advisories.json" --lists $lists \
+        > "$room/scan.json" 2> "$room/said" < /dev/null
+    sed 's/; to list them: .*//' "$room/said" > "$room/error"
+    python3 tests/recipes/truths.py "$of/packages/truths.txt" < "$room/scan.json" > "$room/out"
+    status=$?
+    cat "$room/out"
+    judge 'lists without names against their truths' "$status" 0 "$of/packages/truths.out" "$of/packages/table.said"
+    # shellcheck disable=SC2086
+    limited python3 recipes/scan.py --dictionary "$of/dictionary.json" --advisories "$of/advisories.json" --lists $lists \
+        > "$room/out" 2> "$room/said" < /dev/null
+    status=$?
+    sed 's/; to list them: .*//' "$room/said" > "$room/error"
+    judge 'the table of lists without names' "$status" 1 "$of/packages/table.out" "$of/packages/table.said"
+    limited python3 bench/naming.py > "$room/out" 2> "$room/error"
+    status=$?
+    if [ "$status" = 0 ]; then pass "names of packages: $(sed -n 1p "$room/out")"; else fail 'names of packages' "status $status"; fi
+}
+
 shows_tables() {
     # shellcheck disable=SC2046
     scans --lists $(lists) > "$room/out" 2> "$room/error"
@@ -309,6 +332,7 @@ if needs 'the recipes in Python' python3; then
     counts_orders
     counts_doubts
     reads_lists
+    reads_package_lists
     shows_tables
     shows_pages
     goes_step_by_step

@@ -24,12 +24,14 @@ from .readings import DISTRIBUTIONS, readings
 
 # What NVD writes as target_sw of packages of a kind.
 TARGETS = {"pypi": "python", "npm": "node.js", "gem": "ruby", "golang": "go", "cargo": "rust"}
-# Fronts by which distributions say of which language a package is, and its target_sw; none is known of some.
+# Fronts by which distributions say of which language a package is, and its target_sw; NVD has none for some.
 _FRONTS = (
     ("python3-", "python"), ("python2-", "python"), ("python-", "python"), ("py3-", "python"), ("pypy3-", "python"),
-    ("libjs-", "node.js"), ("node-", "node.js"), ("nodejs-", "node.js"), ("npm-", "node.js"), ("ruby-", "ruby"), ("rubygem-", "ruby"), ("rubygems-", "ruby"),
+    ("node-", "node.js"), ("nodejs-", "node.js"), ("npm-", "node.js"), ("libjs-", "node.js"),
+    ("ruby-", "ruby"), ("rubygem-", "ruby"), ("rubygems-", "ruby"),
     ("golang-", "go"), ("rust-", "rust"), ("librust-", "rust"), ("perl-", ""), ("php-", ""), ("r-cran-", ""),
 )
+_SAYS_GO = frozenset({"go", "golang"})
 # What stands between such a front and the name of a module of Go.
 _HOSTS = re.compile(r"^(?:github|gitlab|gopkg|golang|google|k8s|bitbucket|go)-(?:com-|org-|in-)?")
 # Other things that a product may be written for alone, which is then none of a distribution's packages.
@@ -100,14 +102,20 @@ def _near(purl: PackageUrl) -> Iterator[str]:
         yield last
 
 
+def _front_of(text: str) -> tuple[str, str]:
+    """What says of which language a package of a distribution is, and its target_sw; empty where nothing does."""
+    return next((one for one in _FRONTS if text.startswith(one[0])), ("", ""))
+
+
 def _without_front(text: str) -> Iterator[str]:
     """The name without what says of which language it is, where something does; of a module of Go all that it may be."""
-    front = next((front for front, _ in _FRONTS if text.startswith(front)), "")
+    front, _ = _front_of(text)
     rest = text[len(front) :]
     if front == "golang-":
         parts = _HOSTS.sub("", rest.removesuffix("-dev"), count=1).split("-")
-        # (who wrote it and its name stand behind the host, and neither says where it ends)
-        yield from ("-".join(parts[place:]) for place in range(min(1, len(parts) - 1), len(parts)))
+        # (who wrote it and its name stand behind the host, and neither says where it ends: prometheus-client-golang)
+        found = ("-".join(parts[place:]) for place in range(min(1, len(parts) - 1), len(parts)))
+        yield from (one for one in found if one not in _SAYS_GO)
     elif front:
         yield rest.removesuffix("-dev") if front in ("rust-", "librust-") else rest
 
@@ -145,22 +153,28 @@ def target_of(purl: PackageUrl) -> str:
     if own.type == "composer":
         return {"wpackagist-plugin": "wordpress", "wpackagist-theme": "wordpress", "drupal": "drupal"}.get(own.namespace, "")
     if own.type in DISTRIBUTIONS:
-        return next((target for front, target in _FRONTS if own.name.startswith(front)), "")
+        return _front_of(own.name)[1]
     return TARGETS.get(own.type, "")
 
 
-def _is_for(listed: Listed, kind: str, target: str) -> bool:
+def _others_of(purl: PackageUrl) -> frozenset[str]:
+    """What a product that the package may be isn't written for alone."""
+    own = purl.package
+    if own.type in DISTRIBUTIONS and not _front_of(own.name)[0]:
+        # (a program may be written in any language; but what is in Rust alone is a library, and has its front)
+        return _ELSEWHERE | {TARGETS["cargo"]}
+    return _ELSEWHERE | _OF_LANGUAGES
+
+
+def _is_for(listed: Listed, others: frozenset[str], target: str) -> bool:
     """Whether a product may be what is written for this."""
     said = listed.targets - {names.ANY, names.NA}
-    if said < listed.targets or target in listed.targets:
-        return True
-    others = _ELSEWHERE if kind in DISTRIBUTIONS and not target else _ELSEWHERE | _OF_LANGUAGES
-    return not said <= others
+    return said < listed.targets or target in listed.targets or not said <= others
 
 
 def candidates_of(purl: PackageUrl, index: ProductIndex) -> list[Candidate]:
     """The products of a dictionary that a package may be, the likeliest first."""
-    target, kind, forms = target_of(purl), purl.package.type, forms_of(purl)
+    target, kind, forms, others = target_of(purl), purl.package.type, forms_of(purl), _others_of(purl)
     front = line_of(purl.version, kind)
     source_front = line_of(purl.source_version, kind) if purl.source_version else front
     source = squeezed(names.spelled(purl.source.name)) if purl.source else ""
@@ -169,7 +183,7 @@ def candidates_of(purl: PackageUrl, index: ProductIndex) -> list[Candidate]:
         found: dict[Product, tuple[_Rank, Candidate]] = {}
         for place, products in enumerate(tier):
             for listed in products:
-                if listed.product in found or not _is_for(listed, kind, target):
+                if listed.product in found or not _is_for(listed, others, target):
                     continue
                 is_source = squeezed(listed.product.name) == source
                 is_of_line = listed.has_line_of(source_front if is_source else front)

@@ -1,10 +1,12 @@
-"""From software lists to an inventory: lists of CycloneDX, SPDX, Syft and Trivy as JSON, and plain lists, to records `item`.
+"""From software lists to an inventory: lists of CycloneDX, SPDX, Syft, Trivy and npm as JSON, plain lists, and what package managers
+write of what is installed, to records `item`.
 
     sh inventory.sh [--names FILE] [FILE..] > records
     sh inventory.sh --machines FILE.. > machines.txt
 
 - Of a component all names are taken that its list gives for it. lists/ has a module for each form, which says what it reads.
-- A plain list: a name in each line, in either binding; after a # that begins a line or stands after a space is a comment.
+- A plain list: a name in each line, in either binding, or a package URL; after a # that begins a line or stands after a space is a
+  comment.
 - A name that comes again, in whatever binding and letter case, is one item, and nothing is said.
 - A package URL gets the names that names.txt has for it, and those of the table of --names (names_table.py). With --machines it stays as
   it is, and who reads the lines looks for its names, in the dictionary too (naming.py).
@@ -101,10 +103,13 @@ def read_lists(paths: Sequence[str], said: Said, naming: Naming | None = None) -
     for path in everything:
         feed = name_of(path)
         try:
-            candidates = list(candidates_of(feed, read_feed(path), naming))
+            listed = lists.read(feed, read_feed(path))
         except FeedFault as fault:
             faults.append((feed, str(fault)))
             continue
+        for remark in listed.remarks:
+            said.remark(remark)
+        candidates = list(candidates_of(listed, naming))
         found.extend(candidates)
         if not any(one.record for one in candidates):
             faults.append((feed, "no item in it"))
@@ -117,10 +122,9 @@ def read_lists(paths: Sequence[str], said: Said, naming: Naming | None = None) -
     return found
 
 
-def candidates_of(feed: str, data: bytes, naming: Naming | None = None) -> Iterator[Candidate]:
-    """What the names of a software list become, which has this base name and these bytes. The names of a platform are none where
-    no component has a name: beside nothing but them all would look as if it weren't affected."""
-    listed = lists.read(feed, data)
+def candidates_of(listed: lists.Listed, naming: Naming | None = None) -> Iterator[Candidate]:
+    """What the names of a software list become. The names of a platform are none where no component has a name: beside nothing but
+    them all would look as if it weren't affected."""
     parts = [one if isinstance(one, lists.Odd) or naming is None or one is listed.platform else naming.put(one) for one in listed.all()]
     components = [one for one in parts if isinstance(one, Component) and one is not listed.platform]
     has_items = bool(Machine("", components, listed.platform).own_items())

@@ -61,6 +61,8 @@ def read_lists(paths: Sequence[str], said: Said) -> list[Machine]:
         except FeedFault as fault:
             raise Fatal(f"{feed}: {fault}") from fault
         parts = list(listed.all())
+        for remark in listed.remarks:
+            said.remark(remark)
         if not parts:
             raise Fatal(f"{feed}: nothing is in it")
         for one in parts:

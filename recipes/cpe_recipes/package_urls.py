@@ -1,4 +1,4 @@
-"""Package URLs, as lists give them for components: `pkg:type/namespace/name@version?qualifiers`.
+"""What packages are by their package URLs, as lists give them for components; purls.py says how these are written.
 
 Names are compared as the types compare them: in lower case, of Python's packages with `-` in place of `_` and `.`. A module of Go has
 no `/v2` behind it. The qualifier `epoch` belongs to the version, and `upstream` says of which source package a binary one was made, in
@@ -9,15 +9,14 @@ from __future__ import annotations
 import functools
 import re
 from dataclasses import dataclass
-from urllib.parse import unquote
 
 from .feeds import FormFault
+from .purls import Purl, PurlFault, parsed
+from .said import quoted
 
-_TYPE = re.compile(r"pkg:/*([a-z][a-z0-9.+-]*)/+(.*)", re.IGNORECASE | re.DOTALL)
 _SEPARATORS = re.compile(r"[-_.]+")
 # A module of Go from its second release on, by its last segment.
 _MAJOR = re.compile(r"v[0-9]+")
-_EPOCH = re.compile(r"[0-9]+")
 _SOURCE_ENDS = (".src.rpm", ".nosrc.rpm")
 # How many package URLs are kept, since many machines have the same packages.
 _KEPT = 1 << 16
@@ -54,39 +53,33 @@ class PackageUrl:
 @functools.lru_cache(maxsize=_KEPT)
 def read(text: str) -> PackageUrl:
     """What a package URL says. FormFault where it is none."""
-    front, _, query = text.partition("#")[0].strip().partition("?")
-    at = front.rfind("@")
-    # (npm's scopes begin with @, and not every tool writes that as %40)
-    has_version = at > 0 and front[at - 1] != "/"
-    path, version = (front[:at], unquote(front[at + 1 :])) if has_version else (front, "")
-    package = package_of(path)
-    qualifiers = dict(_qualifiers(query))
-    epoch = qualifiers.get("epoch", "")
-    if _EPOCH.fullmatch(epoch) and version and ":" not in version and epoch.strip("0"):
-        version = f"{epoch}:{version}"
-    source, source_version = _source(qualifiers.get("upstream", ""), package)
-    return PackageUrl(package, version, source, source_version)
+    purl = _parsed(text)
+    package = _package(purl)
+    source, source_version = _source(purl.qualifier("upstream"), package)
+    return PackageUrl(package, purl.full_version(), source, source_version)
 
 
 def package_of(path: str) -> Package:
     """The package of a package URL that has no version. FormFault where it is none."""
-    found = _TYPE.fullmatch(path)
-    segments = [unquote(segment) for segment in found[2].split("/") if segment] if found else []
-    if found is None or not segments or not segments[-1].strip():
-        raise FormFault(f"it is no package URL: {path[:200]}")
-    kind = found[1].lower()
-    if kind == "golang" and len(segments) > 1 and _MAJOR.fullmatch(segments[-1]):
+    return _package(_parsed(path))
+
+
+def _parsed(text: str) -> Purl:
+    try:
+        return parsed(text.strip())
+    except PurlFault as fault:
+        raise FormFault(f"it is no package URL, since {fault}: {quoted(text)}") from fault
+
+
+def _package(purl: Purl) -> Package:
+    segments = [*filter(None, purl.namespace.split("/")), purl.name]
+    if purl.type == "golang" and len(segments) > 1 and _MAJOR.fullmatch(segments[-1]):
         segments.pop()
-    return Package(kind, "/".join(segments[:-1]).lower(), _named(kind, segments[-1]))
+    return Package(purl.type, "/".join(segments[:-1]).lower(), _named(purl.type, segments[-1]))
 
 
 def _named(kind: str, name: str) -> str:
     return _SEPARATORS.sub("-", name.lower()) if kind == "pypi" else name.lower()
-
-
-def _qualifiers(query: str) -> list[tuple[str, str]]:
-    pairs = (pair.partition("=") for pair in query.split("&"))
-    return [(key.lower(), unquote(value)) for key, mark, value in pairs if mark and value]
 
 
 def _source(upstream: str, package: Package) -> tuple[Package | None, str]:

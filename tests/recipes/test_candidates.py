@@ -109,7 +109,7 @@ class Table(RecipeCase):
 
     def test_what_is_no_line_is_refused_with_its_place(self):
         for text, reason in {
-            "openssl openssl:openssl": "it is no package URL: openssl",
+            "openssl openssl:openssl": "it is no package URL, since it doesn't begin as one: openssl",
             "pkg:deb/a": "no product and no - stands behind pkg:deb/a",
             "pkg:deb/a b": "no vendor:product: b",
             "pkg:deb/a b:": "no vendor:product: b:",
@@ -196,6 +196,18 @@ class Candidates(unittest.TestCase):
         self.assertEqual(found("pkg:pypi/slider@1.0.2", *names), ["c:slider"])
         self.assertEqual(set(found("pkg:deb/debian/slider@1.0.2", *names)), {"b:slider", "c:slider"})
         self.assertEqual(found("pkg:composer/wpackagist-plugin/slider@1.0.2", *names)[0], "a:slider")
+
+    def test_what_is_in_rust_alone_is_none_of_a_distribution(self):
+        names = [fs("a", "time", "0.1", target="rust"), fs("b", "twig", "1.13", target="node.js"), fs("symfony", "twig", "2.0")]
+        self.assertEqual(found("pkg:deb/debian/time@1.9-0.2", *names), [])
+        self.assertEqual(found("pkg:deb/debian/librust-time-dev@0.1.43-1", *names), ["a:time"])
+        self.assertEqual(found("pkg:deb/debian/php-twig@3.5.1-1", *names), ["symfony:twig"])
+
+    def test_names_in_one_word_and_of_modules(self):
+        names = [fs("gnome", "networkmanager", "1.42"), fs("prometheus", "client_golang", "1.11"), fs("x", "golang", "1.14"), fs("getbootstrap", "bootstrap", "3.3")]
+        self.assertEqual(found("pkg:deb/debian/network-manager@1.42.4-1", *names), ["gnome:networkmanager"])
+        self.assertEqual(found("pkg:deb/debian/golang-github-prometheus-client-golang-dev@1.14.0-3", *names), ["prometheus:client_golang"])
+        self.assertEqual(found("pkg:deb/debian/libjs-bootstrap@3.4.1-3", *names), ["getbootstrap:bootstrap"])
 
     def test_looser_forms_only_where_there_is_nothing_else(self):
         names = [fs("apache", "tomcat", "9.0.43"), fs("xmlsoft", "libxml2", "2.9"), fs("acme", "xml", "2.9")]
