@@ -87,29 +87,56 @@ counts_doubts() {
     judge "the same with --strict and --hardware none" $? 0 "$doubts/strict.out" "$doubts/table.said"
 }
 
-# The same of the lists of tools: all names of a component are read, wherever a tool writes them. What has package URLs alone is
-# no item, and no machine that isn't affected.
+# The same of the lists of tools: all names of a component are read, wherever a tool writes them, and what has a package URL alone
+# (trivy-1, trivy-2) gets the names of names.txt.
 reads_lists() {
     of=recipes/samples/lists
     set -- --dictionary "$of/dictionary.json" --advisories "$of/advisories.json" --lists
-    limited python3 recipes/scan.py "$@" "$of"/shop-* "$of"/java-* "$of"/build-* > "$room/out" 2> "$room/error"
-    judge 'the table of the lists of tools' $? 1 "$of/table.out" "$of/table.said"
-    sh recipes/inventory.sh --machines "$of"/shop-* "$of"/java-* "$of"/build-* > "$room/machines.txt" 2> /dev/null
-    limited python3 recipes/scan.py "$1" "$2" "$3" "$4" --machines "$room/machines.txt" > "$room/out" 2> "$room/error"
-    judge 'the same of the lines that inventory.sh writes of them' $? 1 "$of/table.out" "$of/table.said"
-    limited python3 recipes/scan.py --json "$@" "$of"/shop-* "$of"/java-* "$of"/build-* > "$room/scan.json" 2> /dev/null
+    limited python3 recipes/scan.py "$@" "$of"/shop-* "$of"/java-* "$of"/build-* "$of"/trivy-* > "$room/out" 2> "$room/error"
+    judge 'the table of the lists of tools' $? 0 "$of/table.out" "$of/table.said"
+    sh recipes/inventory.sh --machines "$of"/shop-* "$of"/java-* "$of"/build-* "$of"/trivy-* > "$room/machines.txt" 2> /dev/null
+    limited python3 recipes/scan.py "$1" "$2" "$3" "$4" --machines "$room/machines.txt" > "$room/out" 2> "$room/said"
+    status=$?
+    sed "s|--machines .*|--lists $(echo "$of"/shop-* "$of"/java-* "$of"/build-* "$of"/trivy-*)|" "$room/said" > "$room/error"
+    judge 'the same of the lines that inventory.sh writes of them' "$status" 0 "$of/table.out" "$of/table.said"
+    limited python3 recipes/scan.py --json "$@" "$of"/shop-* "$of"/java-* "$of"/build-* "$of"/trivy-* > "$room/scan.json" 2> /dev/null
     python3 tests/recipes/truths.py "$of/truths.txt" < "$room/scan.json" > "$room/out"
     status=$?
     cat "$room/out"
     : > "$room/error"
     judge 'the lists of tools against their truths' "$status" 0 "$of/truths.out"
-    limited python3 recipes/scan.py "$@" "$of"/trivy-* > "$room/out" 2> "$room/error"
-    judge 'lists of package URLs alone' $? 1 "$of/no-names.out" "$of/no-names.said"
     limited sh recipes/inventory.sh "$of/trivy-1.json" > "$room/out" 2> "$room/error"
+    judge 'an inventory of package URLs alone' $? 0 "$of/inventory.jsonl"
+    echo 'pkg:generic/nothing -' > "$room/names.txt"
+    sed 's/pkg:[a-z]*/pkg:generic/g' "$of/trivy-1.json" > "$room/trivy-3.json"
+    limited sh recipes/inventory.sh --names "$room/names.txt" "$room/trivy-3.json" > "$room/out" 2> "$room/said"
     status=$?
-    sed -n 's/^left out trivy-1 \(.*: no CPE name\)$/left out \1/p' "$of/no-names.said" > "$room/wanted.said"
-    echo 'inventory.sh: trivy-1.json: no item in it' >> "$room/wanted.said"
-    judge 'no inventory of package URLs alone' "$status" 2 /dev/null "$room/wanted.said"
+    grep '^inventory.sh: ' "$room/said" > "$room/error"
+    echo 'inventory.sh: trivy-3.json: no item in it' > "$room/wanted.said"
+    judge 'no inventory of package URLs that no table names' "$status" 2 /dev/null "$room/wanted.said"
+}
+
+# Lists that have no CPE names: package URLs alone, what package managers write, and locks, each against what is there by hand.
+reads_package_lists() {
+    of=recipes/samples/lists
+    lists=$(for list in "$of"/packages/*.json "$of"/packages/*.txt; do case $list in */truths.txt) ;; *) echo "$list" ;; esac; done)
+    # shellcheck disable=SC2086 # a word each
+    limited python3 recipes/scan.py --json --dictionary "$of/dictionary.json" --advisories "$of/advisories.json" --lists $lists \
+        > "$room/scan.json" 2> "$room/said" < /dev/null
+    sed 's/; to list them: .*//' "$room/said" > "$room/error"
+    python3 tests/recipes/truths.py "$of/packages/truths.txt" < "$room/scan.json" > "$room/out"
+    status=$?
+    cat "$room/out"
+    judge 'lists without names against their truths' "$status" 0 "$of/packages/truths.out" "$of/packages/table.said"
+    # shellcheck disable=SC2086
+    limited python3 recipes/scan.py --dictionary "$of/dictionary.json" --advisories "$of/advisories.json" --lists $lists \
+        > "$room/out" 2> "$room/said" < /dev/null
+    status=$?
+    sed 's/; to list them: .*//' "$room/said" > "$room/error"
+    judge 'the table of lists without names' "$status" 1 "$of/packages/table.out" "$of/packages/table.said"
+    limited python3 bench/naming.py > "$room/out" 2> "$room/error"
+    status=$?
+    if [ "$status" = 0 ]; then pass "names of packages: $(sed -n 1p "$room/out")"; else fail 'names of packages' "status $status"; fi
 }
 
 shows_tables() {
@@ -347,6 +374,7 @@ if needs 'the recipes in Python' python3; then
     counts_orders
     counts_doubts
     reads_lists
+    reads_package_lists
     shows_tables
     fits_gates
     shows_pages

@@ -1,12 +1,14 @@
 """A table for people from verdicts: what `cpe evaluate` writes, or a fleet.
 
-    sh affected.sh [--details FILE] [--suppress FILE] [--records FILE] [--ranges FILE] [--decided FILE] [--kev FILE] [--epss FILE] [FILE]
+    sh affected.sh [--details FILE] [--suppress FILE] [--settled FILE] [--records FILE] [--ranges FILE] [--decided FILE]
+        [--kev FILE] [--epss FILE] [FILE]
 
 It has the advisories that are TRUE, then those that are ERROR and UNKNOWN, machine by machine, and how many there are of each
 verdict. A machine without items is told as such.
 
 - --details: scores and titles by id, which `advisories.sh --details` wrote. What scores highest comes first.
 - --suppress: accepted ids, lines `ID MACHINE REASON`, with * for every machine. They are told below the table.
+- --settled: UNKNOWNs that a user settled, lines `MACHINE ID TRUE|FALSE REASON`, with * for every machine (settled.py).
 - --records: the records that were asked. What an UNKNOWN hangs on is told: the checks of its statement that have no result
   there, nor in --decided, which `decide.py` wrote. With --ranges, which `advisories.sh --ranges` wrote, a range is told by its
   product and bounds.
@@ -14,7 +16,7 @@ verdict. A machine without items is told as such.
   comes first then, and of the same scores what has the highest EPSS.
 
 Each option but these two may be given more than once. The status is 1 where lines of the records were refused, machines have no items, or a
-line of --suppress is none, and 2 where the verdicts aren't whole, since the run ended before its end. Nothing is written then.
+line of --suppress or --settled is none, and 2 where the verdicts aren't whole, since the run ended before its end. Nothing is written then.
 """
 from __future__ import annotations
 
@@ -29,6 +31,7 @@ from .fleet import Decided, read_decided
 from .hanging import Hanging, json_lines, read_ranges, records_with_checks
 from .said import Fatal, Output, Said, shown
 from .scores import score_of
+from .settled import read_settled
 from .suppressed import Suppressed, read_suppressed
 from .table import counted, cut, table
 from .threats import Threats
@@ -36,9 +39,10 @@ from .verdicts import TRUTHS, Machine, Verdicts, read_verdicts
 from .words import ONE, Words, read_words
 
 USAGE = (
-    "affected.sh [--details FILE] [--suppress FILE] [--records FILE] [--ranges FILE] [--decided FILE] [--kev FILE] [--epss FILE] [FILE]"
+    "affected.sh [--details FILE] [--suppress FILE] [--settled FILE] [--records FILE] [--ranges FILE] [--decided FILE] "
+    "[--kev FILE] [--epss FILE] [FILE]"
 )
-OPTIONS = dict.fromkeys(("--details", "--suppress", "--records", "--ranges", "--decided"), ONE) | threats.OPTIONS
+OPTIONS = dict.fromkeys(("--details", "--suppress", "--settled", "--records", "--ranges", "--decided"), ONE) | threats.OPTIONS
 # The columns of a table, before and behind those of what is exploited.
 HEADER = (("MACHINE", "VERDICT", "ADVISORY", "SCORE"), ("TITLE", "DEPENDS ON"))
 _TITLE_WIDTH = 60
@@ -102,6 +106,7 @@ def run(words: list[str]) -> int:
     said, output = Said(), Output()
     verdicts = read_verdicts(given.files[0] if given.files else None)
     about = about_of(given, said)
+    read_settled(given.many("--settled"), said).settle(verdicts.machines, said)
     output.lines(table_of(verdicts, about))
     output.end()
     tell_left_out(verdicts, about, said)
@@ -165,6 +170,8 @@ def _rows(machine: Machine, about: About) -> Iterator[list[str]]:
 
 def _told(machine: Machine, id: str, truth: str, about: About) -> list[str]:
     """What stands beside a verdict in words."""
+    if id in machine.settled:
+        return [machine.settled[id].words()]
     if truth == "FALSE":
         return about.doubts
     tells = {"UNKNOWN": about.hanging.on, "TRUE": about.hanging.remarks}
@@ -193,6 +200,8 @@ def _count(verdicts: Verdicts, about: About) -> str:
     numbers += f", {counts['perhaps']} perhaps" if counts["perhaps"] else ""
     numbers += f", {counts['FALSE']} FALSE" + (f", of which {counts['strict']} perhaps" if counts["strict"] else "")
     accepted = f", {len(about.accepted)} accepted" if about.accepted else ""
+    settled = sum(len(machine.settled) for machine in verdicts.machines)
+    accepted += f", {settled} settled" if settled else ""
     if not verdicts.has_machines:
         return f"{counted(verdicts.machines[0].statements.count, 'statement')}: {numbers}{accepted}"
     bare = sum(not machine.has_items for machine in verdicts.machines)

@@ -92,6 +92,8 @@ class Negations:
 
     def _is_met(self, one: Negated, lead: Lead) -> bool:
         """Whether a name surely meets it, both as it stands and as it leads on."""
+        if lead.why:
+            return False
         ends = self._ends[one.key]
         if one.range is not None and ends != (self._facts[one.key],):
             return False

@@ -10,7 +10,7 @@ from collections.abc import Iterator, Sequence
 from dataclasses import dataclass
 
 from .said import shown
-from .scanned import ACCEPTED, GROUPS, NO_ITEMS, Advisory, Machine, Row, Scanned
+from .scanned import ACCEPTED, BY_PEOPLE, GROUPS, NO_ITEMS, SETTLED, Advisory, Machine, Row, Scanned
 
 # Of how many rows a page stands open when it is opened.
 MOST_OPEN = 300
@@ -21,6 +21,7 @@ _MEANINGS = {
     "ERROR": "a check came to no result",
     "UNKNOWN": "the feeds and lists don't tell",
     ACCEPTED: "someone accepted it, with a reason",
+    SETTLED: "someone settled it as FALSE, with a reason",
     "FALSE": "not affected; not listed here",
 }
 # From which scores on they are called so; of the others nothing is known.
@@ -142,7 +143,7 @@ def _open(is_open: bool) -> str:
 def _numbers(counts: Counter[str]) -> Iterator[str]:
     yield '<ul class="numbers">\n'
     for group in (*GROUPS, "FALSE"):
-        if group != ACCEPTED or counts[group]:
+        if group not in BY_PEOPLE or counts[group]:
             yield f'<li class="{group}"><b>{counts[group]:,}</b> {group}<small>{_MEANINGS[group]}</small>\n'
     yield "</ul>\n"
 
@@ -245,6 +246,7 @@ def _counts(machine: Machine, is_cut_short: bool) -> Iterator[str]:
         (machine.unlisted, "not in the dictionary"),
         (machine.removed, "under a removed name"),
         (machine.perhaps, "perhaps meant"),
+        (machine.nameless, "without a name, so not asked for"),
     ):
         if number:
             yield f"{number:,} {what}"

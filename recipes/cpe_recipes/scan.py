@@ -1,15 +1,18 @@
 """The whole way, from feeds and what machines have to the advisories that concern each machine.
 
     python3 scan.py --dictionary FILE.. | --records FILE.. --advisories FILE.. [--matches FILE..]
-        --machines FILE | --lists FILE.. [--suppress FILE] [--letters FILE] [--partial] [--large] [--strict] [--platform NAME]
-        [--hardware none] [--all] [--json | --format FORMAT] [--time TIME] [--why] [--kev FILE] [--epss FILE] [--fail-on GATE].. [--since FILE]
+        --machines FILE | --lists FILE.. [--names FILE] [--suppress FILE] [--settled FILE] [--letters FILE] [--partial] [--large]
+        [--strict] [--platform NAME] [--hardware none] [--all] [--json | --format FORMAT] [--time TIME] [--why] [--kev FILE] [--epss FILE]
+        [--fail-on GATE].. [--since FILE]
 
 - --dictionary, --advisories, --matches: pages of NVD's API 2.0, or its feeds, as they come, packed or in archives; advisories may be CVE
   records of format 5 too (cve5.py). --records: what dictionary.sh
   made of such pages before.
-- --machines: a line a machine, as inventory.sh --machines writes it; --lists: software lists (CycloneDX, SPDX, Syft, plain), each a
-  machine.
+- --machines: a line a machine, as inventory.sh --machines writes it; --lists: software lists, each a machine (lists/ says which forms
+  are read: CycloneDX, SPDX, Syft's, Trivy's and plain ones, package URLs, and what package managers write).
+- --names: tables of what packages are called (names_table.py), before the one that comes along, names.txt.
 - --suppress: accepted advisories, lines `ID MACHINE REASON`, where * is every machine. They are told below the table.
+- --settled: UNKNOWNs that a user settled, lines `MACHINE ID TRUE|FALSE REASON`, where * is every machine (settled.py).
 - --letters: the products of which letters in versions count upward, in place of letters.txt.
 - --large: pages may unpack to as much as they do; unpack.py says what they else may.
 - --partial: pages of a feed may be missing. What is, is said, and each FALSE that could be another verdict by it is marked.
@@ -43,26 +46,28 @@ result: then nothing was written, but why. It is 3 where a verdict fits a gate, 
 from __future__ import annotations
 
 from collections.abc import Collection, Iterable, Iterator, Mapping, Sequence
-from dataclasses import dataclass, field, replace
+from dataclasses import dataclass, field
 
-from . import advisories, affected, dictionary, formats, gating, latest, matches, platforms, products, suppressed, threats, unlisted, whole
-from . import verdicts
+from . import advisories, affected, dictionary, formats, gating, hints, latest, matches, platforms, products, suppressed, threats, unlisted
+from . import verdicts, whole
 from .called import Called, Sure
 from .calling import Calling, Wanted, listed_by_name
 from .cases import Cases, Index, Items, Known, Product, Results, lines_of, verdicts_of
 from .components import Machine
-from .decide import LETTERS, Decider, Lead, Leads, Lists, decide, leads_of
+from .decide import LETTERS, Decider, Leads, Lists, decide, leads_in, leads_of
 from .deciding import Deciding
 from .feeds import FeedFault, Json, Page, name_of, read_feed, text_lines
 from .formats import Form
 from .gating import Gates
 from .machines import read_lists, read_machines
+from .naming import Unnamed, name_machines, read_names
 from .negations import Negations, has_hardware
 from .outcome import MOST_ALIKE, Found, Hanging, json_of, machines_with_verdicts, tell_items
 from .program import Candidate, Program
 from .progress import Progress
 from .reasons import Reasons
 from .said import Fatal, Noting, Output, Said
+from .settled import read_settled
 from .threats import Threats
 from .unanalysed import States
 from .versions import Letters, read_letters
@@ -70,8 +75,9 @@ from .words import FLAG, MANY, ONE, Words, read_words
 
 USAGE = (
     "scan.py --dictionary FILE.. | --records FILE.. --advisories FILE.. [--matches FILE..] "
-    "--machines FILE | --lists FILE.. [--suppress FILE] [--letters FILE] [--partial] [--large] [--strict] [--platform NAME] [--hardware none] "
-    "[--all] [--json | --format FORMAT] [--time TIME] [--why] [--kev FILE] [--epss FILE] [--fail-on GATE].. [--since FILE]"
+    "--machines FILE | --lists FILE.. [--names FILE] [--suppress FILE] [--settled FILE] [--letters FILE] [--partial] [--large] "
+    "[--strict] [--platform NAME] [--hardware none] [--all] [--json | --format FORMAT] [--time TIME] [--why] [--kev FILE] [--epss FILE] "
+    "[--fail-on GATE].. [--since FILE]"
 )
 OPTIONS = {
     "--dictionary": MANY,
@@ -80,7 +86,9 @@ OPTIONS = {
     "--matches": MANY,
     "--machines": ONE,
     "--lists": MANY,
+    "--names": ONE,
     "--suppress": ONE,
+    "--settled": ONE,
     "--letters": ONE,
     "--all": FLAG,
     "--why": FLAG,
@@ -117,24 +125,25 @@ class Scan:
 
     def machines(self, machines: Sequence[Machine], is_all_asked: bool = False) -> list[Found]:
         """What comes of the machines. Where all statements are asked of each, that is the same, and takes longer."""
-        calling = self._lead(dict.fromkeys(item for machine in machines for item in machine.items))
+        calling = self._lead(dict.fromkeys(name for machine in machines for name in machine.asked_names()))
         found = [self._found(machine, calling) for machine in machines]
         self._decide(found, is_all_asked)
         return found
 
     def _found(self, machine: Machine, calling: Calling) -> Found:
         """Where the names of a machine lead. It has no items where none of its components has a name, be its platform known."""
-        if not any(name in self._leads.found for name in machine.own_items()):
+        if not any(name in self._leads.found for name in machine.own_names()):
             return Found(machine, [])
-        found = [(one.kind, _leads_in(self._leads, one.names, one.kind)) for one in machine.all()]
-        components = {(kind, tuple(lead.name for lead in leads)): leads for kind, leads in found if leads}
-        leads = {lead.name: lead for of_one in components.values() for lead in of_one}
-        unlisted = [of_one for of_one in components.values() if not any(lead.is_entry for lead in of_one)]
+        found = [(one.kind, leads_in(self._leads, one)) for one in machine.all()]
+        components = {(kind, tuple((lead.name, lead.why) for lead in leads)): leads for kind, leads in found if leads}
+        leads = {lead.name: lead for of_one in components.values() for lead in of_one if not lead.why}
+        listed = [[lead for lead in of_one if not lead.why] for of_one in components.values()]
+        unlisted = [of_one for of_one in listed if of_one and not any(lead.is_entry for lead in of_one)]
         of_components = list(components.values())
         return Found(machine, list(leads.values()), of_components, unlisted, calling.of_components(of_components))
 
-    def tell_items(self, found: Sequence[Found], said: Said) -> None:
-        tell_items(found, self._leads.refused, self.successors, said)
+    def tell_items(self, found: Sequence[Found], said: Said, hint: str) -> None:
+        tell_items(found, self._leads.refused, self.successors, said, hint)
 
     def _lead(self, items: Collection[str]) -> Calling:
         """Where the names lead; and which names the items have."""
@@ -144,7 +153,8 @@ class Scan:
         self.successors = unlisted.successors(entries, self._leads)
         feed = listed_by_name(self._lists, self._known.ranges, self._leads)
         wanted = Wanted(self._leads.found[fact].name for fact in dict.fromkeys(facts))
-        return Calling(self._program, entries, self._leads, _leads_in(self._leads, items), feed, wanted, self._letters)
+        own = {lead.name: lead for item in items if (lead := self._leads.found.get(item))}
+        return Calling(self._program, entries, self._leads, own.values(), feed, wanted, self._letters)
 
     def _decide(self, found: Sequence[Found], is_all_asked: bool) -> None:
         """Puts what is decided of the ranges, and the verdicts."""
@@ -213,12 +223,6 @@ class _Asked:
     beside: dict[int, int] = field(default_factory=dict)
 
 
-def _leads_in(leads: Leads, items: Iterable[str], kind: str = "") -> list[Lead]:
-    """Where the items lead, each once, however it is spelled."""
-    found = {lead.name: lead for item in items if (lead := leads.found.get(item))}.values()
-    return [replace(lead, kind=kind) for lead in found] if kind else list(found)
-
-
 def _ends(called: Iterable[Called]) -> list[str]:
     """The names that are held against ranges."""
     return [one.name for one in called if not one.is_spelled]
@@ -231,17 +235,21 @@ def _next(answers: Iterator[str]) -> str:
     return answer
 
 
-def read_known(
-    read: Words, asked: Sequence[Machine], program: Program, said: Said, progress: Progress, reading: whole.Reading
-) -> tuple[Known, States]:
-    """What the feeds tell, and which advisories have no verdict. Fatal where one can't be read, or there is no entry or no statement."""
-    progress.step("reading the dictionary")
+def read_entries(read: Words, program: Program, said: Said, reading: whole.Reading) -> list[str]:
+    """The records of the dictionary. Fatal where one can't be read, or there is no entry."""
     candidates = _records(read.many("--records"))
     if read.has("--dictionary"):
         candidates += dictionary.candidates_of(read.many("--dictionary"), said, strict=True, reading=reading)
     entries = program.accepted(candidates, said, unsaid="exists")
     if not entries:
         raise Fatal("no entry is in the dictionary")
+    return entries
+
+
+def read_known(
+    read: Words, entries: list[str], asked: Sequence[Machine], program: Program, said: Said, progress: Progress, reading: whole.Reading
+) -> tuple[Known, States]:
+    """What the feeds tell, and which advisories have no verdict. Fatal where one can't be read, or there is no statement."""
     progress.step("reading advisories")
     states = States()
     feed = list(whole.pages(read.many("--advisories"), said, advisories.KINDS, strict=True, reading=reading))
@@ -261,7 +269,7 @@ def _of_products(
     feed: Sequence[Page], asked: Iterable[Machine], entries: Sequence[str], program: Program, said: Said, states: States
 ) -> list[Page]:
     """Of more advisories than cpe takes those that may concern a product of the machines; the others are FALSE on each."""
-    items = dict.fromkeys(item for machine in asked for item in machine.items)
+    items = dict.fromkeys(name for machine in asked for name in machine.asked_names())
     leads = leads_of(program, entries, items, unlisted.deprecated_names(entries))
     wanted = products.products_of(leads, items, entries)
     kept = [page.only(products.cut(program, page, wanted)) for page in feed]
@@ -327,6 +335,7 @@ class _Result:
     found: list[Found]
     machines: list[verdicts.Machine]
     about: affected.About
+    unnamed: Unnamed
 
     def asked(self) -> Collection[str]:
         """The ids of the advisories that have verdicts."""
@@ -336,24 +345,32 @@ class _Result:
 def _result(read: Words, program: Program, said: Noting, progress: Progress, beside: Threats) -> _Result:
     progress.step("reading what the machines have")
     accepted = suppressed.read_suppressed(read.many("--suppress"), said)
+    settled = read_settled(read.many("--settled"), said)
     letters = read_letters(read.one("--letters") or LETTERS)
     asked = read_asked(read, said)
     reading = whole.Reading.of(read)
-    known, states = read_known(read, asked, program, said, progress, reading)
+    tables = read_names(read.many("--names"), asked)
+    progress.step("reading the dictionary")
+    entries = read_entries(read, program, said, reading)
+    unnamed = name_machines(asked, tables, entries)
+    known, states = read_known(read, entries, asked, program, said, progress, reading)
     progress.step("reading the match feed")
     matched = read.many("--matches")
     feed = whole.pages(matched, said, matches.KINDS, strict=True, reading=reading) if matched else []
     lists = Lists(program, matches.listed(feed, known.ranges.keys(), said))
     scan = Scan(program, known, lists, letters, progress, read.has("--why"), read.has("--strict"), has_hardware(read))
     found = scan.machines(asked)
-    scan.tell_items(found, said)
+    hint = hints.unlisted(read)
+    scan.tell_items(found, said, hint)
+    unnamed.tell(said, hint)
     platforms.remark_silent([one.machine for one in found if one.has_items()], known, said)
     machines = machines_with_verdicts(known, scan.bare, found)
+    settled.settle(machines, said)
     if read.has("--all"):
         for machine in machines:
             machine.show_all()
     about = affected.About(known.details, accepted, Hanging(known, found), reading.doubts(), beside)
-    return _Result(known, states, reading, found, machines, about)
+    return _Result(known, states, reading, found, machines, about, unnamed)
 
 
 def _lines(form: Form, result: _Result, said: Noting) -> list[str]:
@@ -365,7 +382,7 @@ def _lines(form: Form, result: _Result, said: Noting) -> list[str]:
         lines = list(affected.table_of(verdicts.Verdicts(result.machines), about))
         lines += [*reading.lines(), *(states.lines() if form.is_all else ())]
     else:
-        value: dict[str, Json] = reading.mark(json_of(result.known, result.found, result.machines, about))
+        value: dict[str, Json] = reading.mark(json_of(result.known, result.found, result.machines, about, result.unnamed))
         value |= states.json(result.asked()) | about.threats.about()
         value["leftOut"] = said.json()
         lines = form.lines(value)

@@ -14,9 +14,11 @@ from .said import Fatal, quoted
 from .scores import score_of
 from .verdicts import TRUTHS
 
-ACCEPTED = "ACCEPTED"
+ACCEPTED, SETTLED = "ACCEPTED", "SETTLED"
+# What people decided: those that they accepted, and those that they settled as FALSE.
+BY_PEOPLE = (ACCEPTED, SETTLED)
 # The groups of the rows of an advisory, in their order.
-GROUPS = (*(truth for truth in TRUTHS if truth != "FALSE"), ACCEPTED)
+GROUPS = (*(truth for truth in TRUTHS if truth != "FALSE"), *BY_PEOPLE)
 NO_ITEMS = "no items"
 _ONE_OF = {"leftOut": "leftOut", "machines": "machine", "verdicts": "verdict"}
 _WORDS = {str: "text", int: "number", list: "list", dict: "object", (int, float): "number"}
@@ -28,6 +30,15 @@ class Row:
 
     machine: str
     reasons: tuple[str, ...]
+
+
+def grouped(truth: str, reasons: list[str], accepted: str | None, settled: str | None) -> tuple[str, list[str]]:
+    """The group of a row, and its reasons, with why people accepted it or settled it."""
+    if settled is not None:
+        reasons = [f"settled as {truth}: {settled}", *reasons]
+    if accepted is not None:
+        return ACCEPTED, [f"{truth}: {accepted}", *reasons]
+    return (SETTLED if truth == "FALSE" else truth), reasons
 
 
 @dataclass
@@ -46,8 +57,8 @@ class Advisory:
     rows: dict[str, list[Row]] = field(default_factory=lambda: {group: [] for group in GROUPS})
 
     def is_open(self) -> bool:
-        """Whether a row isn't accepted."""
-        return any(rows for group, rows in self.rows.items() if group != ACCEPTED)
+        """Whether a row isn't accepted, nor settled as FALSE."""
+        return any(rows for group, rows in self.rows.items() if group not in BY_PEOPLE)
 
     def order(self) -> tuple[bool, bool, float, float, tuple[int, ...], str]:
         """What comes first: known exploited, then the highest score, then the highest EPSS, then what more machines have; without a
@@ -70,6 +81,7 @@ class Machine:
     perhaps: int = 0
     unlisted: int = 0
     removed: int = 0
+    nameless: int = 0
 
     def order(self) -> tuple[bool, float, tuple[int, ...]]:
         return (
@@ -80,7 +92,7 @@ class Machine:
 
     def note(self, group: str, score: float | None) -> None:
         self.counts[group] += 1
-        if score is not None and group != ACCEPTED:
+        if score is not None and group not in BY_PEOPLE:
             self.highest = score if self.highest is None else max(self.highest, score)
 
 
@@ -168,6 +180,7 @@ class _Reader:
             machine.perhaps = len(self._needed(row, "perhaps", list, where))
             machine.unlisted = len(self._needed(row, "notInDictionary", list, where))
             machine.removed = len(self._needed(row, "underRemovedName", list, where))
+            machine.nameless = len(self._given(row, "withoutCandidates", list, where) or ())
             seen: set[str] = set()
             for place, one in self._list(row, "verdicts", where):
                 id = self._verdict(one, machine, place)
@@ -185,12 +198,10 @@ class _Reader:
         advisory = self._advisories.get(id)
         if advisory is None:
             advisory = self._advisories[id] = self._advisory(id, one, where)
-        if truth != "FALSE":
+        settled = self._given(one, "settled", str, where)
+        if truth != "FALSE" or settled is not None:
             reasons = [text for key in ("hangsOn", "remarks", "decidedBy") for text in self._texts(one, key, where)]
-            accepted = self._given(one, "accepted", str, where)
-            if accepted is not None:
-                reasons = [f"{truth}: {accepted}", *reasons]
-            group = truth if accepted is None else ACCEPTED
+            group, reasons = grouped(truth, reasons, self._given(one, "accepted", str, where), settled)
             advisory.rows[group].append(Row(machine.name, tuple(reasons)))
             machine.note(group, advisory.score)
         return id
