@@ -4,6 +4,8 @@ A gate fits verdicts that are TRUE, and aren't accepted. With the term `unknown`
 value that isn't known, such as the score of an advisory without one, isn't below the least value of a term: it fits, and how many fit so
 is said. How many verdicts would fit if they were TRUE, and aren't known, is said too.
 
+A verdict that a user settled (--settled) is what they settled. How many fit by that is said, and how many would fit but are settled as FALSE.
+
 A verdict is new if the kept result (--since) has another one there, or none, or one that was accepted.
 """
 from __future__ import annotations
@@ -15,7 +17,7 @@ from dataclasses import dataclass, field
 from .affected import About
 from .gates import EXPLOITED, FAIL_ON, LEAST_SCORES, NEW, PROBABILITY, SCORE, SEVERITIES, SEVERITY, SINCE, UNKNOWN, Gate, Term, gates_of
 from .said import Fatal, Said
-from .scanned import ACCEPTED, read_scanned
+from .scanned import BY_PEOPLE, read_scanned
 from .scores import score_of
 from .threats import EPSS, KEV, Threats
 from .verdicts import Machine
@@ -55,9 +57,11 @@ class Gates:
         tallies = [_Tally(gate, self.kept, about) for gate in self.gates]
         for machine in machines if tallies else ():
             for id, truth in machine.shown.items():
-                if truth != "FALSE" and about.accepted_for(id, truth, machine.name) is None:
-                    for tally in tallies:
-                        tally.count(machine.name or "", id, truth)
+                is_settled = id in machine.settled
+                if truth == "FALSE" and not is_settled or about.accepted_for(id, truth, machine.name) is not None:
+                    continue
+                for tally in tallies:
+                    tally.count(_Verdict(machine.name or "", id, truth, is_settled))
         for tally in tallies:
             tally.tell(said)
         return any(tally.fitting for tally in tallies)
@@ -69,9 +73,19 @@ def read_kept(path: str) -> Kept:
         (row.machine, advisory.id): group
         for advisory in read_scanned(path).advisories
         for group, rows in advisory.rows.items()
-        if group != ACCEPTED
+        if group not in BY_PEOPLE
         for row in rows
     }
+
+
+@dataclass(frozen=True)
+class _Verdict:
+    """A verdict that may fit."""
+
+    machine: str
+    id: str
+    truth: str
+    is_settled: bool
 
 
 @dataclass(frozen=True)
@@ -92,26 +106,28 @@ class _Tally:
         self._values: dict[str, _Values] = {}
         self._lacking: Counter[str] = Counter()
         self._first: list[str] = []
-        self._undecided = 0
+        self._undecided = self._settled_false = self._settled_fitting = 0
         self.fitting = 0
 
-    def count(self, machine: str, id: str, truth: str) -> None:
-        """Counts a verdict, if it fits."""
-        is_asked = self._is_unknown == (truth != "TRUE")
-        if not is_asked and self._is_unknown or self._is_new and self._kept.get((machine, id)) == truth:
+    def count(self, verdict: _Verdict) -> None:
+        """Counts a verdict, if it fits; one that is settled as FALSE fits none, and is counted apart."""
+        is_false, is_asked = verdict.truth == "FALSE", self._is_unknown == (verdict.truth != "TRUE")
+        if not is_asked and self._is_unknown or self._is_new and self._kept.get((verdict.machine, verdict.id)) == verdict.truth:
             return
-        values = self._values.get(id)
+        values = self._values.get(verdict.id)
         if values is None:
-            values = self._values[id] = self._values_of(id)
+            values = self._values[verdict.id] = self._values_of(verdict.id)
         if not values.holds:
             return
-        if not is_asked:
-            self._undecided += 1
+        if is_false or not is_asked:
+            self._settled_false += is_false
+            self._undecided += not is_false
             return
         self.fitting += 1
+        self._settled_fitting += verdict.is_settled
         self._lacking.update(values.lacking)
         if len(self._first) < _MOST_TOLD:
-            self._first.append(f"{machine} {id}")
+            self._first.append(f"{verdict.machine} {verdict.id}")
 
     def _values_of(self, id: str) -> _Values:
         found = [(term, _VALUES[term.word](self._about, id)) for term in self._terms]
@@ -122,10 +138,14 @@ class _Tally:
         text = self._gate.text
         if self.fitting:
             more = f" and {self.fitting - _MOST_TOLD} more" if self.fitting > _MOST_TOLD else ""
-            said.remark(f"{FAIL_ON} {text} fits {_verdicts(self.fitting)}: {', '.join(self._first)}{more}{''.join(self._not_known())}")
+            beside = "".join(self._not_known())
+            beside += f"; {self._settled_fitting} of them {_are(self._settled_fitting)} settled" if self._settled_fitting else ""
+            said.remark(f"{FAIL_ON} {text} fits {_verdicts(self.fitting)}: {', '.join(self._first)}{more}{beside}")
         if self._undecided:
             others = f"{FAIL_ON} '{UNKNOWN} and {text}' counts"
             said.remark(f"{FAIL_ON} {text} doesn't count {_verdicts(self._undecided)} that may be TRUE; {others} them")
+        if self._settled_false:
+            said.remark(f"{FAIL_ON} {text} doesn't count {_verdicts(self._settled_false)} that {_are(self._settled_false)} settled as FALSE")
 
     def _not_known(self) -> Iterator[str]:
         return (f"; no {word} is known of {number} of them" for word, number in self._lacking.items())
@@ -133,6 +153,10 @@ class _Tally:
 
 def _verdicts(number: int) -> str:
     return f"{number} {'verdict' if number == 1 else 'verdicts'}"
+
+
+def _are(number: int) -> str:
+    return "is" if number == 1 else "are"
 
 
 def _score(about: About, id: str) -> float | None:

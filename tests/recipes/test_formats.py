@@ -54,6 +54,24 @@ LEFT = [("bare", "no items"), ("CVE-2024-0009", "the operator XOR", "vulnerabili
 PARTLY = result(WEB, DB, BARE, left_out=LEFT, notAnalysed={"Received": ["CVE-2024-0007"], "Deferred": ["CVE-2024-0008"]})
 
 
+# What a user settled either way, and packages without a sure name.
+SETTLED = result(
+    machine(
+        "m",
+        verdict("CVE-2024-0001", "TRUE", score=9.8, hangsOn=["dpkg and rpm differ"], settled="seen there", before="UNKNOWN"),
+        verdict("CVE-2024-0002", "FALSE", score=5.0, hangsOn=["target_sw: x?"], settled="=built without", before="UNKNOWN"),
+        verdict("CVE-2024-0003", "TRUE", settled="seen there", before="FALSE", accepted="no way in"),
+        withoutCandidates=["libodd1"],
+    )
+)
+UNNAMED = [
+    machine("none", verdict("CVE-2024-0005", "FALSE"), withoutCandidates=["libodd1", "libodd2"]),
+    machine("perhaps", verdict("CVE-2024-0005", "FALSE"), candidates=[{"id": "qs", "lines": ["pkg:npm/qs qs:qs"]}]),
+    machine("named", verdict("CVE-2024-0005", "FALSE")),
+]
+UNNAMED_WORDS = {"none": "2 packages without a sure name, libodd1, and 1 more", "perhaps": "1 package without a sure name, qs"}
+
+
 class FormatCase(RecipeCase):
     def assert_valid(self, value, name):
         self.assertEqual(json_schema.faults(value, name), [])
@@ -149,6 +167,27 @@ class OpenVex(FormatCase):
         ):
             self.assertEqual(set(Gaps(result(*machines, left_out=[left_out])).doubted()), doubted, left_out)
 
+    def test_what_is_settled_is_stated_with_the_words_of_the_user(self):
+        ids = ["pkg:generic/m"]
+        self.assertEqual(
+            self.statements(SETTLED),
+            [
+                ("CVE-2024-0001", "affected", ids, "settled as TRUE: seen there; dpkg and rpm differ"),
+                ("CVE-2024-0002", "not_affected", ids, "settled as FALSE: =built without"),
+                ("CVE-2024-0003", "not_affected", ids, "accepted, verdict TRUE: no way in"),
+            ],
+        )
+        self.assertNotIn("justification", json.dumps(openvex.document(SETTLED, TIME, True)))
+
+    def test_a_false_beside_packages_without_a_sure_name_is_no_all_clear(self):
+        found = {products[0].removeprefix("pkg:generic/"): (status, notes) for _, status, products, notes in self.statements(result(*UNNAMED), is_all=True)}
+        for name, words in UNNAMED_WORDS.items():
+            self.assertEqual(found[name], ("under_investigation", f"verdict FALSE, but {words}"))
+        self.assertEqual(found["named"][0], "not_affected")
+        self.assertIn("none: 2 packages without a sure name", openvex.document(result(*UNNAMED), TIME, True)["tooling"])
+        both = result(*UNNAMED, left_out=[("none x", "no CPE name")])
+        self.assertEqual(Gaps(both).doubted()["none"], f"left out none x: no CPE name; {UNNAMED_WORDS['none']}")
+
     def test_nothing_to_state_is_no_document(self):
         with self.assertRaises(Fatal) as caught:
             openvex.document(result(machine("m")), TIME, False)
@@ -200,6 +239,18 @@ class CycloneDx(FormatCase):
         self.assertEqual(found[0], {"name": "cpe:scan:isWhole", "value": "false"})
         self.assertEqual([one["name"].removeprefix("cpe:scan:") for one in found[1:]], ["leftOut"] * 4 + ["notAnalysed"])
         self.assertEqual(found[2]["value"], "left out CVE-2024-0009, vulnerability 3 of a.json: the operator XOR")
+
+    def test_what_is_settled_and_what_has_no_sure_name(self):
+        document = cyclonedx_vex.document(SETTLED, TIME, False)
+        self.assert_valid(document, "cyclonedx-1.5")
+        self.assertEqual([one["analysis"]["state"] for one in document["vulnerabilities"]], ["exploitable", "not_affected", "not_affected"])
+        self.assertEqual(document["vulnerabilities"][1]["analysis"]["detail"], "settled as FALSE: =built without")
+        self.assertNotIn("justification", json.dumps(document))
+        document = cyclonedx_vex.document(result(*UNNAMED), TIME, True)
+        self.assert_valid(document, "cyclonedx-1.5")
+        self.assertEqual([one["analysis"]["state"] for one in document["vulnerabilities"]], ["in_triage", "in_triage", "not_affected"])
+        told = [{"name": "cpe:scan:withoutSureName", "value": f"{name}: {words}"} for name, words in UNNAMED_WORDS.items()]
+        self.assertEqual(document["metadata"]["properties"], [{"name": "cpe:scan:isWhole", "value": "true"}, *told])
 
     def test_nothing_to_state_is_a_document_too(self):
         document = cyclonedx_vex.document(result(machine("m")), TIME, False)
@@ -271,6 +322,22 @@ class Sarif(FormatCase):
         self.assertEqual(false, {"web 1": "open", "db-1": "pass"})
 
 
+    def test_what_is_settled_has_its_reason_in_the_properties(self):
+        results = self.run_of(SETTLED)["results"]
+        self.assertEqual([(one["kind"], one["level"]) for one in results], [("fail", "error"), ("pass", "none"), ("fail", "error")])
+        self.assertEqual(results[1]["properties"], {"verdict": "FALSE", "settled": "=built without", "before": "UNKNOWN"})
+        self.assertEqual(results[1]["message"]["text"], "m: CVE-2024-0002 is FALSE; settled as FALSE: =built without; target_sw: x?")
+        self.assertNotIn("suppressions", results[1])
+        self.assertIn("suppressions", results[2])
+
+    def test_packages_without_a_sure_name_are_notes(self):
+        run = self.run_of(result(*UNNAMED))
+        self.assertEqual([one["kind"] for one in run["results"]], ["open", "open", "pass"])
+        self.assertTrue(run["invocations"][0]["executionSuccessful"])
+        notes = [(one["level"], one["message"]["text"]) for one in run["invocations"][0]["toolExecutionNotifications"]]
+        self.assertEqual(notes, [("note", f"{name}: {words}") for name, words in UNNAMED_WORDS.items()])
+
+
 class Csv(FormatCase):
     def rows(self, value):
         text = "".join(f"{line}\n" for line in csv_rows.lines(value))
@@ -282,9 +349,9 @@ class Csv(FormatCase):
         self.assertEqual(
             csv_rows.lines(result(machine("m", one, verdict("CVE-2024-0002", "UNKNOWN", hangsOn=["a", "b"])))),
             [
-                '"machine","verdict","advisory","score","severity","title","published","url","depends_on","accepted"\r',
-                '"m","TRUE","CVE-2024-0001","5","","He said ""no"", twice","","https://a.example/","",""\r',
-                '"m","UNKNOWN","CVE-2024-0002","","","","","","a; b",""\r',
+                '"machine","verdict","advisory","score","severity","title","published","url","depends_on","accepted","settled"\r',
+                '"m","TRUE","CVE-2024-0001","5","","He said ""no"", twice","","https://a.example/","","",""\r',
+                '"m","UNKNOWN","CVE-2024-0002","","","","","","a; b","",""\r',
             ],
         )
 
@@ -300,6 +367,18 @@ class Csv(FormatCase):
                 for cell in row:
                     self.assertNotIn(cell[:1], ("=", "+", "-", "@", "\t", "\r", "\n", "\uff1d"))
             self.assertEqual(rows[1][0], f"'{text}" if text.isprintable() else text.replace("\t", "\\u0009").replace("\r", "\\u000d").replace("\n", "\\u000a"))
+
+    def test_what_is_settled_is_a_column_and_no_formula(self):
+        rows = self.rows(SETTLED)
+        self.assertEqual([(row[1], *row[8:]) for row in rows[1:4]], [
+            ("TRUE", "dpkg and rpm differ", "", "seen there"),
+            ("FALSE", "target_sw: x?", "", "'=built without"),
+            ("TRUE", "", "no way in", "seen there"),
+        ])
+
+    def test_packages_without_a_sure_name_are_a_row_of_each_machine(self):
+        rows = self.rows(result(*UNNAMED))[4:]
+        self.assertEqual([(row[0], row[1], row[8]) for row in rows], [(name, "NO NAME", words) for name, words in UNNAMED_WORDS.items()])
 
     def test_what_was_not_read_is_rows(self):
         rows = self.rows(PARTLY)[8:]

@@ -13,7 +13,7 @@ from cpe_recipes.kev import Exploited, Kev
 from cpe_recipes.said import Fatal
 from cpe_recipes.suppressed import Accepted, Suppressed
 from cpe_recipes.threats import Threats
-from cpe_recipes.verdicts import Machine, Statements
+from cpe_recipes.verdicts import Machine, Settlement, Statements
 from cpe_recipes.words import read_words
 
 
@@ -135,6 +135,24 @@ class Fits(GateCase):
         only = [Machine("m1", Statements("T"), {"T": "TRUE"})]
         self.assertEqual(self.fits("score>=1", "unknown", machines=only), (False, []))
 
+    def settled(self, id, truth, before="UNKNOWN"):
+        """One machine with one verdict that is settled so."""
+        machine = Machine("m", Statements([id]), {id: before} if before != "FALSE" else {})
+        machine.settle(id, Settlement(truth, "seen there", before))
+        return [machine]
+
+    def test_what_is_settled_is_what_it_is_settled_as(self):
+        for before in ("UNKNOWN", "FALSE"):
+            said = self.fits("score>=9", "unknown", machines=self.settled("U", "TRUE", before))
+            self.assertEqual(said, (True, ["score>=9 fits 1 verdict: m U; 1 of them is settled"]))
+
+    def test_what_is_settled_as_false_fits_nothing_and_is_counted(self):
+        for text in ("score>=9", "unknown", "unknown and score>=9", "new"):
+            said = self.fits(text, machines=self.settled("U", "FALSE"))
+            self.assertEqual(said, (False, [f"{text} doesn't count 1 verdict that is settled as FALSE"]), text)
+        for text in ("score>=10", "kev"):
+            self.assertEqual(self.fits(text, machines=self.settled("U", "FALSE")), (False, []), text)
+
     def test_new_is_another_verdict_than_in_the_kept_result(self):
         kept = {("m1", "A"): "TRUE", ("m1", "B"): "UNKNOWN", ("m2", "A"): "TRUE", ("m1", "U"): "UNKNOWN"}
         self.assertEqual(self.fits("new", kept=kept), (True, ["new fits 2 verdicts: m1 B, m1 N", "new doesn't count 1 verdict that may be TRUE; --fail-on 'unknown and new' counts them"]))
@@ -145,6 +163,7 @@ class Fits(GateCase):
 class Kept(RecipeCase):
     def test_what_was_accepted_or_false_is_not_kept(self):
         rows = [verdict("A", "TRUE"), verdict("T", "TRUE", accepted="no way in"), verdict("F", "FALSE"), verdict("U", "UNKNOWN")]
+        rows.append(verdict("S", "FALSE", settled="built without", before="UNKNOWN"))
         path = self.file("kept.json", table(machine("m", *rows), {"name": "bare", "items": 0}))
         self.assertEqual(read_kept(path), {("m", "A"): "TRUE", ("m", "U"): "UNKNOWN"})
 

@@ -2,9 +2,10 @@
 
 - TRUE is affected.
 - What is accepted (--suppress) is not affected, with the reason that was given for it.
-- FALSE is written if it is asked for (--all). It is not affected only if all of the machine's list was read, and nothing else that
-  may concern it was left out; otherwise it is under investigation. Whether the component is there, or only its version is another one, a verdict
-  doesn't tell, so nothing is claimed of that.
+- What is settled (--settled) is as it says, affected or not, with the reason that was given for it.
+- FALSE is written if it is asked for (--all). It is not affected only if all of the machine's list was read, each of its packages has a
+  sure name, and nothing else that may concern it was left out; otherwise it is under investigation. Whether the component is there, or
+  only its version is another one, a verdict doesn't tell, so nothing is claimed of that.
 - UNKNOWN and ERROR are under investigation. So is an advisory that was left out, on all machines; one that isn't analysed, if all is asked
   for; and each of the others on a machine without items.
 """
@@ -15,6 +16,7 @@ from dataclasses import dataclass
 from enum import Enum
 
 from ..feeds import Json
+from ..verdicts import Settlement
 from .gaps import Gaps
 
 FALSE_REASON = "By the feeds and the list that were read, the configurations of the advisory don't hold for this machine."
@@ -49,6 +51,11 @@ def reasons_of(verdict: Mapping[str, Json]) -> list[str]:
     return [text for key in ("hangsOn", "remarks", "decidedBy") for text in verdict.get(key, ())]
 
 
+def settled_words(verdict: Mapping[str, Json]) -> list[str]:
+    """How a verdict is settled, if it is."""
+    return [Settlement(verdict["verdict"], verdict["settled"]).words()] if "settled" in verdict else []
+
+
 def claims_of(value: Mapping[str, Json], gaps: Gaps, is_all: bool) -> Claims:
     """The claims of a result, in the order of its machines and of their verdicts."""
     doubted = gaps.doubted()
@@ -67,11 +74,14 @@ def claims_of(value: Mapping[str, Json], gaps: Gaps, is_all: bool) -> Claims:
 
 
 def _of_verdict(verdict: Mapping[str, Json], doubt: str) -> tuple[State, str]:
-    truth, reasons = verdict["verdict"], "; ".join(reasons_of(verdict))
+    truth, settled = verdict["verdict"], settled_words(verdict)
+    reasons = "; ".join([*settled, *reasons_of(verdict)])
     if "accepted" in verdict:
         return State.NOT_AFFECTED, f"accepted, verdict {truth}: {verdict['accepted']}"
     if truth == "TRUE":
         return State.AFFECTED, reasons
+    if truth == "FALSE" and settled:
+        return State.NOT_AFFECTED, settled[0]
     if truth == "FALSE":
         why = reasons or doubt
         return (State.UNDER_INVESTIGATION, f"verdict FALSE, but {why}") if why else (State.NOT_AFFECTED, FALSE_REASON)

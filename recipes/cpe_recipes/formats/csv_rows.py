@@ -4,8 +4,8 @@ All cells are quoted, and lines end with CR LF. A spreadsheet takes a cell that 
 so such a cell has a `'` before it, and so has one that begins with `'`, so that nothing is lost. What can't be printed is written by its
 number.
 
-CSV has no place but rows: what was left out is a row with the verdict LEFT OUT, and advisories that aren't analysed are counted in one
-with the verdict NOT ANALYSED.
+CSV has no place but rows: what was left out is a row with the verdict LEFT OUT, advisories that aren't analysed are counted in one with
+the verdict NOT ANALYSED, and packages without a sure name in one of each machine with the verdict NO NAME.
 """
 from __future__ import annotations
 
@@ -18,9 +18,12 @@ from ..said import shown
 from .claims import reasons_of
 from .gaps import Gaps
 
-LEFT_OUT, NOT_ANALYSED = "LEFT OUT", "NOT ANALYSED"
+LEFT_OUT, NOT_ANALYSED, NO_NAME = "LEFT OUT", "NOT ANALYSED", "NO NAME"
 _FORMULAS = ("=", "+", "-", "@", "\uff1d", "\uff0b", "\uff0d", "\uff20", "'")
-_COLUMNS = ("machine", "verdict", "advisory", "score", "severity", "kev", "epss", "title", "published", "url", "depends_on", "accepted")
+_COLUMNS = (
+    *("machine", "verdict", "advisory", "score", "severity", "kev", "epss", "title", "published", "url"),
+    *("depends_on", "accepted", "settled"),
+)
 # The columns that a result has only if their files were given.
 _GIVEN = ("kev", "epss")
 
@@ -52,10 +55,11 @@ def _rows(value: Mapping[str, Json]) -> Iterator[dict[str, str]]:
         yield {where: one.id, "verdict": LEFT_OUT, "depends_on": one.reason, "title": one.place}
     if gaps.unanalysed:
         yield {"verdict": NOT_ANALYSED, "depends_on": gaps.note()}
+    yield from ({"machine": name, "verdict": NO_NAME, "depends_on": words} for name, words in gaps.unnamed.items())
 
 
 def _cells(verdict: Mapping[str, Json]) -> dict[str, str]:
-    cells = {key: verdict.get(key) for key in ("severity", "title", "published", "url", "accepted")}
+    cells = {key: verdict.get(key) for key in ("severity", "title", "published", "url", "accepted", "settled")}
     found = {key: text for key, text in cells.items() if isinstance(text, str)}
     numbers = {"score": verdict.get("score"), "epss": verdict.get("epss", {}).get("epss")}
     found |= {key: str(number) for key, number in numbers.items() if number is not None}

@@ -1,7 +1,7 @@
 """A result as VEX in CycloneDX 1.5: a vulnerability for each advisory and claim (claims.py), which affects components that are the machines.
 
-TRUE is `exploitable`, the state that CycloneDX has for affected; what is under investigation is `in_triage`. What was left out, and how much
-isn't analysed, stands in the properties of the metadata.
+TRUE is `exploitable`, the state that CycloneDX has for affected; what is under investigation is `in_triage`. What was left out, how much
+isn't analysed, and which packages have no sure name stands in the properties of the metadata.
 """
 from __future__ import annotations
 
@@ -44,6 +44,7 @@ def _metadata(value: Mapping[str, Json], gaps: Gaps, time: str) -> dict[str, Jso
     found = [("isWhole", "false" if gaps.left_out else "true")]
     found += [("leftOut", words) for words in gaps.words()]
     found += [("notAnalysed", note) for note in (gaps.note(),) if note]
+    found += [("withoutSureName", f"{machine}: {words}") for machine, words in gaps.unnamed.items()]
     for kind in ("kev", "epss"):
         found += [(f"{kind}.{key}", str(one)) for key, one in value.get(kind, {}).items()]
     properties = [{"name": f"{_PROPERTY}:{name}", "value": one} for name, one in found]

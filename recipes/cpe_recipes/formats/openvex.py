@@ -44,7 +44,7 @@ def content_id(value: Json) -> str:
 
 
 def _tooling(gaps: Gaps) -> str:
-    words = [*gaps.words(), *filter(None, [gaps.note()])]
+    words = [*gaps.words(), *gaps.notes()]
     more = [f"and {len(words) - _MOST_TOLD:,} more"] if len(words) > _MOST_TOLD else []
     return "; ".join([_TOOL, *words[:_MOST_TOLD], *more])
 

@@ -1,10 +1,12 @@
 """A result as SARIF 2.1.0: a rule for each advisory that has results, and a result for each machine and verdict.
 
 TRUE is of the kind `fail`, with a level by its score; UNKNOWN and ERROR are `open`; FALSE, which is written if it is asked for, is `pass`,
-or `open` where claims.py has it under investigation. What is accepted has a suppression with its reason. A machine is a logical location, and by its
-name also an artifact, since some readers show nothing without one.
+or `open` where claims.py has it under investigation. What is accepted has a suppression with its reason; what is settled has its reason in
+the properties, and the verdict before. A machine is a logical location, and by its name also an artifact, since some readers show nothing
+without one.
 
-What was left out is a notification of the invocation, which is no successful one then. How many advisories aren't analysed is one too.
+What was left out is a notification of the invocation, which is no successful one then. How many advisories aren't analysed is one too, and
+so are the packages of each machine that have no sure name.
 """
 from __future__ import annotations
 
@@ -12,7 +14,7 @@ import urllib.parse
 from collections.abc import Iterator, Mapping
 
 from ..feeds import Json, json_text
-from .claims import reasons_of
+from .claims import reasons_of, settled_words
 from .gaps import Gaps
 from .links import address
 
@@ -81,10 +83,11 @@ def _text(text: str) -> dict[str, str]:
 
 
 def _result(machine: str, verdict: Mapping[str, Json], doubt: str, rules: _Rules) -> dict[str, Json]:
-    truth, reasons = verdict["verdict"], reasons_of(verdict)
-    if truth == "FALSE" and doubt and not reasons:
+    truth, reasons, settled = verdict["verdict"], reasons_of(verdict), settled_words(verdict)
+    if truth == "FALSE" and doubt and not reasons and not settled:
         reasons = [doubt]
-    kind = "open" if truth == "FALSE" and reasons else _KINDS.get(truth, "open")
+    kind = "open" if truth == "FALSE" and reasons and not settled else _KINDS.get(truth, "open")
+    reasons = [*settled, *reasons]
     words = f"{machine}: {verdict['id']} is {truth}{reasons and '; ' or ''}{'; '.join(reasons)}"
     result: dict[str, Json] = {
         "ruleId": verdict["id"],
@@ -94,7 +97,7 @@ def _result(machine: str, verdict: Mapping[str, Json], doubt: str, rules: _Rules
         "message": _text(words),
         "locations": [_location(machine)],
         "partialFingerprints": {"machineAndAdvisory/v1": f"{machine} {verdict['id']}"},
-        "properties": {"verdict": truth},
+        "properties": {"verdict": truth} | {key: verdict[key] for key in ("settled", "before") if key in verdict},
     }
     if "accepted" in verdict:
         result["suppressions"] = [{"kind": "external", "justification": verdict["accepted"]}]
@@ -124,5 +127,5 @@ def _invocation(gaps: Gaps, time: str) -> dict[str, Json]:
 def _notifications(gaps: Gaps) -> Iterator[Json]:
     for words in gaps.words():
         yield {"level": "error", "message": _text(words)}
-    if gaps.note():
-        yield {"level": "note", "message": _text(gaps.note())}
+    for note in gaps.notes():
+        yield {"level": "note", "message": _text(note)}
