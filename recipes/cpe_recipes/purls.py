@@ -17,6 +17,14 @@ _BAD_PERCENT = re.compile(r"%(?![0-9A-Fa-f]{2})")
 _ODD = re.compile(r"[\s\x00-\x1f\x7f]")
 # The types of packages that distributions build from source packages.
 _BUILT = ("deb", "rpm", "apk")
+# A package URL as nearly all tools write it, of which nothing has to be looked at to see that it is one.
+_VALUE = r"[\w:.,/~+-]*(?:%[0-9A-Fa-f]{2}[\w:.,/~+-]*)*"
+_COMMON = re.compile(
+    r"pkg:[a-z]+(?:/(?:\w|%40)[\w.~+-]*(?:%[0-9A-Fa-f]{2}[\w.~+-]*)*)+(?:@[\w:.~+-]*(?:%[0-9A-Fa-f]{2}[\w:.~+-]*)*)?"
+    rf"(?P<behind>\?[a-z]+={_VALUE}(?:&[a-z]+={_VALUE})*)?",
+    re.ASCII,
+)
+_KEYS = re.compile(r"[?&][a-z]+=")
 # What a segment has as it is, beside letters, digits, and `_.-~`.
 _SAFE = ":"
 
@@ -53,6 +61,15 @@ class Purl:
         behind = "&".join(f"{key}={quote(value, safe=_SAFE)}" for key, value in pairs)
         subpath = "/".join(quote(one, safe=_SAFE) for one in _segments(self.subpath))
         return f"pkg:{path}{version}{f'?{behind}' if behind else ''}{f'#{subpath}' if subpath else ''}"
+
+
+def check(text: str) -> None:
+    """PurlFault where a text is no package URL; its words say why."""
+    # (the parts of each of thousands would take longer than all else of a list)
+    found = _COMMON.fullmatch(text)
+    keys = [key[1:] for key in _KEYS.findall(found["behind"])] if found and found["behind"] else []
+    if found is None or len(set(keys)) != len(keys):
+        parsed(text)
 
 
 def with_upstream(text: str, source: str) -> str:

@@ -1,5 +1,6 @@
 """What is read of lists without CPE names: package URLs, what package managers write of what is installed, and locks."""
 import json
+import random
 import time
 import unittest
 
@@ -9,7 +10,7 @@ from cpe_recipes import lists
 from cpe_recipes.components import Component
 from cpe_recipes.feeds import FeedFault
 from cpe_recipes.lists import texts
-from cpe_recipes.purls import Purl, PurlFault, parsed, with_upstream
+from cpe_recipes.purls import Purl, PurlFault, check, parsed, with_upstream
 
 PACKAGES = SAMPLES / "lists" / "packages"
 NO_LISTS = ("read.out", "truths.txt", "truths.out", "table.out", "table.said")
@@ -81,6 +82,21 @@ class Purls(unittest.TestCase):
             with self.assertRaises(PurlFault) as caught:
                 parsed(text)
             self.assertIn(reason, str(caught.exception), text)
+
+    def test_what_is_one_at_a_glance_is_one_by_its_parts(self):
+        def is_one(judge, text):
+            try:
+                judge(text)
+            except PurlFault:
+                return False
+            return True
+
+        draw = random.Random(7)
+        pieces = ["npm/", "a", "b", "/", "@", "1", "?", "x=", "&", "%20", "%40", "%", "#", "=", "deb", " ", ".", "y=2", ":"]
+        texts = ["pkg:" + "".join(draw.choices(pieces, k=draw.randint(1, 9))) for _ in range(20_000)]
+        judged = [(text, is_one(check, text)) for text in texts]
+        self.assertEqual(judged, [(text, is_one(parsed, text)) for text in texts])
+        self.assertGreater(sum(one for _, one in judged), 1_000)
 
     def test_epochs_and_sources(self):
         self.assertEqual([parsed(f"pkg:rpm/a@{one}").full_version() for one in ("1", "1?epoch=0", "1?epoch=2", "3:1?epoch=3")], ["1", "1", "2:1", "3:1"])

@@ -101,7 +101,8 @@ def _add_properties(one: dict[str, Json], draft: Draft) -> None:
             draft.kind = kinds.of_tool(value)
         if isinstance(name, str) and name.startswith(_TRIVY):
             told[name.removeprefix(_TRIVY)] = value
-    draft.add_source(*trivy.source_of(told))
+    if told:
+        draft.add_source(*trivy.source_of(told))
 
 
 def _add_evidence(evidence: Json, draft: Draft) -> None:

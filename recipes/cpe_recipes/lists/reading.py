@@ -94,7 +94,7 @@ class Draft:
             return
         self._listed.note(value)
         try:
-            purls.parsed(value.strip())
+            purls.check(value.strip())
         except purls.PurlFault as fault:
             self.faults.append(f"{where} is no package URL: {fault}")
         else:
