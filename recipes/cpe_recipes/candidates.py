@@ -32,7 +32,7 @@ _FRONTS = (
     ("golang-", "go"), ("rust-", "rust"), ("librust-", "rust"), ("perl-", ""), ("php-", ""), ("r-cran-", ""),
 )
 _SAYS_GO = frozenset({"go", "golang"})
-# What stands between such a front and the name of a module of Go.
+# What is between such a front and the name of a module of Go.
 _HOSTS = re.compile(r"^(?:github|gitlab|gopkg|golang|google|k8s|bitbucket|go)-(?:com-|org-|in-)?")
 # Other things that a product may be written for alone, which is then none of a distribution's packages.
 _ELSEWHERE = frozenset(
@@ -113,7 +113,7 @@ def _without_front(text: str) -> Iterator[str]:
     rest = text[len(front) :]
     if front == "golang-":
         parts = _HOSTS.sub("", rest.removesuffix("-dev"), count=1).split("-")
-        # (who wrote it and its name stand behind the host, and neither says where it ends: prometheus-client-golang)
+        # (who wrote it and its name come after the host, and neither says where it ends: prometheus-client-golang)
         found = ("-".join(parts[place:]) for place in range(min(1, len(parts) - 1), len(parts)))
         yield from (one for one in found if one not in _SAYS_GO)
     elif front:

@@ -31,7 +31,7 @@ def table_words(read: Words) -> list[str]:
 
 
 def _from_here(path: Path) -> str:
-    """A path from the working folder, if it stands below it."""
+    """A path from the working folder, if it is below it."""
     try:
         here = os.path.relpath(path)
     except (OSError, ValueError):

@@ -13,7 +13,7 @@ A line has a package, and what NVD calls it:
 - Products with commas between them are all names of it, as where NVD has it under two vendors: one of them is enough.
 - A namespace that is left out is any, as of `pkg:deb/openssl`, which is Debian's and Ubuntu's. Only for npm, golang, composer and swift,
   where a package with a namespace is another one, it is none.
-- A `*` in a name stands for a number, perhaps with dots or hyphens in it: `postgresql-*` is postgresql-15, and not postgresql-common.
+- A `*` in a name is a number, perhaps with dots or hyphens in it: `postgresql-*` is postgresql-15, and not postgresql-common.
 - A package is looked for by its own name first, and then by that of its source package; a line with its namespace counts before one
   without, one with its whole name before one with a `*`, and those of the user's table before all of the other.
 
@@ -58,7 +58,7 @@ Choice = tuple[Product, ...]
 
 @dataclass(frozen=True, slots=True)
 class Line:
-    """A line of a table: where it stands, its package, and the choices, none where NVD has no product."""
+    """A line of a table: its place, its package, and the choices, none if NVD has no product."""
 
     place: str
     package: Package
@@ -106,7 +106,7 @@ def _keys(package: Package) -> Iterator[Package]:
 
 
 def read_tables(paths: Iterable[str], are_needed: bool = True) -> Tables:
-    """The user's tables, and the one that comes along if it is needed. Fatal where a line is none."""
+    """The user's tables, and names.txt if it is needed. Fatal if a line is none."""
     return Tables([*map(read_table, paths), *([read_table(TABLE)] if are_needed else [])])
 
 
@@ -134,7 +134,7 @@ def _lines(lines: Sequence[str], feed: str) -> Iterator[Line]:
             raise Fatal(f"{place}: {fault}") from fault
         before = known.setdefault(line.package, line)
         if before.choices != line.choices:
-            raise Fatal(f"{place}: {line.package.path()} stands in {before.place} too, with other names")
+            raise Fatal(f"{place}: {line.package.path()} is in {before.place} too, with other names")
         if before is line:
             yield line
 
@@ -142,12 +142,12 @@ def _lines(lines: Sequence[str], feed: str) -> Iterator[Line]:
 def _line(words: Sequence[str], place: str) -> Line:
     """The line of these words. FormFault where it is none."""
     if any(mark in words[0] for mark in "?#") or words[0].rfind("@") > words[0].rfind("/") + 1:
-        raise FormFault(f"a package stands without version and qualifiers: {quoted(words[0])}")
+        raise FormFault(f"a package has neither a version nor qualifiers here: {quoted(words[0])}")
     package = package_of(words[0])
     if package.name.count("*") > 1 or "*" in package.namespace:
-        raise FormFault(f"one * may stand in the name of a package: {quoted(words[0])}")
+        raise FormFault(f"the name of a package has one * at most: {quoted(words[0])}")
     if len(words) == 1:
-        raise FormFault(f"no product and no - stands behind {quoted(words[0])}")
+        raise FormFault(f"there is no product and no - after {quoted(words[0])}")
     return Line(place, package, () if words[1:] == ["-"] else tuple(map(_choice, words[1:])))
 
 

@@ -12,6 +12,7 @@ its source package it is the version of that, if the list says it.
 """
 from __future__ import annotations
 
+import re
 from collections.abc import Iterable, Iterator, Sequence
 from dataclasses import dataclass, replace
 
@@ -24,6 +25,10 @@ from .package_urls import PackageUrl
 from .product_index import ProductIndex, as_formatted
 from .said import Said, shown
 from .table import counted
+
+
+# What a name of a product may have as its version.
+_VERSION = re.compile(r"[!-~]+")
 
 
 @dataclass(frozen=True)
@@ -111,8 +116,8 @@ def _by_table(purl: PackageUrl, settled: Settled) -> Named:
 
 def _names_of(product: Product, version: str, target: str) -> Iterator[str]:
     """The names of a product in a version: one that is written for its language, if there is one, and one that doesn't say it, since
-    advisories have both."""
-    spelled = names.spelled(version.lower()) if version not in ("", names.NA) else names.ANY
+    advisories have both. A version that no name can have isn't known there."""
+    spelled = names.spelled(version.lower()) if _VERSION.fullmatch(version) and version != names.NA else names.ANY
     for one in dict.fromkeys((names.spelled(target), names.ANY)) if target else (names.ANY,):
         yield names.joined([product.part, product.vendor, product.name, spelled, *[names.ANY] * 4, one, names.ANY, names.ANY])
 
@@ -173,7 +178,7 @@ class Unnamed:
 
 
 def read_names(paths: Iterable[str], machines: Iterable[Machine]) -> Tables:
-    """The tables for these machines: those of the user, and the one that comes along if there is a package URL."""
+    """The tables for these machines: those of the user, and names.txt if there is a package URL."""
     return read_tables(paths, any(one.purl for machine in machines for one in machine.components))
 
 

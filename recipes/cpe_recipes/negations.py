@@ -85,7 +85,7 @@ class Negations:
         elif near and not any(
             all(self._is_met(one, lead) for lead in leads) for it in near for leads in by_name.get(it.name, ())
         ):
-            words = "; ".join(dict.fromkeys(self._words(one, it) for it in near))
+            words = "; ".join(dict.fromkeys(words for it in near if (words := self._words(one, it))))
             decided.unsure[one.key] = Unsure(one.key, "", words)
         else:
             decided.truths[one.key] = bool(near)

@@ -24,7 +24,7 @@ _TRUTHS = ("TRUE", "FALSE")
 
 @dataclass
 class Line:
-    """A line of a file, and whether a verdict was settled by it, or one is told of."""
+    """A line of a file, and whether it settled a verdict, or is remarked already."""
 
     place: str
     machine: str

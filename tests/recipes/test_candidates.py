@@ -110,7 +110,7 @@ class Table(RecipeCase):
     def test_what_is_no_line_is_refused_with_its_place(self):
         for text, reason in {
             "openssl openssl:openssl": "it is no package URL, since it doesn't begin as one: openssl",
-            "pkg:deb/a": "no product and no - stands behind pkg:deb/a",
+            "pkg:deb/a": "there is no product and no - after pkg:deb/a",
             "pkg:deb/a b": "no vendor:product: b",
             "pkg:deb/a b:": "no vendor:product: b:",
             "pkg:deb/a x:b:c": "no vendor:product: x:b:c",
@@ -120,10 +120,10 @@ class Table(RecipeCase):
             "pkg:deb/a b:*": "no vendor:product: b:*",
             "pkg:deb/a b:c+d": "no vendor:product: b:c+d",
             "pkg:deb/a cpe:2.3:a:b:c": "no vendor:product: cpe:2.3:a:b:c",
-            "pkg:deb/a@1 b:c": "a package stands without version and qualifiers: pkg:deb/a@1",
-            "pkg:deb/a?arch=b b:c": "a package stands without version and qualifiers: pkg:deb/a?arch=b",
-            "pkg:deb/a*b* b:c": "one * may stand in the name of a package: pkg:deb/a*b*",
-            "pkg:deb/a b:c\npkg:deb/a b:d": "pkg:deb/a stands in names.txt line 1 too, with other names",
+            "pkg:deb/a@1 b:c": "a package has neither a version nor qualifiers here: pkg:deb/a@1",
+            "pkg:deb/a?arch=b b:c": "a package has neither a version nor qualifiers here: pkg:deb/a?arch=b",
+            "pkg:deb/a*b* b:c": "the name of a package has one * at most: pkg:deb/a*b*",
+            "pkg:deb/a b:c\npkg:deb/a b:d": "pkg:deb/a is in names.txt line 1 too, with other names",
         }.items():
             with self.subTest(text), self.assertRaises(Fatal) as caught:
                 self.tables(text)

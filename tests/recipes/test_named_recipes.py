@@ -111,6 +111,28 @@ class Recipes(NamedCase):
         hint = next(line for line in run.stderr.splitlines() if line.startswith("remark no candidate"))
         self.assertIn("no candidate none c", self.run_hint(hint, status=1))
 
+    def test_the_json_has_what_may_be_and_what_has_no_candidate(self):
+        purls = ["pkg:deb/debian/widget@2.4-1", "pkg:deb/debian/nobody-knows-it@1"]
+        status, _, lines, _ = self.verdicts("--json", purls=purls)
+        machine = json.loads("\n".join(lines))["machines"][0]
+        self.assertEqual(machine["candidates"], [{"id": "c0", "lines": ["pkg:deb/debian/widget acme:widget", "pkg:deb/debian/widget other:widget"]}])
+        self.assertEqual((machine["withoutCandidates"], machine["notInDictionary"]), (["c1"], []))
+        self.assertEqual([(one["id"], one["verdict"]) for one in machine["verdicts"]], [("CVE-2024-2", "UNKNOWN")])
+        self.assertIn("may be acme:widget", machine["verdicts"][0]["hangsOn"][0])
+
+    def test_a_table_that_is_none_is_no_result(self):
+        for names in ("pkg:deb/a b", "pkg:deb/a"):
+            status, _, lines, said = self.verdicts(purls=[WEBSERVER], names=names)
+            self.assertEqual((status, lines, len(said)), (2, [], 1))
+            self.assertIn("names.txt line 1: ", said[0])
+        status, lines, said = self.scan(*self.feeds, "--lists", self.file("m.json", listed()), "--names", str(self.folder / "none"))
+        self.assertEqual((status, lines), (2, []))
+
+    def test_why_tells_the_item_of_a_package(self):
+        _, _, lines, _ = self.verdicts("--json", "--why", purls=["pkg:deb/debian/libssl3@3.0.11-1?upstream=openssl"])
+        verdict = json.loads("\n".join(lines))["machines"][0]["verdicts"][0]
+        self.assertEqual(verdict["decidedBy"], [f"{fs('openssl', 'openssl', '3.0.11-1')} is in {fs('openssl', 'openssl')} from 3.0.0, before 3.0.13"])
+
 
 if __name__ == "__main__":
     unittest.main()

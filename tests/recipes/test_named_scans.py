@@ -2,7 +2,6 @@
 
 What is wanted was written by hand, of what the packages are.
 """
-import json
 import sys
 import unittest
 from pathlib import Path
@@ -11,6 +10,7 @@ sys.path.insert(0, str(Path(__file__).resolve().parent))
 
 from recipe_case import fs, needs_cpe  # noqa: E402 (it knows where the recipes are)
 from named_case import WEBSERVER, NamedCase, listed  # noqa: E402
+from test_platforms import page  # noqa: E402
 
 
 @needs_cpe
@@ -46,6 +46,27 @@ class Scans(NamedCase):
         for names in ("pkg:deb/widget other:widget", "pkg:deb/widget other:widget,acme:fork"):
             self.assertEqual(self.verdicts(purls=purls, names=names)[1], {})
 
+    def test_a_version_that_is_none_is_not_known(self):
+        versions = ("", "@2.4%20beta", "@%C3%A9", "@-")
+        lists = [self.file(f"m{n}.json", listed({"purl": f"pkg:deb/debian/widget{version}"})) for n, version in enumerate(versions)]
+        for names in ("", "pkg:deb/widget acme:widget"):
+            status, lines, said = self.scan(*self.feeds, "--lists", *lists, "--names", self.file("names.txt", names))
+            rows = [line.split()[:3] for line in lines if " CVE-" in line]
+            self.assertEqual((status, rows), (0, [[f"m{n}", "UNKNOWN", "CVE-2024-2"] for n in range(4)]), said)
+
+    def test_what_is_negated_depends_on_candidates_too(self):
+        suite = {"vulnerable": True, "criteria": fs("acme", "fork", "1.0"), "matchCriteriaId": "s"}
+        widget = {"vulnerable": True, "criteria": fs("acme", "widget"), "matchCriteriaId": "w", "versionEndExcluding": "3.0"}
+        nodes = [{"operator": "OR", "negate": False, "cpeMatch": [suite]}, {"operator": "OR", "negate": True, "cpeMatch": [widget]}]
+        one = {"cve": {"id": "CVE-2024-6", "vulnStatus": "Analyzed", "lastModified": "2024-01-01T00:00:00.000"}}
+        one["cve"]["configurations"] = [{"operator": "AND", "nodes": nodes}]
+        self.feeds[3] = self.file("advisories.json", page("vulnerabilities", one))
+        fork = {"cpe": fs("acme", "fork", "1.0")}
+        lists = [self.file(f"m{n}.json", listed(fork, {"purl": f"pkg:deb/debian/widget@{n}.4-1"})) for n in (2, 3)]
+        for names, wanted in (("", ["UNKNOWN", "TRUE"]), ("pkg:deb/widget acme:widget", ["FALSE", "TRUE"]), ("pkg:deb/widget -", ["TRUE", "TRUE"])):
+            _, lines, _ = self.scan(*self.feeds, "--all", "--lists", *lists, "--names", self.file("names.txt", names))
+            self.assertEqual([line.split()[1] for line in lines if "CVE-2024-6" in line], wanted, names)
+
     def test_an_exact_name_and_a_language(self):
         self.assertEqual(self.verdicts(purls=["pkg:npm/fork@1.0"])[1], {"CVE-2024-5": "UNKNOWN"})
         self.assertEqual(self.verdicts(purls=["pkg:npm/fork@1.0"], names="pkg:npm/fork acme:fork")[1], {"CVE-2024-5": "TRUE"})
@@ -67,7 +88,7 @@ class Scans(NamedCase):
         self.assertEqual(self.verdicts(purls=["pkg:deb/debian/widget@2.4-1"], names="pkg:deb/widget wrong:name")[1], {"CVE-2024-2": "UNKNOWN"})
 
     def test_packages_without_candidates_are_counted_and_listed(self):
-        purls = ["pkg:deb/debian/nobody-knows-it@1", "pkg:rubbish", WEBSERVER]
+        purls = ["pkg:deb/debian/nobody-knows-it@1", "pkg:generic/nor-that@1", WEBSERVER]
         status, verdicts, lines, said = self.verdicts(purls=purls)
         self.assertEqual((status, verdicts), (0, {"CVE-2024-1": "UNKNOWN"}))
         hint = next(line for line in said if line.startswith("remark no candidate"))
@@ -79,28 +100,6 @@ class Scans(NamedCase):
         # (- says that there is nothing to look for)
         status, verdicts, lines, said = self.verdicts(purls=[WEBSERVER, "pkg:npm/fork@1.0"], names="pkg:deb/webserver9 -")
         self.assertEqual((verdicts, [line for line in said if "no candidate" in line]), ({"CVE-2024-5": "UNKNOWN"}, []))
-
-    def test_the_json_has_what_may_be_and_what_has_no_candidate(self):
-        purls = ["pkg:deb/debian/widget@2.4-1", "pkg:deb/debian/nobody-knows-it@1"]
-        status, _, lines, _ = self.verdicts("--json", purls=purls)
-        machine = json.loads("\n".join(lines))["machines"][0]
-        self.assertEqual(machine["candidates"], [{"id": "c0", "lines": ["pkg:deb/debian/widget acme:widget", "pkg:deb/debian/widget other:widget"]}])
-        self.assertEqual((machine["withoutCandidates"], machine["notInDictionary"]), (["c1"], []))
-        self.assertEqual([(one["id"], one["verdict"]) for one in machine["verdicts"]], [("CVE-2024-2", "UNKNOWN")])
-        self.assertIn("may be acme:widget", machine["verdicts"][0]["hangsOn"][0])
-
-    def test_a_table_that_is_none_is_no_result(self):
-        for names in ("pkg:deb/a b", "pkg:deb/a"):
-            status, _, lines, said = self.verdicts(purls=[WEBSERVER], names=names)
-            self.assertEqual((status, lines, len(said)), (2, [], 1))
-            self.assertIn("names.txt line 1: ", said[0])
-        status, lines, said = self.scan(*self.feeds, "--lists", self.file("m.json", listed()), "--names", str(self.folder / "none"))
-        self.assertEqual((status, lines), (2, []))
-
-    def test_why_tells_the_item_of_a_package(self):
-        _, _, lines, _ = self.verdicts("--json", "--why", purls=["pkg:deb/debian/libssl3@3.0.11-1?upstream=openssl"])
-        verdict = json.loads("\n".join(lines))["machines"][0]["verdicts"][0]
-        self.assertEqual(verdict["decidedBy"], [f"{fs('openssl', 'openssl', '3.0.11-1')} is in {fs('openssl', 'openssl')} from 3.0.0, before 3.0.13"])
 
 
 if __name__ == "__main__":
