@@ -2,8 +2,8 @@
 ghost use Rattle.talks.specs.Forms.{form_of};
 ghost use Rattle.talks.specs.Told.{Gives, Tells};
 
-use talks::{Answer, Form, give_form};
 use std::alloc::Global;
+use talks::{Answer, Form, give_form};
 
 /// Writes the text of the name that has this formatted string or URI (NIST IR 7695, 6.1.3 and 6.2.3).
 ///

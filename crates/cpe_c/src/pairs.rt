@@ -3,8 +3,8 @@ ghost use Rattle.cpe_uri.specs.EitherBinding.{read_any};
 ghost use Rattle.talks.specs.Pairs.{Covers, IsRelated};
 ghost use Rattle.talks.specs.Told.{Tells};
 
-use talks::{Answer, RelationNumbers, relate, tell_covers};
 use std::alloc::Global;
+use talks::{Answer, RelationNumbers, relate, tell_covers};
 
 /// Tells how two names relate, formatted strings or URIs (NIST IR 7696, 6). Where no name has a text, `numbers` stay as they
 /// were.

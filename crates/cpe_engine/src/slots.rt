@@ -57,7 +57,11 @@ pub(crate) fn first_by_product<'t>(
 }
 
 /// The first item to which a name stands so. It goes over the items.
-pub(crate) fn first_related<'t>(slots: &ItemSlots<'t>, relates: Relates, name: &Wfn) -> Option<&'t Wfn>
+pub(crate) fn first_related<'t>(
+    slots: &ItemSlots<'t>,
+    relates: Relates,
+    name: &Wfn,
+) -> Option<&'t Wfn>
     ensures { option_copied result ≡ find (related relates name.now) (filter_map (λ slot. slot) slots.now) }
 {
     for slot in 0..slots.len() {

@@ -109,9 +109,28 @@ none_found p (x ∷ xs) e = by (none_found p xs) (p x) refl e where
 object_whole : (d : Data) → first_without d ≡ None → IsName (values_at d)
 object_whole d e =
     let h = none_found (λ a. is_none (value_at d a)) attributes e in
-    let has : (a : Attribute) → is_none (value_at d a) ≡ false → Suits a (unwrap_or (value_at d a) value.Any) = there_suits d in
-    (has Part h.0, (has Vendor h.1.0, (has Product h.1.1.0, (has Version h.1.1.1.0, (has Update h.1.1.1.1.0, (has Edition h.1.1.1.1.1.0, (has Language h.1.1.1.1.1.1.0,
-    (has SwEdition h.1.1.1.1.1.1.1.0, (has TargetSw h.1.1.1.1.1.1.1.1.0, (has TargetHw h.1.1.1.1.1.1.1.1.1.0, (has Other h.1.1.1.1.1.1.1.1.1.1.0, tt)))))))))))
+    let has : (a : Attribute) → is_none (value_at d a) ≡ false → Suits a (unwrap_or (value_at d a) value.Any) = there_suits d in (
+      has Part h.0,
+      (
+        has Vendor h.1.0,
+        (
+          has Product h.1.1.0,
+          (
+            has Version h.1.1.1.0,
+            (
+              has Update h.1.1.1.1.0,
+              (
+                has Edition h.1.1.1.1.1.0,
+                (
+                  has Language h.1.1.1.1.1.1.0,
+                  (has SwEdition h.1.1.1.1.1.1.1.0, (has TargetSw h.1.1.1.1.1.1.1.1.0, (has TargetHw h.1.1.1.1.1.1.1.1.1.0, (has Other h.1.1.1.1.1.1.1.1.1.1.0, tt)))),
+                ),
+              ),
+            ),
+          ),
+        ),
+      ),
+    )
 
 object_named : (d : Data) → IsNamed (object_name d)
 unfolding object_name

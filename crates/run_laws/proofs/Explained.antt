@@ -145,7 +145,7 @@ after_line = after_next (record_session Check)
 
 module _ (prints : PrintsAreTexts) (good : CertificatesAreGood)
     (read : (rows : Rows) → IsLawful rows → (s : Statement) → Among rows.statements s → (w : Why) → Good rows s w
-      → IsUtf8 (proof_text (record { id = s.id; why = w })) → proof_of (proof_text (record { id = s.id; why = w })) ≡ Ok (Some (record { id = s.id; why = w }))) where
+    → IsUtf8 (proof_text (record { id = s.id; why = w })) → proof_of (proof_text (record { id = s.id; why = w })) ≡ Ok (Some (record { id = s.id; why = w }))) where
   module _ (rows : Rows) (kept : AreKept rows) (s : Statement) (there : Among rows.statements s) where
     is_good : Good rows s (certificate rows s).why
     is_good = good rows kept.lawful s

@@ -27,6 +27,7 @@ edit_keeps : (rows : Rows) (line : List ℕ) (e : Edit) → record_of line ≡ O
 edit_keeps rows line e is h = by (step rows e) refl where
   read : IsRead (AnEdit e)
   read = subst (λ r. IfOk r IsRead) is (line_read line)
+
   by : (r : Result Rows EditFault) → step rows e ≡ r → AreKept (stepped rows r)
   by (Err fault) so = h
   by (Ok next) so =

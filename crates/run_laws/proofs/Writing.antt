@@ -79,7 +79,11 @@ pub written_text : PrintsAreTexts → (p : Proof) → IsString p.id → HasNames
 unfolding proof_text
 written_text prints p id h =
     prints (proof_json p) (
-      IsUtf8-are_ascii _ refl, IsUtf8-are_ascii _ refl,
-      IsUtf8-are_ascii _ refl, IsUtf8-from_is_utf8 p.id id,
-      IsUtf8-are_ascii _ refl, why_text p.why h, tt,
+      IsUtf8-are_ascii _ refl,
+      IsUtf8-are_ascii _ refl,
+      IsUtf8-are_ascii _ refl,
+      IsUtf8-from_is_utf8 p.id id,
+      IsUtf8-are_ascii _ refl,
+      why_text p.why h,
+      tt,
     )
