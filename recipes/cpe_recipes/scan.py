@@ -7,8 +7,8 @@
 - --dictionary, --advisories, --matches: pages of NVD's API 2.0, or its feeds, as they come, packed or in archives; advisories may be CVE
   records of format 5 too (cve5.py). --records: what dictionary.sh
   made of such pages before.
-- --machines: a line a machine, as inventory.sh --machines writes it; --lists: software lists (CycloneDX, SPDX, Syft, plain), each a
-  machine.
+- --machines: a line a machine, as inventory.sh --machines writes it; --lists: software lists, each a machine (lists/ says which forms
+  are read: CycloneDX, SPDX, Syft's, Trivy's and plain ones, package URLs, and what package managers write).
 - --names: tables of what packages are called (names_table.py), before the one that comes along, names.txt.
 - --suppress: accepted advisories, lines `ID MACHINE REASON`, where * is every machine. They are told below the table.
 - --settled: UNKNOWNs that a user settled, lines `MACHINE ID TRUE|FALSE REASON`, where * is every machine (settled.py).
