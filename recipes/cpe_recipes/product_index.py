@@ -1,6 +1,7 @@
 """The products of a dictionary by their names, for those names alone that are looked for, in one pass over its records."""
 from __future__ import annotations
 
+import functools
 import json
 import re
 from collections.abc import Collection, Iterable, Iterator
@@ -17,6 +18,7 @@ _FRONT = re.compile(r"[0-9]+(?:\.[0-9]+)?")
 Front = tuple[int, ...]
 
 
+_NAME_AT = len('{"do":"entry","name":"')
 _SEPARATORS = str.maketrans("", "", "-_.")
 
 
@@ -25,6 +27,7 @@ def squeezed(name: str) -> str:
     return name.translate(_SEPARATORS)
 
 
+@functools.lru_cache(maxsize=1 << 16)
 def front_of(version: str) -> Front:
     """The first two numbers of a version; none where it doesn't begin with a number."""
     found = _FRONT.match(version)
@@ -82,7 +85,8 @@ def _applications(records: Iterable[str], wanted: Collection[str]) -> Iterator[l
         if found is None:
             yield from _wanted(_named(record), wanted)
         elif found[1].translate(_SEPARATORS) in wanted:
-            yield from _wanted(_named(record), wanted)
+            name = record[_NAME_AT : record.find('"', _NAME_AT)]
+            yield from _wanted(_named(record) if "\\" in name else name, wanted)
 
 
 def _wanted(name: str, wanted: Collection[str]) -> Iterator[list[str]]:
