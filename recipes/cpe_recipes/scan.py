@@ -5,43 +5,50 @@
         [--strict] [--platform NAME] [--hardware none] [--all] [--json | --format FORMAT] [--time TIME] [--why] [--kev FILE] [--epss FILE]
         [--fail-on GATE].. [--since FILE]
 
-- --dictionary, --advisories, --matches: pages of NVD's API 2.0, or its feeds, as they come, packed or in archives; advisories may be CVE
-  records of format 5 too (cve5.py). --records: what dictionary.sh
-  made of such pages before.
-- --machines: a line a machine, as inventory.sh --machines writes it; --lists: software lists, each a machine (lists/ says which forms
-  are read: CycloneDX, SPDX, Syft's, Trivy's and plain ones, package URLs, and what package managers write).
-- --names: tables of what packages are called (names_table.py), before the one that comes along, names.txt.
-- --suppress: accepted advisories, lines `ID MACHINE REASON`, where * is every machine. They are told below the table.
+What is read:
+
+- --dictionary, --advisories, --matches: pages of NVD's API 2.0, or its feeds, plain, packed or in archives. Advisories may be CVE records of
+  format 5 too (cve5.py).
+- --records: in place of --dictionary, what dictionary.sh wrote of it before.
+- --lists: software lists, each a machine (lists/ has the forms: CycloneDX, SPDX, Syft's, Trivy's and plain ones, package URLs, and what
+  package managers write). --machines: in place of --lists, a line for each machine, as inventory.sh --machines writes it.
+- --partial: pages of a feed may be missing. What is missing is reported, and each FALSE that may be another verdict by it is marked.
+- --large: a page may unpack to any size; unpack.py has the limits without it.
+
+What is known beside that:
+
+- --names: tables of what packages are called (names_table.py), which count before the one that comes along, names.txt.
+- --letters: the products whose letters in versions count upward, in place of letters.txt.
+- --platform NAME: the operating system of the machines whose lists name none; platforms.py says what is FALSE without it.
+- --hardware none: there is no hardware to ask for, as in containers; without it what a list doesn't say of it is UNKNOWN.
+- --suppress: accepted advisories, lines `ID MACHINE REASON`, where * is every machine. They are written below the table.
 - --settled: UNKNOWNs that a user settled, lines `MACHINE ID TRUE|FALSE REASON`, where * is every machine (settled.py).
-- --letters: the products of which letters in versions count upward, in place of letters.txt.
-- --large: pages may unpack to as much as they do; unpack.py says what they else may.
-- --partial: pages of a feed may be missing. What is, is said, and each FALSE that could be another verdict by it is marked.
-- --all: the table and the JSON have the verdicts that are FALSE too, and below the table stands what isn't analysed.
-- --strict: an item that says less than an advisory asks for isn't what that names.
-- --platform NAME: the operating system of the machines whose lists name none; without it platforms.py says what is FALSE.
-- --hardware none: there is no hardware to ask for, as of containers; else what a list doesn't say of it is UNKNOWN.
-- --json: the same as one value of JSON, with what was left out (`leftOut`). report.py makes a page of it.
-- --format: table, json, csv, sarif, cyclonedx-vex or openvex; formats/ has how each says what a result has. --time is when it was made.
-- --why: the JSON tells of each verdict that is TRUE which items make it so (`decidedBy`), and so do the formats but the table; deciding.py
-  says how, and what it takes.
 - --kev, --epss: CISA's list of known exploited vulnerabilities, and EPSS (threats.py).
+
+What is written:
+
+- --all: the verdicts that are FALSE too, and below the table what isn't analysed.
+- --strict: an item that says less than an advisory asks for isn't what that names, so its verdict is FALSE.
+- --format: table, json, csv, sarif, cyclonedx-vex or openvex; formats/ has how each writes a result. --json is --format json, of which
+  report.py makes a page. --time is when the result was made.
+- --why: the items that make a verdict TRUE (`decidedBy`), in all forms but the table; deciding.py says how, and what it takes.
 - --fail-on: the status is 3 if a verdict fits one of these gates (gates.py, gating.py); --since is the kept result for the term `new`.
 
-What machines are asked for, cases.py says; all verdicts come from one run of cpe.
+cases.py says what machines are asked for. All verdicts come from one run of cpe.
 
-A statement holds for a machine if it holds of the names as they stand or as the dictionary leads them on, on either side; calling.py
-says which names an item has so, and which it perhaps has. Where something is negated it holds only if it does so in each way.
+A statement holds for a machine if it holds of the names as written or as the dictionary leads them on, on either side. calling.py says
+which names an item has so, and which it perhaps has. If something is negated it holds only if it does so in each way.
 
 A component may have several names. One that makes a verdict TRUE is enough, and it is FALSE only if all do; negations.py says what it
-is where a test is negated.
+is if a test is negated.
 
-What a list doesn't say is UNKNOWN: an item that is known in part, since its name has a pattern, may be what a fact names, and so may
-one that says less than the fact, as of a plugin without its platform. Such a verdict is told with what isn't said (reasons.py), and
-those of items that say less are counted apart, as `perhaps`. With --strict they are FALSE, as NIST IR 7696 has it, and counted all
-the same. Of a range an item is FALSE where all that it may be is outside; decide.py says when.
+What a list doesn't say is UNKNOWN. An item that is known in part may be what a fact names, since its name has a pattern. So may one that
+says less than the fact, such as a plugin without its platform. reasons.py writes what isn't said beside such a verdict. Those of items
+that say less are counted apart, as `perhaps`. With --strict they are FALSE, as NIST IR 7696 has it, and counted all the same. If a range
+has none of all that an item may be, the item is FALSE in it; decide.py says when.
 
-The status is 0 where every verdict came and nothing was left out, 1 where something was, which is said, and 2 where there is no
-result: then nothing was written, but why. It is 3 where a verdict fits a gate, whether or not something was left out.
+The status is 0 if every verdict is there and nothing was left out, and 1 if something was, which is reported. It is 2 if there is no
+result: then nothing was written except why. It is 3 if a verdict fits a gate, whether or not something was left out.
 """
 from __future__ import annotations
 
