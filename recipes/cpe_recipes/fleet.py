@@ -26,9 +26,9 @@ OPTIONS = {"--ranges": ONE, "--matches": MANY, "--letters": ONE, "--decided": ON
 USAGE = "RECORDS MACHINES [--names FILE] [--strict] [--hardware none] [--ranges FILE [--letters FILE] [--matches FILE..] | --decided FILE]"
 MACHINES_MISSING = 5
 # What other recipes do with the truths that a fleet writes.
+_OVER_IT = "affected.sh and report.py take it for what a fleet wrote"
 _ELSEWHERE = {
-    "--kev": "affected.sh and report.py take it for what a fleet wrote",
-    "--epss": "affected.sh and report.py take it for what a fleet wrote",
+    **dict.fromkeys(("--suppress", "--settled", "--kev", "--epss"), _OVER_IT),
     "--fail-on": "scan.py takes it",
     "--since": "scan.py takes it; changes.sh compares what fleets wrote",
     "--format": "scan.py takes it",

@@ -69,7 +69,7 @@ UNNAMED = [
     machine("perhaps", verdict("CVE-2024-0005", "FALSE"), candidates=[{"id": "qs", "lines": ["pkg:npm/qs qs:qs"]}]),
     machine("named", verdict("CVE-2024-0005", "FALSE")),
 ]
-UNNAMED_WORDS = {"none": "2 packages without a sure name, libodd1, and 1 more", "perhaps": "1 package without a sure name, qs"}
+UNNAMED_WORDS = {"none": "2 packages without a sure name: libodd1 and 1 more", "perhaps": "1 package without a sure name: qs"}
 
 
 class FormatCase(RecipeCase):
@@ -555,6 +555,50 @@ class Scans(FormatCase):
     def test_what_is_no_form_has_no_result(self):
         for words in (("--format", "xml"), ("--format", "sarif", "--time", "x"), ("--format", "table", "--why")):
             self.assertEqual(self.out(*words), (2, b""))
+
+
+@needs_cpe
+class Packages(FormatCase):
+    """scan.py over two packages without names: of one the dictionary has a candidate, so that a verdict is UNKNOWN, and of one it has none."""
+
+    OF = SAMPLES / "lists"
+    ID = "CVE-2024-97006"
+
+    def out(self, *words):
+        components = [{"name": "acme-agent", "purl": "pkg:deb/debian/acme-agent@5.1-2"}, {"name": "odd", "purl": "pkg:deb/debian/odd-none@1"}]
+        listed = self.file("box.cdx.json", json.dumps({"bomFormat": "CycloneDX", "components": components}))
+        feeds = ["--dictionary", str(self.OF / "dictionary.json"), "--advisories", str(self.OF / "advisories.json")]
+        status, lines, said = self.scan(*feeds, "--platform", "cpe:/o:debian:debian_linux:12.0", "--lists", listed, *words)
+        return status, "\n".join(lines), said
+
+    def settled(self, truth):
+        return "--settled", self.file(f"settled-{truth}.txt", f"box {self.ID} {truth} looked at it\n")
+
+    def statuses(self, *words):
+        document = json.loads(self.out("--format", "openvex", *words)[1])
+        return {one["vulnerability"]["name"]: (one["status"], one.get("impact_statement") or one["status_notes"]) for one in document["statements"]}
+
+    def test_no_package_makes_an_all_clear(self):
+        found = self.statuses("--all")
+        self.assertEqual({status for status, _ in found.values()}, {"under_investigation"})
+        self.assertIn("may be acme:agent", found.pop(self.ID)[1])
+        self.assertEqual({words for _, words in found.values()}, {"verdict FALSE, but 2 packages without a sure name: odd and 1 more"})
+
+    def test_what_is_settled_is_stated_either_way(self):
+        self.assertEqual(self.statuses(*self.settled("FALSE")), {self.ID: ("not_affected", "settled as FALSE: looked at it")})
+        status, words = self.statuses(*self.settled("TRUE"))[self.ID]
+        self.assertEqual((status, words.partition(";")[0]), ("affected", "settled as TRUE: looked at it"))
+
+    def test_a_gate_of_unknown_fits_what_only_may_be_the_package(self):
+        self.assertEqual(self.out("--fail-on", "score>=7")[0], 0)
+        for words, status, said in (
+            (["--fail-on", "unknown and score>=7"], 3, f"remark --fail-on unknown and score>=7 fits 1 verdict: box {self.ID}"),
+            (["--fail-on", "unknown", *self.settled("FALSE")], 0, "remark --fail-on unknown doesn't count 1 verdict that is settled as FALSE"),
+            (["--fail-on", "score>=7", *self.settled("TRUE")], 3, f"remark --fail-on score>=7 fits 1 verdict: box {self.ID}; 1 of them is settled"),
+        ):
+            found = self.out(*words)
+            self.assertEqual(found[0], status, words)
+            self.assertIn(said, found[2])
 
 
 if __name__ == "__main__":

@@ -245,7 +245,7 @@ class Statuses(RecipeCase):
 
 class Fleets(RecipeCase):
     def test_a_fleet_says_where_these_options_are(self):
-        for option in ("--fail-on", "--kev", "--epss", "--since", "--format"):
+        for option in ("--fail-on", "--kev", "--epss", "--since", "--format", "--settled", "--suppress"):
             status, lines, said = self.recipe("fleet/parallel", "records", "machines", option, "x")
             self.assertEqual((status, lines, len(said)), (2, [], 1))
             self.assertIn(f"{option} is no option of a fleet, which writes truths alone: ", said[0])

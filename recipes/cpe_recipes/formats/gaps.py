@@ -102,5 +102,5 @@ def _unnamed(machine: Mapping[str, Json]) -> str:
     packages = [*machine.get("withoutCandidates", ()), *candidates]
     if not packages:
         return ""
-    more = f", and {len(packages) - 1:,} more" if len(packages) > 1 else ""
-    return f"{counted(len(packages), 'package')} without a sure name, {packages[0]}{more}"
+    more = f" and {len(packages) - 1:,} more" if len(packages) > 1 else ""
+    return f"{counted(len(packages), 'package')} without a sure name: {packages[0]}{more}"
