@@ -3,3 +3,5 @@ pub mod Kinds
 pub mod Reading
 pub mod Taken
 pub mod Edited
+pub mod Texts
+pub mod Read

@@ -28,6 +28,7 @@
 #![tactic(auto)]
 
 mod kinds;
+pub mod law;
 mod read;
 mod record_kind;
 

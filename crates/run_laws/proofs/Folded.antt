@@ -20,7 +20,8 @@ use Rattle.cpe_records.proofs.ValidRecords.{read_valid}
 use Rattle.cpe_session.specs.Folding.{folded}
 use Rattle.cpe_snapshot.specs.States.{AreTexts}
 use Rattle.run_laws.specs.Theorems.{AreKept}
-use Rattle.run_laws.proofs.RecordReads.{IsRead, line_read}
+use Rattle.cpe_records.specs.Read.{IsRead}
+use Rattle.cpe_records.proofs.RecordReads.{line_read}
 use Rattle.run_laws.proofs.Kept.{texts_stay, texts_at_start}
 
 edit_keeps : (rows : Rows) (line : List ℕ) (e : Edit) → record_of line ≡ Ok (AnEdit e) → AreKept rows → AreKept (stepped rows (step rows e))

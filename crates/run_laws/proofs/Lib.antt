@@ -1,6 +1,3 @@
-mod Strings
-mod TestReads
-mod RecordReads
 mod Kept
 mod Folded
 mod Saved

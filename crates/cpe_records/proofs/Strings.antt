@@ -1,6 +1,6 @@
 -- The texts that are read of a value with such strings are UTF-8.
-use Rattle.std.proofs.Common.{◌≡◌, ℕ, List, [], ◌∷◌, Bool, true, Option, Some, None, IfSome, refl}
-use Rattle.std.specs.Prelude.{Result, Ok, Err, IfOk, option_and_then, option_map}
+use Rattle.std.proofs.Common.{ℕ, List, [], Some, IfSome}
+use Rattle.std.specs.Prelude.{IfOk, option_map}
 use Rattle.std.specs.List.{AllByRecursion}
 use Rattle.std.specs.Ordering.{nat_cmp, match_ordering}
 use Rattle.std.specs.declared.cmp.Ordering.{Ordering}
@@ -10,10 +10,9 @@ use Rattle.std.proofs.lemmas.Str.{is_utf8-from_IsUtf8, IsUtf8-nil}
 use Rattle.serde_json.specs.Data.{Data, null, boolean, number, string, array, object, Items, no_items, item, Members, no_members, member}
 use Rattle.serde_json.specs.Find.{get_member, get, as_str, as_array}
 use Rattle.json_texts.specs.Texts.{HasTexts, HaveTexts, MembersHaveTexts}
-use Rattle.cpe_members.specs.Forms.{required, or_default, text_in, text_at, text_or_empty, list_of, list_or_empty, member_at}
+use Rattle.cpe_members.specs.Forms.{or_default, text_in, text_at, text_or_empty, list_of, list_or_empty}
 use Rattle.cpe_members.specs.Keys.{key_of}
 use Rattle.cpe_members.specs.declared.member.Member.{Member}
-use Rattle.cpe_members.specs.declared.member.RecordFault.{RecordFault}
 use Rattle.cpe_snapshot.specs.States.{IsString}
 use Rattle.cpe_members.proofs.ReadLemmas.{required_if, some_if, map_if, default_if}
 

@@ -1,5 +1,5 @@
 -- The test that is read of a statement names well-formed names, and its check references are texts.
-use Rattle.std.proofs.Common.{◌≡◌, ℕ, List, [], ◌∷◌, ◌++◌, Bool, codes, IfSome, sym, ap, ◌∙◌, subst}
+use Rattle.std.proofs.Common.{◌≡◌, ℕ, List, [], ◌∷◌, ◌++◌, Bool, codes, sym, ap, ◌∙◌, subst}
 use Rattle.std.specs.Prelude.{IfOk}
 use Rattle.std.specs.List.{AllByRecursion, flat_map}
 use Rattle.std.proofs.lemmas.List.Folds.{flat_map-map}
@@ -22,8 +22,8 @@ use Rattle.cpe_members.specs.declared.member.Member.TheVariants as part
 use Rattle.cpe_members.proofs.BuiltTests.{test_built}
 use Rattle.cpe_members.proofs.ReadLemmas.{then_if, required_if}
 use Rattle.cpe_snapshot.specs.States.{IsString, IsTextKey, keys_of, keys_step}
-use Rattle.run_laws.specs.Read.{IsReadTest}
-use Rattle.run_laws.proofs.Strings.{text_in_is}
+use Rattle.cpe_records.specs.Read.{IsReadTest}
+use Rattle.cpe_records.proofs.Strings.{text_in_is}
 
 -- ---- what a test is built of
 

@@ -1,29 +1,27 @@
 -- The record that is read of a line is formed, and its texts are UTF-8.
-use Rattle.std.proofs.Common.{◌≡◌, ℕ, List, [], ◌∷◌, Bool, true, false, Option, Some, None, IfSome, if◌then◌else◌, codes, refl, sym, ap, ◌∙◌, subst}
-use Rattle.std.specs.Prelude.{Result, Ok, Err, IfOk, IsTrue, option_and_then, ok_or, All}
+use Rattle.std.proofs.Common.{◌≡◌, ℕ, List, [], ◌∷◌, Bool, true, false, Option, Some, None, IfSome, if◌then◌else◌, codes, refl}
+use Rattle.std.specs.Prelude.{Result, Ok, IfOk, IsTrue, option_and_then}
 use Rattle.std.specs.List.{AllByRecursion}
 use Rattle.std.specs.Str.{is_utf8}
 use Rattle.std.proofs.lemmas.List.Elements.{All-from_recursion, All-nil}
 use Rattle.std.proofs.lemmas.Str.{IsUtf8-from_is_utf8}
 use Rattle.serde_json.specs.Data.{Data}
-use Rattle.serde_json.specs.Find.{get, as_object}
+use Rattle.serde_json.specs.Find.{as_object}
 use Rattle.serde_json.specs.Read.{read}
 use Rattle.json_texts.specs.Texts.{HasTexts}
 use Rattle.json_texts.proofs.Values.{values_text}
 use Rattle.cpe_name.specs.Eleven.{Values}
 use Rattle.cpe_name.specs.Names.{IsName}
 use Rattle.cpe_rows.specs.Date.{is_date}
-use Rattle.cpe_rows.specs.Formed.{IsDated, IsFormedEntry, IsFormedStatement, IsFormed}
+use Rattle.cpe_rows.specs.Formed.{IsDated, IsFormedEntry, IsFormedStatement}
 use Rattle.cpe_rows.specs.Valid.{is_id}
 use Rattle.cpe_rows.specs.declared.edit.Edit.{Edit}
 use Rattle.cpe_rows.specs.declared.edit.Edit.TheVariants as edit
-use Rattle.cpe_rows.specs.declared.edit.Query.TheVariants as query
 use Rattle.cpe_rows.specs.declared.entry.Deprecation.{Deprecation}
 use Rattle.cpe_rows.specs.declared.entry.Entry.{Entry}
 use Rattle.cpe_rows.specs.declared.entry.Note.{Note}
 use Rattle.cpe_rows.specs.declared.entry.Provenance.{Provenance}
 use Rattle.cpe_rows.specs.declared.statement.Statement.{Statement}
-use Rattle.cpe_rows.specs.declared.test.CheckKey.{CheckKey}
 use Rattle.cpe_members.specs.FirstFault.{◌>>=◌, all_from}
 use Rattle.cpe_members.specs.Forms.{required, tested, member_at, text_in, text_at, word_at, text_or_empty, flag_or_false, date_at, list_or_empty}
 use Rattle.cpe_members.specs.Formats.{format_at}
@@ -37,25 +35,23 @@ use Rattle.cpe_members.specs.declared.format.Format.{Format}
 use Rattle.cpe_members.specs.declared.member.Member.{Member}
 use Rattle.cpe_members.specs.declared.member.Member.TheVariants as member
 use Rattle.cpe_members.specs.declared.member.RecordFault.{RecordFault}
-use Rattle.cpe_members.specs.declared.member.RecordFault.TheVariants as fault
 use Rattle.cpe_records.specs.Kinds.{comment_at, id_at, mode_at, description_in, entry_in, remark_in, change_in, deprecation_in, restore_in, statement_in, key_at, check_in, search_in}
 use Rattle.cpe_records.specs.Reading.{record_by, json_of, record_of}
 use Rattle.cpe_records.specs.RecordKinds.{record_kind_of}
-use Rattle.cpe_records.specs.Taken.{IsFormedQuery, IsFormedRecord}
+use Rattle.cpe_records.specs.Taken.{IsFormedQuery}
 use Rattle.cpe_records.specs.declared.kinds.Change.{Change}
 use Rattle.cpe_records.specs.declared.kinds.Description.{Description}
 use Rattle.cpe_records.specs.declared.kinds.Remark.{Remark}
 use Rattle.cpe_records.specs.declared.read.Record.{Record}
-use Rattle.cpe_records.specs.declared.read.Record.TheVariants.{Edit as AnEdit, Query as AQuery}
+use Rattle.cpe_records.specs.declared.read.Record.TheVariants.{Edit as AnEdit}
 use Rattle.cpe_records.specs.declared.record_kind.RecordKind.{RecordKind}
 use Rattle.cpe_records.specs.declared.record_kind.RecordKind.TheVariants as record_kind
-use Rattle.cpe_snapshot.specs.States.{IsString, IsTextEntry, IsTextKey, IsTextStatement, keys_of}
-use Rattle.run_laws.specs.Read.{IsReadTest}
-use Rattle.run_laws.specs.Texts.{IsTextEdit}
+use Rattle.cpe_snapshot.specs.States.{IsString, IsTextEntry, IsTextKey, IsTextStatement}
+use Rattle.cpe_records.specs.Read.{IsReadTest, IsReadEdit, IsRead}
 use Rattle.cpe_members.proofs.ReadLemmas.{then_if, behind_if, all_if, required_if, some_if, tested_if}
-use Rattle.run_laws.proofs.Strings.{get_has, text_in_is, text_at_is, text_or_empty_is, list_or_empty_has, empty_is}
+use Rattle.cpe_records.proofs.Strings.{get_has, text_in_is, text_at_is, text_or_empty_is, list_or_empty_has, empty_is}
 use Rattle.cpe_members.proofs.NamesRead.{name_is, successors_are}
-use Rattle.run_laws.proofs.TestReads.{test_is}
+use Rattle.cpe_records.proofs.TestReads.{test_is}
 
 -- ---- members
 
@@ -151,9 +147,6 @@ entry_is f d h =
 
 -- ---- edits
 
-abbrev pub IsReadEdit : Edit → Type 0
-IsReadEdit e = IsFormed e × IsTextEdit e
-
 record IsReadRemark (r : Remark) : Type 0 where
   pub dated : IsTrue (is_date r.date)
   pub text : IsString r.comment
@@ -211,11 +204,6 @@ unfolding check_in
 check_is d h = then_if IsTextKey IsReadEdit (key_at d) _ (key_at_is d h) (λ key k. behind_if IsReadEdit (word_at truth_of member.Result d) _ (λ result. (tt, k)))
 
 -- ---- records
-
--- an edit is, and the name of a query
-abbrev pub IsRead : Record → Type 0
-IsRead (AnEdit e) = IsReadEdit e
-IsRead (AQuery q) = IsFormedQuery q
 
 edit_read : (r : Result Edit RecordFault) → IfOk r IsReadEdit → IfOk (r >>= λ e. Ok (AnEdit e)) IsRead
 edit_read r h = then_if IsReadEdit IsRead r (λ e. Ok (AnEdit e)) h (λ e k. k)

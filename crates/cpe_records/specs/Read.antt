@@ -1,0 +1,26 @@
+-- What is so of a record that is read.
+use Rattle.std.specs.List.{AllByRecursion}
+use Rattle.cpe_name.specs.Names.{IsName}
+use Rattle.cpe_rows.specs.FactNames.{fact_names}
+use Rattle.cpe_rows.specs.Formed.{IsFormed}
+use Rattle.cpe_rows.specs.declared.edit.Edit as edits
+use Rattle.cpe_rows.specs.declared.test.Test.{Test}
+use Rattle.cpe_snapshot.specs.States.{IsTextKey, keys_of}
+use Rattle.cpe_records.specs.Taken.{IsFormedQuery}
+use Rattle.cpe_records.specs.Texts.{IsTextEdit}
+use Rattle.cpe_records.specs.declared.read.Record.{Record}
+use Rattle.cpe_records.specs.declared.read.Record.TheVariants.{Edit, Query}
+
+-- a test: its names are well-formed (NIST IR 7695, 5), and its check references are UTF-8
+pub record IsReadTest (t : Test) : Type 0 where
+  pub names : AllByRecursion IsName (fact_names t)
+  pub keys : AllByRecursion IsTextKey (keys_of t)
+
+-- an edit: its names are well-formed, its dates have the shape of one, and its texts are UTF-8
+abbrev pub IsReadEdit : edits.Edit → Type 0
+IsReadEdit e = IsFormed e × IsTextEdit e
+
+-- the same of an edit, and of the name of a query
+abbrev pub IsRead : Record → Type 0
+IsRead (Edit e) = IsReadEdit e
+IsRead (Query q) = IsFormedQuery q
