@@ -4,7 +4,8 @@ A gate fits verdicts that are TRUE, and aren't accepted. With the term `unknown`
 value that isn't known, such as the score of an advisory without one, isn't below the least value of a term: it fits, and how many fit so
 is said. How many verdicts would fit if they were TRUE, and aren't known, is said too.
 
-A verdict that a user settled (--settled) is what they settled. How many fit by that is said, and how many would fit but are settled as FALSE.
+A verdict that a user settled (--settled) is what they settled. How many fit by that is said, and how many would fit but are settled as
+FALSE.
 
 A verdict is new if the kept result (--since) has another one there, or none, or one that was accepted.
 """

@@ -4,10 +4,10 @@
         [--ranges FILE] [--decided FILE] [--kev FILE] [--epss FILE] [FILE] > page.html
 
 It is one file of HTML without outside parts: it opens from a disk, on a telephone too, in light and in dark, and loads nothing.
-What was left out stands at its top, then how many rows there are of each verdict, then the advisories, those that are known to be
-exploited first where the verdicts have that, and then by their scores, each with the machines on which it isn't FALSE and what that hangs on where it is known, then the machines with their counts. The filter
-looks at texts, machines and verdicts; without scripts it is all that is missing. It stands in the address too, as
-`page.html#q=openssl&machine=web-1&truth=UNKNOWN`.
+At its top is what was left out, and how many rows there are of each verdict. Then follow the advisories: known exploited ones first if the
+verdicts have that, and then by their scores. Each has the machines on which it isn't FALSE, and what that depends on if it is known. The
+last part are the machines with their counts. The filter looks at texts, machines and verdicts; without scripts it is all that is missing.
+It is in the address too, as `page.html#q=openssl&machine=web-1&truth=UNKNOWN`.
 
 - --title: what stands above the page, such as whose machines these are and the day.
 - --before: verdicts of an earlier day, in the same form. What changed since stands on the page as `changes.sh` writes it, with the reason

@@ -7,8 +7,8 @@
 
 What is read:
 
-- --dictionary, --advisories, --matches: pages of NVD's API 2.0, or its feeds, plain, packed or in archives. Advisories may be CVE records of
-  format 5 too (cve5.py).
+- --dictionary, --advisories, --matches: pages of NVD's API 2.0, or its feeds, plain, packed or in archives. Advisories may be CVE records
+  of format 5 too (cve5.py).
 - --records: in place of --dictionary, what dictionary.sh wrote of it before.
 - --lists: software lists, each a machine (lists/ has the forms: CycloneDX, SPDX, Syft's, Trivy's and plain ones, package URLs, and what
   package managers write). --machines: in place of --lists, a line for each machine, as inventory.sh --machines writes it.

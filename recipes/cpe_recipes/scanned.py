@@ -43,8 +43,8 @@ def grouped(truth: str, reasons: list[str], accepted: str | None, settled: str |
 
 @dataclass
 class Advisory:
-    """An advisory, what the feed told of it, the day since when it is known to be exploited and its EPSS where they are known, and its rows by
-    their groups."""
+    """An advisory, what the feed told of it, the day since when it is known to be exploited and its EPSS where they are known, and its
+    rows by their groups."""
 
     id: str
     title: str

@@ -1,4 +1,4 @@
-"""A result as VEX in CycloneDX 1.5: a vulnerability for each advisory and claim (claims.py), which affects components that are the machines.
+"""A result as VEX in CycloneDX 1.5: a vulnerability for each advisory and claim (claims.py), which affects the machines as components.
 
 TRUE is `exploitable`, the state that CycloneDX has for affected; what is under investigation is `in_triage`. What was left out, how much
 isn't analysed, and which packages have no sure name stands in the properties of the metadata.
