@@ -166,8 +166,8 @@ def section(crate: str) -> str:
     rows = [row(it) for it in calls(folder)]
     wrong = sorted(it.stem for it in (folder / "must-fail").glob("*.edit")) if (folder / "must-fail").is_dir() else []
     if wrong:
-        tried = f"- Wrong bodies that the gate tries: {', '.join(f'`{it}`' for it in wrong)}."
-        rows.append(textwrap.fill(tried, 118, subsequent_indent="  ", break_long_words=False, break_on_hyphens=False))
+        line = f"- Wrong bodies that the gate tries: {', '.join(f'`{it}`' for it in wrong)}."
+        rows.append(textwrap.fill(line, 118, subsequent_indent="  ", break_long_words=False, break_on_hyphens=False))
     return f"### `{crate}`\n\n{made}\n" + ("\n" + "\n".join(rows) + "\n" if rows else "")
 
 

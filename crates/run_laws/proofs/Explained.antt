@@ -1,9 +1,8 @@
 -- What `explain` writes of a statement is a line that `check` calls good.
-use Rattle.std.proofs.Common.{◌≡◌, ◌⊎◌, ℕ, ◌+◌, List, [], ◌∷◌, ◌++◌, Bool, true, false, map, Option, Some, None, codes, if◌then◌else◌, inl, inr, refl, sym, ap, ◌∙◌, subst, append_assoc, append-nil, length, drop, not, IsUtf8}
-use Rattle.std.specs.Prelude.{Result, Ok, Err, find, All}
+use Rattle.std.proofs.Common.{◌≡◌, ℕ, ◌+◌, List, [], ◌∷◌, ◌++◌, Bool, true, false, map, Option, Some, None, codes, if◌then◌else◌, inl, inr, refl, sym, ap, ◌∙◌, subst, append_assoc, append-nil, length, drop, not, get_or, arith, IsUtf8}
+use Rattle.std.specs.Prelude.{Result, Ok, find}
 use Rattle.std.specs.List.{flat_map, list_any, AllByRecursion}
 use Rattle.std.specs.Option.{option_map_or}
-use Rattle.std.specs.Str.{bytes_eq}
 use Rattle.std.proofs.lemmas.Bool.{and_parts, not-true}
 use Rattle.std.proofs.lemmas.List.{drop_at}
 use Rattle.std.proofs.lemmas.Slice.Eq.{bytes_eq-Decides}
@@ -12,13 +11,11 @@ use Rattle.cpe_rows.proofs.Lists.{not_element}
 use Rattle.cpe_io.specs.Lines.{lines}
 use Rattle.cpe_session.specs.Session.{Stage, start, stage_after, after_next, line_says, next_writes, out_from, state_after, writes}
 use Rattle.cpe_session.specs.Task.{Transcript}
-use Rattle.cpe_session.proofs.SessionLemmas.{out_from-append, stage_after-append, folded-append}
+use Rattle.cpe_session.proofs.SessionLemmas.{out_from-append}
 use Rattle.cpe_rows.specs.Rows.{Rows, no_rows, has_id}
 use Rattle.cpe_rows.specs.Reach.{Among}
 use Rattle.cpe_rows.specs.Lawful.{IsLawful, are_different}
-use Rattle.cpe_rows.specs.Verdict.{verdict}
 use Rattle.cpe_rows.specs.declared.statement.Statement.{Statement}
-use Rattle.checked_certificates.specs.Certificates.{given_truth}
 use Rattle.checked_certificates.specs.Checks.{GoodProofsAreRight}
 use Rattle.checked_certificates.specs.Good.{Good}
 use Rattle.checked_certificates.specs.Tested.{test_passes}
@@ -32,18 +29,16 @@ use Rattle.cpe_explain.specs.Laws.{CertificatesAreGood}
 use Rattle.json_texts.specs.Texts.{PrintsAreTexts}
 use Rattle.json.specs.Print.{print_from}
 use Rattle.proof_lines.specs.Reading.{proof_of}
-use Rattle.proof_lines.specs.Whole.{HasNames}
 use Rattle.proof_lines.specs.Written.{proof_text}
 use Rattle.proof_lines.specs.declared.fault.ProofFault.{ProofFault}
-use Rattle.proof_lines.proofs.GoodForms.{good_is_formed, good_has_names}
-use Rattle.cpe_members.specs.declared.member.RecordFault.{RecordFault}
+use Rattle.proof_lines.proofs.GoodForms.{good_has_names}
 use Rattle.cpe_records.specs.Reading.{record_of}
 use Rattle.cpe_replies.specs.Proofs.{certificate_lines, checked_line, checked_word}
 use Rattle.record_lines.specs.Checking.{checked}
 use Rattle.record_lines.specs.Records.{by_proof, by_record, record_session}
 use Rattle.record_lines.specs.declared.records.RecordCommand.TheVariants.{Check, Explain}
-use Rattle.cpe_snapshot.specs.States.{IsString, IsTextStatement}
-use Rattle.run_laws.specs.Theorems.{rows_of, AreKept, Writes, check_writes, certificates, StandsIn, LinesAreCheckedInTurn, EndsWithCertificates, EndsWithHolds, ExplainedIsChecked, HasVerdict, HeldIsVerdict}
+use Rattle.cpe_snapshot.specs.States.{IsTextStatement}
+use Rattle.run_laws.specs.Theorems.{rows_of, AreKept, Writes, certificates, LinesAreCheckedInTurn, EndsWithCertificates, EndsWithHolds, ExplainedIsChecked, HasVerdict, HeldIsVerdict}
 use Rattle.run_laws.proofs.Folded.{rows_kept}
 use Rattle.run_laws.proofs.Saved.{rows_after}
 use Rattle.run_laws.proofs.Writing.{written_text}
@@ -106,8 +101,8 @@ line_parts id said = append_assoc (codes "proof " ++ id ++ codes " ") (checked_w
 
 says_holds : (said : Checked) → line_end said ≡ line_end Holds → said ≡ Holds
 says_holds Holds e = refl
-says_holds Fails e = let wrong : ⊥ = cc in absurd wrong
-says_holds Absent e = let wrong : ⊥ = cc in absurd wrong
+says_holds Fails e = let first : 102 ≡ 104 = ap (λ (l : List ℕ). get_or l 0 0) e in absurd (omega (arith, first))
+says_holds Absent e = let first : 97 ≡ 104 = ap (λ (l : List ℕ). get_or l 0 0) e in absurd (omega (arith, first))
 
 held : (id : List ℕ) (said : Checked) → checked_line id said ≡ checked_line id Holds → said ≡ Holds
 held id said e = says_holds said (cancel (codes "proof " ++ id ++ codes " ") (line_end said) (line_end Holds) (sym (line_parts id said) ∙ e ∙ line_parts id Holds))

@@ -1,5 +1,5 @@
 -- What `save` writes is the snapshot of the rows, so `load` reads those rows.
-use Rattle.std.proofs.Common.{◌≡◌, ◌⊎◌, ℕ, ◌+◌, List, [], ◌∷◌, ◌++◌, Bool, true, false, Option, Some, None, codes, inl, inr, refl, sym, ap, ◌∙◌, subst}
+use Rattle.std.proofs.Common.{◌≡◌, ℕ, ◌+◌, List, [], ◌∷◌, ◌++◌, true, Option, Some, None, codes, inl, inr, refl, sym, ap, ◌∙◌, subst}
 use Rattle.std.specs.Prelude.{Result, Ok, Err}
 use Rattle.cpe_io.specs.Lines.{lines}
 use Rattle.cpe_session.specs.Session.{Stage, writes, start, stage_after, after_next, next_writes, out_from}
@@ -7,7 +7,6 @@ use Rattle.cpe_session.specs.Task.{Transcript}
 use Rattle.cpe_session.proofs.SessionLemmas.{state-folded}
 use Rattle.cpe_rows.specs.Rows.{Rows, no_rows}
 use Rattle.cpe_rows.specs.Step.{step}
-use Rattle.cpe_rows.specs.declared.edit.Edit as edit
 use Rattle.cpe_rows.specs.declared.fault.EditFault.{EditFault}
 use Rattle.cpe_records.specs.Edited.{line_edited}
 use Rattle.cpe_records.specs.Reading.{record_of}
@@ -20,8 +19,8 @@ use Rattle.record_lines.specs.Records.{by_step, by_record, record_session}
 use Rattle.record_lines.specs.declared.records.RecordCommand.{RecordCommand}
 use Rattle.record_lines.specs.declared.records.RecordCommand.TheVariants.{Save, Evaluate}
 use Rattle.record_lines.proofs.Edits.{edits-lines}
-use Rattle.cpe_command.specs.Loading.{TellsState, IsNoSnapshot, load_says, state_told, refusal_told}
-use Rattle.run_laws.specs.Theorems.{rows_of, HaveSameTable, SavedIsLoaded, Writes}
+use Rattle.cpe_command.specs.Loading.{IsNoSnapshot, load_says, state_told}
+use Rattle.run_laws.specs.Theorems.{rows_of, SavedIsLoaded, Writes}
 use Rattle.run_laws.proofs.Folded.{rows_kept}
 
 -- the rows after lines, under each word

@@ -1,10 +1,9 @@
 -- The certificate of a statement is written as UTF-8.
-use Rattle.std.proofs.Common.{◌≡◌, ℕ, List, [], ◌∷◌, ◌++◌, Option, Some, None, option_map, map, IsUtf8, codes, refl, ap, sym, ◌∙◌, subst}
+use Rattle.std.proofs.Common.{List, [], ◌∷◌, Option, Some, None, option_map, map, IsUtf8, refl, ap, sym, ◌∙◌, subst}
 use Rattle.std.specs.Prelude.{All}
 use Rattle.std.specs.List.{flat_map}
 use Rattle.std.proofs.lemmas.List.Elements.{All-head, All-tail}
 use Rattle.std.proofs.lemmas.Str.{IsUtf8-from_ascii, IsUtf8-from_is_utf8}
-use Rattle.json.specs.Json as json
 use Rattle.json.proofs.Printed.Utf8.{IsUtf8-are_ascii}
 use Rattle.json_texts.specs.Texts.{WritesTexts, ItemsWriteTexts, MembersWriteTexts, PrintsAreTexts}
 use Rattle.cpe_name.specs.Eleven.{Values}
@@ -20,7 +19,7 @@ use Rattle.checked_certificates.specs.declared.proof.Why.TheOpen.{Why-F}
 use Rattle.checked_certificates.specs.declared.proof.Why.TheVariants.{rolls-Logic, rolls-Pair, rolls-Plain}
 use Rattle.checked_certificates.specs.declared.proof.Why.TheFolds.{ind-Why, map-Why}
 use Rattle.proof_lines.specs.Whole.{names, HasNames}
-use Rattle.proof_lines.specs.Written.{has_truth, has_names, or_null, logic_json, pair_json, plain_json, why_json, proof_json, proof_text}
+use Rattle.proof_lines.specs.Written.{has_truth, or_null, why_json, proof_json, proof_text}
 use Rattle.proof_lines.proofs.Forms.{json-logic, json-pair, json-plain}
 use Rattle.proof_lines.proofs.Mapped.{mapped}
 use Rattle.proof_lines.proofs.Names.{names_at, names-logic, names-pair, all_parts}
@@ -69,7 +68,7 @@ rolled (Why-F.Logic truth es) = subst (λ y. Writes (roll-Why y)) (sym (mapped (
 rolled (Why-F.Pair truth fact item) = λ h.
     let parts = all_parts IsName fact item (subst (All IsName) (ap names (rolls-Pair truth fact item) ∙ names-pair truth fact item) h) in
     subst WritesTexts (sym (json-pair (roll-Why (Why-F.Pair truth fact item)) truth fact item (rolls-Pair truth fact item)))
-    (IsUtf8-are_ascii _ refl, names_text fact parts.0, IsUtf8-are_ascii _ refl, names_text item parts.1, truth_text truth)
+    (IsUtf8-are_ascii _ refl, names_text fact parts.0, (IsUtf8-are_ascii _ refl, names_text item parts.1, truth_text truth))
 rolled (Why-F.Plain truth) = λ h. subst WritesTexts (sym (json-plain (roll-Why (Why-F.Plain truth)) truth (rolls-Plain truth))) (truth_text truth)
 
 why_text : (w : Why) → Writes w
@@ -78,12 +77,5 @@ why_text = ind-Why Writes (λ x y is. subst (λ z. Writes (roll-Why z)) is (roll
 pub written_text : PrintsAreTexts → (p : Proof) → IsString p.id → HasNames p.why → IsUtf8 (proof_text p)
 unfolding proof_text
 written_text prints p id h =
-    prints (proof_json p) (
-      IsUtf8-are_ascii _ refl,
-      IsUtf8-are_ascii _ refl,
-      IsUtf8-are_ascii _ refl,
-      IsUtf8-from_is_utf8 p.id id,
-      IsUtf8-are_ascii _ refl,
-      why_text p.why h,
-      tt,
-    )
+    prints (proof_json p)
+    (IsUtf8-are_ascii _ refl, IsUtf8-are_ascii _ refl, (IsUtf8-are_ascii _ refl, IsUtf8-from_is_utf8 p.id id, (IsUtf8-are_ascii _ refl, why_text p.why h, tt)))

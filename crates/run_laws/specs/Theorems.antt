@@ -4,12 +4,11 @@ use Rattle.std.specs.Prelude.{◌≡◌, ℕ, List, [], ◌∷◌, ◌++◌, map
 use Rattle.std.specs.declared.option.Option.{Option}
 use Rattle.std.specs.List.{flat_map}
 use Rattle.cpe_io.specs.Lines.{lines}
-use Rattle.cpe_session.specs.Session.{Session, start, stage_after, out_from, next_writes}
+use Rattle.cpe_session.specs.Session.{start, stage_after, out_from, next_writes}
 use Rattle.cpe_session.specs.Folding.{folded}
 use Rattle.cpe_session.specs.Task.{Transcript, Says}
 use Rattle.cpe_rows.specs.Rows.{Rows, no_rows, has_id}
 use Rattle.cpe_rows.specs.Lawful.{IsLawful}
-use Rattle.cpe_rows.specs.Reach.{Among}
 use Rattle.cpe_rows.specs.Verdict.{verdict}
 use Rattle.cpe_rows.specs.declared.statement.Statement.{Statement}
 use Rattle.cpe_records.specs.Edited.{line_edited}
