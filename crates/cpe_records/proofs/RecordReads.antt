@@ -47,7 +47,7 @@ use Rattle.cpe_records.specs.declared.read.Record.TheVariants.{Edit as AnEdit}
 use Rattle.cpe_records.specs.declared.record_kind.RecordKind.{RecordKind}
 use Rattle.cpe_records.specs.declared.record_kind.RecordKind.TheVariants as record_kind
 use Rattle.cpe_snapshot.specs.States.{IsString, IsTextEntry, IsTextKey, IsTextStatement}
-use Rattle.cpe_records.specs.Read.{IsReadTest, IsReadEdit, IsRead}
+use Rattle.cpe_records.specs.Read.{IsReadTest, IsReadEdit, IsReadQuery, IsRead}
 use Rattle.cpe_members.proofs.ReadLemmas.{then_if, behind_if, all_if, required_if, some_if, tested_if}
 use Rattle.cpe_records.proofs.Strings.{get_has, text_in_is, text_at_is, text_or_empty_is, list_or_empty_has, empty_is}
 use Rattle.cpe_members.proofs.NamesRead.{name_is, successors_are}
@@ -211,9 +211,9 @@ edit_read r h = then_if IsReadEdit IsRead r (λ e. Ok (AnEdit e)) h (λ e k. k)
 named_read : (f : Format) (d : Data) (as_record : Values → Record) → ((n : Values) → IsName n → IsRead (as_record n)) → IfOk (name_at f d >>= λ n. Ok (as_record n)) IsRead
 named_read f d as_record each = then_if IsName IsRead (name_at f d) (λ n. Ok (as_record n)) (name_is f d) each
 
-search_is : (f : Format) (d : Data) → IfOk (search_in f d) IsFormedQuery
+search_is : (f : Format) (d : Data) → IfOk (search_in f d) IsReadQuery
 unfolding search_in
-search_is f d = then_if IsName IsFormedQuery (name_at f d) _ (name_is f d) (λ n name. behind_if IsFormedQuery (flag_or_false member.Active (codes "active") d) _ (λ active. name))
+search_is f d = then_if IsName IsReadQuery (name_at f d) _ (name_is f d) (λ n name. behind_if IsReadQuery (flag_or_false member.Active (codes "active") d) _ (λ active. (name, tt)))
 
 by_is : (v : RecordKind) (f : Format) (d : Data) → HasTexts d → IfOk (record_by v f d) IsRead
 by_is record_kind.Entry f d h = then_if IsReadEntry IsRead (entry_in f d) _ (entry_is f d h) (λ e k. k)
@@ -223,15 +223,15 @@ by_is record_kind.Restore f d h = edit_read (restore_in f d) (restore_is f d h)
 by_is record_kind.Item f d h = named_read f d _ (λ n name. (name, tt))
 by_is record_kind.DropItem f d h = named_read f d _ (λ n name. (name, tt))
 by_is record_kind.Statement f d h = then_if IsReadStatement IsRead (statement_in f d) _ (statement_is f d h) (λ s k. k)
-by_is record_kind.DropStatement f d h = behind_if IsRead (id_at d) _ (λ id. (tt, tt))
+by_is record_kind.DropStatement f d h = then_if IsString IsRead (id_at d) _ (id_is d h) (λ id text. (tt, text))
 by_is record_kind.Check f d h = edit_read (check_in d) (check_is d h)
-by_is record_kind.DropCheck f d h = behind_if IsRead (key_at d) _ (λ key. (tt, tt))
-by_is record_kind.Lookup f d h = named_read f d _ (λ n name. name)
-by_is record_kind.Search f d h = then_if IsFormedQuery IsRead (search_in f d) _ (search_is f d) (λ q k. k)
-by_is record_kind.Items f d h = named_read f d _ (λ n name. name)
-by_is record_kind.Chain f d h = named_read f d _ (λ n name. name)
-by_is record_kind.Show f d h = named_read f d _ (λ n name. name)
-by_is record_kind.Verdict f d h = behind_if IsRead (id_at d) _ (λ id. tt)
+by_is record_kind.DropCheck f d h = then_if IsTextKey IsRead (key_at d) _ (key_at_is d h) (λ key text. (tt, text))
+by_is record_kind.Lookup f d h = named_read f d _ (λ n name. (name, tt))
+by_is record_kind.Search f d h = then_if IsReadQuery IsRead (search_in f d) _ (search_is f d) (λ q k. k)
+by_is record_kind.Items f d h = named_read f d _ (λ n name. (name, tt))
+by_is record_kind.Chain f d h = named_read f d _ (λ n name. (name, tt))
+by_is record_kind.Show f d h = named_read f d _ (λ n name. (name, tt))
+by_is record_kind.Verdict f d h = then_if IsString IsRead (id_at d) _ (id_is d h) (λ id text. (tt, text))
 
 value_has : (line : List ℕ) → IfSome (value_of line) HasTexts
 value_has line = by (is_utf8 line) refl where

@@ -31,7 +31,7 @@ all_joined : {A : Type 0} (P : A → Type 0) (xs ys : List A) → AllByRecursion
 all_joined P [] ys h k = k
 all_joined P (x ∷ xs) ys h k = (h.0, all_joined P xs ys h.1 k)
 
-keys-logic : (o : Operator) (b : Bool) (of : List test.Test) → keys_of (test.Logic o b of) ≡ flat_map keys_of of
+pub keys-logic : (o : Operator) (b : Bool) (of : List test.Test) → keys_of (test.Logic o b of) ≡ flat_map keys_of of
 keys-logic o b of = ap keys_of (sym (test_rolls.rolls-Logic o b of)) ∙ (fold-roll-Test (List CheckKey) keys_step (Test-F.Logic o b of) ∙ flat_map-map (λ keys. keys) keys_of of)
 
 names-fact : (w : Values) → fact_names (test.Fact w) ≡ w ∷ []

@@ -4,10 +4,11 @@ use Rattle.cpe_name.specs.Names.{IsName}
 use Rattle.cpe_rows.specs.FactNames.{fact_names}
 use Rattle.cpe_rows.specs.Formed.{IsFormed}
 use Rattle.cpe_rows.specs.declared.edit.Edit as edits
+use Rattle.cpe_rows.specs.declared.edit.Query as queries
 use Rattle.cpe_rows.specs.declared.test.Test.{Test}
 use Rattle.cpe_snapshot.specs.States.{IsTextKey, keys_of}
 use Rattle.cpe_records.specs.Taken.{IsFormedQuery}
-use Rattle.cpe_records.specs.Texts.{IsTextEdit}
+use Rattle.cpe_records.specs.Texts.{IsTextEdit, IsTextQuery}
 use Rattle.cpe_records.specs.declared.read.Record.{Record}
 use Rattle.cpe_records.specs.declared.read.Record.TheVariants.{Edit, Query}
 
@@ -20,7 +21,10 @@ pub record IsReadTest (t : Test) : Type 0 where
 abbrev pub IsReadEdit : edits.Edit → Type 0
 IsReadEdit e = IsFormed e × IsTextEdit e
 
--- the same of an edit, and of the name of a query
+-- a query: its name is well-formed, and its text is UTF-8
+abbrev pub IsReadQuery : queries.Query → Type 0
+IsReadQuery q = IsFormedQuery q × IsTextQuery q
+
 abbrev pub IsRead : Record → Type 0
 IsRead (Edit e) = IsReadEdit e
-IsRead (Query q) = IsFormedQuery q
+IsRead (Query q) = IsReadQuery q

@@ -1,6 +1,8 @@
--- Edits whose texts are UTF-8, as those of rows are.
+-- Edits and queries whose texts are UTF-8, as those of rows are.
 use Rattle.cpe_rows.specs.declared.edit.Edit.{Edit}
 use Rattle.cpe_rows.specs.declared.edit.Edit.TheVariants as edit
+use Rattle.cpe_rows.specs.declared.edit.Query.{Query}
+use Rattle.cpe_rows.specs.declared.edit.Query.TheVariants as query
 use Rattle.cpe_snapshot.specs.States.{IsString, IsTextEntry, IsTextKey, IsTextStatement}
 
 abbrev pub IsTextEdit : Edit → Type 0
@@ -11,6 +13,14 @@ IsTextEdit (edit.Deprecate n d date comment) = IsString comment
 IsTextEdit (edit.Amend n d date comment) = IsString comment
 IsTextEdit (edit.Restore n date comment) = IsString comment
 IsTextEdit (edit.PutStatement s) = IsTextStatement s
-IsTextEdit (edit.DropStatement id) = Unit {0}
+IsTextEdit (edit.DropStatement id) = IsString id
 IsTextEdit (edit.SetCheck k t) = IsTextKey k
-IsTextEdit (edit.DropCheck k) = Unit {0}
+IsTextEdit (edit.DropCheck k) = IsTextKey k
+
+abbrev pub IsTextQuery : Query → Type 0
+IsTextQuery (query.Lookup n) = Unit {0}
+IsTextQuery (query.Search n active_only) = Unit {0}
+IsTextQuery (query.Items n) = Unit {0}
+IsTextQuery (query.Chain n) = Unit {0}
+IsTextQuery (query.Show n) = Unit {0}
+IsTextQuery (query.Verdict id) = IsString id

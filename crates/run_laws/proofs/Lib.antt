@@ -3,3 +3,4 @@ mod Folded
 mod Saved
 mod Writing
 mod Explained
+mod Converted

@@ -33,7 +33,7 @@ names_text : (ws : List Values) → All IsName ws → ItemsWriteTexts (items_by 
 names_text [] h = tt
 names_text (w ∷ ws) h = (name_text w (All-head IsName w ws h), names_text ws (All-tail IsName w ws h))
 
-word_text : (truth : Truth) → IsUtf8 (truth_word truth)
+pub word_text : (truth : Truth) → IsUtf8 (truth_word truth)
 word_text True = IsUtf8-are_ascii _ refl
 word_text False = IsUtf8-are_ascii _ refl
 word_text Error = IsUtf8-are_ascii _ refl

@@ -2,7 +2,7 @@
 -- Each is said of what `run` writes by the meaning of its words (`cpe_command`).
 use Rattle.std.specs.Prelude.{◌≡◌, ℕ, List, [], ◌∷◌, ◌++◌, map, codes, find, Some, Ok}
 use Rattle.std.specs.declared.option.Option.{Option}
-use Rattle.std.specs.List.{flat_map}
+use Rattle.std.specs.List.{AllByRecursion, flat_map}
 use Rattle.cpe_io.specs.Lines.{lines}
 use Rattle.cpe_session.specs.Session.{start, stage_after, out_from, next_writes}
 use Rattle.cpe_session.specs.Folding.{folded}
@@ -24,6 +24,7 @@ use Rattle.cpe_replies.specs.Proofs.{certificate_lines, checked_line}
 use Rattle.cpe_replies.specs.Replies.{verdict_table}
 use Rattle.record_lines.specs.Records.{record_session}
 use Rattle.record_lines.specs.declared.records.RecordCommand.TheVariants.{Check}
+use Rattle.cpe_convert.specs.Growing.{IsGrown}
 use Rattle.cpe_command.specs.Loading.{state_told}
 use Rattle.cpe_command.specs.Meaning.{meaning}
 
@@ -59,6 +60,14 @@ abbrev pub SavedIsLoaded : Type 0
 SavedIsLoaded =
     (input : List ℕ) (saved loaded table : Transcript)
     → Writes (codes "save") input saved → Writes (codes "load") saved.text loaded → Writes (codes "evaluate") input table → HaveSameTable input loaded table
+
+-- ---- convert
+
+-- the lines that `convert` writes of an input leave the rows that the input leaves, if no record has too long a form
+abbrev pub ConvertedIsSame : Type 0
+ConvertedIsSame =
+    (input : List ℕ) (converted : Transcript) → Writes (codes "convert") input converted → AllByRecursion (λ line. IsGrown line → ⊥) (lines input)
+    → rows_of (lines converted.text) ≡ rows_of (lines input)
 
 -- ---- explain, then check
 

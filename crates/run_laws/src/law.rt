@@ -1,5 +1,5 @@
 // Laws of runs. These functions do nothing: their clauses are the laws.
-ghost use Rattle.run_laws.specs.Theorems.{ExplainedIsChecked, HeldIsVerdict, LinesAreCheckedInTurn, RowsAreKept, SavedIsLoaded};
+ghost use Rattle.run_laws.specs.Theorems.{ConvertedIsSame, ExplainedIsChecked, HeldIsVerdict, LinesAreCheckedInTurn, RowsAreKept, SavedIsLoaded};
 
 /// Whatever lines are read, the rows that they leave are lawful, and their texts are UTF-8.
 pub fn rows_are_kept()
@@ -11,6 +11,14 @@ pub fn saved_is_loaded()
     ensures { SavedIsLoaded }
 {
     cpe_snapshot::law::states_have_snapshots();
+}
+
+/// The lines that `convert` writes of an input leave the rows that the input leaves, if no record of it has too long a form.
+pub fn converted_is_same()
+    ensures { ConvertedIsSame }
+{
+    cpe_convert::law::written_rows_stay();
+    json_texts::law::prints_are_texts();
 }
 
 /// What `explain` writes of an input ends with certificates, and `check` says of each, behind the same lines, that it holds.
