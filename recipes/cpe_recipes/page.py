@@ -114,8 +114,8 @@ def _missing(scanned: Scanned) -> Iterator[str]:
     for id, reason in scanned.left_out:
         if reason != NO_ITEMS or id not in names:
             by_reason.setdefault(reason, []).append(id)
+    yield from _nameless(sum(machine.nameless for machine in scanned.machines), bool(by_reason))
     if not by_reason:
-        yield '<p class="whole">Nothing was left out by the scan.</p>\n'
         return
     number = sum(map(len, by_reason.values()))
     yield f'<aside class="missing"><h2>Not read, so not known <small>{number:,} in all</small></h2>\n'
@@ -124,6 +124,15 @@ def _missing(scanned: Scanned) -> Iterator[str]:
     for reason, ids in by_reason.items():
         yield from _left_out(reason, ids)
     yield "</ul></details></aside>\n"
+
+
+def _nameless(count: int, is_left_out: bool) -> Iterator[str]:
+    """That nothing was left out, where that is so, and how many packages have no name, so that no advisory was asked for them."""
+    if count:
+        packages = _many(count, "package has", "packages have")
+        yield f'<aside class="missing"><p>{packages} no name in the tables and the dictionary, so nothing was asked for them.</p></aside>\n'
+    elif not is_left_out:
+        yield '<p class="whole">Nothing was left out by the scan.</p>\n'
 
 
 def _left_out(reason: str, ids: Sequence[str]) -> Iterator[str]:

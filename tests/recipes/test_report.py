@@ -136,6 +136,13 @@ class LeftOut(ReportCase):
         self.assertIn('<li class="FALSE"><b>2</b>', text)
         self.assertIn("<b>not all of it was read</b>, all FALSE", text)
 
+    def test_packages_without_a_name_stand_at_the_top(self):
+        without = machine("m") | {"withoutCandidates": ["a", "b"]}
+        text = self.page(table(without, machine("n")))
+        self.assertIn("<p>2 packages have no name in the tables and the dictionary, so nothing was asked for them.</p>", text)
+        self.assertNotIn("Nothing was left out", text)
+        self.assertIn("Nothing was left out", self.page(table(machine("n"))))
+
     def test_a_page_without_rows_says_so(self):
         bare, known = {"name": "bare", "items": 0}, machine("m", verdict("A", "FALSE"))
         for value, words in (
