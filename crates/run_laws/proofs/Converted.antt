@@ -1,8 +1,8 @@
 -- What `convert` writes of a record that is read is UTF-8, so its lines leave the rows that the lines themselves do.
-use Rattle.std.proofs.Common.{◌≡◌, ℕ, List, [], ◌∷◌, ◌++◌, Bool, true, false, Option, Some, None, map, IsUtf8, if◌then◌else◌, codes, refl, sym, ap, ◌∙◌, subst}
-use Rattle.std.specs.Prelude.{Result, Ok, Err, IfOk, All, IsTrue}
+use Rattle.std.proofs.Common.{◌≡◌, ℕ, List, [], ◌∷◌, ◌++◌, Bool, true, false, Option, Some, None, map, IsUtf8, if◌then◌else◌, refl, sym, ap, ◌∙◌, subst}
+use Rattle.std.specs.Prelude.{IfOk, All, IsTrue}
 use Rattle.std.specs.List.{AllByRecursion, flat_map}
-use Rattle.std.proofs.lemmas.List.Elements.{All-head, All-tail, All-nil, All-cons}
+use Rattle.std.proofs.lemmas.List.Elements.{All-head, All-tail}
 use Rattle.std.proofs.lemmas.Str.{IsUtf8-from_ascii, IsUtf8-from_is_utf8}
 use Rattle.json.specs.Json as json
 use Rattle.json.proofs.Printed.Utf8.{IsUtf8-are_ascii}
@@ -37,7 +37,7 @@ use Rattle.cpe_rows.specs.declared.statement.Mode.TheVariants.{Plain, Follow}
 use Rattle.cpe_rows.specs.declared.test.CheckKey.{CheckKey}
 use Rattle.cpe_rows.specs.declared.test.Operator.{Operator}
 use Rattle.cpe_rows.specs.declared.test.Operator.TheVariants.{And, Or}
-use Rattle.cpe_rows.specs.declared.test.Test.{Test, Logic, Fact, Check}
+use Rattle.cpe_rows.specs.declared.test.Test.{Test}
 use Rattle.cpe_rows.specs.declared.test.Test.TheVariants.{rolls-Logic, rolls-Fact, rolls-Check}
 use Rattle.cpe_rows.specs.declared.test.Test.TheOpen.{Test-F}
 use Rattle.cpe_rows.specs.declared.test.Test.TheViews.{roll-Test}
@@ -58,7 +58,7 @@ use Rattle.cpe_records.proofs.TestReads.{keys-logic}
 use Rattle.cpe_snapshot.specs.States.{IsString, IsTextKey, keys_of, keys_step}
 use Rattle.written_records.specs.NameObject.{sorted_attributes, with_value, with_values, name_object}
 use Rattle.written_records.specs.Written.{items_by, note_json, provenance_json}
-use Rattle.written_records.specs.WrittenRecord.{key_json, items_of, test_json, does, version, named, remarked, about_json, about_id_json, change_json, edit_json, query_json, record_json, record_text}
+use Rattle.written_records.specs.WrittenRecord.{key_json, items_of, test_json, version, about_json, about_id_json, change_json, edit_json, query_json, record_json, record_text}
 use Rattle.written_records.proofs.Printed.{IsAscii-component, IsAscii-date}
 use Rattle.written_records.proofs.TestForms.{json-logic, json-fact, json-check}
 use Rattle.cpe_session.specs.Folding.{folded}
