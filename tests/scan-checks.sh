@@ -87,29 +87,56 @@ counts_doubts() {
     judge "the same with --strict and --hardware none" $? 0 "$doubts/strict.out" "$doubts/table.said"
 }
 
-# The same of the lists of tools: all names of a component are read, wherever a tool writes them. What has package URLs alone is
-# no item, and no machine that isn't affected.
+# The same of the lists of tools: all names of a component are read, wherever a tool writes them, and what has a package URL alone
+# (trivy-1, trivy-2) gets the names of names.txt.
 reads_lists() {
     of=recipes/samples/lists
     set -- --dictionary "$of/dictionary.json" --advisories "$of/advisories.json" --lists
-    limited python3 recipes/scan.py "$@" "$of"/shop-* "$of"/java-* "$of"/build-* > "$room/out" 2> "$room/error"
-    judge 'the table of the lists of tools' $? 1 "$of/table.out" "$of/table.said"
-    sh recipes/inventory.sh --machines "$of"/shop-* "$of"/java-* "$of"/build-* > "$room/machines.txt" 2> /dev/null
-    limited python3 recipes/scan.py "$1" "$2" "$3" "$4" --machines "$room/machines.txt" > "$room/out" 2> "$room/error"
-    judge 'the same of the lines that inventory.sh writes of them' $? 1 "$of/table.out" "$of/table.said"
-    limited python3 recipes/scan.py --json "$@" "$of"/shop-* "$of"/java-* "$of"/build-* > "$room/scan.json" 2> /dev/null
+    limited python3 recipes/scan.py "$@" "$of"/shop-* "$of"/java-* "$of"/build-* "$of"/trivy-* > "$room/out" 2> "$room/error"
+    judge 'the table of the lists of tools' $? 0 "$of/table.out" "$of/table.said"
+    sh recipes/inventory.sh --machines "$of"/shop-* "$of"/java-* "$of"/build-* "$of"/trivy-* > "$room/machines.txt" 2> /dev/null
+    limited python3 recipes/scan.py "$1" "$2" "$3" "$4" --machines "$room/machines.txt" > "$room/out" 2> "$room/said"
+    status=$?
+    sed "s|--machines .*|--lists $(echo "$of"/shop-* "$of"/java-* "$of"/build-* "$of"/trivy-*)|" "$room/said" > "$room/error"
+    judge 'the same of the lines that inventory.sh writes of them' "$status" 0 "$of/table.out" "$of/table.said"
+    limited python3 recipes/scan.py --json "$@" "$of"/shop-* "$of"/java-* "$of"/build-* "$of"/trivy-* > "$room/scan.json" 2> /dev/null
     python3 tests/recipes/truths.py "$of/truths.txt" < "$room/scan.json" > "$room/out"
     status=$?
     cat "$room/out"
     : > "$room/error"
     judge 'the lists of tools against their truths' "$status" 0 "$of/truths.out"
-    limited python3 recipes/scan.py "$@" "$of"/trivy-* > "$room/out" 2> "$room/error"
-    judge 'lists of package URLs alone' $? 1 "$of/no-names.out" "$of/no-names.said"
     limited sh recipes/inventory.sh "$of/trivy-1.json" > "$room/out" 2> "$room/error"
+    judge 'an inventory of package URLs alone' $? 0 "$of/inventory.jsonl"
+    echo 'pkg:generic/nothing -' > "$room/names.txt"
+    sed 's/pkg:[a-z]*/pkg:generic/g' "$of/trivy-1.json" > "$room/trivy-3.json"
+    limited sh recipes/inventory.sh --names "$room/names.txt" "$room/trivy-3.json" > "$room/out" 2> "$room/said"
     status=$?
-    sed -n 's/^left out trivy-1 \(.*: no CPE name\)$/left out \1/p' "$of/no-names.said" > "$room/wanted.said"
-    echo 'inventory.sh: trivy-1.json: no item in it' >> "$room/wanted.said"
-    judge 'no inventory of package URLs alone' "$status" 2 /dev/null "$room/wanted.said"
+    grep '^inventory.sh: ' "$room/said" > "$room/error"
+    echo 'inventory.sh: trivy-3.json: no item in it' > "$room/wanted.said"
+    judge 'no inventory of package URLs that no table names' "$status" 2 /dev/null "$room/wanted.said"
+}
+
+# Lists that have no CPE names: package URLs alone, what package managers write, and locks, each against what is there by hand.
+reads_package_lists() {
+    of=recipes/samples/lists
+    lists=$(for list in "$of"/packages/*.json "$of"/packages/*.txt; do case $list in */truths.txt) ;; *) echo "$list" ;; esac; done)
+    # shellcheck disable=SC2086 # a word each
+    limited python3 recipes/scan.py --json --dictionary "$of/dictionary.json" --advisories "$of/advisories.json" --lists $lists \
+        > "$room/scan.json" 2> "$room/said" < /dev/null
+    sed 's/; to list them: .*//' "$room/said" > "$room/error"
+    python3 tests/recipes/truths.py "$of/packages/truths.txt" < "$room/scan.json" > "$room/out"
+    status=$?
+    cat "$room/out"
+    judge 'lists without names against their truths' "$status" 0 "$of/packages/truths.out" "$of/packages/table.said"
+    # shellcheck disable=SC2086
+    limited python3 recipes/scan.py --dictionary "$of/dictionary.json" --advisories "$of/advisories.json" --lists $lists \
+        > "$room/out" 2> "$room/said" < /dev/null
+    status=$?
+    sed 's/; to list them: .*//' "$room/said" > "$room/error"
+    judge 'the table of lists without names' "$status" 1 "$of/packages/table.out" "$of/packages/table.said"
+    limited python3 bench/naming.py > "$room/out" 2> "$room/error"
+    status=$?
+    if [ "$status" = 0 ]; then pass "names of packages: $(sed -n 1p "$room/out")"; else fail 'names of packages' "status $status"; fi
 }
 
 shows_tables() {
@@ -277,6 +304,48 @@ reads_machines() {
     judge 'files that begin with a hyphen, and packed ones' $? 0 "$room/wanted"
 }
 
+# Known exploited vulnerabilities, EPSS and gates over the samples, the status before all; and what each form has of the same.
+fits_gates() {
+    threats=recipes/samples/threats
+    # gated WORD..: a scan of two machines, with a line of accepted advisories that is none, so that something is left out.
+    gated() {
+        scans --suppress "$ranges/suppress.txt" --lists "$ranges/web-1.cdx.json" "$ranges/legacy-1.txt" \
+            --time 2024-05-01T12:00:00Z "$@" 2> "$room/error" > "$room/out"
+    }
+    kev=$threats/known_exploited_vulnerabilities epss=$threats/epss_scores-2024-04-30.csv
+    for form in table csv sarif cyclonedx-vex openvex; do
+        gated --kev "$kev.json" --epss "$epss" --fail-on 'score>=9' --fail-on 'unknown and kev' --format "$form"
+        judge "known exploited, EPSS and gates, as $form" $? 3 "$threats/$form.out" "$threats/table.said"
+    done
+    grep -v ' --fail-on ' "$threats/table.said" > "$room/ungated.said"
+    gated --kev "$kev.csv" --epss "$epss" --fail-on 'score>=9.9'
+    judge 'a gate that nothing fits, where something was left out' $? 1 "$threats/table.out" "$room/ungated.said"
+    gated --kev "$kev.csv" --epss "$epss" --json
+    cp "$room/out" "$room/kept.json"
+    gated --kev "$kev.csv" --epss "$epss" --fail-on new --since "$room/kept.json"
+    judge 'nothing is new against the same result' $? 1 "$threats/table.out" "$room/ungated.said"
+    limited sh recipes/changes.sh "$room/kept.json" "$room/kept.json" > "$room/out" 2> "$room/error"
+    judge 'nothing changed against the same result' $? 0 /dev/null
+    limited python3 recipes/report.py "$room/kept.json" 2> "$room/error" |
+        grep -o -e '>CVE-2024-980[01][09]<' -e 'known exploited since [0-9-]*' -e 'EPSS 0.[59]' > "$room/out"
+    printf '%s\n' '>CVE-2024-98009<' 'known exploited since 2024-04-19' 'EPSS 0.5' '>CVE-2024-98010<' 'known exploited since 2024-04-11' \
+        'EPSS 0.9' > "$room/wanted"
+    echo 'left out suppress.txt line 5: it is not an id, a machine or *, and a reason' > "$room/wanted.said"
+    judge 'the page has what is known exploited, and EPSS' 0 0 "$room/wanted" "$room/wanted.said"
+    set -- --dictionary "$ranges/dictionary.json" --advisories "$ranges/advisories.json" --lists "$ranges/app-1.txt"
+    head -c 900 "$kev.json" > "$room/kev.json"
+    head -c 200 "$epss" > "$room/epss.csv"
+    refuses 'a list of known exploited vulnerabilities that is cut off' "$@" --kev "$room/kev.json"
+    refuses 'an EPSS that is cut off' "$@" --epss "$room/epss.csv"
+    refuses 'a gate that is none' "$@" --fail-on 'score>9'
+    refuses 'a form that is none' "$@" --format xml
+    if needs 'EPSS that gzip packed' gzip; then
+        gzip -c "$epss" > "$room/epss_scores.csv.gz"
+        gated --kev "$kev.csv" --epss "$room/epss_scores.csv.gz"
+        judge 'EPSS that gzip packed' $? 1 "$threats/table.out" "$room/ungated.said"
+    fi
+}
+
 # The page of report.py over the samples, and as it stands in a browser, where there is one.
 shows_pages() {
     scans --json --why --suppress "$ranges/suppress.txt" --lists "$ranges/web-1.cdx.json" "$ranges/app-1.txt" \
@@ -305,7 +374,9 @@ if needs 'the recipes in Python' python3; then
     counts_orders
     counts_doubts
     reads_lists
+    reads_package_lists
     shows_tables
+    fits_gates
     shows_pages
     goes_step_by_step
     refuses_feeds

@@ -1,18 +1,22 @@
 """A table for people from verdicts: what `cpe evaluate` writes, or a fleet.
 
-    sh affected.sh [--details FILE] [--suppress FILE] [--records FILE] [--ranges FILE] [--decided FILE] [FILE]
+    sh affected.sh [--details FILE] [--suppress FILE] [--settled FILE] [--records FILE] [--ranges FILE] [--decided FILE]
+        [--kev FILE] [--epss FILE] [FILE]
 
 It has the advisories that are TRUE, then those that are ERROR and UNKNOWN, machine by machine, and how many there are of each
 verdict. A machine without items is told as such.
 
 - --details: scores and titles by id, which `advisories.sh --details` wrote. What scores highest comes first.
 - --suppress: accepted ids, lines `ID MACHINE REASON`, with * for every machine. They are told below the table.
+- --settled: UNKNOWNs that a user settled, lines `MACHINE ID TRUE|FALSE REASON`, with * for every machine (settled.py).
 - --records: the records that were asked. What an UNKNOWN hangs on is told: the checks of its statement that have no result
   there, nor in --decided, which `decide.py` wrote. With --ranges, which `advisories.sh --ranges` wrote, a range is told by its
   product and bounds.
+- --kev, --epss: CISA's list of known exploited vulnerabilities, and EPSS (threats.py), which get columns. What is known to be exploited
+  comes first then, and of the same scores what has the highest EPSS.
 
-Each option may be given more than once. The status is 1 where lines of the records were refused, machines have no items, or a
-line of --suppress is none, and 2 where the verdicts aren't whole, since the run ended before its end. Nothing is written then.
+Each option but these two may be given more than once. The status is 1 where lines of the records were refused, machines have no items, or a
+line of --suppress or --settled is none, and 2 where the verdicts aren't whole, since the run ended before its end. Nothing is written then.
 """
 from __future__ import annotations
 
@@ -21,19 +25,26 @@ from collections.abc import Iterator
 from dataclasses import dataclass, field
 from typing import Protocol
 
+from . import threats
 from .feeds import Json
 from .fleet import Decided, read_decided
 from .hanging import Hanging, json_lines, read_ranges, records_with_checks
 from .said import Fatal, Output, Said, shown
 from .scores import score_of
+from .settled import read_settled
 from .suppressed import Suppressed, read_suppressed
 from .table import counted, cut, table
+from .threats import Threats
 from .verdicts import TRUTHS, Machine, Verdicts, read_verdicts
 from .words import ONE, Words, read_words
 
-USAGE = "affected.sh [--details FILE] [--suppress FILE] [--records FILE] [--ranges FILE] [--decided FILE] [FILE]"
-OPTIONS = dict.fromkeys(("--details", "--suppress", "--records", "--ranges", "--decided"), ONE)
-HEADER = ("MACHINE", "VERDICT", "ADVISORY", "SCORE", "TITLE", "DEPENDS ON")
+USAGE = (
+    "affected.sh [--details FILE] [--suppress FILE] [--settled FILE] [--records FILE] [--ranges FILE] [--decided FILE] "
+    "[--kev FILE] [--epss FILE] [FILE]"
+)
+OPTIONS = dict.fromkeys(("--details", "--suppress", "--settled", "--records", "--ranges", "--decided"), ONE) | threats.OPTIONS
+# The columns of a table, before and behind those of what is exploited.
+HEADER = (("MACHINE", "VERDICT", "ADVISORY", "SCORE"), ("TITLE", "DEPENDS ON"))
 _TITLE_WIDTH = 60
 _MOST_HANGING = 3
 
@@ -50,10 +61,13 @@ class Hangs(Protocol):
 
 @dataclass(frozen=True, slots=True)
 class Told:
-    """The score of an advisory, below 0 if it has none, and its cells in a table: the score and the title."""
+    """The score of an advisory, below 0 if it has none, its place among others of the same verdict, and its cells in a table: the
+    score, what is known of how it is exploited, and the title."""
 
     score: float
+    order: tuple[bool, float, float]
     score_cell: str
+    threat_cells: tuple[str, ...]
     title_cell: str
 
 
@@ -65,6 +79,7 @@ class About:
     suppressed: Suppressed
     hanging: Hangs
     doubts: list[str] = field(default_factory=list)
+    threats: Threats = Threats()
     accepted: list[tuple[str | None, str, str, str]] = field(default_factory=list)
     _told: dict[str, Told] = field(default_factory=dict)
 
@@ -75,7 +90,8 @@ class About:
             detail = self.details.get(id, {})
             score = score_of(detail.get("score"))
             title = cut(str(detail.get("title") or ""), _TITLE_WIDTH)
-            found = self._told[id] = Told(-1.0 if score is None else float(score), "" if score is None else str(score), title)
+            number, cell = (-1.0, "") if score is None else (float(score), str(score))
+            found = self._told[id] = Told(number, self.threats.order(id, number), cell, self.threats.cells(id), title)
         return found
 
     def accepted_for(self, id: str, truth: str, machine: str | None) -> str | None:
@@ -90,6 +106,7 @@ def run(words: list[str]) -> int:
     said, output = Said(), Output()
     verdicts = read_verdicts(given.files[0] if given.files else None)
     about = about_of(given, said)
+    read_settled(given.many("--settled"), said).settle(verdicts.machines, said)
     output.lines(table_of(verdicts, about))
     output.end()
     tell_left_out(verdicts, about, said)
@@ -99,6 +116,9 @@ def run(words: list[str]) -> int:
 def tell_left_out(verdicts: Verdicts, about: About, said: Said) -> None:
     """What the verdicts know nothing of."""
     about.suppressed.tell_unused(said)
+    # (most machines share theirs)
+    statements = {id(machine.statements): machine.statements for machine in verdicts.machines}.values()
+    about.threats.tell({advisory for one in statements for advisory in one.advisories}, (), said, "not among the statements")
     if verdicts.refused:
         said.left_out("the records", f"{counted(verdicts.refused, 'line')} refused")
     for machine in verdicts.machines:
@@ -118,13 +138,14 @@ def about_of(given: Words, said: Said) -> About:
         for machine, results in read_decided(path).items():
             decided.setdefault(machine, []).extend(results)
     hanging = Hanging(records_with_checks(given.many("--records")), read_ranges(given.many("--ranges")), decided)
-    return About(details, read_suppressed(given.many("--suppress"), said), hanging)
+    return About(details, read_suppressed(given.many("--suppress"), said), hanging, threats=Threats.of(given, said))
 
 
 def table_of(verdicts: Verdicts, about: About) -> Iterator[str]:
     """The lines of the table, and what stands below it."""
     rows = [row for machine in verdicts.machines for row in _rows(machine, about)]
-    header = HEADER if verdicts.has_machines else HEADER[1:]
+    columns = (*HEADER[0], *about.threats.header(), *HEADER[1])
+    header = columns if verdicts.has_machines else columns[1:]
     if not verdicts.has_machines:
         rows = [row[1:] for row in rows]
     yield from table(header, rows, optional=("SCORE", "TITLE", "DEPENDS ON"))
@@ -136,19 +157,21 @@ def table_of(verdicts: Verdicts, about: About) -> Iterator[str]:
 def _rows(machine: Machine, about: About) -> Iterator[list[str]]:
     name = machine.name or ""
     if not machine.has_items:
-        yield [name, "", "no items", "", "", ""]
-    shown = sorted(machine.shown.items(), key=lambda row: (machine.rank(row[0]), -about.told(row[0]).score))
+        yield [name, "", "no items", "", *("" for _ in about.threats.header()), "", ""]
+    shown = sorted(machine.shown.items(), key=lambda row: (machine.rank(row[0]), about.told(row[0]).order))
     for id, truth in shown:
         reason = about.accepted_for(id, truth, machine.name)
         if reason is not None:
             about.accepted.append((machine.name, id, truth, reason))
             continue
         told = about.told(id)
-        yield [name, truth, id, told.score_cell, told.title_cell, _some(_told(machine, id, truth, about))]
+        yield [name, truth, id, told.score_cell, *told.threat_cells, told.title_cell, _some(_told(machine, id, truth, about))]
 
 
 def _told(machine: Machine, id: str, truth: str, about: About) -> list[str]:
     """What stands beside a verdict in words."""
+    if id in machine.settled:
+        return [machine.settled[id].words()]
     if truth == "FALSE":
         return about.doubts
     tells = {"UNKNOWN": about.hanging.on, "TRUE": about.hanging.remarks}
@@ -177,6 +200,8 @@ def _count(verdicts: Verdicts, about: About) -> str:
     numbers += f", {counts['perhaps']} perhaps" if counts["perhaps"] else ""
     numbers += f", {counts['FALSE']} FALSE" + (f", of which {counts['strict']} perhaps" if counts["strict"] else "")
     accepted = f", {len(about.accepted)} accepted" if about.accepted else ""
+    settled = sum(len(machine.settled) for machine in verdicts.machines)
+    accepted += f", {settled} settled" if settled else ""
     if not verdicts.has_machines:
         return f"{counted(verdicts.machines[0].statements.count, 'statement')}: {numbers}{accepted}"
     bare = sum(not machine.has_items for machine in verdicts.machines)

@@ -6,11 +6,12 @@ what hangs on it, under a negation too.
 from __future__ import annotations
 
 from collections.abc import Iterator
-from dataclasses import dataclass
+from dataclasses import dataclass, replace
 from enum import Enum
 
 from . import names
 
+_OTHER = names.ATTRIBUTES.index("other")
 
 class Sure(Enum):
     """How sure it is that an item has a name."""
@@ -39,6 +40,10 @@ class Called:
 
     def is_sure(self) -> bool:
         return self.sure in (Sure.SURELY, Sure.RENAMED)
+
+    def as_told(self) -> Called:
+        """This name as it is put: as one that is known in part, if something is told against it."""
+        return replace(self, name=names.marked(self.meant, (_OTHER,)), sure=Sure.PERHAPS) if self.why else self
 
     def asks_for_more(self, fact: str) -> bool:
         """Whether a fact says something of what the item doesn't."""

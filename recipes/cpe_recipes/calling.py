@@ -142,10 +142,13 @@ def _old_part(there: str, old: str, have: str) -> str:
     return have
 
 
+def _joined(*whys: str) -> str:
+    return "; ".join(why for why in whys if why)
+
+
 def _put(found: dict[str, Called], one: Called) -> None:
     """Puts a name; where something is told against it, as one that is known in part."""
-    if one.why:
-        one = replace(one, name=names.marked(one.meant, (OTHER,)), sure=Sure.PERHAPS)
+    one = one.as_told()
     found.setdefault(one.name, one)
 
 
@@ -173,7 +176,7 @@ class Calling:
         own = list(items)
         old = [leads.found[name] for name in unlisted.deprecated_names(entries) if name in leads.found]
         self._feed, self._wanted, self._letters = feed, wanted, letters
-        self._found: dict[tuple[str, str], tuple[Called, ...]] = {}
+        self._found: dict[tuple[str, str, str], tuple[Called, ...]] = {}
         self._before = Before(old, {names.product_of(name) for lead in own for name in (lead.name, *lead.ends)})
         self._moved, self._all_moved = _moves(old)
         self._beside = self._ask(program, entries, own)
@@ -184,22 +187,23 @@ class Calling:
 
     def of(self, lead: Lead) -> tuple[Called, ...]:
         """The names of an item that leads so, those that are sure first."""
-        found = self._found.get((lead.name, lead.kind))
+        key = lead.name, lead.kind, lead.why
+        found = self._found.get(key)
         if found is None:
-            found = self._found[lead.name, lead.kind] = tuple(self._called(lead))
+            found = self._found[key] = tuple(self._called(lead))
         return found
 
     def _called(self, lead: Lead) -> Iterator[Called]:
         found: dict[str, Called] = {}
         for name, sure in self._sure(lead):
-            found.setdefault(name, Called(name, lead.name, name, sure, kind=lead.kind))
+            _put(found, Called(name, lead.name, name, sure, lead.why, kind=lead.kind))
         for name, why in list(self._supposed(lead, found)):
             if name not in found:
-                _put(found, Called(name, lead.name, name, Sure.SURELY, why, kind=lead.kind))
+                _put(found, Called(name, lead.name, name, Sure.SURELY, _joined(lead.why, why), kind=lead.kind))
         for one in list(found.values()):
             for name, same_as in self._wanted.spelled(one.meant, lead.kind, self._letters):
                 if name not in found:
-                    whys = "; ".join(part for part in (one.why, f"{lead.name}: {same_as.why}" if same_as.why else "") if part)
+                    whys = _joined(one.why, f"{lead.name}: {same_as.why}" if same_as.why else "")
                     known = Called(name, lead.name, name, Sure.SURELY, whys, frozenset(), lead.kind, True, same_as.release)
                     _put(found, known)
         yield from found.values()

@@ -9,9 +9,9 @@ It writes a line for each verdict that isn't FALSE on one side at least, and isn
 
 BEFORE and AFTER are truths, or `none` where there is no verdict, and behind an AFTER that is `none` stands why: the machine isn't there,
 or has no items there; the advisory isn't analysed there, is rejected, was left out, or isn't in the feeds; or there is a FALSE that could
-be another verdict, since pages of the dictionary or of the match feed are missing. What is gone so isn't mended. It is said, and the
-status is 1, where a machine has no items any more, and where an advisory was left out or isn't in the feeds; not where it isn't
-analysed, or rejected. Verdicts of one inventory have no MACHINE. The status is 2, and nothing is written, where a side isn't whole.
+be another verdict, since pages of the dictionary or of the match feed are missing. Behind an AFTER that a user settled stands the reason.
+What is gone without a verdict isn't mended. It is said, and the status is 1, where a machine has no items any more, and where an advisory
+was left out or isn't in the feeds; not where it isn't analysed, or rejected. Verdicts of one inventory have no MACHINE. The status is 2, and nothing is written, where a side isn't whole.
 """
 from __future__ import annotations
 
@@ -72,6 +72,8 @@ def _now(id: str, machine: Machine | None, after: Verdicts) -> tuple[str | None,
     if machine is None or not machine.has_items:
         return None, "it is no machine any more" if machine is None else "no items"
     truth = machine.truth(id)
+    if id in machine.settled:
+        return truth, machine.settled[id].words()
     if truth is None or truth == "FALSE" and after.doubts:
         return None, after.why_none(id) if truth is None else "; ".join(after.doubts)
     return truth, ""

@@ -20,8 +20,18 @@ from dataclasses import dataclass
 
 from .feeds import FormFault, Json, record_text
 
+NO_NAME = "no CPE name"
+
 _MACHINE = {"machine", "platform", "components"}
 _COMPONENT = {"id", "names", "kind", "purl"}
+
+
+@dataclass(frozen=True, slots=True)
+class Supposed:
+    """A name that a component perhaps has, and in words why that isn't sure."""
+
+    name: str
+    why: str
 
 
 @dataclass(frozen=True, slots=True)
@@ -31,12 +41,15 @@ class Component:
 
     `kind` is the type of its package URL, or what the list says in place of it: deb, rpm, apk, pypi, npm, golang, maven and so
     on. It is empty where the list doesn't say it, as the id, the names and the package URL are where there are none.
+
+    The names that it perhaps has, by its package URL, are `supposed`; naming.py puts them, and no list has them.
     """
 
     id: str = ""
     names: tuple[str, ...] = ()
     kind: str = ""
     purl: str = ""
+    supposed: tuple[Supposed, ...] = ()
 
     def called(self) -> str:
         """How it is called in words: by its id, its first name or its package URL."""
@@ -74,9 +87,17 @@ class Machine:
             yield self.platform
         yield from self.components
 
+    def asked_names(self) -> list[str]:
+        """All names, and those that components perhaps have."""
+        return [*self.items, *(one.name for component in self.components for one in component.supposed)]
+
     def own_items(self) -> list[str]:
         """The names by which a machine has items at all. Beside components, of which none may have a name, a platform is none."""
         return [name for component in self.components for name in component.names] if self.components else self.items
+
+    def own_names(self) -> list[str]:
+        """The same, with the names that components perhaps have."""
+        return [*self.own_items(), *(one.name for component in self.components for one in component.supposed)]
 
     def add(self, other: Machine) -> None:
         """Adds what another list says of the same machine. Where both say which platform it is, the first stands, and the other

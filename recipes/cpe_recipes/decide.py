@@ -12,7 +12,7 @@ possible where nothing is said, and what it makes of a range is asked of cpe.
 An end that is known in part, since its name has a pattern, may be covered by the name of the range. Then the answer is FALSE where
 all versions that its pattern begins with are outside, and else there is none.
 
-    python3 decide.py --ranges FILE.. --records FILE.. --machines FILE [--matches FILE..] [--letters FILE]
+    python3 decide.py --ranges FILE.. --records FILE.. --machines FILE [--names FILE] [--matches FILE..] [--letters FILE]
 
 The ranges are those of `advisories.sh --ranges`, the records have the entries and deprecations by which names lead on, the
 machines are a line each: a name and names of items. It writes lines of a machine, the id of a check, and TRUE or FALSE, with
@@ -25,19 +25,20 @@ from collections.abc import Collection, Iterable, Iterator, Mapping, Sequence
 from dataclasses import dataclass, field, replace
 from pathlib import Path
 
-from . import matches, names, whole
+from . import hints, matches, names, whole
 from .advisories import MATCH, SYSTEM, Range, is_bound
 from .called import Called, Sure
-from .components import Machine
+from .components import Component, Machine
 from .feeds import FeedFault, FormFault, name_of, read_feed, record_text, text_lines, values_of
 from .machines import read_machines
+from .naming import name_machines, read_names
 from .program import Program
 from .readings import without_v
 from .said import Fatal, Output, Said
 from .versions import Letters, Standing, Upward, is_outside_from, plain_standing, read_letters, standing, sure_beginning
 from .words import MANY, ONE, read_words
 
-USAGE = "decide.py --ranges FILE.. --records FILE.. --machines FILE [--matches FILE..] [--letters FILE]"
+USAGE = "decide.py --ranges FILE.. --records FILE.. --machines FILE [--names FILE] [--matches FILE..] [--letters FILE]"
 LETTERS = str(Path(__file__).resolve().parents[1] / "letters.txt")
 
 # The edits by which names lead on. (Where such a word stands in a text, its quotes have a backslash.)
@@ -59,13 +60,15 @@ Stand = bool | str | Backported
 @dataclass(frozen=True)
 class Lead:
     """What the dictionary makes of a name: how cpe writes it, whether it is an entry there, the ends it leads to, and the names on
-    the way, itself among them; and of an item the kind of its component, if its list says it."""
+    the way, itself among them; and of an item the kind of its component, if its list says it, and in words why it only perhaps has
+    this name, empty where it has it."""
 
     name: str
     is_entry: bool
     ends: tuple[str, ...]
     steps: tuple[str, ...] = ()
     kind: str = ""
+    why: str = ""
 
     def is_removed(self) -> bool:
         """Whether it leads nowhere, since a name was removed from the dictionary."""
@@ -187,6 +190,8 @@ class Decider:
         # (of each end the ranges of plain criteria that cover it, and whether it is inside by cpe)
         self._covering: dict[str, tuple[_End, list[tuple[Range, bool]]]] = {}
         self._others: dict[str, dict[str, Stand]] = {}
+        # (of each end that is known in part the ranges whose facts may cover it)
+        self._may_cover: dict[str, list[Range]] = {}
         self._stands: dict[tuple[str, str], dict[str, Stand]] = {}
         self.criteria: dict[str, str] = {}
         sure: list[str] = []
@@ -228,6 +233,8 @@ class Decider:
             if covered is not None:
                 for one, is_inside in covered[1]:
                     found[one.key] = self._stand(covered[0], kind, one, is_inside)
+            for one in self._may_cover.get(end, ()):
+                found[one.key] = False if self._is_outside(end, one, kind) else "it is known in part"
         return found
 
     def _put(self, end: str, key: str, stand: Stand) -> None:
@@ -271,10 +278,10 @@ class Decider:
         _, may_be = items_met(self._program, ends, dict.fromkeys(one.criteria for one in ranges))
         for one in ranges:
             for end in may_be[one.criteria]:
-                self._put(end, one.key, False if self._is_outside(end, one) else "it is known in part")
+                self._may_cover.setdefault(end, []).append(one)
 
-    def _is_outside(self, end: str, one: Range) -> bool:
-        """Whether an end that is known in part is outside a range, whichever it is."""
+    def _is_outside(self, end: str, one: Range, kind: str) -> bool:
+        """Whether an end that is known in part, of a component of this kind, is outside a range, whichever it is."""
         parts, product = names.components(end), names.product_of(end)
         if not all(map(names.is_plain, product)) or self._letters.has(product) and names.product_of(one.criteria) != product:
             return False
@@ -282,7 +289,7 @@ class Decider:
         if version is not None:
             upward = Upward(self._letters, product) if self._letters.has(product) else None
             update = parts[names.UPDATE] if parts[names.UPDATE] not in (names.ANY, names.NA) else None
-            return standing(version, update, one, upward=upward).standing is Standing.OUTSIDE
+            return standing(version, update, one, kind, upward).standing is Standing.OUTSIDE
         text = names.beginning(parts[names.VERSION])
         if text is None:
             return False
@@ -502,7 +509,17 @@ def _put_doubted(decided: Decided, one: Called, stands: Mapping[str, Stand], cri
 
 def led(lead: Lead) -> list[Called]:
     """An item by its name as it stands, and as it leads on."""
-    return [Called(name, lead.name, name, Sure.SURELY, kind=lead.kind) for name in dict.fromkeys((lead.name, *lead.ends))]
+    found = [Called(name, lead.name, name, Sure.SURELY, lead.why, kind=lead.kind) for name in dict.fromkeys((lead.name, *lead.ends))]
+    return [one.as_told() for one in found]
+
+
+def leads_in(leads: Leads, component: Component) -> list[Lead]:
+    """Where the names of a component lead, each once, however it is spelled: those that it has, and then those that it perhaps has."""
+    found = {lead.name: lead for name in component.names if (lead := leads.found.get(name))}
+    kind = component.kind
+    sure = [replace(lead, kind=kind) if kind else lead for lead in found.values()]
+    perhaps = {lead.name: replace(lead, kind=kind, why=one.why) for one in component.supposed if (lead := leads.found.get(one.name))}
+    return [*sure, *(lead for lead in perhaps.values() if lead.name not in found)]
 
 
 def check_record(key: str, is_true: bool) -> str:
@@ -546,7 +563,7 @@ def read_entries(paths: Sequence[str]) -> list[str]:
 
 
 def run(words: Sequence[str]) -> int:
-    options = {"--ranges": MANY, "--records": MANY, "--machines": ONE, "--matches": MANY, "--letters": ONE}
+    options = {"--ranges": MANY, "--records": MANY, "--machines": ONE, "--names": ONE, "--matches": MANY, "--letters": ONE}
     read = read_words(words, options, USAGE)
     machines_path = read.one("--machines")
     if read.files or machines_path is None or not read.has("--ranges") or not read.has("--records"):
@@ -554,29 +571,30 @@ def run(words: Sequence[str]) -> int:
     said, output, program = Said(), Output(), Program()
     ranges, records = read_ranges(read.many("--ranges"), said), read_entries(read.many("--records"))
     machines = read_machines(machines_path, said)
+    unnamed = name_machines(machines, read_names(read.many("--names"), machines), records)
+    unnamed.tell(said, hints.unlisted(read))
     feed = whole.pages(read.many("--matches"), said, matches.KINDS, strict=True) if read.has("--matches") else []
     lists = Lists(program, matches.listed(feed, ranges.keys(), said))
-    items = {item: None for machine in machines for item in machine.items}
+    items = {name: None for machine in machines for name in machine.asked_names()}
     leads = leads_of(program, records, items, (one.criteria for one in ranges.values()))
-    ends = [one.name for item in items if item in leads.found for one in led(leads.found[item])]
+    called = {machine.name: [one for lead in _leads_of_machine(machine, leads, said) for one in led(lead)] for machine in machines}
+    ends = [one.name for of_machine in called.values() for one in of_machine]
     decider = Decider(program, ranges.values(), leads, ends, read_letters(read.one("--letters") or LETTERS))
     for one in ranges.values():
         if one.criteria in leads.refused:
             said.left_out(one.key, f"{leads.refused[one.criteria]}: {one.criteria}")
     for machine in machines:
-        called = [one for lead in _leads_of_machine(machine, leads, said) for one in led(lead)]
-        _write(machine, decide(called, decider, lists), ranges, output, said)
+        _write(machine, decide(called[machine.name], decider, lists), ranges, output, said)
     output.end()
     return said.status()
 
 
 def _leads_of_machine(machine: Machine, leads: Leads, said: Said) -> list[Lead]:
     """Where the items of a machine lead; what is no item is said."""
-    for item in machine.items:
+    for item in machine.asked_names():
         if item in leads.refused:
             said.left_out(machine.name, f"{leads.refused[item]}: {item}")
-    named = ((name, component.kind) for component in machine.all() for name in component.names)
-    return [replace(leads.found[name], kind=kind) for name, kind in named if name in leads.found]
+    return [lead for component in machine.all() for lead in leads_in(leads, component)]
 
 
 def _write(machine: Machine, decided: Decided, ranges: Mapping[str, Range], output: Output, said: Said) -> None:

@@ -262,6 +262,11 @@ def record_text(record: Json) -> str:
     return text if text.isprintable() else json_shown(text)
 
 
+def json_text(value: Json) -> str:
+    """The JSON of a result, in lines that people can read."""
+    return json_shown(json.dumps(value, ensure_ascii=False, indent=1))
+
+
 def json_shown(text: str) -> str:
     """A text of JSON as a terminal shows it: what can't be printed is spelled by its number, as JSON has it. Ends of lines stay."""
     # (half a character of two, which JSON can spell, has no bytes)

@@ -3,10 +3,10 @@
 from __future__ import annotations
 
 import json
-from collections.abc import Iterator, Sequence
-from dataclasses import dataclass, field, replace
+from collections.abc import Iterator, Mapping, Sequence
+from dataclasses import dataclass, field
 
-from . import decide, matches, unlisted, whole
+from . import decide, hints, matches, unlisted, whole
 from .advisories import Range
 from .asked import Negated, asked_of, facts_of
 from .called import Called, Sure
@@ -14,16 +14,36 @@ from .calling import Calling, Wanted, listed_by_name
 from .components import Machine
 from .feeds import FeedFault, name_of, read_feed, record_text
 from .machines import read_machines
+from .naming import name_machines, read_names
 from .negations import Negations, has_hardware
 from .program import Program
 from .said import Fatal, Said
 from .session import Asked, Known
 from .versions import read_letters
-from .words import FLAG, MANY, ONE, Words
+from .words import FLAG, MANY, ONE, Words, read_words
 
-OPTIONS = {"--ranges": ONE, "--matches": MANY, "--letters": ONE, "--decided": ONE, "--strict": FLAG, "--hardware": ONE}
-USAGE = "RECORDS MACHINES [--strict] [--hardware none] [--ranges FILE [--letters FILE] [--matches FILE..] | --decided FILE]"
+OPTIONS = {"--ranges": ONE, "--matches": MANY, "--letters": ONE, "--decided": ONE, "--names": ONE, "--strict": FLAG, "--hardware": ONE}
+USAGE = "RECORDS MACHINES [--names FILE] [--strict] [--hardware none] [--ranges FILE [--letters FILE] [--matches FILE..] | --decided FILE]"
 MACHINES_MISSING = 5
+# What other recipes do with the truths that a fleet writes.
+_OVER_IT = "affected.sh and report.py take it for what a fleet wrote"
+_ELSEWHERE = {
+    **dict.fromkeys(("--suppress", "--settled", "--kev", "--epss"), _OVER_IT),
+    "--fail-on": "scan.py takes it",
+    "--since": "scan.py takes it; changes.sh compares what fleets wrote",
+    "--format": "scan.py takes it",
+}
+
+
+def read_fleet_words(words: Sequence[str], options: Mapping[str, int], usage: str) -> Words:
+    """The words of a fleet. Fatal where one is an option of another recipe alone, since a fleet writes truths and nothing else."""
+    found = next((word for word in words if word in _ELSEWHERE), None)
+    if found is not None:
+        raise Fatal(f"{found} is no option of a fleet, which writes truths alone: {_ELSEWHERE[found]}")
+    read = read_words(words, options, usage)
+    if len(read.files) != 2:
+        raise Fatal(f"usage: {usage}")
+    return read
 
 
 def read_text(path: str) -> str:
@@ -184,7 +204,9 @@ class _Names:
         self, program: Program, words: Words, records: Records, ranges: dict[str, Range], machines: list[Machine], said: Said
     ) -> None:
         entries = decide.read_entries([words.files[0]])
-        items = dict.fromkeys(item for machine in machines for item in machine.items)
+        hint = hints.command("unlisted.sh", [*words.files, *hints.table_words(words)])
+        name_machines(machines, read_names(words.many("--names"), machines), entries).tell(said, hint)
+        items = dict.fromkeys(name for machine in machines for name in machine.asked_names())
         facts = dict.fromkeys([*records.facts, *(one.criteria for one in ranges.values())])
         self.leads = decide.leads_of(program, entries, items, dict.fromkeys([*facts, *unlisted.deprecated_names(entries)]))
         self._successors = unlisted.successors(entries, self.leads)
@@ -207,9 +229,13 @@ class _Names:
         return {item: self.leads.found[item] for item in dict.fromkeys(machine.items) if item not in self.leads.refused}
 
     def put(self, machine: Machine) -> list[str]:
-        """The names that are put as its items: all, or those of its components where none of these is an item."""
+        """The names that are put as its items: all, or those of its components where none of these is an item. If components only
+        perhaps have names, these are put as names that are known in part."""
         own = machine.own_items()
-        return machine.items if any(item in self.leads.found for item in own) else own
+        if any(item in self.leads.found for item in own):
+            return machine.items
+        perhaps = [lead for leads in self._components[machine.name] for lead in leads if lead.why]
+        return [*machine.items, *(one.name for lead in perhaps for one in decide.led(lead))] if perhaps else own
 
     def called(self, machine: Machine) -> list[Called]:
         found = self._calling.of_components(self._components[machine.name])
@@ -217,9 +243,7 @@ class _Names:
 
     def _leads_of(self, machine: Machine) -> Iterator[list[decide.Lead]]:
         """Where the names of its components lead."""
-        for one in machine.all():
-            leads = {lead.name: lead for name in one.names if (lead := self.leads.found.get(name))}
-            yield [replace(lead, kind=one.kind) for lead in leads.values()]
+        return (decide.leads_in(self.leads, one) for one in machine.all())
 
     def decided(self, machine: Machine, called: Sequence[Called], before: Decided | None) -> decide.Decided:
         """What is decided of a machine; of its ranges what decide.py wrote before, where that is given."""

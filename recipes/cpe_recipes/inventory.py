@@ -1,11 +1,15 @@
-"""From software lists to an inventory: lists of CycloneDX, SPDX, Syft and Trivy as JSON, and plain lists, to records `item`.
+"""From software lists to an inventory: lists of CycloneDX, SPDX, Syft, Trivy and npm as JSON, plain lists, and what package managers
+write of what is installed, to records `item`.
 
-    sh inventory.sh [FILE..] > records
+    sh inventory.sh [--names FILE] [FILE..] > records
     sh inventory.sh --machines FILE.. > machines.txt
 
 - Of a component all names are taken that its list gives for it. lists/ has a module for each form, which says what it reads.
-- A plain list: a name in each line, in either binding; after a # that begins a line or stands after a space is a comment.
+- A plain list: a name in each line, in either binding, or a package URL; after a # that begins a line or stands after a space is a
+  comment.
 - A name that comes again, in whatever binding and letter case, is one item, and nothing is said.
+- A package URL gets the names that names.txt has for it, and those of the table of --names (names_table.py). With --machines it stays as
+  it is, and who reads the lines looks for its names, in the dictionary too (naming.py).
 
 What has no name, or none that can be an item, is said, and so is how many texts look like names and stand where none is read.
 Lists of another form are named and refused, and so is what has no item: an inventory of which nothing was read would look as if
@@ -21,24 +25,26 @@ from collections.abc import Iterator, Sequence
 from dataclasses import replace
 
 from . import lists, machines
-from .components import Component, Machine
+from .components import NO_NAME, Component, Machine
 from .decide import Leads, leads_of
 from .feeds import FeedFault, name_of, read_feed, record_text
-from .machines import NO_NAME
+from .names_table import read_tables
+from .naming import Naming
 from .program import Candidate, Program, prefix_of
 from .said import Fatal, Output, Said
-from .words import FLAG, read_words
+from .words import FLAG, ONE, read_words
 
-USAGE = "inventory.sh [--machines] [FILE..]"
+USAGE = "inventory.sh [--machines] [--names FILE] [FILE..]"
 
 
 def run(words: Sequence[str]) -> int:
-    read = read_words(words, {"--machines": FLAG}, USAGE)
+    read = read_words(words, {"--machines": FLAG, "--names": ONE}, USAGE)
     said, output, program = Said(), Output(), Program()
     if read.has("--machines"):
         output.lines(list(machine_lines(program, machines.read_lists(read.files, said), said)))
     else:
-        records = program.accepted(read_lists(read.files, said), said, unsaid="exists")
+        naming = Naming(read_tables(read.many("--names")))
+        records = program.accepted(read_lists(read.files, said, naming), said, unsaid="exists")
         if not records:
             raise Fatal("no item in any of these")
         output.lines(records)
@@ -75,20 +81,20 @@ def _taken(component: Component, machine: str, leads: Leads, said: Said) -> Comp
     return replace(component, names=tuple(names.values()))
 
 
-# By what components are the same: their names as cpe writes them, their kind, and where there is no name their id and package URL.
+# By what components are the same: their names as cpe writes them, their kind, their package URL, and where there is no name their id.
 _Key = tuple[frozenset[str], str, str, str]
 
 
 def _key(component: Component, leads: Leads) -> _Key:
     names = frozenset(leads.found[name].name for name in component.names)
-    return (names, component.kind, "", "") if names else (names, component.kind, component.id, component.purl)
+    return names, component.kind, component.purl, "" if names else component.id
 
 
 def _record(name: str) -> str:
     return record_text({"do": "item", "name": name})
 
 
-def read_lists(paths: Sequence[str], said: Said) -> list[Candidate]:
+def read_lists(paths: Sequence[str], said: Said, naming: Naming | None = None) -> list[Candidate]:
     """The candidates of software lists, of standard input where there is no path. One that can't be read is said, and the
     others still come out; where there is none that can, it is Fatal."""
     found: list[Candidate] = []
@@ -97,10 +103,13 @@ def read_lists(paths: Sequence[str], said: Said) -> list[Candidate]:
     for path in everything:
         feed = name_of(path)
         try:
-            candidates = list(candidates_of(feed, read_feed(path)))
+            listed = lists.read(feed, read_feed(path))
         except FeedFault as fault:
             faults.append((feed, str(fault)))
             continue
+        for remark in listed.remarks:
+            said.remark(remark)
+        candidates = list(candidates_of(listed, naming))
         found.extend(candidates)
         if not any(one.record for one in candidates):
             faults.append((feed, "no item in it"))
@@ -113,15 +122,16 @@ def read_lists(paths: Sequence[str], said: Said) -> list[Candidate]:
     return found
 
 
-def candidates_of(feed: str, data: bytes) -> Iterator[Candidate]:
-    """What the names of a software list become, which has this base name and these bytes. The names of a platform are none where
-    no component has a name: beside nothing but them all would look as if it weren't affected."""
-    listed = lists.read(feed, data)
-    has_items = bool(Machine("", listed.components(), listed.platform).own_items())
-    for one in listed.all():
+def candidates_of(listed: lists.Listed, naming: Naming | None = None) -> Iterator[Candidate]:
+    """What the names of a software list become. The names of a platform are none where no component has a name: beside nothing but
+    them all would look as if it weren't affected."""
+    parts = [one if isinstance(one, lists.Odd) or naming is None or one is listed.platform else naming.put(one) for one in listed.all()]
+    components = [one for one in parts if isinstance(one, Component) and one is not listed.platform]
+    has_items = bool(Machine("", components, listed.platform).own_items())
+    for one in parts:
         if isinstance(one, lists.Odd):
             yield Candidate(one.id, reason=one.reason)
         elif not one.names:
-            yield Candidate(one.id, reason=NO_NAME)
+            yield Candidate(one.id, reason=NO_NAME if not one.supposed else f"{NO_NAME} that is sure: {one.supposed[0].why}")
         elif has_items:
             yield from (Candidate(one.id, _record(name)) for name in one.names)

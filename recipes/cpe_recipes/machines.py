@@ -4,11 +4,9 @@ from __future__ import annotations
 from collections.abc import Sequence
 
 from . import lists
-from .components import Machine, machine_of
+from .components import NO_NAME, Machine, machine_of
 from .feeds import FeedFault, FormFault, name_of, read_feed, values_of
 from .said import Fatal, Said, shown
-
-NO_NAME = "no CPE name"
 
 _ENDINGS = (".gz", ".json", ".txt", ".cdx", ".spdx")
 
@@ -17,7 +15,7 @@ def read_machines(path: str, said: Said) -> list[Machine]:
     """The machines of a file with a line for each, in either form.
 
     Of the plain form, spaces may be several, and tabs; line ends may be those of Windows; an empty line is none. A name that comes
-    again is the same machine, and has the items of both lines. A component without a name is said. Fatal where a line that
+    again is the same machine, and has the items of both lines. A component without a name or a package URL is said. Fatal where a line that
     begins with `{` is no machine, and where there is no machine at all.
     """
     try:
@@ -31,7 +29,7 @@ def read_machines(path: str, said: Said) -> list[Machine]:
             _put(machines, machine, said)
     for machine in machines.values():
         for one in machine.all():
-            if not one.names:
+            if not one.names and (not one.purl or one is machine.platform):
                 said.left_out(f"{machine.name} {one.called()}", NO_NAME)
     if not machines:
         raise Fatal(f"{name_of(path)}: no machine in it")
@@ -53,8 +51,8 @@ def _machine(line: bytes, where: str) -> Machine | None:
 
 
 def read_lists(paths: Sequence[str], said: Said) -> list[Machine]:
-    """A machine for each software list, which is called as its file is. What was not read of it, and what has no name there, is
-    said. Fatal where a list can't be read, or has nothing in it."""
+    """A machine for each software list, which is called as its file is. What was not read of it, and what has neither a name nor a
+    package URL there, is said. Fatal where a list can't be read, or has nothing in it."""
     machines: dict[str, Machine] = {}
     for path, called in zip(paths, _names_of_lists(paths)):
         feed = name_of(path)
@@ -63,12 +61,14 @@ def read_lists(paths: Sequence[str], said: Said) -> list[Machine]:
         except FeedFault as fault:
             raise Fatal(f"{feed}: {fault}") from fault
         parts = list(listed.all())
+        for remark in listed.remarks:
+            said.remark(remark)
         if not parts:
             raise Fatal(f"{feed}: nothing is in it")
         for one in parts:
             if isinstance(one, lists.Odd):
                 said.left_out(f"{called} {one.id}", one.reason)
-            elif not one.names:
+            elif not one.names and (not one.purl or one is listed.platform):
                 said.left_out(f"{called} {one.called()}", NO_NAME)
         _put(machines, Machine(called, listed.components(), listed.platform), said)
     if not machines:

@@ -85,13 +85,15 @@ class Negations:
         elif near and not any(
             all(self._is_met(one, lead) for lead in leads) for it in near for leads in by_name.get(it.name, ())
         ):
-            words = "; ".join(dict.fromkeys(self._words(one, it) for it in near))
+            words = "; ".join(dict.fromkeys(words for it in near if (words := self._words(one, it))))
             decided.unsure[one.key] = Unsure(one.key, "", words)
         else:
             decided.truths[one.key] = bool(near)
 
     def _is_met(self, one: Negated, lead: Lead) -> bool:
         """Whether a name surely meets it, both as it stands and as it leads on."""
+        if lead.why:
+            return False
         ends = self._ends[one.key]
         if one.range is not None and ends != (self._facts[one.key],):
             return False

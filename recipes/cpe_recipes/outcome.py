@@ -11,6 +11,7 @@ from .cases import Known, Product, Statement
 from .components import Machine
 from .decide import Decided, Lead
 from .feeds import Json
+from .naming import Unnamed
 from .said import Said
 from .table import counted
 
@@ -65,7 +66,7 @@ class Found:
                     self.backported[place] = list(dict.fromkeys(remarks))
 
     def has_items(self) -> bool:
-        return bool(self.leads)
+        return bool(self.components)
 
     def places_of(self, truth: str) -> list[int]:
         """The places of the statements that were asked for and are so, in order."""
@@ -141,13 +142,14 @@ def machines_with_verdicts(known: Known, bare: Sequence[str], found: Iterable[Fo
 
 
 def tell_items(
-    found: Iterable[Found], refused: Mapping[str, str], successors: Mapping[Product, Sequence[Product]], said: Said
+    found: Iterable[Found], refused: Mapping[str, str], successors: Mapping[Product, Sequence[Product]], said: Said, hint: str
 ) -> None:
-    """Says of the items what the verdicts don't show: what is none, and what the dictionary doesn't lead on."""
+    """Says of the items what the verdicts don't show: what is none, and what the dictionary doesn't lead on. `hint` is the command that
+    lists what isn't there."""
     strange, where = set(), set()
     for one in found:
         name = one.machine.name
-        for item in dict.fromkeys(one.machine.items):
+        for item in dict.fromkeys(one.machine.asked_names()):
             if item in refused:
                 said.left_out(name, f"{refused[item]}: {item}")
         if not one.has_items():
@@ -165,13 +167,17 @@ def tell_items(
                 where.add(name)
     if strange:
         items, machines = counted(len(strange), "item"), counted(len(where), "machine")
-        said.remark(f"not in the dictionary: {items}, on {machines}; unlisted.sh lists them")
+        said.hint(f"not in the dictionary: {items}, on {machines}", hint)
 
 
-def json_of(known: Known, found: Sequence[Found], machines: Sequence[verdicts.Machine], about: affected.About) -> dict[str, Json]:
-    """The result as one value, with the verdicts that the machines show."""
+def json_of(
+    known: Known, found: Sequence[Found], machines: Sequence[verdicts.Machine], about: affected.About, unnamed: Unnamed | None = None
+) -> dict[str, Json]:
+    """The result as one value, with the verdicts that the machines show, and the packages that have no sure name."""
     parts = _parts(known)
     of_machines = [_machine_json(one, machine, about, parts) for one, machine in zip(found, machines)]
+    for row in of_machines if unnamed is not None else ():
+        row |= unnamed.json(row["name"])
     advisories_of = verdicts.Statements([statement.id for statement in known.statements]).advisories
     return {"advisories": len(advisories_of), "machines": of_machines}
 
@@ -196,23 +202,26 @@ def _machine_json(
     return row
 
 
-def _decided_json(one: Found, truth: str, places: Iterable[int]) -> dict[str, Json]:
+def _decided_json(one: Found, truth: str, places: Sequence[int]) -> dict[str, Json]:
     """Which items make it TRUE, in words, where it was asked for."""
-    if truth != "TRUE" or one.deciding is None:
+    if truth != "TRUE" or one.deciding is None or not any(place in one.deciding for place in places):
         return {}
     return {"decidedBy": list(dict.fromkeys(reason for place in places for reason in one.deciding.get(place, ())))}
 
 
 def _in_order(machine: verdicts.Machine, about: affected.About) -> list[tuple[str, str]]:
     """What is shown, in the order of the table."""
-    return sorted(machine.shown.items(), key=lambda row: (machine.rank(row[0]), -about.told(row[0]).score))
+    return sorted(machine.shown.items(), key=lambda row: (machine.rank(row[0]), about.told(row[0]).order))
 
 
 def _verdict_json(id: str, truth: str, machine: verdicts.Machine, about: affected.About) -> dict[str, Json]:
     known = {key: value for key, value in about.details.get(id, {}).items() if key != "id"}
-    row: dict[str, Json] = {"id": id, "verdict": truth, **known}
-    if truth == "UNKNOWN":
+    row: dict[str, Json] = {"id": id, "verdict": truth, **known, **about.threats.json(id)}
+    settled = machine.settled.get(id)
+    if truth == "UNKNOWN" or settled is not None and settled.before == "UNKNOWN":
         row["hangsOn"] = about.hanging.on(id, machine.name)
+    if settled is not None:
+        row |= {"settled": settled.reason, "before": settled.before}
     remarks = about.hanging.remarks(id, machine.name) if truth == "TRUE" else []
     if remarks:
         row["remarks"] = remarks

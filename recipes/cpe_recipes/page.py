@@ -10,7 +10,7 @@ from collections.abc import Iterator, Sequence
 from dataclasses import dataclass
 
 from .said import shown
-from .scanned import ACCEPTED, GROUPS, NO_ITEMS, Advisory, Machine, Row, Scanned
+from .scanned import ACCEPTED, BY_PEOPLE, GROUPS, NO_ITEMS, SETTLED, Advisory, Machine, Row, Scanned
 
 # Of how many rows a page stands open when it is opened.
 MOST_OPEN = 300
@@ -21,6 +21,7 @@ _MEANINGS = {
     "ERROR": "a check came to no result",
     "UNKNOWN": "the feeds and lists don't tell",
     ACCEPTED: "someone accepted it, with a reason",
+    SETTLED: "someone settled it as FALSE, with a reason",
     "FALSE": "not affected; not listed here",
 }
 # From which scores on they are called so; of the others nothing is known.
@@ -54,7 +55,8 @@ def page(scanned: Scanned, parts: Parts, changed: Sequence[str] | None = None) -
     if rows:
         yield _filter()
         number = _advisory_count(len(scanned.advisories))
-        yield f'<section id="advisories"><h2>Advisories <small>{number}, highest score first</small></h2>\n'
+        first = "known exploited first, then the highest score" if any(one.exploited for one in scanned.advisories) else "highest score first"
+        yield f'<section id="advisories"><h2>Advisories <small>{number}, {first}</small></h2>\n'
         for advisory in scanned.advisories:
             yield from _advisory(advisory, is_open=rows <= MOST_OPEN)
         yield "</section>\n"
@@ -141,7 +143,7 @@ def _open(is_open: bool) -> str:
 def _numbers(counts: Counter[str]) -> Iterator[str]:
     yield '<ul class="numbers">\n'
     for group in (*GROUPS, "FALSE"):
-        if group != ACCEPTED or counts[group]:
+        if group not in BY_PEOPLE or counts[group]:
             yield f'<li class="{group}"><b>{counts[group]:,}</b> {group}<small>{_MEANINGS[group]}</small>\n'
     yield "</ul>\n"
 
@@ -185,6 +187,7 @@ def _score(score: float | None) -> str:
 def _advisory(advisory: Advisory, is_open: bool) -> Iterator[str]:
     parts = [f'<span class="{group}">{len(rows):,} {group}</span>' for group, rows in advisory.rows.items() if rows]
     yield f'<details class="advisory"{_open(is_open)}><summary>{_score(advisory.score)}<b class="id">{text(advisory.id)}</b>'
+    yield '<span class="exploited">known exploited</span>' if advisory.exploited else ""
     yield f'<span class="counts">{" ".join(parts)}</span><bdi class="title">{text(advisory.title)}</bdi></summary>\n'
     yield from _about(advisory)
     for group, rows in advisory.rows.items():
@@ -199,6 +202,8 @@ def _advisory(advisory: Advisory, is_open: bool) -> Iterator[str]:
 
 def _about(advisory: Advisory) -> Iterator[str]:
     about = [text(advisory.severity), f"published {text(advisory.published[:10])}" if advisory.published else ""]
+    about.append(f"known exploited since {text(advisory.exploited)}" if advisory.exploited else "")
+    about.append("" if advisory.epss is None else f"EPSS {advisory.epss:.5f}")
     if advisory.url.startswith(("https://", "http://")):
         about.append(f'<a href="{text(advisory.url)}" rel="noreferrer">{text(advisory.url)}</a>')
     elif advisory.url:
@@ -241,6 +246,7 @@ def _counts(machine: Machine, is_cut_short: bool) -> Iterator[str]:
         (machine.unlisted, "not in the dictionary"),
         (machine.removed, "under a removed name"),
         (machine.perhaps, "perhaps meant"),
+        (machine.nameless, "without a name, so not asked for"),
     ):
         if number:
             yield f"{number:,} {what}"

@@ -11,6 +11,9 @@ What is asked of a machine is what `scan.py` asks: all statements over the names
 whatever their mode says, and what a list doesn't say is UNKNOWN; with --strict an item that says less than an advisory asks for isn't
 what that names. Which items the dictionary doesn't lead on is remarked.
 
+A fleet writes truths alone, so it has no gates, and no forms but its own. `affected.sh` and `report.py` take --kev and --epss for what it
+wrote; --fail-on, --since and --format are of `scan.py`.
+
 It writes a line `MACHINE STATEMENT TRUTH` for each, in the order of the machines and of the statements, and `MACHINE no items`
 for a machine without items, of which nothing is known. The last line, `machines COUNT`, stands where every machine was told.
 
@@ -27,16 +30,12 @@ from pathlib import Path
 from . import fleet, worker, workers
 from .feeds import text_lines
 from .program import Program
-from .said import Fatal, Said, room, write_all
+from .said import Said, room, write_all
 from .session import Asked
-from .words import read_words
 
 
 def run(words: Sequence[str]) -> int:
-    usage = f"parallel.sh {fleet.USAGE}"
-    given = read_words(words, fleet.OPTIONS, usage)
-    if len(given.files) != 2:
-        raise Fatal(f"usage: {usage}")
+    given = fleet.read_fleet_words(words, fleet.OPTIONS, f"parallel.sh {fleet.USAGE}")
     workers.needs_parallel()
     said, program = Said(), Program()
     asked = fleet.read_fleet(program, given, said)

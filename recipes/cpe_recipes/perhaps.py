@@ -1,6 +1,6 @@
 """Which items perhaps are what an advisory names, though they know less than it asks for.
 
-    sh perhaps.sh RECORDS MACHINES [--ranges FILE [--letters FILE]]
+    sh perhaps.sh RECORDS MACHINES [--names FILE] [--ranges FILE [--letters FILE]]
 
 RECORDS are those of a dictionary and of advisories, and MACHINES a line a machine: its name, and after it the names of its
 items. It writes, for each fact of a statement and each item of the same vendor and product whose name covers that of the fact
@@ -21,20 +21,21 @@ import json
 from collections.abc import Iterable, Iterator, Mapping, Sequence
 from dataclasses import dataclass
 
-from . import names
+from . import hints, names
 from .advisories import MATCH, SYSTEM, Range, base_id
 from .components import Machine
 from .decide import LETTERS, Decider, Lead, Leads, leads_of, read_entries, read_ranges
 from .feeds import Json
 from .fleet import read_text
 from .machines import read_machines
+from .naming import name_machines, read_names
 from .program import Program
 from .said import Fatal, Output, Said, shown
 from .unlisted import say_items
 from .versions import Letters, read_letters
 from .words import ONE, read_words
 
-USAGE = "perhaps.sh RECORDS MACHINES [--ranges FILE [--letters FILE]]"
+USAGE = "perhaps.sh RECORDS MACHINES [--names FILE] [--ranges FILE [--letters FILE]]"
 
 
 @dataclass(frozen=True)
@@ -59,16 +60,18 @@ class Pair:
 
 
 def run(words: Sequence[str]) -> int:
-    read = read_words(words, {"--ranges": ONE, "--letters": ONE}, USAGE)
+    read = read_words(words, {"--ranges": ONE, "--letters": ONE, "--names": ONE}, USAGE)
     if len(read.files) != 2:
         raise Fatal(f"usage: {USAGE}")
     said, output, program = Said(), Output(), Program()
     records, machines = read_entries(read.files[:1]), read_machines(read.files[1], said)
+    hint = hints.command("unlisted.sh", [*read.files, *hints.table_words(read)])
+    name_machines(machines, read_names(read.many("--names"), machines), records).tell(said, hint)
     facts = facts_of(read_text(read.files[0]).split("\n"))
     if not facts:
         raise Fatal("no facts of statements in the records")
     ranges, letters = read_ranges(read.many("--ranges"), said), read_letters(read.one("--letters") or LETTERS)
-    items = dict.fromkeys(item for machine in machines for item in machine.items)
+    items = dict.fromkeys(name for machine in machines for name in machine.asked_names())
     leads = leads_of(program, records, items, (fact.name for fact in facts))
     say_items(machines, leads, said)
     pairs = Pairs(program, facts, leads, ranges, letters)

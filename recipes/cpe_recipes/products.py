@@ -1,4 +1,6 @@
-"""Advisories of the products that the machines have: sh products.sh --machines FILE [--records FILE] [--partial] [--large] [FILE..] > page.
+"""Advisories of the products that the machines have.
+
+    sh products.sh --machines FILE [--records FILE] [--names FILE] [--partial] [--large] [FILE..] > page
 
 `cpe` takes 100,000 statements; NVD has more advisories. This cuts its feeds (the JSON of /rest/json/cves/2.0) down to the
 advisories that could be other than FALSE on some machine, as one page of the same form, for `advisories.sh` or `scan.py`. An
@@ -15,29 +17,36 @@ from __future__ import annotations
 
 from collections.abc import Iterable, Iterator, Sequence
 
-from . import latest, names, whole
+from . import hints, latest, names, whole
 from .advisories import KINDS, Configuration
 from .decide import Leads, leads_of, read_entries
 from .feeds import FormFault, Json, Page, member, members, record_text, text_at
 from .machines import read_machines
+from .naming import name_machines, read_names
 from .program import Program
 from .said import Fatal, Output, Said
 from .unanalysed import REJECTED, States
 from .unlisted import Product, deprecated_names, say_items, successors
 from .words import ONE, read_words
 
-USAGE = "products.sh --machines FILE [--records FILE] [--partial] [--large] [FILE..]"
+USAGE = "products.sh --machines FILE [--records FILE] [--names FILE] [--partial] [--large] [FILE..]"
 MOST_STATEMENTS = 100_000
 
 
 def run(words: Sequence[str]) -> int:
-    read = read_words(words, {"--machines": ONE, "--records": ONE, **whole.OPTIONS}, USAGE)
+    read = read_words(words, {"--machines": ONE, "--records": ONE, "--names": ONE, **whole.OPTIONS}, USAGE)
     machines_path = read.one("--machines")
     if machines_path is None:
         raise Fatal(f"usage: {USAGE}")
     said, output, program = Said(), Output(), Program()
     records, machines = read_entries(read.many("--records")), read_machines(machines_path, said)
-    items = dict.fromkeys(item for machine in machines for item in machine.items)
+    unnamed = name_machines(machines, read_names(read.many("--names"), machines), records)
+    if read.has("--records"):
+        unnamed.tell(said, hints.unlisted(read))
+    else:
+        # (which products these may be, the dictionary alone knows)
+        unnamed.leave_out(said)
+    items = dict.fromkeys(name for machine in machines for name in machine.asked_names())
     leads = leads_of(program, records, items, deprecated_names(records))
     say_items(machines, leads, said)
     wanted = products_of(leads, items, records)

@@ -1,13 +1,13 @@
 """One page to look at, of what `scan.py --json` wrote, or a fleet, or `cpe evaluate`.
 
-    python3 report.py [--title TEXT] [--before FILE] [--details FILE] [--suppress FILE] [--records FILE] [--ranges FILE] [--decided FILE]
-        [FILE] > page.html
+    python3 report.py [--title TEXT] [--before FILE] [--details FILE] [--suppress FILE] [--settled FILE] [--records FILE]
+        [--ranges FILE] [--decided FILE] [--kev FILE] [--epss FILE] [FILE] > page.html
 
 It is one file of HTML without outside parts: it opens from a disk, on a telephone too, in light and in dark, and loads nothing.
-What was left out stands at its top, then how many rows there are of each verdict, then the advisories by their scores, each with
-the machines on which it isn't FALSE and what that hangs on where it is known, then the machines with their counts. The filter
-looks at texts, machines and verdicts; without scripts it is all that is missing. It stands in the address too, as
-`page.html#q=openssl&machine=web-1&truth=UNKNOWN`.
+At its top is what was left out, and how many rows there are of each verdict. Then follow the advisories: known exploited ones first if the
+verdicts have that, and then by their scores. Each has the machines on which it isn't FALSE, and what that depends on if it is known. The
+last part are the machines with their counts. The filter looks at texts, machines and verdicts; without scripts it is all that is missing.
+It is in the address too, as `page.html#q=openssl&machine=web-1&truth=UNKNOWN`.
 
 - --title: what stands above the page, such as whose machines these are and the day.
 - --before: verdicts of an earlier day, in the same form. What changed since stands on the page as `changes.sh` writes it, with the reason
@@ -22,17 +22,19 @@ from __future__ import annotations
 from collections.abc import Iterable, Sequence
 from pathlib import Path
 
-from . import affected, changes
+from . import affected, changes, verdicts
 from .feeds import FeedFault, name_of, read_feed
 from .page import Parts, page
 from .progress import Progress
 from .said import Fatal, Said, why, write_all
-from .scanned import ACCEPTED, NO_ITEMS, Advisory, Machine, Row, Scanned, in_order, scanned_of
+from .scanned import NO_ITEMS, Advisory, Machine, Row, Scanned, grouped, in_order, scanned_of
+from .settled import read_settled
 from .verdicts import Verdicts, verdicts_of
 from .words import ONE, Words, read_words
 
 USAGE = (
-    "report.py [--title TEXT] [--before FILE] [--details FILE] [--suppress FILE] [--records FILE] [--ranges FILE] [--decided FILE] [FILE]"
+    "report.py [--title TEXT] [--before FILE] [--details FILE] [--suppress FILE] [--settled FILE] [--records FILE] [--ranges FILE] "
+    "[--decided FILE] [--kev FILE] [--epss FILE] [FILE]"
 )
 TITLE = "Advisories by machine"
 # Of lines that are alike, and of bytes that are written at once.
@@ -99,20 +101,21 @@ class _Gathered(Said):
         """(what changed tells it)"""
 
 
-def _of_fleet(verdicts: Verdicts, read: Words) -> Scanned:
+def _of_fleet(told: Verdicts, read: Words) -> Scanned:
     """The verdicts of a fleet, or of one inventory, as a page shows them."""
     gathered = _Gathered()
     about = affected.about_of(read, gathered)
+    read_settled(read.many("--settled"), gathered).settle(told.machines, gathered)
     advisories: dict[str, Advisory] = {}
     machines = []
-    for found in verdicts.machines:
+    for found in told.machines:
         machine = Machine(found.name or "this inventory", None, found.has_items)
         for id, truth in found.shown.items():
-            if truth != "FALSE":
-                _note(advisories.setdefault(id, _advisory(id, about)), machine, found.name, truth, about)
+            if truth != "FALSE" or id in found.settled:
+                _note(advisories.setdefault(id, _advisory(id, about)), machine, found, truth, about)
         machines.append(machine)
-    affected.tell_left_out(verdicts, about, gathered)
-    asked = max((found.statements.count for found in verdicts.machines), default=0)
+    affected.tell_left_out(told, about, gathered)
+    asked = max((found.statements.count for found in told.machines), default=0)
     return in_order(asked, advisories.values(), machines, gathered.noted)
 
 
@@ -120,16 +123,15 @@ def _advisory(id: str, about: affected.About) -> Advisory:
     detail = about.details.get(id, {})
     texts = [detail.get(key) if isinstance(detail.get(key), str) else "" for key in ("title", "severity", "published", "url")]
     score = about.told(id).score
-    return Advisory(id, texts[0], None if score < 0 else score, *texts[1:])
+    return Advisory(id, texts[0], None if score < 0 else score, *texts[1:], about.threats.added(id), about.threats.probability(id))
 
 
-def _note(advisory: Advisory, machine: Machine, name: str | None, truth: str, about: affected.About) -> None:
-    """A row of a machine on which the advisory isn't FALSE."""
-    reasons = about.hanging.on(advisory.id, name) if truth == "UNKNOWN" else []
-    accepted = about.accepted_for(advisory.id, truth, name)
-    if accepted is not None:
-        reasons = [f"{truth}: {accepted}", *reasons]
-    group = truth if accepted is None else ACCEPTED
+def _note(advisory: Advisory, machine: Machine, found: verdicts.Machine, truth: str, about: affected.About) -> None:
+    """A row of a machine on which the advisory isn't FALSE, or is settled."""
+    settled = found.settled.get(advisory.id)
+    reasons = about.hanging.on(advisory.id, found.name) if truth == "UNKNOWN" or settled else []
+    told = None if settled is None else settled.reason
+    group, reasons = grouped(truth, reasons, about.accepted_for(advisory.id, truth, found.name), told)
     advisory.rows[group].append(Row(machine.name, tuple(reasons)))
     machine.note(group, advisory.score)
 

@@ -100,6 +100,11 @@ class Said:
         where = f", {place}" if place and place != id else ""
         self._say_some(f"left out {quoted(id)}{where}: {reason}", f"left out {{}} more: {reason}")
 
+    def hint(self, text: str, command: str) -> None:
+        """A remark of what a command lists, which stands at its end, and whole, so that it works as it is printed."""
+        self.remarks += 1
+        self._say(f"remark {text}; to list them: {command}", is_whole=True)
+
     def remark(self, text: str, id: str = "") -> None:
         """Worth knowing, and nothing is lost."""
         self.remarks += 1
@@ -120,10 +125,10 @@ class Said:
         if self._most_alike is None or self._alike[others] <= self._most_alike:
             self._say(line)
 
-    def _say(self, line: str) -> None:
+    def _say(self, line: str, is_whole: bool = False) -> None:
         if self._before is not None:
             self._before()
-        write_all(self._descriptor, f"{shown(cut_words(line))}\n".encode(errors="replace"), "what was left out")
+        write_all(self._descriptor, f"{shown(line if is_whole else cut_words(line))}\n".encode(errors="replace"), "what was left out")
 
 
 class Noting(Said):

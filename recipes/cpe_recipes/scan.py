@@ -1,70 +1,90 @@
 """The whole way, from feeds and what machines have to the advisories that concern each machine.
 
     python3 scan.py --dictionary FILE.. | --records FILE.. --advisories FILE.. [--matches FILE..]
-        --machines FILE | --lists FILE.. [--suppress FILE] [--letters FILE] [--partial] [--large] [--strict] [--platform NAME]
-        [--hardware none] [--all] [--json [--why]]
+        --machines FILE | --lists FILE.. [--names FILE] [--suppress FILE] [--settled FILE] [--letters FILE] [--partial] [--large]
+        [--strict] [--platform NAME] [--hardware none] [--all] [--json | --format FORMAT] [--time TIME] [--why] [--kev FILE] [--epss FILE]
+        [--fail-on GATE].. [--since FILE]
 
-- --dictionary, --advisories, --matches: pages of NVD's API 2.0, or its feeds, as they come, packed or in archives; advisories may be CVE
-  records of format 5 too (cve5.py). --records: what dictionary.sh
-  made of such pages before.
-- --machines: a line a machine, as inventory.sh --machines writes it; --lists: software lists (CycloneDX, SPDX, Syft, plain), each a
-  machine.
-- --suppress: accepted advisories, lines `ID MACHINE REASON`, where * is every machine. They are told below the table.
-- --letters: the products of which letters in versions count upward, in place of letters.txt.
-- --large: pages may unpack to as much as they do; unpack.py says what they else may.
-- --partial: pages of a feed may be missing. What is, is said, and each FALSE that could be another verdict by it is marked.
-- --all: the table and the JSON have the verdicts that are FALSE too, and below the table stands what isn't analysed.
-- --strict: an item that says less than an advisory asks for isn't what that names.
-- --platform NAME: the operating system of the machines whose lists name none; without it platforms.py says what is FALSE.
-- --hardware none: there is no hardware to ask for, as of containers; else what a list doesn't say of it is UNKNOWN.
-- --json: the same as one value of JSON, with what was left out (`leftOut`). report.py makes a page of it.
-- --why: the JSON tells of each verdict that is TRUE which items make it so (`decidedBy`); deciding.py says how, and what it takes.
+What is read:
 
-What machines are asked for, cases.py says; all verdicts come from one run of cpe.
+- --dictionary, --advisories, --matches: pages of NVD's API 2.0, or its feeds, plain, packed or in archives. Advisories may be CVE records
+  of format 5 too (cve5.py).
+- --records: in place of --dictionary, what dictionary.sh wrote of it before.
+- --lists: software lists, each a machine (lists/ has the forms: CycloneDX, SPDX, Syft's, Trivy's and plain ones, package URLs, and what
+  package managers write). --machines: in place of --lists, a line for each machine, as inventory.sh --machines writes it.
+- --partial: pages of a feed may be missing. What is missing is reported, and each FALSE that may be another verdict by it is marked.
+- --large: a page may unpack to any size; unpack.py has the limits without it.
 
-A statement holds for a machine if it holds of the names as they stand or as the dictionary leads them on, on either side; calling.py
-says which names an item has so, and which it perhaps has. Where something is negated it holds only if it does so in each way.
+What is known beside that:
+
+- --names: tables of what packages are called (names_table.py), which count before the one that comes along, names.txt.
+- --letters: the products whose letters in versions count upward, in place of letters.txt.
+- --platform NAME: the operating system of the machines whose lists name none; platforms.py says what is FALSE without it.
+- --hardware none: there is no hardware to ask for, as in containers; without it what a list doesn't say of it is UNKNOWN.
+- --suppress: accepted advisories, lines `ID MACHINE REASON`, where * is every machine. They are written below the table.
+- --settled: UNKNOWNs that a user settled, lines `MACHINE ID TRUE|FALSE REASON`, where * is every machine (settled.py).
+- --kev, --epss: CISA's list of known exploited vulnerabilities, and EPSS (threats.py).
+
+What is written:
+
+- --all: the verdicts that are FALSE too, and below the table what isn't analysed.
+- --strict: an item that says less than an advisory asks for isn't what that names, so its verdict is FALSE.
+- --format: table, json, csv, sarif, cyclonedx-vex or openvex; formats/ has how each writes a result. --json is --format json, of which
+  report.py makes a page. --time is when the result was made.
+- --why: the items that make a verdict TRUE (`decidedBy`), in all forms but the table; deciding.py says how, and what it takes.
+- --fail-on: the status is 3 if a verdict fits one of these gates (gates.py, gating.py); --since is the kept result for the term `new`.
+
+cases.py says what machines are asked for. All verdicts come from one run of cpe.
+
+A statement holds for a machine if it holds of the names as written or as the dictionary leads them on, on either side. calling.py says
+which names an item has so, and which it perhaps has. If something is negated it holds only if it does so in each way.
 
 A component may have several names. One that makes a verdict TRUE is enough, and it is FALSE only if all do; negations.py says what it
-is where a test is negated.
+is if a test is negated.
 
-What a list doesn't say is UNKNOWN: an item that is known in part, since its name has a pattern, may be what a fact names, and so may
-one that says less than the fact, as of a plugin without its platform. Such a verdict is told with what isn't said (reasons.py), and
-those of items that say less are counted apart, as `perhaps`. With --strict they are FALSE, as NIST IR 7696 has it, and counted all
-the same. Of a range an item is FALSE where all that it may be is outside; decide.py says when.
+What a list doesn't say is UNKNOWN. An item that is known in part may be what a fact names, since its name has a pattern. So may one that
+says less than the fact, such as a plugin without its platform. reasons.py writes what isn't said beside such a verdict. Those of items
+that say less are counted apart, as `perhaps`. With --strict they are FALSE, as NIST IR 7696 has it, and counted all the same. If a range
+has none of all that an item may be, the item is FALSE in it; decide.py says when.
 
-The status is 0 where every verdict came and nothing was left out, 1 where something was, which is said, and 2 where there is no
-result: then nothing was written, but why.
+The status is 0 if every verdict is there and nothing was left out, and 1 if something was, which is reported. It is 2 if there is no
+result: then nothing was written except why. It is 3 if a verdict fits a gate, whether or not something was left out.
 """
 from __future__ import annotations
 
-import json
 from collections.abc import Collection, Iterable, Iterator, Mapping, Sequence
-from dataclasses import dataclass, field, replace
+from dataclasses import dataclass, field
 
-from . import advisories, affected, dictionary, latest, matches, platforms, products, suppressed, unlisted, verdicts, whole
+from . import advisories, affected, dictionary, formats, gating, hints, latest, matches, platforms, products, suppressed, threats, unlisted
+from . import verdicts, whole
 from .called import Called, Sure
 from .calling import Calling, Wanted, listed_by_name
 from .cases import Cases, Index, Items, Known, Product, Results, lines_of, verdicts_of
 from .components import Machine
-from .decide import LETTERS, Decider, Lead, Leads, Lists, decide, leads_of
+from .decide import LETTERS, Decider, Leads, Lists, decide, leads_in, leads_of
 from .deciding import Deciding
-from .feeds import FeedFault, Page, json_shown, name_of, read_feed, text_lines
+from .feeds import FeedFault, Json, Page, name_of, read_feed, text_lines
+from .formats import Form
+from .gating import Gates
 from .machines import read_lists, read_machines
+from .naming import Unnamed, name_machines, read_names
 from .negations import Negations, has_hardware
 from .outcome import MOST_ALIKE, Found, Hanging, json_of, machines_with_verdicts, tell_items
 from .program import Candidate, Program
 from .progress import Progress
 from .reasons import Reasons
 from .said import Fatal, Noting, Output, Said
+from .settled import read_settled
+from .threats import Threats
 from .unanalysed import States
 from .versions import Letters, read_letters
 from .words import FLAG, MANY, ONE, Words, read_words
 
 USAGE = (
     "scan.py --dictionary FILE.. | --records FILE.. --advisories FILE.. [--matches FILE..] "
-    "--machines FILE | --lists FILE.. [--suppress FILE] [--letters FILE] [--partial] [--large] [--strict] [--platform NAME] [--hardware none] "
-    "[--all] [--json [--why]]"
+    "--machines FILE | --lists FILE.. [--names FILE] [--suppress FILE] [--settled FILE] [--letters FILE] [--partial] [--large] "
+    "[--strict] [--platform NAME] [--hardware none] [--all] [--json | --format FORMAT] [--time TIME] [--why] [--kev FILE] [--epss FILE] "
+    "[--fail-on GATE].. [--since FILE]"
 )
 OPTIONS = {
     "--dictionary": MANY,
@@ -73,15 +93,19 @@ OPTIONS = {
     "--matches": MANY,
     "--machines": ONE,
     "--lists": MANY,
+    "--names": ONE,
     "--suppress": ONE,
+    "--settled": ONE,
     "--letters": ONE,
     "--all": FLAG,
-    "--json": FLAG,
     "--why": FLAG,
     "--strict": FLAG,
     "--platform": ONE,
     "--hardware": ONE,
     **whole.OPTIONS,
+    **formats.OPTIONS,
+    **threats.OPTIONS,
+    **gating.OPTIONS,
 }
 
 
@@ -108,24 +132,25 @@ class Scan:
 
     def machines(self, machines: Sequence[Machine], is_all_asked: bool = False) -> list[Found]:
         """What comes of the machines. Where all statements are asked of each, that is the same, and takes longer."""
-        calling = self._lead(dict.fromkeys(item for machine in machines for item in machine.items))
+        calling = self._lead(dict.fromkeys(name for machine in machines for name in machine.asked_names()))
         found = [self._found(machine, calling) for machine in machines]
         self._decide(found, is_all_asked)
         return found
 
     def _found(self, machine: Machine, calling: Calling) -> Found:
         """Where the names of a machine lead. It has no items where none of its components has a name, be its platform known."""
-        if not any(name in self._leads.found for name in machine.own_items()):
+        if not any(name in self._leads.found for name in machine.own_names()):
             return Found(machine, [])
-        found = [(one.kind, _leads_in(self._leads, one.names, one.kind)) for one in machine.all()]
-        components = {(kind, tuple(lead.name for lead in leads)): leads for kind, leads in found if leads}
-        leads = {lead.name: lead for of_one in components.values() for lead in of_one}
-        unlisted = [of_one for of_one in components.values() if not any(lead.is_entry for lead in of_one)]
+        found = [(one.kind, leads_in(self._leads, one)) for one in machine.all()]
+        components = {(kind, tuple((lead.name, lead.why) for lead in leads)): leads for kind, leads in found if leads}
+        leads = {lead.name: lead for of_one in components.values() for lead in of_one if not lead.why}
+        listed = [[lead for lead in of_one if not lead.why] for of_one in components.values()]
+        unlisted = [of_one for of_one in listed if of_one and not any(lead.is_entry for lead in of_one)]
         of_components = list(components.values())
         return Found(machine, list(leads.values()), of_components, unlisted, calling.of_components(of_components))
 
-    def tell_items(self, found: Sequence[Found], said: Said) -> None:
-        tell_items(found, self._leads.refused, self.successors, said)
+    def tell_items(self, found: Sequence[Found], said: Said, hint: str) -> None:
+        tell_items(found, self._leads.refused, self.successors, said, hint)
 
     def _lead(self, items: Collection[str]) -> Calling:
         """Where the names lead; and which names the items have."""
@@ -135,7 +160,8 @@ class Scan:
         self.successors = unlisted.successors(entries, self._leads)
         feed = listed_by_name(self._lists, self._known.ranges, self._leads)
         wanted = Wanted(self._leads.found[fact].name for fact in dict.fromkeys(facts))
-        return Calling(self._program, entries, self._leads, _leads_in(self._leads, items), feed, wanted, self._letters)
+        own = {lead.name: lead for item in items if (lead := self._leads.found.get(item))}
+        return Calling(self._program, entries, self._leads, own.values(), feed, wanted, self._letters)
 
     def _decide(self, found: Sequence[Found], is_all_asked: bool) -> None:
         """Puts what is decided of the ranges, and the verdicts."""
@@ -204,12 +230,6 @@ class _Asked:
     beside: dict[int, int] = field(default_factory=dict)
 
 
-def _leads_in(leads: Leads, items: Iterable[str], kind: str = "") -> list[Lead]:
-    """Where the items lead, each once, however it is spelled."""
-    found = {lead.name: lead for item in items if (lead := leads.found.get(item))}.values()
-    return [replace(lead, kind=kind) for lead in found] if kind else list(found)
-
-
 def _ends(called: Iterable[Called]) -> list[str]:
     """The names that are held against ranges."""
     return [one.name for one in called if not one.is_spelled]
@@ -222,17 +242,21 @@ def _next(answers: Iterator[str]) -> str:
     return answer
 
 
-def read_known(
-    read: Words, asked: Sequence[Machine], program: Program, said: Said, progress: Progress, reading: whole.Reading
-) -> tuple[Known, States]:
-    """What the feeds tell, and which advisories have no verdict. Fatal where one can't be read, or there is no entry or no statement."""
-    progress.step("reading the dictionary")
+def read_entries(read: Words, program: Program, said: Said, reading: whole.Reading) -> list[str]:
+    """The records of the dictionary. Fatal where one can't be read, or there is no entry."""
     candidates = _records(read.many("--records"))
     if read.has("--dictionary"):
         candidates += dictionary.candidates_of(read.many("--dictionary"), said, strict=True, reading=reading)
     entries = program.accepted(candidates, said, unsaid="exists")
     if not entries:
         raise Fatal("no entry is in the dictionary")
+    return entries
+
+
+def read_known(
+    read: Words, entries: list[str], asked: Sequence[Machine], program: Program, said: Said, progress: Progress, reading: whole.Reading
+) -> tuple[Known, States]:
+    """What the feeds tell, and which advisories have no verdict. Fatal where one can't be read, or there is no statement."""
     progress.step("reading advisories")
     states = States()
     feed = list(whole.pages(read.many("--advisories"), said, advisories.KINDS, strict=True, reading=reading))
@@ -252,7 +276,7 @@ def _of_products(
     feed: Sequence[Page], asked: Iterable[Machine], entries: Sequence[str], program: Program, said: Said, states: States
 ) -> list[Page]:
     """Of more advisories than cpe takes those that may concern a product of the machines; the others are FALSE on each."""
-    items = dict.fromkeys(item for machine in asked for item in machine.items)
+    items = dict.fromkeys(name for machine in asked for name in machine.asked_names())
     leads = leads_of(program, entries, items, unlisted.deprecated_names(entries))
     wanted = products.products_of(leads, items, entries)
     kept = [page.only(products.cut(program, page, wanted)) for page in feed]
@@ -289,48 +313,85 @@ def read_asked(read: Words, said: Said) -> list[Machine]:
 def run(words: Sequence[str]) -> int:
     read = read_words(words, OPTIONS, USAGE)
     one_of = [("--dictionary", "--records"), ("--advisories",), ("--machines", "--lists")]
-    is_odd = read.has("--machines") and read.has("--lists") or read.has("--why") and not read.has("--json")
+    form = Form.of(read)
+    is_odd = read.has("--machines") and read.has("--lists") or read.has("--why") and form.is_table()
     if read.files or is_odd or not all(any(map(read.has, options)) for options in one_of):
         raise Fatal(f"usage: {USAGE}")
     program = Program()
     with Progress() as progress:
         said = Noting(before=progress.clear, most_alike=MOST_ALIKE)
-        lines = _result(read, program, said, progress)
+        beside = Threats.of(read, said)
+        gates = Gates.of(read, beside)
+        result = _result(read, program, said, progress, beside)
+        lines = _lines(form, result, said)
+        does_fit = gates.fit(result.machines, result.about, said)
         said.tell_others()
     output = Output()
     output.lines(lines)
     output.end()
-    return said.status()
+    return gating.FITS if does_fit else said.status()
 
 
-def _result(read: Words, program: Program, said: Noting, progress: Progress) -> list[str]:
-    """The lines of the result."""
+@dataclass(frozen=True)
+class _Result:
+    """What comes of the machines, and what is told beside that."""
+
+    known: Known
+    states: States
+    reading: whole.Reading
+    found: list[Found]
+    machines: list[verdicts.Machine]
+    about: affected.About
+    unnamed: Unnamed
+
+    def asked(self) -> Collection[str]:
+        """The ids of the advisories that have verdicts."""
+        return verdicts.Statements([statement.id for statement in self.known.statements]).advisories
+
+
+def _result(read: Words, program: Program, said: Noting, progress: Progress, beside: Threats) -> _Result:
     progress.step("reading what the machines have")
     accepted = suppressed.read_suppressed(read.many("--suppress"), said)
+    settled = read_settled(read.many("--settled"), said)
     letters = read_letters(read.one("--letters") or LETTERS)
     asked = read_asked(read, said)
     reading = whole.Reading.of(read)
-    known, states = read_known(read, asked, program, said, progress, reading)
+    tables = read_names(read.many("--names"), asked)
+    progress.step("reading the dictionary")
+    entries = read_entries(read, program, said, reading)
+    unnamed = name_machines(asked, tables, entries)
+    known, states = read_known(read, entries, asked, program, said, progress, reading)
     progress.step("reading the match feed")
     matched = read.many("--matches")
     feed = whole.pages(matched, said, matches.KINDS, strict=True, reading=reading) if matched else []
     lists = Lists(program, matches.listed(feed, known.ranges.keys(), said))
     scan = Scan(program, known, lists, letters, progress, read.has("--why"), read.has("--strict"), has_hardware(read))
     found = scan.machines(asked)
-    scan.tell_items(found, said)
+    hint = hints.unlisted(read)
+    scan.tell_items(found, said, hint)
+    unnamed.tell(said, hint)
     platforms.remark_silent([one.machine for one in found if one.has_items()], known, said)
     machines = machines_with_verdicts(known, scan.bare, found)
+    settled.settle(machines, said)
     if read.has("--all"):
         for machine in machines:
             machine.show_all()
-    about = affected.About(known.details, accepted, Hanging(known, found), reading.doubts())
-    if read.has("--json"):
-        value = reading.mark(json_of(known, found, machines, about))
-        value |= states.json(verdicts.Statements([statement.id for statement in known.statements]).advisories)
-        value["leftOut"] = said.json()
-        lines = [json_shown(json.dumps(value, ensure_ascii=False, indent=1))]
+    about = affected.About(known.details, accepted, Hanging(known, found), reading.doubts(), beside)
+    return _Result(known, states, reading, found, machines, about, unnamed)
+
+
+def _lines(form: Form, result: _Result, said: Noting) -> list[str]:
+    """The lines of the result, when all that it tells is said."""
+    states, reading, about = result.states, result.reading, result.about
+    left_out = (id for id, _, _ in said.noted)
+    about.threats.tell({*result.asked(), *states.elsewhere}, {*states.unanalysed, *states.rejected, *left_out}, said)
+    if form.is_table():
+        lines = list(affected.table_of(verdicts.Verdicts(result.machines), about))
+        lines += [*reading.lines(), *(states.lines() if form.is_all else ())]
     else:
-        lines = list(affected.table_of(verdicts.Verdicts(machines), about))
-        lines += [*reading.lines(), *(states.lines() if read.has("--all") else ())]
-    accepted.tell_unused(said)
+        value: dict[str, Json] = reading.mark(json_of(result.known, result.found, result.machines, about, result.unnamed))
+        value |= states.json(result.asked()) | about.threats.about()
+        value["leftOut"] = said.json()
+        lines = form.lines(value)
+    about.suppressed.tell_unused(said)
     return lines

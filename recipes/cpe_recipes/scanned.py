@@ -10,13 +10,15 @@ from collections.abc import Iterable, Iterator
 from dataclasses import dataclass, field
 
 from .feeds import FeedFault, Json, name_of, read_feed, values_of
-from .said import Fatal
+from .said import Fatal, quoted
 from .scores import score_of
 from .verdicts import TRUTHS
 
-ACCEPTED = "ACCEPTED"
+ACCEPTED, SETTLED = "ACCEPTED", "SETTLED"
+# What people decided: those that they accepted, and those that they settled as FALSE.
+BY_PEOPLE = (ACCEPTED, SETTLED)
 # The groups of the rows of an advisory, in their order.
-GROUPS = (*(truth for truth in TRUTHS if truth != "FALSE"), ACCEPTED)
+GROUPS = (*(truth for truth in TRUTHS if truth != "FALSE"), *BY_PEOPLE)
 NO_ITEMS = "no items"
 _ONE_OF = {"leftOut": "leftOut", "machines": "machine", "verdicts": "verdict"}
 _WORDS = {str: "text", int: "number", list: "list", dict: "object", (int, float): "number"}
@@ -30,9 +32,19 @@ class Row:
     reasons: tuple[str, ...]
 
 
+def grouped(truth: str, reasons: list[str], accepted: str | None, settled: str | None) -> tuple[str, list[str]]:
+    """The group of a row, and its reasons, with why people accepted it or settled it."""
+    if settled is not None:
+        reasons = [f"settled as {truth}: {settled}", *reasons]
+    if accepted is not None:
+        return ACCEPTED, [f"{truth}: {accepted}", *reasons]
+    return (SETTLED if truth == "FALSE" else truth), reasons
+
+
 @dataclass
 class Advisory:
-    """An advisory, what the feed told of it, and its rows by their groups."""
+    """An advisory, what the feed told of it, the day since when it is known to be exploited and its EPSS where they are known, and its
+    rows by their groups."""
 
     id: str
     title: str
@@ -40,16 +52,20 @@ class Advisory:
     severity: str
     published: str
     url: str
+    exploited: str = ""
+    epss: float | None = None
     rows: dict[str, list[Row]] = field(default_factory=lambda: {group: [] for group in GROUPS})
 
     def is_open(self) -> bool:
-        """Whether a row isn't accepted."""
-        return any(rows for group, rows in self.rows.items() if group != ACCEPTED)
+        """Whether a row isn't accepted, nor settled as FALSE."""
+        return any(rows for group, rows in self.rows.items() if group not in BY_PEOPLE)
 
-    def order(self) -> tuple[bool, float, tuple[int, ...], str]:
-        """What comes first: the highest score, then what more machines have; without a score, and then accepted alone, last."""
+    def order(self) -> tuple[bool, bool, float, float, tuple[int, ...], str]:
+        """What comes first: known exploited, then the highest score, then the highest EPSS, then what more machines have; without a
+        score, and then accepted alone, last."""
         counts = tuple(-len(rows) for rows in self.rows.values())
-        return not self.is_open(), -1.0 if self.score is None else -self.score, counts, self.id
+        score, epss = (1.0 if value is None else -value for value in (self.score, self.epss))
+        return not self.is_open(), not self.exploited, score, epss, counts, self.id
 
 
 @dataclass
@@ -65,6 +81,7 @@ class Machine:
     perhaps: int = 0
     unlisted: int = 0
     removed: int = 0
+    nameless: int = 0
 
     def order(self) -> tuple[bool, float, tuple[int, ...]]:
         return (
@@ -75,7 +92,7 @@ class Machine:
 
     def note(self, group: str, score: float | None) -> None:
         self.counts[group] += 1
-        if score is not None and group != ACCEPTED:
+        if score is not None and group not in BY_PEOPLE:
             self.highest = score if self.highest is None else max(self.highest, score)
 
 
@@ -163,6 +180,7 @@ class _Reader:
             machine.perhaps = len(self._needed(row, "perhaps", list, where))
             machine.unlisted = len(self._needed(row, "notInDictionary", list, where))
             machine.removed = len(self._needed(row, "underRemovedName", list, where))
+            machine.nameless = len(self._given(row, "withoutCandidates", list, where) or ())
             seen: set[str] = set()
             for place, one in self._list(row, "verdicts", where):
                 id = self._verdict(one, machine, place)
@@ -180,12 +198,10 @@ class _Reader:
         advisory = self._advisories.get(id)
         if advisory is None:
             advisory = self._advisories[id] = self._advisory(id, one, where)
-        if truth != "FALSE":
+        settled = self._given(one, "settled", str, where)
+        if truth != "FALSE" or settled is not None:
             reasons = [text for key in ("hangsOn", "remarks", "decidedBy") for text in self._texts(one, key, where)]
-            accepted = self._given(one, "accepted", str, where)
-            if accepted is not None:
-                reasons = [f"{truth}: {accepted}", *reasons]
-            group = truth if accepted is None else ACCEPTED
+            group, reasons = grouped(truth, reasons, self._given(one, "accepted", str, where), settled)
             advisory.rows[group].append(Row(machine.name, tuple(reasons)))
             machine.note(group, advisory.score)
         return id
@@ -195,7 +211,16 @@ class _Reader:
             self._given(one, key, str, where) or "" for key in ("title", "severity", "published", "url")
         )
         score = score_of(one.get("score"))
-        return Advisory(id, title, None if score is None else float(score), severity, published, url)
+        kev, epss = (self._given(one, key, dict, where) for key in ("kev", "epss"))
+        exploited = "" if kev is None else self._needed(kev, "dateAdded", str, where)
+        probability = None if epss is None else self._probability(epss, where)
+        return Advisory(id, title, None if score is None else float(score), severity, published, url, exploited, probability)
+
+    def _probability(self, epss: Json, where: str) -> float:
+        found = self._needed(epss, "epss", (int, float), where)
+        if not 0 <= found <= 1:
+            raise self._fault(where, f"has the EPSS {quoted(found)}, which is no number from 0 to 1")
+        return float(found)
 
     def _texts(self, one: Json, key: str, where: str) -> list[str]:
         """The texts of a list that may be missing."""
@@ -213,7 +238,7 @@ class _Reader:
             raise self._fault(where, f"has a member {key} that is no {_WORDS[kind]}")
         return found
 
-    def _needed(self, value: Json, key: str, kind: type, where: str) -> Json:
+    def _needed(self, value: Json, key: str, kind: type | tuple[type, ...], where: str) -> Json:
         found = self._given(value, key, kind, where)
         if found is None:
             raise self._fault(where, f"has no member {key}")

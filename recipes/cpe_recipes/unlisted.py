@@ -1,9 +1,17 @@
-"""Which items no entry of the dictionary has: sh unlisted.sh RECORDS MACHINES.
+"""Which items no entry of the dictionary has, and which packages have no name, or only perhaps have one.
 
-RECORDS are those of a dictionary, and MACHINES a line a machine: its name, and after it the names of its items. It writes
+    sh unlisted.sh RECORDS MACHINES [--names FILE]
+    sh unlisted.sh --dictionary FILE.. | --records FILE.. --machines FILE | --lists FILE.. [--names FILE] [--partial] [--large]
+
+RECORDS are those of a dictionary, and MACHINES a line a machine: its name, and after it the names of its items. The options are those
+of scan.py. It writes
 
     not in the dictionary MACHINE NAME [goes on as VENDOR:PRODUCT..]
     under a removed name MACHINE NAME
+    perhaps MACHINE PACKAGE names.txt: LINE [| LINE..]
+    no candidate MACHINE PACKAGE
+
+Each LINE, put into a table for --names, settles which product a package is that only the dictionary names (naming.py).
 
 An item that no entry has leads nowhere, so no advisory that calls its product otherwise finds it. Where entries of its product
 are deprecated, and lead to other products, these are told. Of a component with several names it is enough that an entry has one of
@@ -14,39 +22,59 @@ from __future__ import annotations
 import json
 from collections.abc import Collection, Iterable, Iterator, Mapping, Sequence
 
-from . import names
+from . import dictionary, names, whole
 from .components import Machine
 from .decide import Lead, Leads, leads_of, read_entries
-from .machines import read_machines
+from .machines import read_lists, read_machines
+from .naming import name_machines, read_names
 from .program import Program
 from .said import Fatal, Output, Said, shown
-from .words import read_words
+from .words import MANY, ONE, Words, read_words
 
-USAGE = "unlisted.sh RECORDS MACHINES"
+USAGE = (
+    "unlisted.sh RECORDS MACHINES [--names FILE], or unlisted.sh --dictionary FILE.. | --records FILE.. "
+    "--machines FILE | --lists FILE.. [--names FILE] [--partial] [--large]"
+)
+OPTIONS = {"--dictionary": MANY, "--records": MANY, "--machines": ONE, "--lists": MANY, "--names": ONE, **whole.OPTIONS}
 Product = tuple[str, str]
 
 
 def run(words: Sequence[str]) -> int:
-    files = read_words(words, {}, USAGE).files
-    if len(files) != 2:
+    read = read_words(words, OPTIONS, USAGE)
+    is_short = len(read.files) == 2 and not any(map(read.has, ("--dictionary", "--records", "--machines", "--lists")))
+    is_long = not read.files and (read.has("--dictionary") or read.has("--records")) and read.has("--machines") != read.has("--lists")
+    if not is_short and not is_long:
         raise Fatal(f"usage: {USAGE}")
     said, output, program = Said(), Output(), Program()
-    records, machines = read_entries(files[:1]), read_machines(files[1], said)
-    items = dict.fromkeys(item for machine in machines for item in machine.items)
+    records = _records(read, program, said) if is_long else read_entries(read.files[:1])
+    path = read.one("--machines") if is_long else read.files[1]
+    machines = read_lists(read.many("--lists"), said) if path is None else read_machines(path, said)
+    unnamed = name_machines(machines, read_names(read.many("--names"), machines), records)
+    items = dict.fromkeys(item for machine in machines for item in machine.asked_names())
     leads = leads_of(program, records, items, ())
     say_items(machines, leads, said)
     output.lines(list(unlisted(machines, leads, successors_of(program, records, leads.found.values()))))
+    output.lines(unnamed.lines())
     output.end(shown)
     return said.status()
+
+
+def _records(read: Words, program: Program, said: Said) -> list[str]:
+    """The records of the dictionary that is given in any form."""
+    records = read_entries(read.many("--records"))
+    if read.has("--dictionary"):
+        candidates = dictionary.candidates_of(read.many("--dictionary"), said, strict=True, reading=whole.Reading.of(read))
+        records += program.accepted(candidates, said, unsaid="exists")
+    return records
 
 
 def say_items(machines: Iterable[Machine], leads: Leads, said: Said) -> None:
     """What is no item is said, and which machines have none."""
     for machine in machines:
-        for item in machine.items:
+        for item in machine.asked_names():
             if item in leads.refused:
                 said.left_out(f"{machine.name} {item}", leads.refused[item])
-        if all(item in leads.refused for item in machine.own_items()):
+        if all(item in leads.refused for item in machine.own_names()):
             said.left_out(machine.name, "no items")
 
 

@@ -38,16 +38,35 @@ def _order(truth: str, is_perhaps: bool) -> int:
     return 2 * _RANK[truth] + (is_perhaps if truth == "UNKNOWN" else not is_perhaps)
 
 
+@dataclass(frozen=True, slots=True)
+class Settlement:
+    """What a user settled of a verdict: the truth, the reason, and what it is by the feeds and lists."""
+
+    truth: str
+    reason: str
+    before: str = "UNKNOWN"
+
+    def words(self) -> str:
+        return f"settled as {self.truth}: {self.reason}"
+
+
 @dataclass
 class Machine:
     """The verdicts of a machine, which has no name in a table of one inventory. Only those that aren't FALSE are shown, where not
-    all are asked for. Those in `perhaps` are another where an item says less than is asked for."""
+    all are asked for, and those that are settled. Those in `perhaps` are another where an item says less than is asked for."""
 
     name: str | None
     statements: Statements = field(default_factory=lambda: Statements([]))
     shown: dict[str, str] = field(default_factory=dict)
     has_items: bool = True
     perhaps: set[str] = field(default_factory=set)
+    settled: dict[str, Settlement] = field(default_factory=dict)
+
+    def settle(self, advisory: str, settlement: Settlement) -> None:
+        """Puts a verdict that is settled."""
+        self.shown[advisory] = settlement.truth
+        self.settled[advisory] = settlement
+        self.perhaps.discard(advisory)
 
     def whole(self, id: str) -> str:
         """The advisory of a statement."""
@@ -166,6 +185,9 @@ def _scan(values: Sequence[Json]) -> Verdicts:
             if id is None or truth not in _RANK:
                 raise FormFault
             machines[name].put(id, truth)
+            reason = text_at(one, "settled")
+            if reason is not None:
+                machines[name].settled[id] = Settlement(truth, reason)
     return _with_reasons(Verdicts(list(machines.values())), values[0])
 
 

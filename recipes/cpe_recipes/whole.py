@@ -69,7 +69,7 @@ class Reading:
         doubts = self.doubts()
         for machine in value["machines"] if doubts else ():
             for one in machine.get("verdicts", ()):
-                if one["verdict"] == "FALSE":
+                if one["verdict"] == "FALSE" and "settled" not in one:
                     one["hangsOn"] = doubts
         return value | ({"missing": [one.json() for one in self.missing]} if self.missing else {})
 

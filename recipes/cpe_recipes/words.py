@@ -24,6 +24,12 @@ class Words:
     def one(self, option: str) -> str | None:
         return self.options[option][-1] if option in self.options else None
 
+    def only(self, option: str) -> str | None:
+        """The word of an option that may be given once. Fatal where it is given again."""
+        if len(self.many(option)) > 1:
+            raise Fatal(f"{option} is given {len(self.many(option))} times, and once is enough")
+        return self.one(option)
+
     def many(self, option: str) -> list[str]:
         return self.options.get(option, [])
 

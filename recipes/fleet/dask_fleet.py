@@ -27,7 +27,7 @@ sys.dont_write_bytecode = True  # (run.py says why)
 
 from cpe_recipes import fleet, said, session  # noqa: E402
 from cpe_recipes.program import Program  # noqa: E402
-from cpe_recipes.words import ONE, Words, read_words  # noqa: E402
+from cpe_recipes.words import ONE, Words  # noqa: E402
 
 try:
     from distributed import Client, LocalCluster, get_worker, wait
@@ -126,9 +126,7 @@ def put_session(client: Client, folder: Path) -> None:
 
 
 def run(words: list[str]) -> int:
-    given = read_words(words, OPTIONS, USAGE)
-    if len(given.files) != 2:
-        raise said.Fatal(f"usage: {USAGE}")
+    given = fleet.read_fleet_words(words, OPTIONS, USAGE)
     most = number(given, "--block", 100)
     heard, program = said.Said(), Program(given.one("--cpe"), is_tried=True)
     asked = fleet.read_fleet(program, given, heard)

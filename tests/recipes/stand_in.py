@@ -20,7 +20,7 @@ class Heard(Said):
         super().__init__()
         self.told = []
 
-    def _say(self, line):
+    def _say(self, line, is_whole=False):
         self.told.append(line)
 
 

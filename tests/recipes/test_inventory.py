@@ -3,7 +3,7 @@ import unittest
 
 from recipe_case import RecipeCase, needs_cpe
 
-from cpe_recipes import inventory
+from cpe_recipes import inventory, lists
 from cpe_recipes.feeds import FeedFault
 from cpe_recipes.said import Fatal
 
@@ -12,7 +12,7 @@ ITEM = '{"do":"item","name":"%s"}'
 
 class Lists(RecipeCase):
     def items(self, text, feed="list"):
-        return [(one.id, one.record or one.reason) for one in inventory.candidates_of(feed, text.encode())]
+        return [(one.id, one.record or one.reason) for one in inventory.candidates_of(lists.read(feed, text.encode()))]
 
     def refused(self, text):
         with self.assertRaises(FeedFault) as caught:
@@ -41,7 +41,7 @@ class Lists(RecipeCase):
 
     def test_both_types_of_names_of_a_package(self):
         text = """{"spdxVersion":"SPDX-2.2","packages":[{"SPDXID":"p","externalRefs":[
-            {"referenceType":"cpe22Type","referenceLocator":"cpe:/a:x"},{"referenceType":"purl","referenceLocator":"pkg:x"},
+            {"referenceType":"cpe22Type","referenceLocator":"cpe:/a:x"},{"referenceType":"purl","referenceLocator":"pkg:npm/x"},
             {"referenceType":"http://spdx.org/rdf/references/cpe23Type","referenceLocator":7}]},
             {"SPDXID":"q"},{"SPDXID":"r","externalRefs":7}]}"""
         self.assertEqual(

@@ -228,7 +228,7 @@ class Verdicts(unittest.TestCase):
         why = f"{name('redislabs', 'redis', '6.1')} is not in the dictionary, and may be {name('redis', 'redis', '6.1')}"
         self.assertEqual(Hanging(known, found).on("CVE-1", "not"), [why])
         said = Heard()
-        made.tell_items(found, said)
+        made.tell_items(found, said, "sh unlisted.sh")
         self.assertEqual(said.told, [f"remark not in the dictionary {it.machine.name} {it.leads[0].name} goes on as redis:redis" for it in found[1:]])
 
     def test_what_a_dictionary_or_a_name_hides_is_told(self):
@@ -237,14 +237,14 @@ class Verdicts(unittest.TestCase):
         items = [gone, "cpe:/a:v:%02", name("v", "p", "1.0"), "cpe:/a:v:p:1.0"]
         made, found = scanned(known, [Machine("a", items), Machine("bare"), Machine("bad", ["cpe:/x"])])
         said = Heard()
-        made.tell_items(found, said)
+        made.tell_items(found, said, "sh unlisted.sh")
         wanted = [
             "left out a: name name 12: cpe:/a:v:%02",
             f"remark under a removed name a {gone}",
             "left out bare: no items",
             "left out bad: name name 5: cpe:/x",
             "left out bad: no items",
-            "remark not in the dictionary: 1 item, on 1 machine; unlisted.sh lists them",
+            "remark not in the dictionary: 1 item, on 1 machine; to list them: sh unlisted.sh",
         ]
         self.assertEqual(said.told, wanted)
         self.assertEqual([it.has_items() for it in found], [True, False, False])
@@ -595,7 +595,7 @@ class Words(unittest.TestCase):
             words = ("--records", str(records), "--advisories", self.ADVISORIES, "--lists", str(SAMPLES / "app-1.txt"), "--json")
             status, written, said = self.run_over(*words)
         self.assertEqual(status, 1)
-        self.assertEqual([line for line in said.splitlines() if "dictionary.jsonl" in line], ["left out dictionary.jsonl line 2: member do: {}"])
+        self.assertEqual([line for line in said.splitlines() if line.startswith("left out dictionary.jsonl")], ["left out dictionary.jsonl line 2: member do: {}"])
         found = json.loads(written)
         self.assertEqual(found["machines"][0]["name"], "app-1")
         self.assertEqual(found["leftOut"], [{"id": "dictionary.jsonl line 2", "reason": "member do: {}"}])

@@ -31,6 +31,13 @@ class Read(unittest.TestCase):
         self.assertEqual(read_words(["-odd.json"], OPTIONS, "it").files, ["-odd.json"])
         self.assertEqual(read_words(["--", "--json", "-none"], OPTIONS, "it").files, ["--json", "-none"])
 
+    def test_a_word_that_may_be_given_once(self):
+        read = read_words(["--ranges", "r", "--ranges", "s"], OPTIONS, "it")
+        self.assertEqual((read.one("--ranges"), read_words(["--ranges", "r"], OPTIONS, "it").only("--ranges"), read.only("--lists")), ("s", "r", None))
+        with self.assertRaises(Fatal) as caught:
+            read.only("--ranges")
+        self.assertEqual(str(caught.exception), "--ranges is given 2 times, and once is enough")
+
     def test_wrong_words_are_fatal(self):
         for words in (["--jsn"], ["-none.json"], ["--ranges"], ["--lists"], ["--lists", "--json"]):
             with self.subTest(words), self.assertRaises(Fatal) as caught:

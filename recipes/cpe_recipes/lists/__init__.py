@@ -1,7 +1,8 @@
 """What software lists say that a machine has: one module a form, and what a list says of itself picks the module.
 
-CycloneDX 1.x, SPDX 2.x, SPDX 3 (JSON-LD), Syft's own JSON and Trivy's JSON are read, and plain lists of names, a line each. Of a
-component all names are taken that its list gives for it, wherever its tool writes them; each module says where it looks.
+Of JSON, CycloneDX 1.x, SPDX 2.x, SPDX 3 (JSON-LD), Syft's own JSON, Trivy's JSON and npm's locks are read. Of text, plain lists of
+names or package URLs are, and what package managers write of what is installed. Of a component all names are taken that its list
+gives for it, wherever its tool writes them; each module says where it looks.
 """
 from __future__ import annotations
 
@@ -10,17 +11,42 @@ import gc
 from collections.abc import Iterator
 
 from ..feeds import FeedFault, Json, values_of
-from . import cyclonedx, plain, spdx2, spdx3, syft, trivy
+from . import (
+    apk_list,
+    cyclonedx,
+    dpkg_list,
+    dpkg_query,
+    dpkg_status,
+    go_mod,
+    go_sum,
+    package_lock,
+    pip_freeze,
+    pip_list,
+    plain,
+    rpm_query,
+    spdx2,
+    spdx3,
+    syft,
+    texts,
+    trivy,
+)
 from .reading import Listed, Odd
 
 __all__ = ["Listed", "Odd", "read"]
 
-WANTED = "give CycloneDX 1.x, SPDX 2.x, SPDX 3, Syft's or Trivy's list as JSON, or a plain list of names"
-_FORMS = (cyclonedx, spdx2, spdx3, syft, trivy)
+WANTED = (
+    "give CycloneDX 1.x, SPDX 2.x, SPDX 3, Syft's or Trivy's list or package-lock.json as JSON, a plain list of names or package URLs, "
+    "or what dpkg-query -W, dpkg -l, rpm -qa, apk list, pip freeze or pip list writes, /var/lib/dpkg/status, go.mod or go.sum"
+)
+_FORMS = (cyclonedx, spdx2, spdx3, syft, trivy, package_lock)
+_TEXTS = (plain, dpkg_list, dpkg_query, dpkg_status, rpm_query, apk_list, pip_list, pip_freeze, go_mod, go_sum)
+# Of a text whose characters have two bytes, such as PowerShell writes.
+_UTF_16 = (b"\xff\xfe", b"\xfe\xff")
 
 
 def read(feed: str, data: bytes) -> Listed:
     """What is in a software list of this name and these bytes. FeedFault where it is none that is read."""
+    data = _in_utf_8(data)
     front = data.removeprefix(b"\xef\xbb\xbf").lstrip()
     if not front:
         raise FeedFault("it is empty")
@@ -31,9 +57,18 @@ def read(feed: str, data: bytes) -> Listed:
         with _no_collection():
             for value in values_of(data, is_strict=True):
                 _read(value, listed)
-    elif not plain.read(data, listed):
-        raise FeedFault(f"no software list: {WANTED}")
+    else:
+        _read_text(data, listed)
     return listed
+
+
+def _in_utf_8(data: bytes) -> bytes:
+    if not data.startswith(_UTF_16):
+        return data
+    try:
+        return data.decode("utf-16").encode()
+    except UnicodeError as fault:
+        raise FeedFault("no text: it is no UTF-16, though it begins so") from fault
 
 
 @contextlib.contextmanager
@@ -60,4 +95,15 @@ def _read(value: Json, listed: Listed) -> None:
         form.read(value, listed)
         listed.count_unread(value, form.PASSED)
         return
-    raise FeedFault(f"neither CycloneDX nor SPDX, nor of Syft or Trivy: {WANTED}")
+    raise FeedFault(f"neither CycloneDX nor SPDX, nor of Syft, Trivy or npm: {WANTED}")
+
+
+def _read_text(data: bytes, listed: Listed) -> None:
+    try:
+        text = texts.text_of(data.decode("utf-8-sig"))
+    except UnicodeDecodeError as fault:
+        raise FeedFault(f"no text: it is no UTF-8 at byte {fault.start + 1}") from fault
+    form = next((one for one in _TEXTS if one.fits(text)), None)
+    if form is None:
+        raise FeedFault(f"no software list: {WANTED}")
+    form.read(text, listed)

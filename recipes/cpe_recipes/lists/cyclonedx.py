@@ -10,7 +10,7 @@ from __future__ import annotations
 from collections.abc import Iterator
 
 from ..feeds import Json
-from . import kinds
+from . import kinds, trivy
 from .reading import Draft, Listed, list_at, text_of
 from .unread import is_name
 
@@ -18,6 +18,9 @@ from .unread import is_name
 PASSED = frozenset(("bom-ref", "dependencies", "compositions", "annotations", "vulnerabilities", "tools"))
 # Properties by which tools say what a package comes from.
 _KINDS = ("syft:package:type", "aquasecurity:trivy:PkgType")
+# What Trivy's properties begin with, of which one says in which kind of file packages were found.
+_TRIVY = "aquasecurity:trivy:"
+_CLASS = f"{_TRIVY}Class"
 
 
 def called(value: dict[str, Json]) -> str | None:
@@ -74,20 +77,32 @@ def _put(one: Json, place: int, listed: Listed, is_about: bool = False) -> int:
     is_platform = one.get("type") == "operating-system"
     if is_platform:
         draft.add_system(one.get("name"), one.get("version"))
-    if is_about and not is_platform and not draft.names and not draft.faults:
+    if (is_about or _is_place(one, draft)) and not is_platform and not draft.names and not draft.faults:
         return place
     listed.put(draft, is_platform)
     return place + 1
 
 
+def _is_place(one: dict[str, Json], draft: Draft) -> bool:
+    """Whether it is a file in which Trivy found packages, such as a lock, and no software itself."""
+    properties = one.get("properties") if one.get("type") == "application" and not draft.purl else None
+    return isinstance(properties, list) and any(isinstance(each, dict) and each.get("name") == _CLASS for each in properties)
+
+
 def _add_properties(one: dict[str, Json], draft: Draft) -> None:
+    told: dict[str, Json] = {}
     for each in draft.each(one, "properties"):
         value = each.get("value")
         if isinstance(value, str) and is_name(value):
             draft.add_name(value, "")
+        name = each.get("name")
         # (a package URL in a property may be that of another package)
-        if each.get("name") in _KINDS:
+        if name in _KINDS:
             draft.kind = kinds.of_tool(value)
+        if isinstance(name, str) and name.startswith(_TRIVY):
+            told[name.removeprefix(_TRIVY)] = value
+    if told:
+        draft.add_source(*trivy.source_of(told))
 
 
 def _add_evidence(evidence: Json, draft: Draft) -> None:

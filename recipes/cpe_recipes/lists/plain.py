@@ -1,27 +1,34 @@
-"""Plain lists: a name in each line, in either binding. After a # that begins a line or stands after a space is a comment."""
+"""Plain lists: in each line a name, in either binding, or a package URL. After a # that begins a line or stands after a space is a
+comment."""
 from __future__ import annotations
 
 import re
 
-from ..feeds import FeedFault
 from .reading import Draft, Listed
-from .unread import is_name
+from .texts import Text
+from .unread import is_name, is_purl
 
+CALLED = "a plain list"
 _COMMENT = re.compile(r"(^|\s)#.*")
 
 
-def read(data: bytes, listed: Listed) -> bool:
-    """Reads a plain list; False where it is none, since no line looks like a name."""
-    try:
-        text = data.decode("utf-8-sig")
-    except UnicodeDecodeError as fault:
-        raise FeedFault(f"no text: it is no UTF-8 at byte {fault.start + 1}") from fault
-    names = {number: _COMMENT.sub("", line).strip() for number, line in enumerate(text.split("\n"), 1)}
-    if any(names.values()) and not any(map(is_name, names.values())):
-        return False
-    for number, name in names.items():
-        if name:
-            draft = Draft(listed, f"line {number} of {listed.feed}")
-            draft.add_name(name, "")
+def fits(text: Text) -> bool:
+    """Whether a line looks like a name or a package URL, or nothing but comments is there."""
+    found = [bare for line in text.lines if (bare := _bare(line.text))]
+    return not found or any(is_name(one) or is_purl(one) for one in found)
+
+
+def read(text: Text, listed: Listed) -> None:
+    for line in text.lines:
+        bare = _bare(line.text)
+        if bare:
+            draft = Draft(listed, f"line {line.number} of {listed.feed}")
+            if is_purl(bare):
+                draft.add_purl(bare, "it")
+            else:
+                draft.add_name(bare, "")
             listed.put(draft)
-    return True
+
+
+def _bare(line: str) -> str:
+    return _COMMENT.sub("", line).strip()

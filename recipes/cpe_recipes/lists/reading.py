@@ -4,6 +4,7 @@ from __future__ import annotations
 from collections.abc import Collection, Iterable, Iterator
 from dataclasses import dataclass
 
+from .. import purls
 from ..components import Component
 from ..feeds import FeedFault, Json
 from . import kinds, systems
@@ -21,12 +22,14 @@ class Odd:
 
 
 class Listed:
-    """What was found in a list: components, and what is odd, in the order of the list; and the platform where it says which."""
+    """What was found in a list: components, and what is odd, in the order of the list; and the platform where it says which.
+    `remarks` is worth knowing, and nothing is lost by it."""
 
     def __init__(self, feed: str) -> None:
         self.feed = feed
         self.parts: list[Component | Odd] = []
         self.platform: Component | None = None
+        self.remarks: list[str] = []
         self._unread = Unread()
 
     def components(self) -> list[Component]:
@@ -69,7 +72,7 @@ class Draft:
         self._listed = listed
         self.id = id
         self.names: dict[str, None] = {}
-        self.kind = self.purl = ""
+        self.kind = self.purl = self.source = ""
         self.faults: list[str] = []
 
     def add_name(self, value: Json, where: str) -> None:
@@ -90,7 +93,12 @@ class Draft:
             self.faults.append(f"{where} is no text")
             return
         self._listed.note(value)
-        self.purl = self.purl or value
+        try:
+            purls.check(value.strip())
+        except purls.PurlFault as fault:
+            self.faults.append(f"{where} is no package URL: {fault}")
+        else:
+            self.purl = self.purl or value
 
     def add_system(self, id: Json, version: Json) -> None:
         """Adds the names of an operating system that a list calls so."""
@@ -103,10 +111,14 @@ class Draft:
             if is_name(value):
                 self.add_name(value, "")
             elif is_purl(value):
-                self.add_purl(value, "")
+                self.add_purl(value, "a text of its evidence")
+
+    def add_source(self, name: str, version: str = "") -> None:
+        """Adds of which source package a distribution built it, perhaps with the version of that."""
+        self.source = f"{name}@{version}" if name and version else name
 
     def component(self) -> Component:
-        return Component(self.id, tuple(self.names), kinds.of_purl(self.purl) or self.kind, self.purl)
+        return Component(self.id, tuple(self.names), kinds.of_purl(self.purl) or self.kind, purls.with_upstream(self.purl, self.source))
 
     def each(self, holder: Json, key: str) -> Iterator[dict[str, Json]]:
         """The objects of a list that an object may have. What is no list, and what in it is no object, is odd."""

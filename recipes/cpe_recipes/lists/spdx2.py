@@ -12,6 +12,9 @@ PASSED: frozenset[str] = frozenset()
 
 _NAME_TYPE = re.compile(r"(^|/)cpe2[23]Type$")
 _PURL_TYPE = re.compile(r"(^|/)purl$")
+# What Trivy writes of a package: of which source package it was built, and of a file in which it found packages.
+_BUILT = re.compile(r"built package from: (?P<name>\S+)(?: (?P<version>\S+))?")
+_CLASSES = ("Class: lang-pkgs", "Class: os-pkgs")
 
 
 def called(value: dict[str, Json]) -> str | None:
@@ -29,14 +32,32 @@ def read(value: dict[str, Json], listed: Listed) -> None:
         if not isinstance(package, dict):
             listed.put_odd(id)
             continue
+        if _is_place(package):
+            continue
         given = package.get("SPDXID")
         draft = Draft(listed, given if isinstance(given, str) and given else id)
         for reference in draft.each(package, "externalRefs"):
             _add(reference, draft)
+        _add_source(package.get("sourceInfo"), draft)
         is_platform = package.get("primaryPackagePurpose") == "OPERATING-SYSTEM"
         if is_platform:
             draft.add_system(package.get("name"), package.get("versionInfo"))
         listed.put(draft, is_platform)
+
+
+def _is_place(package: dict[str, Json]) -> bool:
+    """Whether it is a file in which Trivy found packages, such as a lock, and no software itself."""
+    if package.get("primaryPackagePurpose") != "APPLICATION" or package.get("externalRefs"):
+        return False
+    notes = [package.get("attributionTexts"), package.get("annotations")]
+    texts = (one.get("comment") if isinstance(one, dict) else one for each in notes if isinstance(each, list) for one in each)
+    return any(text in _CLASSES for text in texts)
+
+
+def _add_source(text: Json, draft: Draft) -> None:
+    found = _BUILT.fullmatch(text) if isinstance(text, str) else None
+    if found:
+        draft.add_source(found["name"], found["version"] or "")
 
 
 def _add(reference: dict[str, Json], draft: Draft) -> None:

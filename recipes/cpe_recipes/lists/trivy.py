@@ -1,6 +1,8 @@
-"""Trivy's own JSON: of each package of the `Results` its `Identifier.PURL`, its `Type` or that of its result; the platform is
-`Metadata.OS`. Trivy gives no names of products, so each package is said as one without, and is no item."""
+"""Trivy's own JSON: of each package of the `Results` its `Identifier.PURL`, its `Type` or that of its result, and its source package
+(`SrcName`); the platform is `Metadata.OS`. Trivy gives no names of products, so each package is one without a name."""
 from __future__ import annotations
+
+from collections.abc import Mapping
 
 from ..feeds import FeedFault, Json
 from . import kinds
@@ -53,7 +55,17 @@ def _read_packages(result: dict[str, Json], target: str, listed: Listed) -> None
             draft.add_purl(identifier.get("PURL"), "its PURL")
         elif identifier is not None:
             draft.faults.append("its Identifier is no object")
+        draft.add_source(*source_of(package))
         listed.put(draft)
+
+
+def source_of(told: Mapping[str, Json]) -> tuple[str, str]:
+    """The source package of which a package was built, and its version with epoch and release; empty where they aren't told."""
+    name, version, release = (text if isinstance(text := told.get(key), str) else "" for key in ("SrcName", "SrcVersion", "SrcRelease"))
+    epoch = told.get("SrcEpoch")
+    # (a number in its own JSON, a text in CycloneDX)
+    front = f"{epoch}:" if version and isinstance(epoch, (int, str)) and epoch not in (0, "", "0") else ""
+    return name, f"{front}{version}-{release}" if version and release else f"{front}{version}"
 
 
 def _read_system(metadata: Json, listed: Listed) -> None:

@@ -1,0 +1,39 @@
+"""Commands that remarks name, as they work when they are copied: with the files that the user gave, and quoted for the shell."""
+from __future__ import annotations
+
+import os
+import shlex
+from collections.abc import Sequence
+from pathlib import Path
+
+from .words import Words
+
+_RECIPES = Path(__file__).resolve().parents[1]
+# The options by which unlisted.sh is given what scan.py was given.
+_SHARED = ("--dictionary", "--records", "--machines", "--lists")
+_FLAGS = ("--partial", "--large")
+
+
+def unlisted(read: Words) -> str:
+    """The command that lists what the dictionary doesn't have, by the words of scan.py."""
+    given = [word for option in _SHARED if read.has(option) for word in (option, *read.many(option))]
+    return command("unlisted.sh", [*given, *table_words(read), *(flag for flag in _FLAGS if read.has(flag))])
+
+
+def command(recipe: str, words: Sequence[str]) -> str:
+    """The command of a short recipe with these words."""
+    return shlex.join(["sh", _from_here(_RECIPES / recipe), *words])
+
+
+def table_words(read: Words) -> list[str]:
+    """The words by which a recipe is given tables of names."""
+    return [word for path in read.many("--names") for word in ("--names", path)]
+
+
+def _from_here(path: Path) -> str:
+    """A path from the working folder, if it is below it."""
+    try:
+        here = os.path.relpath(path)
+    except (OSError, ValueError):
+        return str(path)
+    return str(path) if here.startswith(os.pardir) else here

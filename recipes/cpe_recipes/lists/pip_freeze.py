@@ -1,0 +1,41 @@
+"""What `pip freeze` writes: `name==version`, and of what came from elsewhere `name @ URL` or `-e URL`, which have no version. Before an
+editable one may stand a comment that has it."""
+from __future__ import annotations
+
+import re
+from urllib.parse import unquote
+
+from . import pythons
+from .reading import Listed
+from .texts import Packages, Text
+
+CALLED = "pip freeze"
+_PINNED = rf"(?P<name>{pythons.NAME})={{2,3}}(?P<version>{pythons.VERSION})"
+_FROM = rf"(?P<from>{pythons.NAME}) @ \S.*"
+_EDITABLE = r"-e (?P<place>\S.*)"
+_LINE = re.compile(rf"{_PINNED}|{_FROM}|{_EDITABLE}")
+_COMMENT = re.compile(rf"\s*#(?: Editable .*\((?P<name>{pythons.NAME})==(?P<version>{pythons.VERSION})\))?.*")
+_EGG = re.compile(rf".*[#&]egg=(?P<name>{pythons.NAME})(?:&.*)?")
+
+
+def fits(text: Text) -> bool:
+    is_one = text.most(lambda line: _LINE.fullmatch(line) or _COMMENT.fullmatch(line))
+    return is_one and text.any(lambda line: (found := _LINE.fullmatch(line)) and not found["place"])
+
+
+def read(text: Text, listed: Listed) -> None:
+    packages = Packages(text, listed, CALLED)
+    # (of an editable package the comment is the line before it)
+    editable = {line.number + 1: told for line in text.lines if (told := _COMMENT.fullmatch(line.text)) and told["name"]}
+    for line, found in packages.each(_LINE, {_COMMENT: ""}):
+        told = editable.get(line.number)
+        egg = _EGG.fullmatch(unquote(found["place"] or ""))
+        if found["name"] or found["from"]:
+            packages.put(pythons.package(found["name"] or found["from"], found["version"] or ""))
+        elif told:
+            packages.put(pythons.package(told["name"], told["version"]))
+        elif egg:
+            packages.put(pythons.package(egg["name"], ""))
+        else:
+            packages.odd(line, "an editable package without a name")
+    packages.end()

@@ -1,0 +1,87 @@
+"""What is known of how advisories are exploited, where it is given: CISA's list (--kev) and EPSS (--epss). They stand in columns of a
+table, in the JSON and on the page, order the rows, and are terms of --fail-on (gates.py)."""
+from __future__ import annotations
+
+from collections.abc import Collection
+from dataclasses import dataclass
+
+from .epss import Epss, read_epss
+from .feeds import Json
+from .kev import Kev, read_kev
+from .said import Said
+from .words import ONE, Words
+
+KEV, EPSS = "--kev", "--epss"
+OPTIONS = {KEV: ONE, EPSS: ONE}
+_MOST_TOLD = 3
+
+
+@dataclass(frozen=True)
+class Threats:
+    """The list and the probabilities, None where they aren't given."""
+
+    kev: Kev | None = None
+    epss: Epss | None = None
+
+    @staticmethod
+    def of(read: Words, said: Said) -> Threats:
+        """What the options name. Fatal where a file isn't what it has to be."""
+        kev, epss = read.only(KEV), read.only(EPSS)
+        return Threats(None if kev is None else read_kev(kev, said), None if epss is None else read_epss(epss, said))
+
+    def is_exploited(self, id: str) -> bool:
+        return self.kev is not None and id in self.kev.found
+
+    def added(self, id: str) -> str:
+        """The day since when it is known to be exploited, empty if it isn't."""
+        found = self.kev.found.get(id) if self.kev else None
+        return found.added if found else ""
+
+    def probability(self, id: str) -> float | None:
+        found = None if self.epss is None else self.epss.found.get(id)
+        return None if found is None else found.epss
+
+    def order(self, id: str, score: float) -> tuple[bool, float, float]:
+        """What comes first among the verdicts that are the same: known exploited, then the highest score, then the highest EPSS."""
+        probability = self.probability(id)
+        return not self.is_exploited(id), -score, 1.0 if probability is None else -probability
+
+    def header(self) -> tuple[str, ...]:
+        """The columns of a table."""
+        return (() if self.kev is None else ("KEV",)) + (() if self.epss is None else ("EPSS",))
+
+    def cells(self, id: str) -> tuple[str, ...]:
+        """What stands in these columns: the day since when it is known, and the probability."""
+        probability = self.probability(id)
+        added = () if self.kev is None else (self.added(id),)
+        return added + (() if self.epss is None else ("" if probability is None else f"{probability:.5f}",))
+
+    def json(self, id: str) -> dict[str, Json]:
+        """What the JSON has of an advisory."""
+        exploited = self.kev.found.get(id) if self.kev else None
+        probability = self.epss.found.get(id) if self.epss else None
+        found = {"kev": exploited and exploited.json(), "epss": probability and probability.json()}
+        return {key: value for key, value in found.items() if value}
+
+    def about(self) -> dict[str, Json]:
+        """What the JSON has of the files."""
+        return ({} if self.kev is None else {"kev": self.kev.json()}) | ({} if self.epss is None else {"epss": self.epss.json()})
+
+    def tell(self, asked: Collection[str], unasked: Collection[str], said: Said, elsewhere: str = "not in the feeds") -> None:
+        """Says what the table doesn't show: what is known exploited and has no verdict, and what EPSS knows nothing of. `unasked` are
+        the advisories of the feeds that have no verdict, and `elsewhere` are the words for those that are neither."""
+        known = list(self.kev.found) if self.kev else []
+        others = sum(id not in asked and id not in unasked for id in known)
+        if others:
+            said.remark(f"known exploited: {_advisories(others)} {elsewhere}")
+        without = [id for id in known if id in unasked and id not in asked]
+        if without:
+            more = f" and {len(without) - _MOST_TOLD} more" if len(without) > _MOST_TOLD else ""
+            said.remark(f"known exploited: {_advisories(len(without))} without a verdict, {', '.join(without[:_MOST_TOLD])}{more}")
+        lacking = sum(id not in self.epss.found for id in asked) if self.epss else 0
+        if lacking:
+            said.remark(f"EPSS: {_advisories(lacking)} without one")
+
+
+def _advisories(number: int) -> str:
+    return f"{number:,} {'advisory is' if number == 1 else 'advisories are'}"
