@@ -15,6 +15,7 @@ use Rattle.cpe_name.specs.declared.attribute.Attribute.TheVariants.{Part, Vendor
 use Rattle.cpe_name.specs.Eleven.{Values}
 use Rattle.cpe_name.specs.Names.{value_of, IsName}
 use Rattle.cpe_name.specs.Text.{attribute_name}
+use Rattle.cpe_name.proofs.WholeTexts.{good_value}
 use Rattle.cpe_fs.specs.Grammar.{component}
 use Rattle.cpe_uri.specs.Canon.{is_any}
 use Rattle.cpe_rows.specs.Date.{is_date}
@@ -89,23 +90,9 @@ attribute_text TargetSw = IsUtf8-are_ascii _ refl
 attribute_text TargetHw = IsUtf8-are_ascii _ refl
 attribute_text Other = IsUtf8-are_ascii _ refl
 
--- each value of a name is one
-each_value : (n : Values) → IsName n → (a : Attribute) → IsValue (value_of n a)
-each_value n h Part = h.0.0
-each_value n h Vendor = h.1.0
-each_value n h Product = h.1.1.0
-each_value n h Version = h.1.1.1.0
-each_value n h Update = h.1.1.1.1.0
-each_value n h Edition = h.1.1.1.1.1.0
-each_value n h Language = h.1.1.1.1.1.1.0.0
-each_value n h SwEdition = h.1.1.1.1.1.1.1.0
-each_value n h TargetSw = h.1.1.1.1.1.1.1.1.0
-each_value n h TargetHw = h.1.1.1.1.1.1.1.1.1.0
-each_value n h Other = h.1.1.1.1.1.1.1.1.1.1.0
-
 values_text : (n : Values) → IsName n → (which : List Attribute) → MembersWriteTexts (with_values n which)
 values_text n h [] = tt
-values_text n h (a ∷ more) = member_text (attribute_name a) (value_of n a) (with_values n more) (attribute_text a) (each_value n h a) (values_text n h more)
+values_text n h (a ∷ more) = member_text (attribute_name a) (value_of n a) (with_values n more) (attribute_text a) (good_value n a h) (values_text n h more)
 
 name_text : (n : Values) → IsName n → WritesTexts (name_object n)
 unfolding name_object

@@ -1,8 +1,8 @@
-//! What runs of the program promise together, over all inputs: rows that are saved are loaded, certificates that are written hold, and what
-//! holds is the verdict.
+//! What two runs of the program promise together, over all inputs: the rows that are saved are loaded, the certificates that `explain`
+//! writes hold, a certificate that holds has the verdict, and what is converted leaves the same rows.
 //!
-//! `cpe_command::run` says of each run what it writes. Here stand the theorems that follow of two runs, in `specs/Theorems`: read that file
-//! first. Each is a law, a function that does nothing and whose clause is the theorem.
+//! The contract of `cpe_command::run` says what one run writes. The theorems that follow for two runs are in `specs/Theorems`: read that
+//! file first. Each is a law, a function that does nothing and whose clause is the theorem.
 #![tactic(auto)]
 
 pub mod law;
