@@ -1,0 +1,7 @@
+pub mod LinkLemmas
+pub mod TableLemmas
+pub mod ChangeLemmas
+pub mod RefreshLemmas
+pub mod RowLemmas
+pub mod TicketLemmas
+pub mod TruthLemmas

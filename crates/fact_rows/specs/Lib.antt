@@ -1,0 +1,5 @@
+pub mod Rows
+pub mod Facts
+pub mod Truths
+pub mod Tickets
+pub mod Calls

@@ -1,0 +1,159 @@
+-- Facts that lead to other ends.
+use Rattle.std.proofs.Common.{◌≡◌, ℕ, ◌≤◌, Bool, true, false, not, ◌||◌, nat_eq, List, [], ◌∷◌, length, get_or, drop, Option, Some, None, refl, sym, ap, subst, ◌∙◌, inl, inr, eq-eqb, eqb-true, arith}
+use Rattle.std.specs.Prelude.{is_some}
+use Rattle.std.specs.Option.{option_map}
+use Rattle.std.specs.List.{AllByRecursion}
+use Rattle.std.proofs.lemmas.Bool.{both_ways, cases_eq, ne_eqb, true≢false}
+use Rattle.cpe_name.specs.Eleven.{Values}
+use Rattle.name_index.specs.declared.table.NameId.{NameId}
+use Rattle.name_index.specs.Index.{name_id}
+use Rattle.name_index.specs.Table.{AreNames, Names, kept_at}
+use Rattle.level_board.specs.Board.{AreAnswers, Board}
+use Rattle.cpe_rows.specs.Rows.{Rows}
+use Rattle.cpe_rows.specs.Verdict.{fact_truth}
+use Rattle.cpe_rows.specs.declared.statement.Mode.TheVariants.{Follow}
+use Rattle.fact_laws.specs.Shown.{name_at, names_at}
+use Rattle.fact_laws.proofs.Shown.{live_is}
+use Rattle.fact_laws.specs.Asked.{leads}
+use Rattle.kept_facts.specs.Kept.{AreLive}
+use Rattle.kept_facts.proofs.AskedOn.{facts_on}
+use Rattle.fact_rows.specs.Facts.{AreLinked, ends_of, ends_or_none, Fact, fact_at, facts_of, FactTable, has_end, is_fact, IsUnder, leads_by, leads_of, OthersStay, SameOthers, truth_of, truth_or_unknown, users_of, users_or_none, with_ends}
+use Rattle.fact_rows.specs.Calls.{Refreshed}
+use Rattle.fact_rows.specs.Tickets.{is_empty}
+use Rattle.fact_rows.specs.Truths.{truth_at}
+use Rattle.facts.specs.Facts.{is_used, LeadsTo}
+use Rattle.facts.specs.Leads.{AreLedBut, is_led, IsLed}
+use Rattle.facts.specs.declared.lead.Led.{Led}
+use Rattle.facts.proofs.MoveLemmas.{linked_still}
+use Rattle.facts.proofs.LevelLemmas.{shown}
+use Rattle.facts.proofs.UserLemmas.{used_fact, users_refer}
+
+users_with : (es : List NameId) (o : Option Fact) → users_or_none (option_map (with_ends es) o) ≡ users_or_none o
+users_with es None = refl
+users_with es (Some f) = refl
+
+truth_with : (es : List NameId) (o : Option Fact) → truth_or_unknown (option_map (with_ends es) o) ≡ truth_or_unknown o
+truth_with es None = refl
+truth_with es (Some f) = refl
+
+some_with : (es : List NameId) (o : Option Fact) → is_some (option_map (with_ends es) o) ≡ is_some o
+some_with es None = refl
+some_with es (Some f) = refl
+
+ends_with : (es : List NameId) (o : Option Fact) → is_some o ≡ true → ends_or_none (option_map (with_ends es) o) ≡ es
+ends_with es None h = absurd (true≢false (sym h))
+ends_with es (Some f) h = refl
+
+-- numbers of the same names are the same
+pub same_numbers : (names : Names) → AreNames names → (xs ys : List NameId) → AreLive names xs → AreLive names ys → names_at names xs ≡ names_at names ys → xs ≡ ys
+same_numbers names are [] [] lx ly e = refl
+same_numbers names are [] (y ∷ ys) lx ly e = absurd (omega (arith, ap length e))
+same_numbers names are (x ∷ xs) [] lx ly e = absurd (omega (arith, ap length e))
+same_numbers names are (x ∷ xs) (y ∷ ys) lx ly e =
+    let first : x.0 ≡ y.0 = are.different x.0 y.0 (kept_at names x.0) (kept_at names y.0) (live_is names x.0 lx.0) (live_is names y.0 ly.0) (ap (λ (ns : List Values). get_or ns 0 (name_at names x)) e) in
+    λ i. name_id (first i) ∷ same_numbers names are xs ys lx.1 ly.1 (ap (drop 1) e) i
+
+or_first : (x y : Bool) → (x || y) ≡ false → x ≡ false
+or_first true y e = e
+or_first false y e = refl
+
+or_second : (x y : Bool) → (x || y) ≡ false → y ≡ false
+or_second true y e = absurd (true≢false e)
+or_second false y e = e
+
+module _ (names : Names) (are : AreNames names) (board : Board) (answers : AreAnswers board) (next : Rows) (tickets : List ℕ) (passes : ℕ → Bool) (led : Led) (rest : List Led) (old mid new : FactTable)
+    (a : AreLedBut names board old next tickets passes (led ∷ rest))
+    (here : fact_at mid led.fact.0 ≡ option_map (with_ends led.ends.items) (fact_at old led.fact.0)) (stay : OthersStay led.fact.0 old mid)
+    (links : (e : ℕ) → has_end led.ends.items e ≡ true → facts_of mid e ≡ facts_of old e) (others : SameOthers led.fact.0 (facts_of old) (facts_of mid))
+    (linked : AreLinked old → IsUnder (facts_of old) led.fact.0 led.ends.items → AreLinked mid)
+    (r : Refreshed mid new (has_end (led.fact ∷ [])) Follow board) where
+  first : IsLed names old next.entries led
+  first = a.led.0
+
+  -- whatever is told of a row but its ends
+  same_by : {A : Type 0} (told : Option Fact → A) → ((o : Option Fact) → told (option_map (with_ends led.ends.items) o) ≡ told o) → (q : ℕ) → told (fact_at mid q) ≡ told (fact_at old q)
+  same_by told same q = elim (cases_eq q led.fact.0) [
+    | inl e ↦ ap (λ (n : ℕ). told (fact_at mid n)) e ∙ ap told here ∙ same (fact_at old led.fact.0) ∙ ap (λ (n : ℕ). told (fact_at old n)) (sym e)
+    | inr ne ↦ ap told (stay q ne)
+  ]
+
+  users_mid : (q : ℕ) → users_of mid q ≡ users_of old q
+  users_mid = same_by users_or_none (users_with led.ends.items)
+
+  was : (q : ℕ) → is_used mid q ≡ true → is_used old q ≡ true
+  was q used = sym (ap (λ (us : List ℕ). not (is_empty us)) (users_mid q)) ∙ used
+
+  ends_mid : ends_of mid led.fact.0 ≡ led.ends.items
+  ends_mid = ap ends_or_none here ∙ ends_with led.ends.items (fact_at old led.fact.0) (used_fact old led.fact.0 first.used)
+
+  live_now : (q : ℕ) → is_fact new q ≡ true → is_fact old q ≡ true
+  live_now q is = sym (same_by is_some (some_with led.ends.items) q) ∙ (sym (r.same.there q) ∙ is)
+
+  users_now : (q : ℕ) → users_of new q ≡ users_of old q
+  users_now q = r.same.users q ∙ users_mid q
+
+  was_used : (q : ℕ) → is_used new q ≡ true → is_used old q ≡ true
+  was_used q used = sym (ap (λ (us : List ℕ). not (is_empty us)) (users_now q)) ∙ used
+
+  led_still : (x : Led) → IsLed names old next.entries x → IsLed names new next.entries x
+  led_still x l = record {
+    used = ap (λ (us : List ℕ). not (is_empty us)) (users_now x.fact.0) ∙ l.used;
+    leads_there = l.leads_there;
+    under = λ e h. ap (λ (fs : List NameId). has_end fs x.fact.0) (r.same.facts e) ∙ elim (cases_eq x.fact.0 led.fact.0) [
+      | inl same ↦
+          let same_ends : x.ends.items ≡ led.ends.items = same_numbers names are x.ends.items led.ends.items l.leads_there.live first.leads_there.live
+          (l.leads_there.names ∙ ap (λ (n : ℕ). leads next.entries Follow (kept_at names n).name) same ∙ sym first.leads_there.names) in
+          ap (λ (fs : List NameId). has_end fs x.fact.0) (links e (sym (ap (λ (ns : List NameId). has_end ns e) same_ends) ∙ h)) ∙ l.under e h
+      | inr ne ↦ others e x.fact.0 ne ∙ l.under e h
+    ];
+  }
+
+  all_still : (xs : List Led) → AllByRecursion (IsLed names old next.entries) xs → AllByRecursion (IsLed names new next.entries) xs
+  all_still [] all = tt
+  all_still (x ∷ xs) all = (led_still x all.0, all_still xs all.1)
+
+  leads_mid : (q : ℕ) → is_used mid q ≡ true → is_led rest q ≡ false → LeadsTo names next.entries Follow q (leads_of Follow mid q)
+  leads_mid q used free = elim (cases_eq q led.fact.0) [
+    | inl e ↦
+        subst (λ (n : ℕ). LeadsTo names next.entries Follow n (leads_of Follow mid n)) (sym e) (subst (LeadsTo names next.entries Follow led.fact.0) (sym ends_mid) first.leads_there)
+    | inr ne ↦
+        subst (LeadsTo names next.entries Follow q) (sym (ap (λ (o : Option Fact). leads_by Follow q (ends_or_none o)) (stay q ne)))
+        (a.leads_there q (was q used) (ap (λ (b : Bool). b || is_led rest q) (ne_eqb led.fact.0 q (λ e. ne (sym e))) ∙ free))
+  ]
+
+  leads_now : (q : ℕ) → is_used new q ≡ true → is_led rest q ≡ false → LeadsTo names next.entries Follow q (leads_of Follow new q)
+  leads_now q used free = subst (LeadsTo names next.entries Follow q) (sym (ap (leads_by Follow q) (r.same.ends q))) (leads_mid q (sym (ap (λ (us : List ℕ). not (is_empty us)) (r.same.users q)) ∙ used) free)
+
+  truth_now : (q : ℕ) → is_used new q ≡ true → is_led rest q ≡ false → passes q ≡ false → truth_of new q ≡ fact_truth next Follow (kept_at names q).name
+  truth_now q used free apart = by (has_end (led.fact ∷ []) q) refl
+    where
+      l : LeadsTo names next.entries Follow q (leads_of Follow new q)
+      l = leads_now q used free
+
+      before : is_used old q ≡ true
+      before = was_used q used
+
+      by : (b : Bool) → has_end (led.fact ∷ []) q ≡ b → truth_of new q ≡ fact_truth next Follow (kept_at names q).name
+      by true e =
+          r.here q e (used_fact new q used)
+          ∙ shown names board next Follow answers a.fits a.shows (kept_at names q).name (leads_of Follow new q)
+          (facts_on names board next Follow (kept_at names q).name (leads_of Follow new q) are a.shows
+          (users_refer Follow (kept_at names q).name tickets next.statements (subst (λ (us : List ℕ). not (is_empty us) ≡ true) (a.users q (a.live q (used_fact old q before))) before)) l.live l.names)
+          l.names
+      by false e =
+          let other = or_first (nat_eq led.fact.0 q) false e in
+          r.others q e
+          ∙ ap truth_or_unknown (stay q (λ same. both_ways (nat_eq led.fact.0 q) other (eq-eqb led.fact.0 q (sym same))))
+          ∙ a.truths q before (ap (λ (b : Bool). b || is_led rest q) other ∙ free) apart
+
+  pub led_next : AreLedBut names board new next tickets passes rest
+  led_next = record {
+    shows = a.shows;
+    fits = a.fits;
+    live = λ q is. a.live q (live_now q is);
+    users = λ q lq. users_now q ∙ a.users q lq;
+    led = all_still rest a.led.1;
+    leads_there = leads_now;
+    linked = linked_still mid new r.same.ends r.same.facts (linked a.linked first.under);
+    truths = truth_now;
+  }

@@ -1,0 +1,9 @@
+pub mod LevelLemmas
+pub mod UserLemmas
+pub mod MoveLemmas
+pub mod AddLemmas
+pub mod PutLemmas
+pub mod LessLemmas
+pub mod TakeLemmas
+pub mod LeadLemmas
+pub mod LeadMove

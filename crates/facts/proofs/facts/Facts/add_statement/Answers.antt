@@ -1,0 +1,105 @@
+use Rattle.std.proofs.Common.{◌≡◌, ◌∷◌, ◌++◌, [], List, ℕ, false, refl, sym, ap, subst, arith}
+use Rattle.cpe_rows.specs.After.{after}
+use Rattle.cpe_rows.specs.Rows.{Rows}
+use Rattle.cpe_rows.specs.declared.edit.Edit.TheVariants as edit
+use Rattle.cpe_rows.specs.declared.statement.Mode.{Mode}
+use Rattle.cpe_rows.specs.declared.statement.Mode.TheVariants.{Plain, Follow}
+use Rattle.level_board.specs.Board.{Board}
+use Rattle.fact_laws.specs.Asked.{same_mode}
+use Rattle.kept_facts.specs.Kept.{AreSettled, board_of, ShowRows}
+use Rattle.kept_facts.specs.Moved.{FactsAsked}
+use Rattle.fact_rows.specs.Facts.{has_end}
+use Rattle.fact_rows.specs.Calls.{Refreshed}
+use Rattle.facts.specs.Facts.{FactsNow, HasFacts}
+use Rattle.facts.specs.Calls.{MayAddStatement, StatementAdded}
+use Rattle.facts.proofs.AddLemmas.{added_to}
+use Rattle.facts.proofs.MoveLemmas.{all_changed, cleared_facts}
+use Rattle.facts.proofs.PutLemmas.{both_changed, looks_within, none_changed, other_facts, put_facts, shows_of, tickets_more, used_changed}
+use Rattle.facts.proofs.facts.Facts.add_statement.Goals as goal
+
+pub ask-requires-clause-few : goal.ask-requires-clause-few
+ask-requires-clause-few g c p =
+    let names = c.args.table.now in
+    let m = subst (λ (f : FactsNow). MayAddStatement f names c.args.mode c.args.ids.now c.args.fresh.now c.args.asked.now c.args.ticket) (sym c.self.view_is) c.requires in
+    let inside : FactsNow = record { boards = c.self.inside.boards; plain = c.self.inside.plain; follow = c.self.inside.follow } in
+    omega (arith, m.few, c.few_stand.ensures.probes names (board_of c.self.inside.boards c.args.mode) m.stood.0 c.args.mode p (shows_of names inside m.stood.0 m.stood.1 c.args.mode m.stood.3) m.stood.2)
+
+pub returns-in-Plain : goal.returns-in-Plain
+returns-in-Plain g c =
+    let names = c.args.table.now in
+    let are = c.lawful.ensures in
+    let boards = c.self.inside.boards in
+    let plain = c.self.inside.plain in
+    let follow = c.self.inside.follow in
+    let ids = c.args.ids.now in
+    let fresh = c.args.fresh.now in
+    let asked = c.args.asked.now in
+    let ticket = c.args.ticket in
+    let before = c.args.steps.now in
+    let now = c.ask.new.steps in
+    let mid = c.ask.new.self in
+    let plain_cleared = c.clear_changed.new.self in
+    let follow_cleared = c.clear_changed-2.new.self in
+    let used = c.add_statement_users.ensures in
+    let inside : FactsNow = record { boards = boards; plain = plain; follow = follow } in
+    let new : FactsNow = record { boards = mid; plain = c.add_statement_users.new.facts; follow = follow_cleared } in
+    let was_asked : FactsAsked boards mid names Plain asked before now = subst (λ (m : Mode). FactsAsked boards mid names m asked before now) c.in-Plain.is c.ask.ensures in
+    let refreshed : Refreshed used.0 c.add_statement_users.new.facts (has_end fresh) Plain mid.plain = subst (λ (b : Board). Refreshed used.0 c.add_statement_users.new.facts (has_end fresh) Plain b) c.board.ensures used.3 in
+    let core : StatementAdded inside new names Plain ids fresh asked ticket before now = record {
+      stands = λ rows tickets s stood put.
+          let next : Rows = after rows (edit.PutStatement s) in
+          let shown : ShowRows names boards rows = record { plain = stood.plain.shows; follow = stood.follow.shows } in
+          let shows = was_asked.shows rows s put.moded shown put.asked_for in
+          let settled = was_asked.settled stood.settled in
+          let here = put_facts names are Plain boards.plain mid.plain (c.lawful-2.ensures.answers Plain) (c.lawful-3.ensures.answers Plain) was_asked.levels.plain (c.lawful-3.ensures.marks Plain) settled.plain rows s tickets ticket stood.numbered put.below
+          plain used.0 c.add_statement_users.new.facts ids fresh stood.plain shows.plain was_asked.fits.plain put.moded put.live put.named put.whole put.leads_there (added_to plain plain_cleared used.0 (has_end ids) ticket c.clear_changed.ensures.stay c.clear_changed.ensures.links used.1) refreshed in
+          let there = other_facts names are Follow boards.follow mid.follow (c.lawful-2.ensures.answers Follow) (c.lawful-3.ensures.answers Follow) was_asked.levels.follow (c.lawful-3.ensures.marks Follow) settled.follow rows s tickets ticket stood.numbered put.below
+          follow_cleared (cleared_facts follow follow_cleared c.clear_changed-2.ensures.stay c.clear_changed-2.ensures.links names Follow boards.follow rows tickets (λ q. false) stood.follow) shows.follow was_asked.fits.follow (ap (same_mode Follow) put.moded) in
+          record { plain = here; follow = there; settled = settled; numbered = tickets_more ticket tickets s rows.statements stood.numbered put.below };
+      changed = both_changed inside new (all_changed plain plain_cleared c.clear_changed.ensures.stay c.clear_changed.ensures.links c.add_statement_users.new.facts c.clear_changed.ensures.cleared (used_changed used.0 c.add_statement_users.new.facts plain_cleared ids fresh ticket Plain mid.plain used.1 used.2 refreshed)) (none_changed follow follow_cleared c.clear_changed-2.ensures.stay c.clear_changed-2.ensures.cleared);
+      steps = λ rows tickets s stood put. (
+        was_asked.rise,
+        omega (arith, was_asked.steps, c.looks_are_by_names.ensures.there names boards.plain rows Plain asked are (c.lawful-2.ensures.on Plain) stood.plain.shows, looks_within names rows s Plain asked put.moded put.asked_for),
+      );
+    } in
+    subst (λ (f : FactsNow). StatementAdded f new names c.args.mode ids fresh asked ticket before now) c.self.view_is (subst (λ (m : Mode). StatementAdded inside new names m ids fresh asked ticket before now) (sym c.in-Plain.is) core)
+
+pub returns-in-Follow : goal.returns-in-Follow
+returns-in-Follow g c =
+    let names = c.args.table.now in
+    let are = c.lawful.ensures in
+    let boards = c.self.inside.boards in
+    let plain = c.self.inside.plain in
+    let follow = c.self.inside.follow in
+    let ids = c.args.ids.now in
+    let fresh = c.args.fresh.now in
+    let asked = c.args.asked.now in
+    let ticket = c.args.ticket in
+    let before = c.args.steps.now in
+    let now = c.ask.new.steps in
+    let mid = c.ask.new.self in
+    let plain_cleared = c.clear_changed.new.self in
+    let follow_cleared = c.clear_changed-2.new.self in
+    let used = c.add_statement_users-in-Follow.ensures in
+    let inside : FactsNow = record { boards = boards; plain = plain; follow = follow } in
+    let new : FactsNow = record { boards = mid; plain = plain_cleared; follow = c.add_statement_users-in-Follow.new.facts } in
+    let was_asked : FactsAsked boards mid names Follow asked before now = subst (λ (m : Mode). FactsAsked boards mid names m asked before now) c.in-Follow.is c.ask.ensures in
+    let refreshed : Refreshed used.0 c.add_statement_users-in-Follow.new.facts (has_end fresh) Follow mid.follow = subst (λ (b : Board). Refreshed used.0 c.add_statement_users-in-Follow.new.facts (has_end fresh) Follow b) c.board-in-Follow.ensures used.3 in
+    let core : StatementAdded inside new names Follow ids fresh asked ticket before now = record {
+      stands = λ rows tickets s stood put.
+          let next : Rows = after rows (edit.PutStatement s) in
+          let shown : ShowRows names boards rows = record { plain = stood.plain.shows; follow = stood.follow.shows } in
+          let shows = was_asked.shows rows s put.moded shown put.asked_for in
+          let settled = was_asked.settled stood.settled in
+          let here = put_facts names are Follow boards.follow mid.follow (c.lawful-2.ensures.answers Follow) (c.lawful-3.ensures.answers Follow) was_asked.levels.follow (c.lawful-3.ensures.marks Follow) settled.follow rows s tickets ticket stood.numbered put.below
+          follow used.0 c.add_statement_users-in-Follow.new.facts ids fresh stood.follow shows.follow was_asked.fits.follow put.moded put.live put.named put.whole put.leads_there (added_to follow follow_cleared used.0 (has_end ids) ticket c.clear_changed-2.ensures.stay c.clear_changed-2.ensures.links used.1) refreshed in
+          let there = other_facts names are Plain boards.plain mid.plain (c.lawful-2.ensures.answers Plain) (c.lawful-3.ensures.answers Plain) was_asked.levels.plain (c.lawful-3.ensures.marks Plain) settled.plain rows s tickets ticket stood.numbered put.below
+          plain_cleared (cleared_facts plain plain_cleared c.clear_changed.ensures.stay c.clear_changed.ensures.links names Plain boards.plain rows tickets (λ q. false) stood.plain) shows.plain was_asked.fits.plain (ap (same_mode Plain) put.moded) in
+          record { plain = there; follow = here; settled = settled; numbered = tickets_more ticket tickets s rows.statements stood.numbered put.below };
+      changed = both_changed inside new (none_changed plain plain_cleared c.clear_changed.ensures.stay c.clear_changed.ensures.cleared) (all_changed follow follow_cleared c.clear_changed-2.ensures.stay c.clear_changed-2.ensures.links c.add_statement_users-in-Follow.new.facts c.clear_changed-2.ensures.cleared (used_changed used.0 c.add_statement_users-in-Follow.new.facts follow_cleared ids fresh ticket Follow mid.follow used.1 used.2 refreshed));
+      steps = λ rows tickets s stood put. (
+        was_asked.rise,
+        omega (arith, was_asked.steps, c.looks_are_by_names.ensures.there names boards.follow rows Follow asked are (c.lawful-2.ensures.on Follow) stood.follow.shows, looks_within names rows s Follow asked put.moded put.asked_for),
+      );
+    } in
+    subst (λ (f : FactsNow). StatementAdded f new names c.args.mode ids fresh asked ticket before now) c.self.view_is (subst (λ (m : Mode). StatementAdded inside new names m ids fresh asked ticket before now) (sym c.in-Follow.is) core)

@@ -1,0 +1,77 @@
+use Rattle.std.proofs.Common.{length, ◌≡◌, ◌+◌, List, ℕ, Bool, [], true, false, refl, sym, ap, subst, arith}
+use Rattle.cpe_name.specs.Eleven.{Values}
+use Rattle.product_orders.specs.declared.products.Side.{Side}
+use Rattle.product_orders.specs.declared.products.Side.TheVariants as side
+use Rattle.cpe_rows.specs.After.{after}
+use Rattle.cpe_rows.specs.Rows.{Rows}
+use Rattle.cpe_rows.specs.declared.statement.Mode.TheVariants.{Plain, Follow}
+use Rattle.level_board.specs.Board.{AreAnswers, Board}
+use Rattle.fact_laws.specs.Shown.{different, near_names}
+use Rattle.fact_laws.specs.Asked.{asked, there}
+use Rattle.kept_facts.specs.Kept.{ShowRows}
+use Rattle.fact_rows.specs.Facts.{FactTable}
+use Rattle.facts.specs.Facts.{FactsNow, HasFacts, is_used}
+use Rattle.facts.specs.LeadCalls.{EndsChanged, IsLead}
+use Rattle.facts.specs.Leads.{AreLedBut}
+use Rattle.facts.proofs.LeadMove.{led_cleared, led_facts, plain_over, cleared_whole}
+use Rattle.facts.proofs.MoveLemmas.{cleared_facts}
+use Rattle.facts.proofs.facts.Facts.lead.Goals as goal
+
+pub returns : goal.returns
+returns g c =
+    let names = c.args.table.now in
+    let are = c.lawful.ensures in
+    let boards = c.self.inside.boards in
+    let plain = c.self.inside.plain in
+    let follow = c.self.inside.follow in
+    let mid = c.lead.new.self in
+    let plain_cleared = c.clear_changed.new.self in
+    let follow_cleared = c.clear_changed-2.new.self in
+    let led = c.args.led.items in
+    let before = c.args.steps.now in
+    let now = c.lead.new.steps in
+    let touch = c.deprecations_touch.ensures in
+    let inside : FactsNow = record { boards = boards; plain = plain; follow = follow } in
+    let new : FactsNow = record { boards = c.settle.new.boards; plain = c.settle.new.plain; follow = c.settle.new.follow } in
+    let core : EndsChanged inside new names c.args.items_from.now c.args.items_to.now c.args.facts_from.now c.args.facts_to.now led before now = record {
+      stands = λ rows tickets e n h stood l.
+          let next : Rows = after rows e in
+          let shown : ShowRows names boards rows = record { plain = stood.plain.shows; follow = stood.follow.shows } in
+          let shows = c.lead.ensures.shows rows e n h shown l.items_left l.items_come l.facts_left l.facts_come in
+          let statements = touch.statements rows e n h in
+          let fits = c.lead.ensures.fits in
+          let was_plain = cleared_facts plain plain_cleared c.clear_changed.ensures.stay c.clear_changed.ensures.links names Plain boards.plain rows tickets (λ q. false) stood.plain in
+          let was_follow = cleared_facts follow follow_cleared c.clear_changed-2.ensures.stay c.clear_changed-2.ensures.links names Follow boards.follow rows tickets (λ q. false) stood.follow in
+          let of_plain = plain_over names are boards.plain mid.plain (c.lawful-2.ensures.answers Plain) (c.lawful-3.ensures.answers Plain) c.lead.ensures.levels.plain rows next tickets plain_cleared was_plain statements shows.plain fits.plain in
+          let does = λ (passes : ℕ → Bool) (a : AreLedBut names mid.follow follow_cleared next tickets passes led).
+          subst (λ (b : Board). AreLedBut names b c.lead_facts.new.facts next tickets passes []) c.board.ensures
+          (c.lead_facts.ensures names next tickets passes are (subst AreAnswers (sym c.board.ensures) (c.lawful-3.ensures.answers Follow)) (subst (λ (b : Board). AreLedBut names b follow_cleared next tickets passes led) (sym c.board.ensures) a)) in
+          let of_follow = led_facts names are boards.follow mid.follow (c.lawful-2.ensures.answers Follow) (c.lawful-3.ensures.answers Follow) c.lead.ensures.levels.follow rows next tickets n follow_cleared c.lead_facts.new.facts led
+          was_follow statements shows.follow fits.follow (λ x apart. touch.ends rows e n x h apart) (led_cleared names next.entries follow follow_cleared c.clear_changed-2.ensures.stay c.clear_changed-2.ensures.links led l.led_there)
+          (cleared_whole names rows follow follow_cleared led n c.clear_changed-2.ensures.stay l.whole) does in
+          record {
+            plain = c.settle.ensures.plain names next tickets are of_plain of_follow;
+            follow = c.settle.ensures.follow names next tickets are of_plain of_follow;
+            settled = c.settle.ensures.settled;
+            numbered = record { each = omega (arith, stood.numbered.each, ap length statements); rising = stood.numbered.rising };
+          };
+      steps = λ rows tickets e n h stood l.
+          let next : Rows = after rows e in
+          let shown : ShowRows names boards rows = record { plain = stood.plain.shows; follow = stood.follow.shows } in
+          let shows = c.lead.ensures.shows rows e n h shown l.items_left l.items_come l.facts_left l.facts_come in
+          let by : Side → List Values → Values → ℕ = λ on others m. 1 + near_names on m.product (different others) in
+          let looks = c.looks_are_by_names.ensures in (
+            c.lead.ensures.rise,
+            omega (
+              arith,
+              c.lead.ensures.steps,
+              looks.asked names boards.follow rows Follow c.args.items_to.now are (c.lawful-2.ensures.on Follow) stood.follow.shows,
+              l.items_come (by side.Target (asked rows Follow)),
+              looks.asked names boards.follow rows Follow c.args.items_from.now are (c.lawful-2.ensures.on Follow) stood.follow.shows,
+              l.items_left (by side.Target (asked rows Follow)),
+              looks.there names mid.follow next Follow c.args.facts_to.now are (c.lawful-3.ensures.on Follow) shows.follow,
+              l.facts_come (by side.Source (there next Follow)),
+            ),
+          );
+    } in
+    subst (λ (f : FactsNow). EndsChanged f new names c.args.items_from.now c.args.items_to.now c.args.facts_from.now c.args.facts_to.now led before now) c.self.view_is core

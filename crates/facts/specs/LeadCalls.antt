@@ -1,0 +1,39 @@
+-- What a change of a deprecation changes of the facts.
+use Rattle.std.specs.Prelude.{◌≡◌, ℕ, List, Some, true}
+use Rattle.std.specs.List.{AllByRecursion}
+use Rattle.cpe_name.specs.Eleven.{Values}
+use Rattle.product_orders.specs.Elements.{SameElements}
+use Rattle.name_index.specs.declared.table.NameId.{NameId}
+use Rattle.name_index.specs.Table.{Names, kept_at}
+use Rattle.cpe_steps.specs.Within.{StepsWithin}
+use Rattle.cpe_rows.specs.After.{after}
+use Rattle.cpe_rows.specs.Chains.{leads_to}
+use Rattle.cpe_rows.specs.Rows.{Rows}
+use Rattle.cpe_rows.specs.declared.edit.Edit.{Edit}
+use Rattle.cpe_rows.specs.declared.entry.Entry.{Entry}
+use Rattle.cpe_rows.specs.declared.statement.Mode.TheVariants.{Follow}
+use Rattle.cpe_changes.specs.Touching.{deprecation_changed}
+use Rattle.fact_laws.specs.Shown.{names_at}
+use Rattle.fact_laws.specs.Asked.{facts_in}
+use Rattle.kept_facts.specs.Kept.{ends_of_led}
+use Rattle.facts.specs.declared.lead.Led.{Led}
+use Rattle.facts.specs.Facts.{FactsNow, HasFacts, is_used}
+use Rattle.facts.specs.Leads.{is_led, IsLed}
+use Rattle.facts.specs.Looks.{lead_looks}
+
+-- These are the ends, before and after a change of the deprecation of an entry, of the items and of the facts that lead to the
+-- entry, and these facts with their new ends. After the change the entries are `left`.
+pub record IsLead (f : FactsNow) (table : Names) (rows : Rows) (left : List Entry) (n : Values) (items_from items_to facts_from facts_to : List NameId) (led : List Led) : Type 0 where
+  pub items_left : SameElements (names_at table items_from) (ends_of_led rows.entries rows.entries n rows.items)
+  pub items_come : SameElements (names_at table items_to) (ends_of_led rows.entries left n rows.items)
+  pub facts_left : SameElements (names_at table facts_from) (ends_of_led rows.entries rows.entries n (facts_in Follow rows.statements))
+  pub facts_come : SameElements (names_at table facts_to) (ends_of_led rows.entries left n (facts_in Follow rows.statements))
+  pub led_there : AllByRecursion (IsLed table f.follow left) led
+  pub whole : (id : ℕ) → is_used f.follow id ≡ true → leads_to rows.entries (kept_at table id).name n ≡ true → is_led led id ≡ true
+
+-- The ends changed.
+pub record EndsChanged (old new : FactsNow) (table : Names) (items_from items_to facts_from facts_to : List NameId) (led : List Led) (before now : ℕ) : Type 0 where
+  pub stands : (rows : Rows) (tickets : List ℕ) (e : Edit) (n : Values) → deprecation_changed e ≡ Some n → HasFacts table old rows tickets
+      → IsLead old table rows (after rows e).entries n items_from items_to facts_from facts_to led → HasFacts table new (after rows e) tickets
+  pub steps : (rows : Rows) (tickets : List ℕ) (e : Edit) (n : Values) → deprecation_changed e ≡ Some n → HasFacts table old rows tickets
+      → IsLead old table rows (after rows e).entries n items_from items_to facts_from facts_to led → StepsWithin before now (lead_looks rows (after rows e) n)

@@ -1,0 +1,35 @@
+-- Facts get other ends, one after the other.
+use Rattle.std.specs.Prelude.{◌≡◌, ◌≤◌, ℕ, Bool, true, false, nat_eq, length, List}
+use Rattle.std.specs.List.{AllByRecursion, list_any}
+use Rattle.name_index.specs.Table.{Names, IsLive, kept_at}
+use Rattle.level_board.specs.Board.{Board, FitsBoard}
+use Rattle.cpe_rows.specs.Rows.{Rows}
+use Rattle.cpe_rows.specs.Verdict.{fact_truth}
+use Rattle.cpe_rows.specs.declared.entry.Entry.{Entry}
+use Rattle.cpe_rows.specs.declared.statement.Mode.TheVariants.{Follow}
+use Rattle.kept_facts.specs.Kept.{ShowsRows}
+use Rattle.fact_rows.specs.Facts.{AreLinked, facts_of, FactTable, is_fact, IsUnder, leads_of, truth_of, users_of}
+use Rattle.facts.specs.Facts.{is_used, LeadsTo}
+use Rattle.facts.specs.Users.{users_in}
+use Rattle.facts.specs.declared.lead.Led.{Led}
+
+-- A fact in use will have these ends, to which it is linked already.
+pub record IsLed (table : Names) (t : FactTable) (left : List Entry) (led : Led) : Type 0 where
+  pub used : is_used t led.fact.0 ≡ true
+  pub leads_there : LeadsTo table left Follow led.fact.0 led.ends.items
+  pub under : IsUnder (facts_of t) led.fact.0 led.ends.items
+
+-- one of these facts has the number
+abbrev pub is_led : List Led → ℕ → Bool
+is_led rest id = list_any (λ (x : Led). nat_eq x.fact.0 id) rest
+
+-- All facts but the rest have the ends that these rows give them, and those of them that don't pass have the truth of their names.
+pub record AreLedBut (names : Names) (board : Board) (t : FactTable) (next : Rows) (tickets : List ℕ) (passes : ℕ → Bool) (rest : List Led) : Type 0 where
+  pub shows : ShowsRows names board next Follow
+  pub fits : FitsBoard board names
+  pub live : (id : ℕ) → is_fact t id ≡ true → IsLive names id
+  pub users : (id : ℕ) → IsLive names id → users_of t id ≡ users_in Follow (kept_at names id).name tickets next.statements
+  pub led : AllByRecursion (IsLed names t next.entries) rest
+  pub leads_there : (id : ℕ) → is_used t id ≡ true → is_led rest id ≡ false → LeadsTo names next.entries Follow id (leads_of Follow t id)
+  pub linked : AreLinked t
+  pub truths : (id : ℕ) → is_used t id ≡ true → is_led rest id ≡ false → passes id ≡ false → truth_of t id ≡ fact_truth next Follow (kept_at names id).name

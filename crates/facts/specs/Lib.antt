@@ -1,0 +1,6 @@
+pub mod Users
+pub mod Facts
+pub mod Looks
+pub mod Calls
+pub mod Leads
+pub mod LeadCalls

@@ -1,0 +1,40 @@
+// Facts get other ends.
+ghost use Rattle.std.specs.Prelude.{◌≡◌, ◌∷◌, [], ℕ, Bool, List};
+ghost use Rattle.cpe_rows.specs.Prelude.{Rows};
+ghost use Rattle.name_index.specs.Table.{AreNames, Names};
+ghost use Rattle.level_board.specs.Board.{AreAnswers};
+ghost use Rattle.facts.specs.declared.lead.Led.{Led};
+ghost use Rattle.facts.specs.Leads.{AreLedBut};
+
+use cpe_rows::Mode;
+use fact_rows::FactRows;
+use level_board::LevelBoard;
+use name_index::NameId;
+use std::slice::from_ref;
+
+/// A fact of mode follow, and the ends that it will have.
+#[derive(Drop)]
+pub struct Led {
+    /// The number of its name.
+    pub fact: NameId,
+    /// The numbers of these ends.
+    pub ends: Vec<NameId>,
+}
+
+// Gives a fact its new ends, and computes its truth again.
+fn lead_fact(facts: &mut FactRows, board: &LevelBoard, led: Led)
+    ensures { (names : Names) (next : Rows) (tickets : List ℕ) (passes : ℕ → Bool) (rest : List Led) → AreNames names → AreAnswers board.now → AreLedBut names board.now facts.old next tickets passes (led ∷ rest) → AreLedBut names board.now facts.new next tickets passes rest }
+{
+    let Led { fact, ends } = led;
+    facts.set_ends(fact, ends);
+    facts.refresh_facts(Mode::Follow, from_ref(&fact), board);
+}
+
+// Gives facts their new ends, to which they are linked already, and computes their truths again. It takes no memory.
+pub(crate) fn lead_facts(facts: &mut FactRows, board: &LevelBoard, all: Vec<Led>)
+    ensures { (names : Names) (next : Rows) (tickets : List ℕ) (passes : ℕ → Bool) → AreNames names → AreAnswers board.now → AreLedBut names board.now facts.old next tickets passes all.items → AreLedBut names board.now facts.new next tickets passes [] }
+{
+    for led in all {
+        lead_fact(facts, board, led);
+    }
+}

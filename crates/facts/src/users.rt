@@ -1,0 +1,77 @@
+// A statement begins to use facts, or ends it.
+ghost use Rattle.std.specs.Prelude.{◌≡◌, ◌||◌, ℕ, [], true};
+ghost use Rattle.ticket_list.specs.Rising.{IsRising};
+ghost use Rattle.fact_rows.specs.Facts.{FactTable, has_end, has_room, users_of};
+ghost use Rattle.fact_rows.specs.Calls.{Refreshed};
+ghost use Rattle.fact_rows.specs.Tickets.{ends_with};
+ghost use Rattle.facts.specs.Calls.{FactsRemoved, UsersAdded, UsersRemoved};
+
+use cpe_rows::Mode;
+use fact_rows::FactRows;
+use level_board::LevelBoard;
+use name_index::NameId;
+
+// Adds a ticket to these facts, each of which has room for it.
+fn add_users(facts: &mut FactRows, ids: &[NameId], ticket: u64)
+    requires { (q : ℕ) → has_end ids.now q ≡ true → (has_room facts.old q || ends_with ticket (users_of facts.old q)) ≡ true }
+    ensures added { UsersAdded facts.old facts.new (has_end ids.now) ticket }
+    ensures changed { facts.new.changed ≡ facts.old.changed }
+{
+    for id in ids {
+        facts.add_user(*id, ticket);
+    }
+}
+
+// Adds a ticket to these facts, and computes the truths of the fresh ones.
+pub(crate) fn add_statement_users(
+    facts: &mut FactRows,
+    board: &LevelBoard,
+    mode: Mode,
+    ids: &[NameId],
+    fresh: &[NameId],
+    ticket: u64,
+)
+    requires { (q : ℕ) → has_end ids.now q ≡ true → (has_room facts.old q || ends_with ticket (users_of facts.old q)) ≡ true }
+    ensures { (mid : FactTable) × UsersAdded facts.old mid (has_end ids.now) ticket × (mid.changed ≡ facts.old.changed) × Refreshed mid facts.new (has_end fresh.now) mode board.now }
+{
+    add_users(facts, ids, ticket);
+    facts.refresh_facts(mode, fresh, board);
+}
+
+// Removes a ticket from these facts.
+fn remove_users(facts: &mut FactRows, ids: &[NameId], ticket: u64)
+    requires { (q : ℕ) → IsRising (users_of facts.old q) }
+    ensures less { UsersRemoved facts.old facts.new (has_end ids.now) ticket }
+    ensures changed { facts.new.changed ≡ facts.old.changed }
+{
+    for id in ids {
+        facts.remove_user(*id, ticket);
+    }
+}
+
+// Removes these facts.
+fn remove_facts(facts: &mut FactRows, last: &[NameId])
+    requires { facts.old.changed ≡ [] }
+    ensures removed { FactsRemoved facts.old facts.new (has_end last.now) }
+    ensures changed { facts.new.changed ≡ [] }
+{
+    for fact in last {
+        facts.remove_fact(*fact);
+    }
+}
+
+// Removes a ticket from these facts, and then the last of them.
+pub(crate) fn remove_statement_users(
+    facts: &mut FactRows,
+    ids: &[NameId],
+    last: &[NameId],
+    ticket: u64,
+)
+    requires rising { (q : ℕ) → IsRising (users_of facts.old q) }
+    requires unchanged { facts.old.changed ≡ [] }
+    ensures left { (mid : FactTable) × UsersRemoved facts.old mid (has_end ids.now) ticket × FactsRemoved mid facts.new (has_end last.now) }
+    ensures changed { facts.new.changed ≡ [] }
+{
+    remove_users(facts, ids, ticket);
+    remove_facts(facts, last);
+}
