@@ -2,7 +2,7 @@
 use Rattle.std.proofs.Common.{◌≡◌, ℕ, ◌+◌, ◌<◌, ◌≤◌, ◌||◌, Bool, true, false, List, [], ◌∷◌, length, drop, get_or, refl, sym, ap, ◌∙◌, drop-cons, add-one}
 use Rattle.std.specs.List.{AllByRecursion, list_any}
 use Rattle.name_index.specs.declared.table.NameId.{NameId}
-use Rattle.level_board.specs.Board.{Board, is_changed, KeepsLevels, level_at, probe_times}
+use Rattle.level_board.specs.Board.{Board, is_marked, KeepsLevels, level_at, probe_times}
 use Rattle.level_board.specs.declared.level.Level.{Level}
 use Rattle.cpe_rows.specs.Verdict.{truth}
 use Rattle.cpe_rows.specs.declared.truth.Truth.{Truth}
@@ -40,15 +40,15 @@ module _ (old new : Board) (keeps : KeepsLevels old new) where
   rest_free true b h = let wrong : true ≡ false = h in absurd (cc)
   rest_free false b h = h
 
-  tests_stay : (test : Level → Bool) (names : List NameId) → AllByRecursion (λ (x : NameId). 1 ≤ probe_times old x.0) names → AllByRecursion (λ (x : NameId). 1 ≤ probe_times new x.0) names → list_any (λ (x : NameId). is_changed new x.0) names ≡ false
+  tests_stay : (test : Level → Bool) (names : List NameId) → AllByRecursion (λ (x : NameId). 1 ≤ probe_times old x.0) names → AllByRecursion (λ (x : NameId). 1 ≤ probe_times new x.0) names → list_any (λ (x : NameId). is_marked new x.0) names ≡ false
       → list_any (λ (x : NameId). test (level_at new x.0)) names ≡ list_any (λ (x : NameId). test (level_at old x.0)) names
   tests_stay test [] was is free = refl
   tests_stay test (x ∷ names) was is free =
-      let here : level_at new x.0 ≡ level_at old x.0 = keeps.levels x.0 was.0 is.0 (first_free (is_changed new x.0) (list_any (λ (y : NameId). is_changed new y.0) names) free) in
-      let rest = tests_stay test names was.1 is.1 (rest_free (is_changed new x.0) (list_any (λ (y : NameId). is_changed new y.0) names) free) in
+      let here : level_at new x.0 ≡ level_at old x.0 = keeps.levels x.0 was.0 is.0 (first_free (is_marked new x.0) (list_any (λ (y : NameId). is_marked new y.0) names) free) in
+      let rest = tests_stay test names was.1 is.1 (rest_free (is_marked new x.0) (list_any (λ (y : NameId). is_marked new y.0) names) free) in
       ap (λ (l : Level). test l || list_any (λ (y : NameId). test (level_at new y.0)) names) here ∙ ap (λ (b : Bool). test (level_at old x.0) || b) rest
 
-pub truths_stay : (old new : Board) (names : List NameId) → KeepsLevels old new → AllByRecursion (λ (x : NameId). 1 ≤ probe_times old x.0) names → AllByRecursion (λ (x : NameId). 1 ≤ probe_times new x.0) names → list_any (λ (x : NameId). is_changed new x.0) names ≡ false
+pub truths_stay : (old new : Board) (names : List NameId) → KeepsLevels old new → AllByRecursion (λ (x : NameId). 1 ≤ probe_times old x.0) names → AllByRecursion (λ (x : NameId). 1 ≤ probe_times new x.0) names → list_any (λ (x : NameId). is_marked new x.0) names ≡ false
     → truth_at new names ≡ truth_at old names
 truths_stay old new names keeps was is free =
     ap (λ (b : Bool). truth b (any_maybe new names)) (tests_stay old new keeps is_covered names was is free)

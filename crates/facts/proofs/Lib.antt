@@ -1,4 +1,5 @@
 pub mod LevelLemmas
+pub mod UsedLemmas
 pub mod UserLemmas
 pub mod MoveLemmas
 pub mod AddLemmas

@@ -1,5 +1,5 @@
 -- What each call requires of the facts, and what it changes of them. `before` and `now` are counts of steps.
-use Rattle.std.specs.Prelude.{◌≡◌, ℕ, ◌≤◌, ◌||◌, ◌++◌, ◌∷◌, [], Bool, List, length, true, false, find, Some, None}
+use Rattle.std.specs.Prelude.{◌≡◌, ℕ, ◌≤◌, ◌&&◌, ◌||◌, ◌++◌, ◌∷◌, [], Bool, List, length, true, false, find, Some, None}
 use Rattle.std.specs.List.{flat_map, list_any}
 use Rattle.name_index.specs.declared.table.NameId.{NameId}
 use Rattle.name_index.specs.Table.{Names, IsLive}
@@ -19,9 +19,9 @@ use Rattle.level_board.specs.Board.{probe_times}
 use Rattle.fact_laws.specs.Asked.{fresh_facts, leads}
 use Rattle.kept_facts.specs.Kept.{AreLive, board_of}
 use Rattle.fact_rows.specs.Facts.{AreLinked, ends_of, fact_at, facts_of, FactTable, has_end, has_room, is_fact, leads_of, truth_of, users_of}
-use Rattle.fact_rows.specs.Tickets.{ends_with, with_last, without}
+use Rattle.fact_rows.specs.Tickets.{ends_with, is_empty, with_last, without}
 use Rattle.kept_facts.specs.Lists.{IsWide}
-use Rattle.facts.specs.Facts.{AreChanges, AreUsed, FactsNow, HasFacts, is_used, LeadsTo, table_of}
+use Rattle.facts.specs.Facts.{AreChanges, AreUsed, AreUsedBut, FactsNow, HasFacts, is_used, LeadsTo, table_of}
 use Rattle.facts.specs.Looks.{item_looks, statement_looks}
 use Rattle.facts.specs.Users.{AreBelow, ticket_of}
 
@@ -94,7 +94,8 @@ pub record MayAddStatement (f : FactsNow) (table : Names) (mode : Mode) (ids fre
   pub wide : IsWide (board_of f.boards mode) table
   pub room : length asked ≤ (board_of f.boards mode).probe_room
   pub few : length asked ≤ 268435456
-  -- each fact has room for one more user
+  -- the fresh facts are among those to which the statement refers, and each of these has room for one more user
+  pub own : (q : ℕ) → has_end fresh q ≡ true → has_end ids q ≡ true
   pub room_users : (q : ℕ) → has_end ids q ≡ true → (has_room (table_of f mode) q || ends_with ticket (users_of (table_of f mode) q)) ≡ true
   pub stood : (rows : Rows) × (tickets : List ℕ) × IsLawful rows × HasFacts table f rows tickets
 
@@ -103,6 +104,8 @@ pub record StatementAdded (old new : FactsNow) (table : Names) (mode : Mode) (id
   pub stands : (rows : Rows) (tickets : List ℕ) (s : Statement) → HasFacts table old rows tickets → IsNewStatement old table rows tickets s mode ids fresh asked ticket
       → HasFacts table new (after rows (edit.PutStatement s)) (tickets ++ ticket ∷ [])
   pub changed : (m : Mode) → AreChanges (table_of old m) (table_of new m)
+  -- each fact is in use, if only the fresh ones were not
+  pub used : AreUsedBut old mode fresh → AreUsed new
   pub steps : (rows : Rows) (tickets : List ℕ) (s : Statement) → HasFacts table old rows tickets → IsNewStatement old table rows tickets s mode ids fresh asked ticket
       → StepsWithin before now (statement_looks rows s)
 
@@ -121,29 +124,30 @@ pub record FactsRemoved (old new : FactTable) (which : ℕ → Bool) : Type 0 wh
   pub others : (q : ℕ) → which q ≡ false → fact_at new q ≡ fact_at old q
   pub linked : AreLinked old → AreLinked new
 
--- The statement of an id: the facts to which it refers, the last ones of them, which it alone uses, the names to which these lead,
--- and its ticket.
-pub record IsOldStatement (f : FactsNow) (table : Names) (rows : Rows) (tickets : List ℕ) (id : List ℕ) (s : Statement) (mode : Mode) (ids last asked : List NameId) (ticket : ℕ) : Type 0 where
+-- The statement of an id: the facts to which it refers, the names to which those lead that it alone uses, and its ticket.
+pub record IsOldStatement (f : FactsNow) (table : Names) (rows : Rows) (tickets : List ℕ) (id : List ℕ) (s : Statement) (mode : Mode) (ids asked : List NameId) (ticket : ℕ) : Type 0 where
   pub moded : s.mode ≡ mode
   pub live : AreLive table ids
   pub named : names_at table ids ≡ fact_names s.test
   pub there : find (has_id id) rows.statements ≡ Some s
   pub its : ticket_of id tickets rows.statements ≡ Some ticket
-  pub alone : (q : ℕ) → has_end last q ≡ true → has_end ids q ≡ true × (without ticket (users_of (table_of f mode) q) ≡ [])
   pub asked_for : SameElements (names_at table asked) (flat_map (leads rows.entries mode) (fresh_facts mode (after rows (edit.DropStatement id)).statements s))
 
 -- The statement may be removed.
-pub record MayRemoveStatement (f : FactsNow) (table : Names) (mode : Mode) (asked : List NameId) : Type 0 where
+pub record MayRemoveStatement (f : FactsNow) (table : Names) (mode : Mode) (ids last asked : List NameId) (ticket : ℕ) : Type 0 where
+  -- the last facts are exactly those that it alone uses
+  pub alone : (q : ℕ) → has_end last q ≡ (has_end ids q && is_empty (without ticket (users_of (table_of f mode) q)))
   pub live_asked : AreLive table asked
   pub asked_there : (p : ℕ) → times_in p asked ≤ probe_times (board_of f.boards mode) p
   pub stood : (rows : Rows) × (tickets : List ℕ) × HasFacts table f rows tickets
 
 -- The statement was removed.
 pub record StatementRemoved (old new : FactsNow) (table : Names) (mode : Mode) (ids last asked : List NameId) (ticket before now : ℕ) : Type 0 where
-  pub stands : (rows : Rows) (tickets : List ℕ) (id : List ℕ) (s : Statement) → HasFacts table old rows tickets → IsOldStatement old table rows tickets id s mode ids last asked ticket
+  pub stands : (rows : Rows) (tickets : List ℕ) (id : List ℕ) (s : Statement) → HasFacts table old rows tickets → IsOldStatement old table rows tickets id s mode ids asked ticket
       → HasFacts table new (after rows (edit.DropStatement id)) (without ticket tickets)
   -- no truth is replaced
   pub changed : (m : Mode) → (table_of new m).changed ≡ []
   pub truths : (m : Mode) (q : ℕ) → is_fact (table_of new m) q ≡ true → truth_of (table_of new m) q ≡ truth_of (table_of old m) q
+  pub used : AreUsed old → AreUsed new
   -- there are no looks
   pub steps : now ≡ before

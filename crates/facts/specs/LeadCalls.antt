@@ -11,13 +11,14 @@ use Rattle.cpe_rows.specs.Chains.{leads_to}
 use Rattle.cpe_rows.specs.Rows.{Rows}
 use Rattle.cpe_rows.specs.declared.edit.Edit.{Edit}
 use Rattle.cpe_rows.specs.declared.entry.Entry.{Entry}
+use Rattle.cpe_rows.specs.declared.statement.Mode.{Mode}
 use Rattle.cpe_rows.specs.declared.statement.Mode.TheVariants.{Follow}
 use Rattle.cpe_changes.specs.Touching.{deprecation_changed}
 use Rattle.fact_laws.specs.Shown.{names_at}
 use Rattle.fact_laws.specs.Asked.{facts_in}
 use Rattle.kept_facts.specs.Kept.{ends_of_led}
 use Rattle.facts.specs.declared.lead.Led.{Led}
-use Rattle.facts.specs.Facts.{FactsNow, HasFacts, is_used}
+use Rattle.facts.specs.Facts.{AreChanges, AreUsed, FactsNow, HasFacts, is_used, table_of}
 use Rattle.facts.specs.Leads.{is_led, IsLed}
 use Rattle.facts.specs.Looks.{lead_looks}
 
@@ -35,5 +36,10 @@ pub record IsLead (f : FactsNow) (table : Names) (rows : Rows) (left : List Entr
 pub record EndsChanged (old new : FactsNow) (table : Names) (items_from items_to facts_from facts_to : List NameId) (led : List Led) (before now : ℕ) : Type 0 where
   pub stands : (rows : Rows) (tickets : List ℕ) (e : Edit) (n : Values) → deprecation_changed e ≡ Some n → HasFacts table old rows tickets
       → IsLead old table rows (after rows e).entries n items_from items_to facts_from facts_to led → HasFacts table new (after rows e) tickets
+  -- the changed facts are exactly those whose truth was replaced
+  pub changed : (rows : Rows) (tickets : List ℕ) (e : Edit) (n : Values) → deprecation_changed e ≡ Some n → HasFacts table old rows tickets
+      → IsLead old table rows (after rows e).entries n items_from items_to facts_from facts_to led → (m : Mode) → AreChanges (table_of old m) (table_of new m)
+  -- each fact is still in use
+  pub used : AreUsed old → AreUsed new
   pub steps : (rows : Rows) (tickets : List ℕ) (e : Edit) (n : Values) → deprecation_changed e ≡ Some n → HasFacts table old rows tickets
       → IsLead old table rows (after rows e).entries n items_from items_to facts_from facts_to led → StepsWithin before now (lead_looks rows (after rows e) n)

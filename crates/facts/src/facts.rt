@@ -186,7 +186,7 @@ impl Facts {
         ticket: u64,
         steps: &mut Steps<L>,
     )
-        requires { MayRemoveStatement self.old table.now mode asked.now }
+        requires { MayRemoveStatement self.old table.now mode ids.now last.now asked.now ticket }
         ensures { StatementRemoved self.old self.new table.now mode ids.now last.now asked.now ticket steps.old steps.new }
     {
         table.lawful();

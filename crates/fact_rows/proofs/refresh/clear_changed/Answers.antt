@@ -5,8 +5,8 @@ use Rattle.fact_rows.specs.Rows.{is_changed, row_at, unchanged}
 use Rattle.fact_rows.proofs.ChangeLemmas.{changes_cleared}
 use Rattle.fact_rows.proofs.refresh.clear_changed.Goals as goal
 
-pub returns-clause-noted : goal.returns-clause-noted
-returns-clause-noted c =
+pub returns-clause-changes : goal.returns-clause-changes
+returns-clause-changes c =
     let rows = c.args.rows.now.entries in
     let next = c.clear_rows.new.rows.entries in
     let marks = subst (λ (ids : List NameId). (q : ℕ) → is_changed (row_at next q) ≡ (is_changed (row_at rows q) && not (has_end ids q))) c.deref.ensures.value c.clear_rows.ensures.marks in

@@ -13,6 +13,6 @@ returns-in-Some-clause-many c =
     let rows = c.args.rows.now.entries in
     let old = c.in-Some.row.now in
     let truth = truth_at c.args.board.now (leads_by c.args.mode c.args.fact.0 old.ends.items) in
-    ap (λ (next : List (ℕ × FactRow)). unchanged next + one_if c.refresh.result) ((c.get_mut.follows.holds c.refresh.new.row).0 ∙ ap (λ (w : FactRow). set_value (nat_eq c.args.fact.0) rows w) c.refresh.ensures.row)
+    ap (λ (next : List (ℕ × FactRow)). unchanged next + one_if c.refresh.result) ((c.get_mut.follows.holds c.refresh.new.self).0 ∙ ap (λ (w : FactRow). set_value (nat_eq c.args.fact.0) rows w) c.refresh.ensures.row)
     ∙ ap {B = ℕ} (λ (b : Bool). unchanged (set_value (nat_eq c.args.fact.0) rows (row_with truth old)) + one_if b) c.refresh.ensures.news
     ∙ told_counts rows c.args.fact.0 old truth (sym c.in-Some.ensures.value)

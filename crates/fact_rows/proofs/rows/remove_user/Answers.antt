@@ -7,5 +7,5 @@ use Rattle.fact_rows.proofs.rows.remove_user.Goals as goal
 pub returns-in-Some-clause-marks : goal.returns-in-Some-clause-marks
 returns-in-Some-clause-marks c =
     let rows = c.args.rows.now.entries in
-    let row = c.remove_user.new.row in
+    let row = c.remove_user.new.self in
     subst (λ (next : List (ℕ × FactRow)). KeepsChanged rows next) (sym (c.get_mut.follows.holds row).0) (write_keeps rows c.args.fact c.in-Some.row.now row (sym c.in-Some.ensures.value) c.remove_user.ensures.changed)

@@ -7,17 +7,17 @@ use Rattle.fact_rows.proofs.tickets.remove_ticket.Goals as goal
 
 pub remove-requires : goal.remove-requires
 remove-requires c =
-    let there = ap (λ (u : List ℕ). is_at u c.count_below-place.result c.args.ticket) (sym c.deref-2.ensures.value) ∙ (sym c.is_at.ensures ∙ c.if-stands_at.true) in
+    let there = ap (λ (u : List ℕ). is_at u c.count_below-place.result c.args.ticket) (sym c.deref-2.ensures.value) ∙ (sym c.is_at.ensures ∙ c.if-is_at.true) in
     omega (arith, is_within c.args.list.now.items c.count_below-place.result c.args.ticket there)
 
-pub returns-then-stands_at : goal.returns-then-stands_at
-returns-then-stands_at c =
+pub returns-then-is_at : goal.returns-then-is_at
+returns-then-is_at c =
     let at = c.count_below-place.ensures.count ∙ ap (prefix (λ x. nat_lt x c.args.ticket)) c.deref.ensures.value in
-    let there = ap (λ (u : List ℕ). is_at u c.count_below-place.result c.args.ticket) (sym c.deref-2.ensures.value) ∙ (sym c.is_at.ensures ∙ c.if-stands_at.true) in
+    let there = ap (λ (u : List ℕ). is_at u c.count_below-place.result c.args.ticket) (sym c.deref-2.ensures.value) ∙ (sym c.is_at.ensures ∙ c.if-is_at.true) in
     c.remove.ensures.by_index.2 ∙ taken_at c.args.ticket c.count_below-place.result c.args.list.now.items c.requires at there
 
-pub returns-else-stands_at : goal.returns-else-stands_at
-returns-else-stands_at c =
+pub returns-else-is_at : goal.returns-else-is_at
+returns-else-is_at c =
     let at = c.count_below-place.ensures.count ∙ ap (prefix (λ x. nat_lt x c.args.ticket)) c.deref.ensures.value in
-    let there = ap (λ (u : List ℕ). is_at u c.count_below-place.result c.args.ticket) (sym c.deref-2.ensures.value) ∙ (sym c.is_at.ensures ∙ c.if-stands_at.false) in
+    let there = ap (λ (u : List ℕ). is_at u c.count_below-place.result c.args.ticket) (sym c.deref-2.ensures.value) ∙ (sym c.is_at.ensures ∙ c.if-is_at.false) in
     absent_at c.args.ticket c.count_below-place.result c.args.list.now.items c.requires at there

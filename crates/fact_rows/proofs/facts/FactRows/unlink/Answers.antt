@@ -1,7 +1,7 @@
-use Rattle.std.proofs.Common.{◌≡◌, ℕ, List, true, false, subst, refl, sym, ap, ◌∙◌}
+use Rattle.std.proofs.Common.{◌≡◌, ℕ, List, true, subst, refl, ap, ◌∙◌}
 use Rattle.name_index.specs.declared.table.NameId.{NameId}
 use Rattle.fact_rows.specs.Calls.{FactUnlinked}
-use Rattle.fact_rows.specs.Facts.{FactTable, ends_of, facts_in, facts_of, has_end}
+use Rattle.fact_rows.specs.Facts.{FactTable, ends_of, facts_in, has_end}
 use Rattle.fact_rows.proofs.TableLemmas.{linked_still}
 use Rattle.fact_rows.proofs.facts.FactRows.unlink.Goals as goal
 

@@ -10,11 +10,12 @@ use Rattle.kept_facts.specs.Kept.{AreSettled, board_of, ShowRows}
 use Rattle.kept_facts.specs.Moved.{FactsAsked}
 use Rattle.fact_rows.specs.Facts.{has_end}
 use Rattle.fact_rows.specs.Calls.{Refreshed}
-use Rattle.facts.specs.Facts.{FactsNow, HasFacts}
+use Rattle.facts.specs.Facts.{AreUsedBut, FactsNow, HasFacts}
 use Rattle.facts.specs.Calls.{MayAddStatement, StatementAdded}
 use Rattle.facts.proofs.AddLemmas.{added_to}
 use Rattle.facts.proofs.MoveLemmas.{all_changed, cleared_facts}
 use Rattle.facts.proofs.PutLemmas.{both_changed, looks_within, none_changed, other_facts, put_facts, shows_of, tickets_more, used_changed}
+use Rattle.facts.proofs.UsedLemmas.{added_used, all_used, but_none, same_used}
 use Rattle.facts.proofs.facts.Facts.add_statement.Goals as goal
 
 pub ask-requires-clause-few : goal.ask-requires-clause-few
@@ -40,11 +41,12 @@ returns-in-Plain g c =
     let mid = c.ask.new.self in
     let plain_cleared = c.clear_changed.new.self in
     let follow_cleared = c.clear_changed-2.new.self in
-    let used = c.add_statement_users.ensures in
+    let used_mid = c.add_statement_users.ensures in
     let inside : FactsNow = record { boards = boards; plain = plain; follow = follow } in
     let new : FactsNow = record { boards = mid; plain = c.add_statement_users.new.facts; follow = follow_cleared } in
     let was_asked : FactsAsked boards mid names Plain asked before now = subst (λ (m : Mode). FactsAsked boards mid names m asked before now) c.in-Plain.is c.ask.ensures in
-    let refreshed : Refreshed used.0 c.add_statement_users.new.facts (has_end fresh) Plain mid.plain = subst (λ (b : Board). Refreshed used.0 c.add_statement_users.new.facts (has_end fresh) Plain b) c.board.ensures used.3 in
+    let refreshed : Refreshed used_mid.0 c.add_statement_users.new.facts (has_end fresh) Plain mid.plain = subst (λ (b : Board). Refreshed used_mid.0 c.add_statement_users.new.facts (has_end fresh) Plain b) c.board.ensures used_mid.3 in
+    let m = subst (λ (k : Mode). MayAddStatement inside names k ids fresh asked ticket) c.in-Plain.is (subst (λ (f : FactsNow). MayAddStatement f names c.args.mode ids fresh asked ticket) (sym c.self.view_is) c.requires) in
     let core : StatementAdded inside new names Plain ids fresh asked ticket before now = record {
       stands = λ rows tickets s stood put.
           let next : Rows = after rows (edit.PutStatement s) in
@@ -52,11 +54,13 @@ returns-in-Plain g c =
           let shows = was_asked.shows rows s put.moded shown put.asked_for in
           let settled = was_asked.settled stood.settled in
           let here = put_facts names are Plain boards.plain mid.plain (c.lawful-2.ensures.answers Plain) (c.lawful-3.ensures.answers Plain) was_asked.levels.plain (c.lawful-3.ensures.marks Plain) settled.plain rows s tickets ticket stood.numbered put.below
-          plain used.0 c.add_statement_users.new.facts ids fresh stood.plain shows.plain was_asked.fits.plain put.moded put.live put.named put.whole put.leads_there (added_to plain plain_cleared used.0 (has_end ids) ticket c.clear_changed.ensures.stay c.clear_changed.ensures.links used.1) refreshed in
+          plain used_mid.0 c.add_statement_users.new.facts ids fresh stood.plain shows.plain was_asked.fits.plain put.moded put.live put.named put.whole put.leads_there (added_to plain plain_cleared used_mid.0 (has_end ids) ticket c.clear_changed.ensures.stay c.clear_changed.ensures.links used_mid.1) refreshed in
           let there = other_facts names are Follow boards.follow mid.follow (c.lawful-2.ensures.answers Follow) (c.lawful-3.ensures.answers Follow) was_asked.levels.follow (c.lawful-3.ensures.marks Follow) settled.follow rows s tickets ticket stood.numbered put.below
           follow_cleared (cleared_facts follow follow_cleared c.clear_changed-2.ensures.stay c.clear_changed-2.ensures.links names Follow boards.follow rows tickets (λ q. false) stood.follow) shows.follow was_asked.fits.follow (ap (same_mode Follow) put.moded) in
           record { plain = here; follow = there; settled = settled; numbered = tickets_more ticket tickets s rows.statements stood.numbered put.below };
-      changed = both_changed inside new (all_changed plain plain_cleared c.clear_changed.ensures.stay c.clear_changed.ensures.links c.add_statement_users.new.facts c.clear_changed.ensures.cleared (used_changed used.0 c.add_statement_users.new.facts plain_cleared ids fresh ticket Plain mid.plain used.1 used.2 refreshed)) (none_changed follow follow_cleared c.clear_changed-2.ensures.stay c.clear_changed-2.ensures.cleared);
+      changed = both_changed inside new (all_changed plain plain_cleared c.clear_changed.ensures.stay c.clear_changed.ensures.links c.add_statement_users.new.facts c.clear_changed.ensures.cleared (used_changed used_mid.0 c.add_statement_users.new.facts plain_cleared ids fresh ticket Plain mid.plain used_mid.1 used_mid.2 refreshed)) (none_changed follow follow_cleared c.clear_changed-2.ensures.stay c.clear_changed-2.ensures.cleared);
+      used = λ (used : AreUsedBut inside Plain fresh). all_used new (added_used Plain mid.plain plain used_mid.0 c.add_statement_users.new.facts ids fresh ticket (added_to plain plain_cleared used_mid.0 (has_end ids) ticket c.clear_changed.ensures.stay c.clear_changed.ensures.links used_mid.1) refreshed m.own (used Plain))
+          (same_used follow follow_cleared c.clear_changed-2.ensures.stay (but_none follow (used Follow)));
       steps = λ rows tickets s stood put. (
         was_asked.rise,
         omega (arith, was_asked.steps, c.looks_are_by_names.ensures.there names boards.plain rows Plain asked are (c.lawful-2.ensures.on Plain) stood.plain.shows, looks_within names rows s Plain asked put.moded put.asked_for),
@@ -80,11 +84,12 @@ returns-in-Follow g c =
     let mid = c.ask.new.self in
     let plain_cleared = c.clear_changed.new.self in
     let follow_cleared = c.clear_changed-2.new.self in
-    let used = c.add_statement_users-in-Follow.ensures in
+    let used_mid = c.add_statement_users-in-Follow.ensures in
     let inside : FactsNow = record { boards = boards; plain = plain; follow = follow } in
     let new : FactsNow = record { boards = mid; plain = plain_cleared; follow = c.add_statement_users-in-Follow.new.facts } in
     let was_asked : FactsAsked boards mid names Follow asked before now = subst (λ (m : Mode). FactsAsked boards mid names m asked before now) c.in-Follow.is c.ask.ensures in
-    let refreshed : Refreshed used.0 c.add_statement_users-in-Follow.new.facts (has_end fresh) Follow mid.follow = subst (λ (b : Board). Refreshed used.0 c.add_statement_users-in-Follow.new.facts (has_end fresh) Follow b) c.board-in-Follow.ensures used.3 in
+    let refreshed : Refreshed used_mid.0 c.add_statement_users-in-Follow.new.facts (has_end fresh) Follow mid.follow = subst (λ (b : Board). Refreshed used_mid.0 c.add_statement_users-in-Follow.new.facts (has_end fresh) Follow b) c.board-in-Follow.ensures used_mid.3 in
+    let m = subst (λ (k : Mode). MayAddStatement inside names k ids fresh asked ticket) c.in-Follow.is (subst (λ (f : FactsNow). MayAddStatement f names c.args.mode ids fresh asked ticket) (sym c.self.view_is) c.requires) in
     let core : StatementAdded inside new names Follow ids fresh asked ticket before now = record {
       stands = λ rows tickets s stood put.
           let next : Rows = after rows (edit.PutStatement s) in
@@ -92,11 +97,13 @@ returns-in-Follow g c =
           let shows = was_asked.shows rows s put.moded shown put.asked_for in
           let settled = was_asked.settled stood.settled in
           let here = put_facts names are Follow boards.follow mid.follow (c.lawful-2.ensures.answers Follow) (c.lawful-3.ensures.answers Follow) was_asked.levels.follow (c.lawful-3.ensures.marks Follow) settled.follow rows s tickets ticket stood.numbered put.below
-          follow used.0 c.add_statement_users-in-Follow.new.facts ids fresh stood.follow shows.follow was_asked.fits.follow put.moded put.live put.named put.whole put.leads_there (added_to follow follow_cleared used.0 (has_end ids) ticket c.clear_changed-2.ensures.stay c.clear_changed-2.ensures.links used.1) refreshed in
+          follow used_mid.0 c.add_statement_users-in-Follow.new.facts ids fresh stood.follow shows.follow was_asked.fits.follow put.moded put.live put.named put.whole put.leads_there (added_to follow follow_cleared used_mid.0 (has_end ids) ticket c.clear_changed-2.ensures.stay c.clear_changed-2.ensures.links used_mid.1) refreshed in
           let there = other_facts names are Plain boards.plain mid.plain (c.lawful-2.ensures.answers Plain) (c.lawful-3.ensures.answers Plain) was_asked.levels.plain (c.lawful-3.ensures.marks Plain) settled.plain rows s tickets ticket stood.numbered put.below
           plain_cleared (cleared_facts plain plain_cleared c.clear_changed.ensures.stay c.clear_changed.ensures.links names Plain boards.plain rows tickets (λ q. false) stood.plain) shows.plain was_asked.fits.plain (ap (same_mode Plain) put.moded) in
           record { plain = there; follow = here; settled = settled; numbered = tickets_more ticket tickets s rows.statements stood.numbered put.below };
-      changed = both_changed inside new (none_changed plain plain_cleared c.clear_changed.ensures.stay c.clear_changed.ensures.cleared) (all_changed follow follow_cleared c.clear_changed-2.ensures.stay c.clear_changed-2.ensures.links c.add_statement_users-in-Follow.new.facts c.clear_changed-2.ensures.cleared (used_changed used.0 c.add_statement_users-in-Follow.new.facts follow_cleared ids fresh ticket Follow mid.follow used.1 used.2 refreshed));
+      changed = both_changed inside new (none_changed plain plain_cleared c.clear_changed.ensures.stay c.clear_changed.ensures.cleared) (all_changed follow follow_cleared c.clear_changed-2.ensures.stay c.clear_changed-2.ensures.links c.add_statement_users-in-Follow.new.facts c.clear_changed-2.ensures.cleared (used_changed used_mid.0 c.add_statement_users-in-Follow.new.facts follow_cleared ids fresh ticket Follow mid.follow used_mid.1 used_mid.2 refreshed));
+      used = λ (used : AreUsedBut inside Follow fresh). all_used new (same_used plain plain_cleared c.clear_changed.ensures.stay (but_none plain (used Plain)))
+          (added_used Follow mid.follow follow used_mid.0 c.add_statement_users-in-Follow.new.facts ids fresh ticket (added_to follow follow_cleared used_mid.0 (has_end ids) ticket c.clear_changed-2.ensures.stay c.clear_changed-2.ensures.links used_mid.1) refreshed m.own (used Follow));
       steps = λ rows tickets s stood put. (
         was_asked.rise,
         omega (arith, was_asked.steps, c.looks_are_by_names.ensures.there names boards.follow rows Follow asked are (c.lawful-2.ensures.on Follow) stood.follow.shows, looks_within names rows s Follow asked put.moded put.asked_for),
