@@ -1,11 +1,9 @@
 -- Facts that a statement more uses.
-use Rattle.std.proofs.Common.{◌≡◌, ◌≢◌, ℕ, suc, zero, ◌+◌, ◌<◌, ◌≤◌, Bool, true, false, not, cond, ◌&&◌, ◌||◌, nat_eq, List, [], ◌∷◌, ◌++◌, length, map, take, get_or, Option, Some, None, refl, sym, ap, subst, ◌∙◌, inl, inr, eq-eqb, eqb-true, arith}
+use Rattle.std.proofs.Common.{◌≡◌, ℕ, suc, zero, ◌<◌, Bool, true, false, cond, ◌||◌, nat_eq, List, [], ◌∷◌, ◌++◌, length, get_or, Option, refl, sym, ap, subst, ◌∙◌, inl, inr, eq-eqb, eqb-true, arith}
 use Rattle.std.specs.Prelude.{is_some}
-use Rattle.std.specs.List.{AllByRecursion, list_any}
-use Rattle.std.proofs.lemmas.Bool.{both_ways, cases_Bool, cases_eq, false_from_ne_true, ne_eqb, or_cases, or_left, or_right, true≢false}
-use Rattle.std.proofs.lemmas.List.Folds.{list_any_more}
+use Rattle.std.proofs.lemmas.Bool.{both_ways, cases_eq, or_cases, or_left, or_right, true≢false}
 use Rattle.name_index.specs.declared.table.NameId.{NameId}
-use Rattle.fact_rows.specs.Facts.{ends_of, ends_or_none, truth_or_unknown, Fact, fact_at, facts_of, FactTable, has_end, has_room, is_fact, room_or_none, truth_of, users_of, users_or_none}
+use Rattle.fact_rows.specs.Facts.{ends_or_none, truth_or_unknown, Fact, fact_at, facts_of, FactTable, has_end, has_room, room_or_none, users_of, users_or_none}
 use Rattle.fact_rows.specs.Calls.{UsersTo}
 use Rattle.fact_rows.specs.Tickets.{ends_with, with_last}
 use Rattle.facts.specs.Calls.{UsersAdded}

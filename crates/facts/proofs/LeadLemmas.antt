@@ -1,9 +1,9 @@
 -- Facts that lead to other ends.
-use Rattle.std.proofs.Common.{◌≡◌, ℕ, ◌≤◌, Bool, true, false, not, ◌||◌, nat_eq, List, [], ◌∷◌, length, get_or, drop, Option, Some, None, refl, sym, ap, subst, ◌∙◌, inl, inr, eq-eqb, eqb-true, arith}
+use Rattle.std.proofs.Common.{◌≡◌, ℕ, Bool, true, false, not, ◌||◌, nat_eq, List, [], ◌∷◌, length, get_or, drop, Option, Some, None, refl, sym, ap, subst, ◌∙◌, inl, inr, eq-eqb, arith}
 use Rattle.std.specs.Prelude.{is_some}
 use Rattle.std.specs.Option.{option_map}
 use Rattle.std.specs.List.{AllByRecursion}
-use Rattle.std.proofs.lemmas.Bool.{both_ways, cases_eq, ne_eqb, true≢false}
+use Rattle.std.proofs.lemmas.Bool.{both_ways, cases_eq, ne_eqb, or_left, true≢false}
 use Rattle.cpe_name.specs.Eleven.{Values}
 use Rattle.name_index.specs.declared.table.NameId.{NameId}
 use Rattle.name_index.specs.Index.{name_id}
@@ -17,13 +17,13 @@ use Rattle.fact_laws.proofs.Shown.{live_is}
 use Rattle.fact_laws.specs.Asked.{leads}
 use Rattle.kept_facts.specs.Kept.{AreLive}
 use Rattle.kept_facts.proofs.AskedOn.{facts_on}
-use Rattle.fact_rows.specs.Facts.{AreLinked, ends_of, ends_or_none, Fact, fact_at, facts_of, FactTable, has_end, is_fact, IsUnder, leads_by, leads_of, OthersStay, SameOthers, truth_of, truth_or_unknown, users_of, users_or_none, with_ends}
-use Rattle.fact_rows.specs.Calls.{Refreshed}
+use Rattle.fact_rows.specs.Facts.{AreLinked, differs, ends_of, ends_or_none, Fact, fact_at, facts_of, FactTable, has_end, is_fact, IsUnder, leads_by, leads_of, OthersStay, SameOthers, truth_of, truth_or_unknown, users_of, users_or_none, with_ends}
+use Rattle.fact_rows.specs.Calls.{Refreshed, SameFacts}
 use Rattle.fact_rows.specs.Tickets.{is_empty}
-use Rattle.fact_rows.specs.Truths.{truth_at}
 use Rattle.facts.specs.Facts.{is_used, LeadsTo}
-use Rattle.facts.specs.Leads.{AreLedBut, is_led, IsLed}
+use Rattle.facts.specs.Leads.{AreLedBut, ChangesTo, is_led, IsLed, SameUsers}
 use Rattle.facts.specs.declared.lead.Led.{Led}
+use Rattle.facts.proofs.ChangeLemmas.{differs_not}
 use Rattle.facts.proofs.MoveLemmas.{linked_still}
 use Rattle.facts.proofs.LevelLemmas.{shown}
 use Rattle.facts.proofs.UserLemmas.{used_fact, users_refer}
@@ -60,6 +60,19 @@ or_first false y e = refl
 or_second : (x y : Bool) → (x || y) ≡ false → y ≡ false
 or_second true y e = absurd (true≢false e)
 or_second false y e = e
+
+-- the users of facts are unchanged, of which one gets other ends
+pub led_users : (led : Led) (old mid new : FactTable) → fact_at mid led.fact.0 ≡ option_map (with_ends led.ends.items) (fact_at old led.fact.0) → OthersStay led.fact.0 old mid → SameFacts mid new → SameUsers old new
+led_users led old mid new here stay same = record {
+  there = λ q. same.there q ∙ both is_some (some_with led.ends.items) q;
+  users = λ q. same.users q ∙ both users_or_none (users_with led.ends.items) q;
+}
+  where
+    both : {A : Type 0} (told : Option Fact → A) → ((o : Option Fact) → told (option_map (with_ends led.ends.items) o) ≡ told o) → (q : ℕ) → told (fact_at mid q) ≡ told (fact_at old q)
+    both told kept q = elim (cases_eq q led.fact.0) [
+      | inl e ↦ ap (λ (n : ℕ). told (fact_at mid n)) e ∙ ap told here ∙ kept (fact_at old led.fact.0) ∙ ap (λ (n : ℕ). told (fact_at old n)) (sym e)
+      | inr ne ↦ ap told (stay q ne)
+    ]
 
 module _ (names : Names) (are : AreNames names) (board : Board) (answers : AreAnswers board) (next : Rows) (tickets : List ℕ) (passes : ℕ → Bool) (led : Led) (rest : List Led) (old mid new : FactTable)
     (a : AreLedBut names board old next tickets passes (led ∷ rest))
@@ -124,27 +137,45 @@ module _ (names : Names) (are : AreNames names) (board : Board) (answers : AreAn
   leads_now : (q : ℕ) → is_used new q ≡ true → is_led rest q ≡ false → LeadsTo names next.entries Follow q (leads_of Follow new q)
   leads_now q used free = subst (LeadsTo names next.entries Follow q) (sym (ap (leads_by Follow q) (r.same.ends q))) (leads_mid q (sym (ap (λ (us : List ℕ). not (is_empty us)) (r.same.users q)) ∙ used) free)
 
+  -- it was refreshed
+  right_led : (q : ℕ) → is_used new q ≡ true → has_end (led.fact ∷ []) q ≡ true → LeadsTo names next.entries Follow q (leads_of Follow new q) → truth_of new q ≡ fact_truth next Follow (kept_at names q).name
+  right_led q used e l =
+      let before = was_used q used in
+      r.here q e (used_fact new q used)
+      ∙ shown names board next Follow answers a.fits a.shows (kept_at names q).name (leads_of Follow new q)
+      (facts_on names board next Follow (kept_at names q).name (leads_of Follow new q) are a.shows
+      (users_refer Follow (kept_at names q).name tickets next.statements (subst (λ (us : List ℕ). not (is_empty us) ≡ true) (a.users q (a.live q (used_fact old q before))) before)) l.live l.names)
+      l.names
+
   truth_now : (q : ℕ) → is_used new q ≡ true → is_led rest q ≡ false → passes q ≡ false → truth_of new q ≡ fact_truth next Follow (kept_at names q).name
   truth_now q used free apart = by (has_end (led.fact ∷ []) q) refl
     where
-      l : LeadsTo names next.entries Follow q (leads_of Follow new q)
-      l = leads_now q used free
-
-      before : is_used old q ≡ true
-      before = was_used q used
-
       by : (b : Bool) → has_end (led.fact ∷ []) q ≡ b → truth_of new q ≡ fact_truth next Follow (kept_at names q).name
-      by true e =
-          r.here q e (used_fact new q used)
-          ∙ shown names board next Follow answers a.fits a.shows (kept_at names q).name (leads_of Follow new q)
-          (facts_on names board next Follow (kept_at names q).name (leads_of Follow new q) are a.shows
-          (users_refer Follow (kept_at names q).name tickets next.statements (subst (λ (us : List ℕ). not (is_empty us) ≡ true) (a.users q (a.live q (used_fact old q before))) before)) l.live l.names)
-          l.names
+      by true e = right_led q used e (leads_now q used free)
       by false e =
           let other = or_first (nat_eq led.fact.0 q) false e in
           r.others q e
           ∙ ap truth_or_unknown (stay q (λ same. both_ways (nat_eq led.fact.0 q) other (eq-eqb led.fact.0 q (sym same))))
-          ∙ a.truths q before (ap (λ (b : Bool). b || is_led rest q) other ∙ free) apart
+          ∙ a.truths q (was_used q used) (ap (λ (b : Bool). b || is_led rest q) other ∙ free) apart
+
+  truth_mid : (q : ℕ) → truth_of mid q ≡ truth_of old q
+  truth_mid = same_by truth_or_unknown (truth_with led.ends.items)
+
+  used_led : is_used new led.fact.0 ≡ true
+  used_led = ap (λ (us : List ℕ). not (is_empty us)) (users_now led.fact.0) ∙ first.used
+
+  truth_led : truth_of new led.fact.0 ≡ fact_truth next Follow (kept_at names led.fact.0).name
+  truth_led = right_led led.fact.0 used_led (or_left (nat_eq led.fact.0 led.fact.0) false (eq-eqb led.fact.0 led.fact.0 refl))
+      (subst (LeadsTo names next.entries Follow led.fact.0) (sym (r.same.ends led.fact.0 ∙ ends_mid)) first.leads_there)
+
+  pub led_changes : mid.changed ≡ old.changed → ChangesTo old new (λ q. fact_truth next Follow (kept_at names q).name)
+  led_changes same = record {
+    listed = λ q. r.changed q ∙ (λ i. has_end (same i) q || differs (truth_mid q i) (truth_of new q));
+    right = λ q d. elim (cases_eq q led.fact.0) [
+      | inl e ↦ subst (λ (n : ℕ). is_used new n ≡ true × (truth_of new n ≡ fact_truth next Follow (kept_at names n).name)) (sym e) (used_led, truth_led)
+      | inr ne ↦ absurd (true≢false (sym d ∙ ap (differs (truth_of old q)) (r.others q (ap (λ (b : Bool). b || false) (ne_eqb led.fact.0 q (λ e. ne (sym e)))) ∙ truth_mid q) ∙ differs_not (truth_of old q)))
+    ];
+  }
 
   pub led_next : AreLedBut names board new next tickets passes rest
   led_next = record {

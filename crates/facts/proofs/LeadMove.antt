@@ -1,6 +1,5 @@
 -- Facts once a deprecation changed.
-use Rattle.std.proofs.Common.{Option, ◌∷◌, ◌≡◌, ℕ, ◌≤◌, Bool, true, false, not, ◌||◌, List, [], refl, sym, ap, subst, ◌∙◌}
-use Rattle.std.specs.Prelude.{is_some}
+use Rattle.std.proofs.Common.{Option, ◌∷◌, ◌≡◌, ℕ, ◌≤◌, Bool, true, false, not, List, [], refl, sym, ap, subst, ◌∙◌}
 use Rattle.std.specs.List.{AllByRecursion, list_any}
 use Rattle.std.proofs.lemmas.Bool.{true≢false}
 use Rattle.cpe_name.specs.Eleven.{Values}
@@ -13,8 +12,7 @@ use Rattle.cpe_rows.specs.Verdict.{fact_truth}
 use Rattle.cpe_rows.specs.declared.entry.Entry.{Entry}
 use Rattle.cpe_rows.specs.declared.statement.Mode.TheVariants.{Plain, Follow}
 use Rattle.kept_facts.specs.Kept.{ShowsRows}
-use Rattle.kept_facts.proofs.AskedOn.{facts_on}
-use Rattle.fact_rows.specs.Facts.{Fact, fact_at, facts_of, FactTable, leads_of, truth_of, users_or_none}
+use Rattle.fact_rows.specs.Facts.{Fact, fact_at, facts_of, FactTable, has_end, leads_of, truth_of, users_or_none}
 use Rattle.fact_rows.specs.Tickets.{is_empty}
 use Rattle.fact_rows.specs.Truths.{truth_at}
 use Rattle.fact_rows.proofs.TruthLemmas.{truths_stay}
@@ -23,7 +21,7 @@ use Rattle.facts.specs.Leads.{AreLedBut, is_led, IsLed}
 use Rattle.facts.specs.Users.{users_in}
 use Rattle.facts.specs.declared.lead.Led.{Led}
 use Rattle.facts.proofs.LeadLemmas.{same_numbers}
-use Rattle.facts.proofs.MoveLemmas.{cleared_facts, moved, on, referred, right}
+use Rattle.facts.proofs.MoveLemmas.{moved, on, right}
 use Rattle.facts.proofs.UserLemmas.{used_fact}
 
 -- a plain fact leads to itself, whatever the entries are
@@ -80,8 +78,12 @@ module _ (names : Names) (are : AreNames names) (before board : Board) (answers_
     truths = truths;
   }
 
+  -- before any of these facts has its new ends
+  pub led_first : AreLedBut names board t next tickets (λ q. true) led
+  led_first = begins (λ q. true) (λ q used free passes. absurd (true≢false passes))
+
   ended : AreLedBut names board new next tickets (λ q. true) []
-  ended = does (λ q. true) (begins (λ q. true) (λ q used free passes. absurd (true≢false passes)))
+  ended = does (λ q. true) led_first
 
   as_facts : (passes : ℕ → Bool) → AreLedBut names board new next tickets passes [] → FactsBut names board new next tickets Follow passes
   as_facts passes a = record {

@@ -1,5 +1,5 @@
 -- Facts that a statement less uses.
-use Rattle.std.proofs.Common.{◌≡◌, ◌≢◌, ℕ, ◌<◌, ◌≤◌, Bool, true, false, not, cond, ◌||◌, nat_eq, List, [], ◌∷◌, length, Option, Some, None, refl, sym, ap, subst, ◌∙◌, inl, inr, eq-eqb, eqb-true, arith}
+use Rattle.std.proofs.Common.{◌≡◌, ℕ, ◌<◌, Bool, true, false, not, cond, ◌||◌, nat_eq, List, [], ◌∷◌, length, Option, Some, None, refl, sym, ap, subst, ◌∙◌, inl, inr, eq-eqb, eqb-true, arith}
 use Rattle.std.specs.Prelude.{is_some, find}
 use Rattle.std.specs.List.{AllByRecursion}
 use Rattle.std.proofs.lemmas.Bool.{both_ways, cases_eq, or_cases, true≢false}
@@ -10,9 +10,8 @@ use Rattle.cpe_rows.specs.After.{without_first}
 use Rattle.cpe_rows.specs.Rows.{has_id}
 use Rattle.cpe_rows.specs.declared.statement.Mode.{Mode}
 use Rattle.cpe_rows.specs.declared.statement.Statement.{Statement}
-use Rattle.name_index.specs.declared.table.NameId.{NameId}
 use Rattle.fact_laws.specs.Asked.{refers_to}
-use Rattle.fact_rows.specs.Facts.{AreLinked, ends_of, ends_or_none, Fact, fact_at, facts_of, FactTable, has_end, is_fact, OthersStay, truth_of, truth_or_unknown, users_of, users_or_none}
+use Rattle.fact_rows.specs.Facts.{AreLinked, ends_or_none, Fact, fact_at, facts_of, FactTable, OthersStay, truth_or_unknown, users_of, users_or_none}
 use Rattle.fact_rows.specs.Calls.{UsersTo}
 use Rattle.fact_rows.specs.Tickets.{without}
 use Rattle.ticket_list.specs.Rising.{IsRising}

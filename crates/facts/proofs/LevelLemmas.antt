@@ -13,7 +13,6 @@ use Rattle.level_board.specs.declared.level.Level.TheVariants.{Covered, Maybe, F
 use Rattle.cpe_rows.specs.Rows.{Rows}
 use Rattle.cpe_rows.specs.Truth.{or_of}
 use Rattle.cpe_rows.specs.Verdict.{fact_truth, truth}
-use Rattle.cpe_rows.specs.declared.truth.Truth.{Truth}
 use Rattle.cpe_rows.specs.declared.statement.Mode.{Mode}
 use Rattle.fact_laws.specs.Shown.{name_at, names_at}
 use Rattle.fact_laws.proofs.Shown.{shown_passes, passing_shown}

@@ -1,3 +1,4 @@
+pub mod ChangeLemmas
 pub mod LevelLemmas
 pub mod UsedLemmas
 pub mod UserLemmas

@@ -1,15 +1,13 @@
 -- Facts whose truths stay right where boards move and rows are refreshed.
-use Rattle.std.proofs.Common.{Option, Some, None, ◌+◌, ◌≡◌, ℕ, ◌≤◌, Bool, true, false, not, ◌||◌, nat_eq, List, [], ◌∷◌, length, refl, sym, ap, subst, ◌∙◌, inl, inr, eq-eqb, eqb-true, arith}
+use Rattle.std.proofs.Common.{Option, None, ◌+◌, ◌≡◌, ℕ, ◌≤◌, Bool, true, false, not, ◌||◌, nat_eq, List, [], ◌∷◌, refl, sym, ap, subst, ◌∙◌, inl, inr, eq-eqb, eqb-true}
 use Rattle.std.specs.Prelude.{is_some}
 use Rattle.std.specs.List.{AllByRecursion, list_any}
 use Rattle.std.proofs.lemmas.Bool.{false_from_ne_true, or_cases, or_left, or_right, true≢false}
-use Rattle.cpe_name.specs.Eleven.{Values}
 use Rattle.name_index.specs.declared.table.NameId.{NameId}
 use Rattle.name_index.specs.Table.{AreNames, Names, kept_at}
 use Rattle.level_board.specs.Board.{AreAnswers, AreMarks, Board, FitsBoard, is_marked, KeepsLevels, probe_times}
 use Rattle.cpe_rows.specs.Rows.{no_rows, Rows}
 use Rattle.cpe_rows.specs.Verdict.{fact_truth}
-use Rattle.cpe_rows.specs.declared.truth.Truth.{Truth}
 use Rattle.cpe_rows.specs.declared.statement.Mode.{Mode}
 use Rattle.cpe_rows.specs.declared.statement.Mode.TheVariants.{Plain, Follow}
 use Rattle.product_orders.specs.declared.products.Side.TheVariants as side
@@ -19,7 +17,7 @@ use Rattle.kept_facts.specs.Kept.{AreSound, Boards, looks_by, ShowsRows}
 use Rattle.kept_facts.specs.Lists.{looks}
 use Rattle.kept_facts.proofs.Looks.{looks_are}
 use Rattle.kept_facts.proofs.AskedOn.{facts_on}
-use Rattle.fact_rows.specs.Facts.{AreLinked, differs, ends_of, ends_or_none, Fact, fact_at, facts_of, FactTable, truth_or_unknown, users_or_none, has_end, is_fact, is_under_one, leads_by, leads_of, truth_of, users_of}
+use Rattle.fact_rows.specs.Facts.{AreLinked, differs, ends_of, ends_or_none, Fact, fact_at, facts_of, FactTable, truth_or_unknown, users_or_none, has_end, is_fact, is_under_one, leads_by, leads_of, truth_of}
 use Rattle.fact_rows.specs.Calls.{Refreshed, SameFacts}
 use Rattle.fact_rows.specs.Tickets.{is_empty}
 use Rattle.fact_rows.specs.Truths.{truth_at}

@@ -1,5 +1,5 @@
 -- Facts once a statement came.
-use Rattle.std.proofs.Common.{◌≡◌, ◌≢◌, ℕ, suc, zero, ◌+◌, ◌<◌, ◌≤◌, Bool, true, false, not, cond, ◌&&◌, ◌||◌, nat_eq, List, [], ◌∷◌, ◌++◌, length, map, Option, Some, None, refl, sym, ap, subst, ◌∙◌, inl, inr, eq-eqb, eqb-true, arith}
+use Rattle.std.proofs.Common.{◌≡◌, ℕ, ◌+◌, ◌<◌, ◌≤◌, Bool, true, false, not, cond, ◌&&◌, ◌||◌, nat_eq, List, [], ◌∷◌, ◌++◌, length, Option, refl, sym, ap, subst, ◌∙◌, inl, inr, eq-eqb, eqb-true, arith}
 use Rattle.std.specs.List.{AllByRecursion, list_any, flat_map, sum_by}
 use Rattle.std.proofs.lemmas.Bool.{both_ways, cases_Bool, true≢false}
 use Rattle.std.proofs.lemmas.List.{append-nil}
@@ -13,26 +13,25 @@ use Rattle.cpe_rows.specs.After.{after}
 use Rattle.cpe_rows.specs.FactNames.{fact_names}
 use Rattle.cpe_rows.specs.Names.{is_same}
 use Rattle.cpe_rows.specs.Rows.{Rows}
-use Rattle.cpe_rows.specs.Truth.{same_truth}
 use Rattle.cpe_rows.specs.declared.edit.Edit.TheVariants as edit
 use Rattle.cpe_rows.specs.declared.truth.Truth.{Truth}
 use Rattle.cpe_rows.specs.declared.truth.Truth.TheVariants.{True, False, Unknown, Error}
 use Rattle.cpe_rows.specs.declared.statement.Mode.{Mode}
 use Rattle.cpe_rows.specs.declared.statement.Mode.TheVariants.{Plain, Follow}
 use Rattle.cpe_rows.specs.declared.statement.Statement.{Statement}
-use Rattle.fact_laws.specs.Shown.{different, name_at, names_at, near_names}
+use Rattle.fact_laws.specs.Shown.{different, names_at, near_names}
 use Rattle.fact_laws.proofs.Shown.{live_is, other_names, other_number, same_names}
 use Rattle.fact_laws.specs.Asked.{fresh_facts, leads, references_of, refers_to, same_mode, there}
 use Rattle.fact_laws.proofs.Counted.{fewer_fresh, same_test}
 use Rattle.fact_laws.proofs.Names.{sum_flat}
 use Rattle.facts.specs.Looks.{statement_looks}
 use Rattle.kept_facts.specs.Kept.{AreLive, board_of, looks_by, ShowsRows}
-use Rattle.fact_rows.specs.Facts.{differs, ends_of, Fact, fact_at, facts_of, FactTable, has_end, is_fact, leads_by, leads_of, truth_of, truth_or_unknown, users_of, users_or_none}
+use Rattle.fact_rows.specs.Facts.{differs, Fact, fact_at, FactTable, has_end, leads_by, leads_of, truth_of, truth_or_unknown, users_of, users_or_none}
 use Rattle.fact_rows.specs.Calls.{Refreshed}
 use Rattle.fact_rows.specs.Tickets.{ends_with, is_empty, with_last}
 use Rattle.ticket_list.specs.Rising.{IsRising}
 use Rattle.facts.specs.Facts.{AreChanges, FactsBut, FactsNow, HasFacts, is_touched, is_used, LeadsTo, table_of}
-use Rattle.facts.specs.Calls.{IsNewStatement, UsersAdded}
+use Rattle.facts.specs.Calls.{UsersAdded}
 use Rattle.facts.specs.Users.{AreBelow, AreTickets, users_in}
 use Rattle.facts.proofs.MoveLemmas.{linked_still, moved, not_marked, refreshed}
 

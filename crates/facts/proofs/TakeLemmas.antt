@@ -1,5 +1,5 @@
 -- Facts once a statement went.
-use Rattle.std.proofs.Common.{cond, ◌≡◌, ℕ, ◌≤◌, Bool, true, false, not, List, [], ◌∷◌, length, Option, Some, None, refl, sym, ap, subst, ◌∙◌}
+use Rattle.std.proofs.Common.{cond, ◌≡◌, ℕ, Bool, true, false, not, List, [], ◌∷◌, Option, Some, None, refl, sym, ap, subst, ◌∙◌}
 use Rattle.std.specs.Prelude.{is_some, find}
 use Rattle.std.proofs.lemmas.Bool.{true≢false}
 use Rattle.name_index.specs.declared.table.NameId.{NameId}
@@ -15,9 +15,9 @@ use Rattle.cpe_rows.specs.declared.statement.Statement.{Statement}
 use Rattle.fact_laws.specs.Shown.{names_at}
 use Rattle.fact_laws.specs.Asked.{same_mode}
 use Rattle.kept_facts.specs.Kept.{AreLive, ShowsRows}
-use Rattle.fact_rows.specs.Facts.{AreLinked, ends_of, ends_or_none, Fact, fact_at, facts_of, FactTable, has_end, is_fact, leads_by, leads_of, truth_of, truth_or_unknown, users_of, users_or_none}
+use Rattle.fact_rows.specs.Facts.{ends_or_none, Fact, fact_at, FactTable, has_end, is_fact, leads_by, leads_of, truth_of, truth_or_unknown, users_of, users_or_none}
 use Rattle.fact_rows.specs.Tickets.{is_empty, without}
-use Rattle.facts.specs.Facts.{FactsBut, FactsNow, is_used, LeadsTo, table_of}
+use Rattle.facts.specs.Facts.{FactsBut, is_used, LeadsTo}
 use Rattle.facts.specs.Calls.{FactsRemoved, UsersRemoved}
 use Rattle.facts.specs.Users.{AreTickets, ticket_of, users_in}
 use Rattle.facts.proofs.LessLemmas.{users_above, users_less, users_without}

@@ -1,5 +1,5 @@
 -- Each fact is in use, after a statement was added or removed.
-use Rattle.std.proofs.Common.{◌≡◌, ℕ, Bool, true, false, not, cond, ◌&&◌, ◌||◌, List, [], ◌∷◌, ◌++◌, Option, Some, None, refl, sym, ap, ◌∙◌, inl, inr}
+use Rattle.std.proofs.Common.{◌≡◌, ℕ, Bool, true, false, not, cond, ◌&&◌, ◌||◌, List, [], ◌∷◌, ◌++◌, Option, refl, sym, ap, ◌∙◌, inl, inr}
 use Rattle.std.specs.Prelude.{is_some}
 use Rattle.std.proofs.lemmas.Bool.{or_cases, true≢false}
 use Rattle.std.proofs.Math.Bool.{or-false}
@@ -7,11 +7,12 @@ use Rattle.name_index.specs.declared.table.NameId.{NameId}
 use Rattle.level_board.specs.Board.{Board}
 use Rattle.cpe_rows.specs.declared.statement.Mode.{Mode}
 use Rattle.cpe_rows.specs.declared.statement.Mode.TheVariants.{Plain, Follow}
-use Rattle.fact_rows.specs.Calls.{Refreshed}
+use Rattle.fact_rows.specs.Calls.{Refreshed, SameFacts}
 use Rattle.fact_rows.specs.Facts.{Fact, fact_at, FactTable, has_end, is_fact, users_of, users_or_none}
 use Rattle.fact_rows.specs.Tickets.{ends_with, is_empty, with_last, without}
 use Rattle.facts.specs.Calls.{FactsRemoved, UsersAdded, UsersRemoved}
-use Rattle.facts.specs.Facts.{AreUsed, AreUsedBut, FactsNow, is_used}
+use Rattle.facts.specs.Facts.{AreUsed, FactsNow, is_used}
+use Rattle.facts.specs.Leads.{SameUsers}
 
 -- ---- tickets
 
@@ -93,3 +94,9 @@ all_used f plain follow Follow = follow
 
 pub but_none : (t : FactTable) → ((q : ℕ) → is_fact t q ≡ true → (is_used t q || false) ≡ true) → (q : ℕ) → is_fact t q ≡ true → is_used t q ≡ true
 but_none t used q is = sym (or-false (is_used t q)) ∙ used q is
+
+-- ---- facts got other ends
+
+pub led_used : (t cleared mid new : FactTable) → ((q : ℕ) → fact_at cleared q ≡ fact_at t q) → SameUsers cleared mid → SameFacts mid new → ((q : ℕ) → is_fact t q ≡ true → is_used t q ≡ true) → (q : ℕ) → is_fact new q ≡ true → is_used new q ≡ true
+led_used t cleared mid new stay u same used q is =
+    ap (λ (us : List ℕ). not (is_empty us)) (same.users q ∙ u.users q ∙ ap users_or_none (stay q)) ∙ used q (sym (ap is_some (stay q)) ∙ (sym (u.there q) ∙ (sym (same.there q) ∙ is)))

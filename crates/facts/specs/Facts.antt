@@ -1,5 +1,5 @@
 -- The facts of both modes: their boards and their rows.
-use Rattle.std.specs.Prelude.{◌≡◌, ℕ, ◌≤◌, ◌||◌, ◌&&◌, Bool, true, false, not, length, List, []}
+use Rattle.std.specs.Prelude.{◌≡◌, ℕ, ◌||◌, ◌&&◌, Bool, true, false, not, List}
 use Rattle.std.specs.List.{list_any}
 use Rattle.name_index.specs.declared.table.NameId.{NameId}
 use Rattle.name_index.specs.Table.{Names, IsLive, kept_at}
@@ -12,7 +12,7 @@ use Rattle.cpe_rows.specs.declared.statement.Mode.TheVariants.{Plain, Follow}
 use Rattle.fact_laws.specs.Shown.{names_at}
 use Rattle.fact_laws.specs.Asked.{leads, same_mode}
 use Rattle.kept_facts.specs.Kept.{AreLive, AreSettled, Boards, ShowsRows}
-use Rattle.fact_rows.specs.Facts.{AreLinked, differs, ends_of, FactTable, has_end, is_fact, is_under_one, leads_of, truth_of, users_of}
+use Rattle.fact_rows.specs.Facts.{AreLinked, differs, FactTable, has_end, is_fact, is_under_one, leads_of, truth_of, users_of}
 use Rattle.fact_rows.specs.Tickets.{is_empty}
 use Rattle.facts.specs.Users.{AreTickets, users_in}
 

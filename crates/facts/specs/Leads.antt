@@ -1,5 +1,5 @@
 -- Facts get other ends, one after the other.
-use Rattle.std.specs.Prelude.{◌≡◌, ◌≤◌, ℕ, Bool, true, false, nat_eq, length, List}
+use Rattle.std.specs.Prelude.{◌≡◌, ◌||◌, ℕ, Bool, true, false, nat_eq, List}
 use Rattle.std.specs.List.{AllByRecursion, list_any}
 use Rattle.name_index.specs.Table.{Names, IsLive, kept_at}
 use Rattle.level_board.specs.Board.{Board, FitsBoard}
@@ -7,8 +7,9 @@ use Rattle.cpe_rows.specs.Rows.{Rows}
 use Rattle.cpe_rows.specs.Verdict.{fact_truth}
 use Rattle.cpe_rows.specs.declared.entry.Entry.{Entry}
 use Rattle.cpe_rows.specs.declared.statement.Mode.TheVariants.{Follow}
+use Rattle.cpe_rows.specs.declared.truth.Truth.{Truth}
 use Rattle.kept_facts.specs.Kept.{ShowsRows}
-use Rattle.fact_rows.specs.Facts.{AreLinked, facts_of, FactTable, is_fact, IsUnder, leads_of, truth_of, users_of}
+use Rattle.fact_rows.specs.Facts.{AreLinked, differs, facts_of, FactTable, has_end, is_fact, IsUnder, leads_of, truth_of, users_of}
 use Rattle.facts.specs.Facts.{is_used, LeadsTo}
 use Rattle.facts.specs.Users.{users_in}
 use Rattle.facts.specs.declared.lead.Led.{Led}
@@ -18,6 +19,16 @@ pub record IsLed (table : Names) (t : FactTable) (left : List Entry) (led : Led)
   pub used : is_used t led.fact.0 ≡ true
   pub leads_there : LeadsTo table left Follow led.fact.0 led.ends.items
   pub under : IsUnder (facts_of t) led.fact.0 led.ends.items
+
+-- The same facts have the same users.
+pub record SameUsers (old new : FactTable) : Type 0 where
+  pub there : (q : ℕ) → is_fact new q ≡ is_fact old q
+  pub users : (q : ℕ) → users_of new q ≡ users_of old q
+
+-- The facts that were added to the changed ones are exactly those whose truth was replaced; each of these is in use, and has this truth.
+pub record ChangesTo (old new : FactTable) (truth : ℕ → Truth) : Type 0 where
+  pub listed : (q : ℕ) → has_end new.changed q ≡ (has_end old.changed q || differs (truth_of old q) (truth_of new q))
+  pub right : (q : ℕ) → differs (truth_of old q) (truth_of new q) ≡ true → is_used new q ≡ true × (truth_of new q ≡ truth q)
 
 -- one of these facts has the number
 abbrev pub is_led : List Led → ℕ → Bool

@@ -1,15 +1,11 @@
-use Rattle.std.proofs.Common.{◌++◌, List, ◌∷◌, [], ℕ, length, refl, sym, ap, subst, arith}
+use Rattle.std.proofs.Common.{length, refl, sym, ap, subst, arith}
 use Rattle.std.proofs.lemmas.List.{length-map}
-use Rattle.cpe_name.specs.Eleven.{Values}
 use Rattle.cpe_rows.specs.After.{after}
 use Rattle.cpe_rows.specs.Rows.{Rows}
 use Rattle.cpe_rows.specs.declared.edit.Edit.TheVariants as edit
 use Rattle.cpe_rows.specs.declared.statement.Mode.TheVariants.{Plain, Follow}
-use Rattle.level_board.specs.Board.{target_times}
-use Rattle.fact_laws.specs.Shown.{name_at, Shows}
-use Rattle.fact_laws.specs.Asked.{there}
+use Rattle.fact_laws.specs.Shown.{name_at}
 use Rattle.kept_facts.specs.Kept.{ShowRows}
-use Rattle.kept_facts.proofs.Steps.{itself}
 use Rattle.facts.specs.Facts.{AreChanges, AreUsed, FactsNow, HasFacts}
 use Rattle.facts.specs.Calls.{MayAddItem}
 use Rattle.facts.proofs.MoveLemmas.{all_changed, both_in_use, item_looked, over_items, still_in_use}

@@ -1,4 +1,4 @@
-use Rattle.std.proofs.Common.{◌≡◌, ◌∷◌, ◌++◌, [], List, ℕ, false, refl, sym, ap, subst, arith}
+use Rattle.std.proofs.Common.{false, sym, ap, subst, arith}
 use Rattle.cpe_rows.specs.After.{after}
 use Rattle.cpe_rows.specs.Rows.{Rows}
 use Rattle.cpe_rows.specs.declared.edit.Edit.TheVariants as edit
@@ -6,11 +6,11 @@ use Rattle.cpe_rows.specs.declared.statement.Mode.{Mode}
 use Rattle.cpe_rows.specs.declared.statement.Mode.TheVariants.{Plain, Follow}
 use Rattle.level_board.specs.Board.{Board}
 use Rattle.fact_laws.specs.Asked.{same_mode}
-use Rattle.kept_facts.specs.Kept.{AreSettled, board_of, ShowRows}
+use Rattle.kept_facts.specs.Kept.{board_of, ShowRows}
 use Rattle.kept_facts.specs.Moved.{FactsAsked}
 use Rattle.fact_rows.specs.Facts.{has_end}
 use Rattle.fact_rows.specs.Calls.{Refreshed}
-use Rattle.facts.specs.Facts.{AreUsedBut, FactsNow, HasFacts}
+use Rattle.facts.specs.Facts.{AreUsedBut, FactsNow}
 use Rattle.facts.specs.Calls.{MayAddStatement, StatementAdded}
 use Rattle.facts.proofs.AddLemmas.{added_to}
 use Rattle.facts.proofs.MoveLemmas.{all_changed, cleared_facts}

@@ -1,20 +1,28 @@
-use Rattle.std.proofs.Common.{length, ◌≡◌, ◌+◌, List, ℕ, Bool, [], true, false, refl, sym, ap, subst, arith}
+use Rattle.std.proofs.Common.{length, ◌≡◌, ◌+◌, ◌∙◌, List, ℕ, Bool, [], Some, true, false, not, refl, sym, ap, subst, arith}
 use Rattle.cpe_name.specs.Eleven.{Values}
 use Rattle.product_orders.specs.declared.products.Side.{Side}
 use Rattle.product_orders.specs.declared.products.Side.TheVariants as side
 use Rattle.cpe_rows.specs.After.{after}
 use Rattle.cpe_rows.specs.Rows.{Rows}
+use Rattle.cpe_rows.specs.Verdict.{fact_truth}
+use Rattle.cpe_rows.specs.declared.edit.Edit.{Edit}
+use Rattle.cpe_changes.specs.Touching.{deprecation_changed}
+use Rattle.name_index.specs.Table.{kept_at}
 use Rattle.cpe_rows.specs.declared.statement.Mode.TheVariants.{Plain, Follow}
 use Rattle.level_board.specs.Board.{AreAnswers, Board}
 use Rattle.fact_laws.specs.Shown.{different, near_names}
 use Rattle.fact_laws.specs.Asked.{asked, there}
 use Rattle.kept_facts.specs.Kept.{ShowRows}
-use Rattle.fact_rows.specs.Facts.{FactTable}
-use Rattle.facts.specs.Facts.{FactsNow, HasFacts, is_used}
+use Rattle.fact_rows.specs.Facts.{truth_or_unknown}
+use Rattle.fact_rows.specs.Tickets.{is_empty}
+use Rattle.facts.specs.Facts.{FactsNow, HasFacts}
 use Rattle.facts.specs.LeadCalls.{EndsChanged, IsLead}
 use Rattle.facts.specs.Leads.{AreLedBut}
-use Rattle.facts.proofs.LeadMove.{led_cleared, led_facts, plain_over, cleared_whole}
-use Rattle.facts.proofs.MoveLemmas.{cleared_facts}
+use Rattle.facts.proofs.ChangeLemmas.{changes_settled}
+use Rattle.facts.proofs.LeadMove.{led_cleared, led_facts, led_first, plain_over, cleared_whole}
+use Rattle.facts.proofs.PutLemmas.{both_changed}
+use Rattle.facts.proofs.UsedLemmas.{led_used}
+use Rattle.facts.proofs.MoveLemmas.{all_changed, both_in_use, cleared_facts, still_in_use}
 use Rattle.facts.proofs.facts.Facts.lead.Goals as goal
 
 pub returns : goal.returns
@@ -33,28 +41,44 @@ returns g c =
     let touch = c.deprecations_touch.ensures in
     let inside : FactsNow = record { boards = boards; plain = plain; follow = follow } in
     let new : FactsNow = record { boards = c.settle.new.boards; plain = c.settle.new.plain; follow = c.settle.new.follow } in
+    let does : (rows : Rows) (tickets : List ℕ) (next : Rows) (passes : ℕ → Bool) → AreLedBut names mid.follow follow_cleared next tickets passes led → AreLedBut names mid.follow c.lead_facts.new.facts next tickets passes [] =
+    λ rows tickets next passes a. subst (λ (b : Board). AreLedBut names b c.lead_facts.new.facts next tickets passes []) c.board.ensures
+    (c.lead_facts.ensures.facts names next tickets passes are (subst AreAnswers (sym c.board.ensures) (c.lawful-3.ensures.answers Follow)) (subst (λ (b : Board). AreLedBut names b follow_cleared next tickets passes led) (sym c.board.ensures) a)) in
+    let stands : (rows : Rows) (tickets : List ℕ) (e : Edit) (n : Values) → deprecation_changed e ≡ Some n → HasFacts names inside rows tickets → IsLead inside names rows (after rows e).entries n c.args.items_from.now c.args.items_to.now c.args.facts_from.now c.args.facts_to.now led → HasFacts names new (after rows e) tickets = λ rows tickets e n h stood l.
+    let next : Rows = after rows e in
+    let shown : ShowRows names boards rows = record { plain = stood.plain.shows; follow = stood.follow.shows } in
+    let shows = c.lead.ensures.shows rows e n h shown l.items_left l.items_come l.facts_left l.facts_come in
+    let statements = touch.statements rows e n h in
+    let fits = c.lead.ensures.fits in
+    let was_plain = cleared_facts plain plain_cleared c.clear_changed.ensures.stay c.clear_changed.ensures.links names Plain boards.plain rows tickets (λ q. false) stood.plain in
+    let was_follow = cleared_facts follow follow_cleared c.clear_changed-2.ensures.stay c.clear_changed-2.ensures.links names Follow boards.follow rows tickets (λ q. false) stood.follow in
+    let of_plain = plain_over names are boards.plain mid.plain (c.lawful-2.ensures.answers Plain) (c.lawful-3.ensures.answers Plain) c.lead.ensures.levels.plain rows next tickets plain_cleared was_plain statements shows.plain fits.plain in
+    let of_follow = led_facts names are boards.follow mid.follow (c.lawful-2.ensures.answers Follow) (c.lawful-3.ensures.answers Follow) c.lead.ensures.levels.follow rows next tickets n follow_cleared c.lead_facts.new.facts led
+    was_follow statements shows.follow fits.follow (λ x apart. touch.ends rows e n x h apart) (led_cleared names next.entries follow follow_cleared c.clear_changed-2.ensures.stay c.clear_changed-2.ensures.links led l.led_there)
+    (cleared_whole names rows follow follow_cleared led n c.clear_changed-2.ensures.stay l.whole) (does rows tickets next) in
+    record {
+      plain = c.settle.ensures.plain names next tickets are of_plain of_follow;
+      follow = c.settle.ensures.follow names next tickets are of_plain of_follow;
+      settled = c.settle.ensures.settled;
+      numbered = record { each = omega (arith, stood.numbered.each, ap length statements); rising = stood.numbered.rising };
+    } in
     let core : EndsChanged inside new names c.args.items_from.now c.args.items_to.now c.args.facts_from.now c.args.facts_to.now led before now = record {
-      stands = λ rows tickets e n h stood l.
+      stands = stands;
+      changed = λ rows tickets e n h stood l.
           let next : Rows = after rows e in
+          let final = stands rows tickets e n h stood l in
           let shown : ShowRows names boards rows = record { plain = stood.plain.shows; follow = stood.follow.shows } in
           let shows = c.lead.ensures.shows rows e n h shown l.items_left l.items_come l.facts_left l.facts_come in
-          let statements = touch.statements rows e n h in
-          let fits = c.lead.ensures.fits in
-          let was_plain = cleared_facts plain plain_cleared c.clear_changed.ensures.stay c.clear_changed.ensures.links names Plain boards.plain rows tickets (λ q. false) stood.plain in
           let was_follow = cleared_facts follow follow_cleared c.clear_changed-2.ensures.stay c.clear_changed-2.ensures.links names Follow boards.follow rows tickets (λ q. false) stood.follow in
-          let of_plain = plain_over names are boards.plain mid.plain (c.lawful-2.ensures.answers Plain) (c.lawful-3.ensures.answers Plain) c.lead.ensures.levels.plain rows next tickets plain_cleared was_plain statements shows.plain fits.plain in
-          let does = λ (passes : ℕ → Bool) (a : AreLedBut names mid.follow follow_cleared next tickets passes led).
-          subst (λ (b : Board). AreLedBut names b c.lead_facts.new.facts next tickets passes []) c.board.ensures
-          (c.lead_facts.ensures names next tickets passes are (subst AreAnswers (sym c.board.ensures) (c.lawful-3.ensures.answers Follow)) (subst (λ (b : Board). AreLedBut names b follow_cleared next tickets passes led) (sym c.board.ensures) a)) in
-          let of_follow = led_facts names are boards.follow mid.follow (c.lawful-2.ensures.answers Follow) (c.lawful-3.ensures.answers Follow) c.lead.ensures.levels.follow rows next tickets n follow_cleared c.lead_facts.new.facts led
-          was_follow statements shows.follow fits.follow (λ x apart. touch.ends rows e n x h apart) (led_cleared names next.entries follow follow_cleared c.clear_changed-2.ensures.stay c.clear_changed-2.ensures.links led l.led_there)
-          (cleared_whole names rows follow follow_cleared led n c.clear_changed-2.ensures.stay l.whole) does in
-          record {
-            plain = c.settle.ensures.plain names next tickets are of_plain of_follow;
-            follow = c.settle.ensures.follow names next tickets are of_plain of_follow;
-            settled = c.settle.ensures.settled;
-            numbered = record { each = omega (arith, stood.numbered.each, ap length statements); rising = stood.numbered.rising };
-          };
+          let first = led_first names are boards.follow mid.follow (c.lawful-2.ensures.answers Follow) (c.lawful-3.ensures.answers Follow) c.lead.ensures.levels.follow rows next tickets n follow_cleared c.lead_facts.new.facts led
+          was_follow (touch.statements rows e n h) shows.follow c.lead.ensures.fits.follow (λ x apart. touch.ends rows e n x h apart) (led_cleared names next.entries follow follow_cleared c.clear_changed-2.ensures.stay c.clear_changed-2.ensures.links led l.led_there)
+          (cleared_whole names rows follow follow_cleared led n c.clear_changed-2.ensures.stay l.whole) (does rows tickets next) in
+          let changes = c.lead_facts.ensures.changes names next tickets (λ q. true) are (subst AreAnswers (sym c.board.ensures) (c.lawful-3.ensures.answers Follow)) (subst (λ (b : Board). AreLedBut names b follow_cleared next tickets (λ q. true) led) (sym c.board.ensures) first) in
+          both_changed inside new (all_changed plain plain_cleared c.clear_changed.ensures.stay c.clear_changed.ensures.links c.settle.new.plain c.clear_changed.ensures.cleared c.settle.ensures.changed)
+          (changes_settled follow follow_cleared c.lead_facts.new.facts c.settle.new.follow (λ q. fact_truth next Follow (kept_at names q).name) (λ q. ap truth_or_unknown (c.clear_changed-2.ensures.stay q)) c.clear_changed-2.ensures.cleared changes c.settle.ensures.changed_follow
+          (λ q used. final.follow.truths q (ap (λ (us : List ℕ). not (is_empty us)) (c.settle.ensures.same_follow.users q) ∙ used) refl));
+      used = both_in_use inside new (still_in_use plain plain_cleared c.clear_changed.ensures.stay c.clear_changed.ensures.links c.settle.new.plain c.settle.ensures.same)
+          (led_used follow follow_cleared c.lead_facts.new.facts c.settle.new.follow c.clear_changed-2.ensures.stay c.lead_facts.ensures.same c.settle.ensures.same_follow);
       steps = λ rows tickets e n h stood l.
           let next : Rows = after rows e in
           let shown : ShowRows names boards rows = record { plain = stood.plain.shows; follow = stood.follow.shows } in

@@ -1,5 +1,4 @@
 use Rattle.std.proofs.Common.{refl}
-use Rattle.cpe_rows.specs.Rows.{no_rows}
 use Rattle.cpe_rows.specs.declared.statement.Mode.TheVariants.{Plain, Follow}
 use Rattle.facts.proofs.MoveLemmas.{no_facts}
 use Rattle.facts.proofs.facts.Facts.new.Goals as goal

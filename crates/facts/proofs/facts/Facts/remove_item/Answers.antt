@@ -1,5 +1,4 @@
-use Rattle.std.proofs.Common.{◌++◌, List, ◌∷◌, [], ℕ, length, refl, sym, ap, subst, arith}
-use Rattle.std.proofs.lemmas.List.{length-map}
+use Rattle.std.proofs.Common.{◌++◌, List, ◌∷◌, [], refl, sym, subst, arith}
 use Rattle.cpe_name.specs.Eleven.{Values}
 use Rattle.cpe_rows.specs.After.{after}
 use Rattle.cpe_rows.specs.Rows.{Rows}

@@ -1,4 +1,4 @@
-use Rattle.std.proofs.Common.{◌≡◌, ◌∷◌, ◌++◌, [], List, ℕ, true, false, refl, sym, ap, subst, arith}
+use Rattle.std.proofs.Common.{◌≡◌, [], ℕ, true, false, sym, ap, subst}
 use Rattle.cpe_rows.specs.After.{after}
 use Rattle.cpe_rows.specs.Rows.{Rows}
 use Rattle.cpe_rows.specs.declared.edit.Edit.TheVariants as edit
@@ -8,7 +8,7 @@ use Rattle.fact_laws.specs.Asked.{same_mode}
 use Rattle.kept_facts.specs.Kept.{ShowRows}
 use Rattle.kept_facts.specs.Moved.{FactsUnasked}
 use Rattle.fact_rows.specs.Facts.{has_end, is_fact, truth_of, truth_or_unknown}
-use Rattle.facts.specs.Facts.{AreUsed, FactsNow, HasFacts, table_of}
+use Rattle.facts.specs.Facts.{AreUsed, FactsNow, table_of}
 use Rattle.facts.specs.Calls.{MayRemoveStatement, StatementRemoved}
 use Rattle.facts.proofs.LessLemmas.{less_from, tickets_less}
 use Rattle.facts.proofs.MoveLemmas.{cleared_facts}
