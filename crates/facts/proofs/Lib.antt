@@ -9,3 +9,4 @@ pub mod LessLemmas
 pub mod TakeLemmas
 pub mod LeadLemmas
 pub mod LeadMove
+pub mod RoomLemmas

@@ -4,3 +4,4 @@ pub mod Looks
 pub mod Calls
 pub mod Leads
 pub mod LeadCalls
+pub mod Room

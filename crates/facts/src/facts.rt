@@ -24,9 +24,9 @@ use std::sync::ledger::Ledger;
 /// The facts to which statements refer, for each mode. See the crate's page.
 #[derive(Drop)]
 pub struct Facts {
-    boards: KeptFacts,
-    plain: FactRows,
-    follow: FactRows,
+    pub(crate) boards: KeptFacts,
+    pub(crate) plain: FactRows,
+    pub(crate) follow: FactRows,
 }
 
 impl Model for Facts {

@@ -11,6 +11,7 @@ mod facts;
 pub mod law;
 mod lead;
 mod refresh;
+mod room;
 mod users;
 
 pub use facts::Facts;

@@ -1,12 +1,14 @@
 // A statement begins to use facts, or ends it.
-ghost use Rattle.std.specs.Prelude.{◌≡◌, ◌||◌, ℕ, [], true};
+ghost use Rattle.std.specs.Prelude.{◌≡◌, ◌||◌, ℕ, [], false, true};
 ghost use Rattle.ticket_list.specs.Rising.{IsRising};
-ghost use Rattle.fact_rows.specs.Facts.{FactTable, has_end, has_room, users_of};
+ghost use Rattle.fact_rows.specs.Facts.{FactTable, has_end, has_room, is_fact, users_of};
 ghost use Rattle.fact_rows.specs.Calls.{Refreshed};
 ghost use Rattle.fact_rows.specs.Tickets.{ends_with};
 ghost use Rattle.facts.specs.Calls.{FactsRemoved, UsersAdded, UsersRemoved};
+ghost use Rattle.facts.specs.Room.{UsersReserved};
 
 use cpe_rows::Mode;
+use cpe_values::Memory;
 use fact_rows::FactRows;
 use level_board::LevelBoard;
 use name_index::NameId;
@@ -38,6 +40,17 @@ pub(crate) fn add_statement_users(
     facts.refresh_facts(mode, fresh, board);
 }
 
+// Reserves room for one more user of each of these facts.
+pub(crate) fn reserve_users(facts: &mut FactRows, ids: &[NameId]) -> Result<(), Memory>
+    requires { (q : ℕ) → has_end ids.now q ≡ true → is_fact facts.old q ≡ true }
+    ensures { UsersReserved facts.old facts.new ids.now result }
+{
+    for id in ids {
+        facts.reserve_user(*id)?;
+    }
+    Ok(())
+}
+
 // Removes a ticket from these facts.
 fn remove_users(facts: &mut FactRows, ids: &[NameId], ticket: u64)
     requires { (q : ℕ) → IsRising (users_of facts.old q) }
@@ -49,11 +62,11 @@ fn remove_users(facts: &mut FactRows, ids: &[NameId], ticket: u64)
     }
 }
 
-// Removes these facts.
-fn remove_facts(facts: &mut FactRows, last: &[NameId])
-    requires { facts.old.changed ≡ [] }
+// Removes these facts, none of which is a changed one.
+pub(crate) fn remove_facts(facts: &mut FactRows, last: &[NameId])
+    requires { (q : ℕ) → has_end last.now q ≡ true → has_end facts.old.changed q ≡ false }
     ensures removed { FactsRemoved facts.old facts.new (has_end last.now) }
-    ensures changed { facts.new.changed ≡ [] }
+    ensures changed { facts.new.changed ≡ facts.old.changed }
 {
     for fact in last {
         facts.remove_fact(*fact);

@@ -5,11 +5,12 @@ use Rattle.std.proofs.lemmas.List.{take_all}
 use Rattle.name_index.specs.declared.table.NameId.{NameId}
 use Rattle.fact_rows.specs.Facts.{has_end, name_id}
 use Rattle.facts.specs.Calls.{FactsRemoved}
+use Rattle.facts.proofs.AddLemmas.{among_ends}
 use Rattle.facts.proofs.LessLemmas.{removed_next, removed_none}
 use Rattle.facts.proofs.users.remove_facts.Goals as goal
 
 pub loop-fact-init : goal.loop-fact-init
-loop-fact-init c = record { removed = removed_none c.args.facts.now (has_end (take 0 c.args.last.now)) (λ q. refl); changed = c.requires }
+loop-fact-init c = record { removed = removed_none c.args.facts.now (has_end (take 0 c.args.last.now)) (λ q. refl); changed = refl }
 
 pub loop-fact-preserved : goal.loop-fact-preserved
 loop-fact-preserved c =
@@ -22,7 +23,10 @@ loop-fact-preserved c =
     }
 
 pub remove_fact-requires : goal.remove_fact-requires
-remove_fact-requires c = ap (λ (cs : List NameId). has_end cs (get_or c.args.last.now c.loop-fact.fact-index (name_id 0)).0) c.loop-fact.invariant.changed
+remove_fact-requires c =
+    let last = c.args.last.now in
+    let i = c.loop-fact.fact-index in
+    ap (λ (cs : List NameId). has_end cs (get_or last i (name_id 0)).0) c.loop-fact.invariant.changed ∙ c.requires (get_or last i (name_id 0)).0 (among_ends last i (name_id 0) c.loop-fact-test.true)
 
 pub returns-clause-removed : goal.returns-clause-removed
 returns-clause-removed c = subst (λ (ids : List NameId). FactsRemoved c.args.facts.now c.loop-fact.facts (has_end ids)) (take_all c.loop-fact.fact-index c.args.last.now c.loop-fact-test.false) c.loop-fact.invariant.removed

@@ -1,4 +1,4 @@
-use Rattle.std.proofs.Common.{take, ◌≡◌, []}
+use Rattle.std.proofs.Common.{take, ◌≡◌}
 use Rattle.fact_rows.specs.Facts.{has_end}
 use Rattle.facts.specs.Calls.{FactsRemoved}
 use Rattle.facts.proofs.users.remove_facts.Given as goal
@@ -6,5 +6,5 @@ use Rattle.facts.proofs.users.remove_facts.Given as goal
 abbrev pub invariant-loop-fact : goal.invariant-loop-fact
 invariant-loop-fact l = record {
   removed : FactsRemoved l.initial.facts l.facts (has_end (take l.fact-index l.last));
-  changed : l.facts.changed ≡ [];
+  changed : l.facts.changed ≡ l.initial.facts.changed;
 }
