@@ -10,3 +10,4 @@ pub mod TakeLemmas
 pub mod LeadLemmas
 pub mod LeadMove
 pub mod RoomLemmas
+pub mod PartLemmas

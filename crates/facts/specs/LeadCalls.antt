@@ -1,5 +1,5 @@
 -- What a change of a deprecation changes of the facts.
-use Rattle.std.specs.Prelude.{◌≡◌, ℕ, List, Some, true}
+use Rattle.std.specs.Prelude.{◌≡◌, ◌≤◌, ℕ, List, length, Some, true}
 use Rattle.std.specs.List.{AllByRecursion}
 use Rattle.cpe_name.specs.Eleven.{Values}
 use Rattle.product_orders.specs.Elements.{SameElements}
@@ -8,6 +8,7 @@ use Rattle.name_index.specs.Table.{Names, kept_at}
 use Rattle.cpe_steps.specs.Within.{StepsWithin}
 use Rattle.cpe_rows.specs.After.{after}
 use Rattle.cpe_rows.specs.Chains.{leads_to}
+use Rattle.cpe_rows.specs.Lawful.{IsLawful}
 use Rattle.cpe_rows.specs.Rows.{Rows}
 use Rattle.cpe_rows.specs.declared.edit.Edit.{Edit}
 use Rattle.cpe_rows.specs.declared.entry.Entry.{Entry}
@@ -16,7 +17,8 @@ use Rattle.cpe_rows.specs.declared.statement.Mode.TheVariants.{Follow}
 use Rattle.cpe_changes.specs.Touching.{deprecation_changed}
 use Rattle.fact_laws.specs.Shown.{names_at}
 use Rattle.fact_laws.specs.Asked.{facts_in}
-use Rattle.kept_facts.specs.Kept.{ends_of_led}
+use Rattle.kept_facts.specs.Kept.{AreLive, ends_of_led}
+use Rattle.kept_facts.specs.Lists.{IsWide}
 use Rattle.facts.specs.declared.lead.Led.{Led}
 use Rattle.facts.specs.Facts.{AreChanges, AreUsed, FactsNow, HasFacts, is_used, table_of}
 use Rattle.facts.specs.Leads.{is_led, IsLed}
@@ -31,6 +33,22 @@ pub record IsLead (f : FactsNow) (table : Names) (rows : Rows) (left : List Entr
   pub facts_come : SameElements (names_at table facts_to) (ends_of_led rows.entries left n (facts_in Follow rows.statements))
   pub led_there : AllByRecursion (IsLed table f.follow left) led
   pub whole : (id : ℕ) → is_used f.follow id ≡ true → leads_to rows.entries (kept_at table id).name n ≡ true → is_led led id ≡ true
+
+-- The ends may change.
+pub record MayChangeEnds (f : FactsNow) (table : Names) (items_from items_to facts_from facts_to : List NameId) (led : List Led) : Type 0 where
+  -- the ends are names
+  pub live_items_from : AreLive table items_from
+  pub live_items_to : AreLive table items_to
+  pub live_facts_from : AreLive table facts_from
+  pub live_facts_to : AreLive table facts_to
+  -- there is room for the new ones
+  pub wide : IsWide f.boards.follow table
+  pub room_items : length items_to ≤ f.boards.follow.target_room
+  pub room_facts : length facts_to ≤ f.boards.follow.probe_room
+  pub few_items : length items_to ≤ 268435456
+  pub few_facts : length facts_to ≤ 268435456
+  -- the facts are those of lawful rows, of which an edit changes the deprecation of an entry
+  pub stood : (rows : Rows) × (tickets : List ℕ) × (e : Edit) × (n : Values) × (deprecation_changed e ≡ Some n) × IsLawful rows × HasFacts table f rows tickets × IsLead f table rows (after rows e).entries n items_from items_to facts_from facts_to led
 
 -- The ends changed.
 pub record EndsChanged (old new : FactsNow) (table : Names) (items_from items_to facts_from facts_to : List NameId) (led : List Led) (before now : ℕ) : Type 0 where

@@ -5,8 +5,7 @@ ghost use Rattle.name_index.specs.Table.{Names};
 ghost use Rattle.fact_laws.specs.Shown.{name_at};
 ghost use Rattle.fact_rows.specs.Facts.{truth_of, users_of};
 ghost use Rattle.facts.specs.Facts.{AreUsed, HasFacts, is_used, table_of};
-ghost use Rattle.kept_facts.specs.Moved.{MayLead};
-ghost use Rattle.facts.specs.LeadCalls.{EndsChanged};
+ghost use Rattle.facts.specs.LeadCalls.{EndsChanged, MayChangeEnds};
 ghost use Rattle.facts.specs.Calls.{ItemAdded, ItemRemoved, MayAddItem, MayAddStatement, MayRemoveItem, MayRemoveStatement, StatementAdded, StatementRemoved};
 
 use crate::lead::{Led, lead_facts};
@@ -215,11 +214,12 @@ impl Facts {
         led: Vec<Led>,
         steps: &mut Steps<L>,
     )
-        requires { MayLead self.old.boards table.now items_from.now items_to.now facts_from.now facts_to.now }
+        requires { MayChangeEnds self.old table.now items_from.now items_to.now facts_from.now facts_to.now led.items }
         ensures { EndsChanged self.old self.new table.now items_from.now items_to.now facts_from.now facts_to.now led.items steps.old steps.new }
     {
         table.lawful();
         cpe_changes::law::deprecations_touch();
+        kept_facts::law::few_stand();
         kept_facts::law::looks_are_by_names();
         self.plain.clear_changed();
         self.follow.clear_changed();

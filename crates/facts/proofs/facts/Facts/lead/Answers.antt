@@ -9,17 +9,19 @@ use Rattle.cpe_rows.specs.declared.edit.Edit.{Edit}
 use Rattle.cpe_changes.specs.Touching.{deprecation_changed}
 use Rattle.name_index.specs.Table.{kept_at}
 use Rattle.cpe_rows.specs.declared.statement.Mode.TheVariants.{Plain, Follow}
-use Rattle.level_board.specs.Board.{AreAnswers, Board}
+use Rattle.level_board.specs.Board.{AreAnswers, Board, probe_times, target_times}
+use Rattle.cpe_rows.specs.Chains.{ends, leads_to}
 use Rattle.fact_laws.specs.Shown.{different, near_names}
-use Rattle.fact_laws.specs.Asked.{asked, there}
+use Rattle.fact_laws.specs.Asked.{asked, facts_in, there}
 use Rattle.kept_facts.specs.Kept.{ShowRows}
 use Rattle.fact_rows.specs.Facts.{truth_or_unknown}
 use Rattle.fact_rows.specs.Tickets.{is_empty}
 use Rattle.facts.specs.Facts.{FactsNow, HasFacts}
-use Rattle.facts.specs.LeadCalls.{EndsChanged, IsLead}
+use Rattle.facts.specs.LeadCalls.{EndsChanged, IsLead, MayChangeEnds}
 use Rattle.facts.specs.Leads.{AreLedBut}
 use Rattle.facts.proofs.ChangeLemmas.{changes_settled}
 use Rattle.facts.proofs.LeadMove.{led_cleared, led_facts, led_first, plain_over, cleared_whole}
+use Rattle.facts.proofs.PartLemmas.{part_there}
 use Rattle.facts.proofs.PutLemmas.{both_changed}
 use Rattle.facts.proofs.UsedLemmas.{led_used}
 use Rattle.facts.proofs.MoveLemmas.{all_changed, both_in_use, cleared_facts, still_in_use}
@@ -99,3 +101,29 @@ returns g c =
           );
     } in
     subst (λ (f : FactsNow). EndsChanged f new names c.args.items_from.now c.args.items_to.now c.args.facts_from.now c.args.facts_to.now led before now) c.self.view_is core
+
+pub lead-requires : goal.lead-requires
+lead-requires g c =
+    let names = c.args.table.now in
+    let are = c.lawful.ensures in
+    let boards = c.self.inside.boards in
+    let m = subst (λ (f : FactsNow). MayChangeEnds f names c.args.items_from.now c.args.items_to.now c.args.facts_from.now c.args.facts_to.now c.args.led.items) (sym c.self.view_is) c.requires in
+    let rows = m.stood.0 in
+    let n = m.stood.3 in
+    let s = m.stood.6 in
+    let l = m.stood.7 in
+    record {
+      fits = record { plain = s.plain.fits; follow = s.follow.fits };
+      live_from = m.live_items_from;
+      live_to = m.live_items_to;
+      live_facts_from = m.live_facts_from;
+      live_facts_to = m.live_facts_to;
+      wide = m.wide;
+      room = m.room_items;
+      room_facts = m.room_facts;
+      few = λ t. omega (arith, m.few_items, c.few_stand.ensures.targets names boards.follow rows Follow t s.follow.shows m.stood.5);
+      few_facts = λ p. omega (arith, m.few_facts, c.few_stand.ensures.probes names boards.follow rows Follow p s.follow.shows m.stood.5);
+      there = part_there names are (target_times boards.follow) (ends rows.entries) (λ x. leads_to rows.entries x n) rows.items c.args.items_from.now m.live_items_from s.follow.shows.there l.items_left;
+      asked = part_there names are (probe_times boards.follow) (ends rows.entries) (λ x. leads_to rows.entries x n) (facts_in Follow rows.statements) c.args.facts_from.now m.live_facts_from s.follow.shows.asked l.facts_left;
+      settled = s.settled;
+    }
