@@ -1,0 +1,4 @@
+pub mod UserLemmas
+pub mod JudgeLemmas
+pub mod VerdictLemmas
+pub mod ResultLemmas

@@ -1,0 +1,15 @@
+//! Verdicts (NIST IR 7698): statements, the results of checks and the facts of both modes, kept from edit to edit.
+//!
+//! [`Verdicts`] has the facts ([`facts::Facts`]) and the statements with their verdicts ([`statement_rows::StatementRows`]).
+//! Each call is an edit of the rows. It changes the facts, and then judges the statements that use a fact whose truth was
+//! replaced, and no others. After each call every verdict is that of the rows.
+#![tactic(auto)]
+
+mod items;
+mod lead;
+mod refresh;
+mod results;
+mod truths;
+mod verdicts;
+
+pub use verdicts::Verdicts;
