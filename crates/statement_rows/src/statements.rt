@@ -95,7 +95,7 @@ impl StatementRows {
         );
     }
 
-    /// A statement of a new id, with the numbers of its fact references in the order of its test. Takes all memory for it.
+    /// Makes a statement of a new id ready, with the numbers of its fact references in the order of its test. Takes all memory for it.
     ///
     /// # Errors
     /// Only that memory ran out.
@@ -190,7 +190,7 @@ impl StatementRows {
         into_use(row)
     }
 
-    /// Sets the result of a check, in the place of its last one or else at the end. Judges the statements that ask for the check.
+    /// Sets the result of a check, in the place of its earlier result or else at the end. Judges the statements that ask for the check.
     ///
     /// # Errors
     /// Only that memory ran out; all is then as it was.
