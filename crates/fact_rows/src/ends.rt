@@ -1,4 +1,4 @@
-// The names to which facts lead, and what the levels of a board tell of them.
+// The names to which facts lead, and the truth that the levels of a board give them.
 ghost use Rattle.std.specs.Prelude.{◌≡◌, false};
 ghost use Rattle.cpe_rows.specs.Verdict.{truth};
 ghost use Rattle.fact_rows.specs.Facts.{has_end, leads_by};

@@ -1,4 +1,4 @@
--- Facts that a statement more uses.
+-- A ticket is added to facts, one after the other.
 use Rattle.std.proofs.Common.{◌≡◌, ℕ, suc, zero, ◌<◌, Bool, true, false, cond, ◌||◌, nat_eq, List, [], ◌∷◌, ◌++◌, length, get_or, Option, refl, sym, ap, subst, ◌∙◌, inl, inr, eq-eqb, eqb-true, arith}
 use Rattle.std.specs.Prelude.{is_some}
 use Rattle.std.proofs.lemmas.Bool.{both_ways, cases_eq, or_cases, or_left, or_right, true≢false}
@@ -80,13 +80,13 @@ room_next a b so id ticket u room = by (so id) refl
     by true s = or_right (has_room b id) (ends_with ticket (users_of b id)) (ap (ends_with ticket) (u.here id s) ∙ with_ends ticket (users_of a id))
     by false s = ap (λ (o : Option Fact). room_or_none o || ends_with ticket (users_or_none o)) (u.others id s) ∙ room
 
--- one of a list is among them
+-- an element of a list is in it
 pub among_ends : (ids : List NameId) (i : ℕ) (d : NameId) → i < length ids → has_end ids (get_or ids i d).0 ≡ true
 among_ends [] i d lt = absurd (omega (arith, lt))
 among_ends (x ∷ ids) zero d lt = or_left (nat_eq x.0 x.0) (has_end ids x.0) (eq-eqb x.0 x.0 refl)
 among_ends (x ∷ ids) (suc i) d lt = or_right (nat_eq x.0 (get_or ids i d).0) (has_end ids (get_or ids i d).0) (among_ends ids i d (omega (arith, lt)))
 
--- the same of a table of which this is one with other changes
+-- the same for a table with the same facts and other changes
 pub added_to : (t cleared new : FactTable) (which : ℕ → Bool) (ticket : ℕ) → ((q : ℕ) → fact_at cleared q ≡ fact_at t q) → ((e : ℕ) → facts_of cleared e ≡ facts_of t e) → UsersAdded cleared new which ticket → UsersAdded t new which ticket
 added_to t cleared new which ticket stay links u = record {
   here = λ q w. u.here q w ∙ ap (λ (o : Option Fact). with_last ticket (users_or_none o)) (stay q);

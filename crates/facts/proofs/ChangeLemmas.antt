@@ -7,14 +7,9 @@ use Rattle.cpe_rows.specs.declared.truth.Truth.{Truth}
 use Rattle.cpe_rows.specs.declared.truth.Truth.TheVariants.{True, False, Unknown, Error}
 use Rattle.fact_rows.specs.Facts.{differs, FactTable, has_end, truth_of}
 use Rattle.fact_rows.specs.Tickets.{is_empty}
+use Rattle.fact_rows.proofs.RefreshLemmas.{differs_not}
 use Rattle.facts.specs.Facts.{AreChanges, is_used}
 use Rattle.facts.specs.Leads.{ChangesTo, SameUsers}
-
-pub differs_not : (t : Truth) → differs t t ≡ false
-differs_not True = refl
-differs_not False = refl
-differs_not Unknown = refl
-differs_not Error = refl
 
 pub differs_is : (s t : Truth) → differs s t ≡ false → s ≡ t
 differs_is True True e = refl
@@ -80,7 +75,7 @@ module _ (a b c : FactTable) (truth : ℕ → Truth) (u : ChangesTo a b truth) (
   pub changes_again : ChangesTo a c truth
   changes_again = record { listed = λ q. listed_both q (differs (truth_of b q) (truth_of c q)) refl; right = λ q h. right_both q h (differs (truth_of b q) (truth_of c q)) refl }
 
--- what is refreshed after that changes no truth that was right
+-- a later refresh replaces no truth that is right
 pub changes_settled : (t cleared mid new : FactTable) (truth : ℕ → Truth) → ((q : ℕ) → truth_of cleared q ≡ truth_of t q) → cleared.changed ≡ [] → ChangesTo cleared mid truth
     → ((q : ℕ) → has_end new.changed q ≡ (has_end mid.changed q || differs (truth_of mid q) (truth_of new q))) → ((q : ℕ) → is_used mid q ≡ true → truth_of new q ≡ truth q) → AreChanges t new
 changes_settled t cleared mid new truth stay none u listed right q = by (differs (truth_of cleared q) (truth_of mid q)) refl ∙ ap (λ (s : Truth). differs s (truth_of new q)) (stay q)

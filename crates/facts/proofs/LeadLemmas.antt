@@ -23,7 +23,7 @@ use Rattle.fact_rows.specs.Tickets.{is_empty}
 use Rattle.facts.specs.Facts.{is_used, LeadsTo}
 use Rattle.facts.specs.Leads.{AreLedBut, ChangesTo, is_led, IsLed, SameUsers}
 use Rattle.facts.specs.declared.lead.Led.{Led}
-use Rattle.facts.proofs.ChangeLemmas.{differs_not}
+use Rattle.fact_rows.proofs.RefreshLemmas.{differs_not}
 use Rattle.facts.proofs.MoveLemmas.{linked_still}
 use Rattle.facts.proofs.LevelLemmas.{shown}
 use Rattle.facts.proofs.UserLemmas.{used_fact, users_refer}
@@ -68,10 +68,10 @@ led_users led old mid new here stay same = record {
   users = λ q. same.users q ∙ both users_or_none (users_with led.ends.items) q;
 }
   where
-    both : {A : Type 0} (told : Option Fact → A) → ((o : Option Fact) → told (option_map (with_ends led.ends.items) o) ≡ told o) → (q : ℕ) → told (fact_at mid q) ≡ told (fact_at old q)
-    both told kept q = elim (cases_eq q led.fact.0) [
-      | inl e ↦ ap (λ (n : ℕ). told (fact_at mid n)) e ∙ ap told here ∙ kept (fact_at old led.fact.0) ∙ ap (λ (n : ℕ). told (fact_at old n)) (sym e)
-      | inr ne ↦ ap told (stay q ne)
+    both : {A : Type 0} (read : Option Fact → A) → ((o : Option Fact) → read (option_map (with_ends led.ends.items) o) ≡ read o) → (q : ℕ) → read (fact_at mid q) ≡ read (fact_at old q)
+    both read kept q = elim (cases_eq q led.fact.0) [
+      | inl e ↦ ap (λ (n : ℕ). read (fact_at mid n)) e ∙ ap read here ∙ kept (fact_at old led.fact.0) ∙ ap (λ (n : ℕ). read (fact_at old n)) (sym e)
+      | inr ne ↦ ap read (stay q ne)
     ]
 
 module _ (names : Names) (are : AreNames names) (board : Board) (answers : AreAnswers board) (next : Rows) (tickets : List ℕ) (passes : ℕ → Bool) (led : Led) (rest : List Led) (old mid new : FactTable)
@@ -83,11 +83,11 @@ module _ (names : Names) (are : AreNames names) (board : Board) (answers : AreAn
   first : IsLed names old next.entries led
   first = a.led.0
 
-  -- whatever is told of a row but its ends
-  same_by : {A : Type 0} (told : Option Fact → A) → ((o : Option Fact) → told (option_map (with_ends led.ends.items) o) ≡ told o) → (q : ℕ) → told (fact_at mid q) ≡ told (fact_at old q)
-  same_by told same q = elim (cases_eq q led.fact.0) [
-    | inl e ↦ ap (λ (n : ℕ). told (fact_at mid n)) e ∙ ap told here ∙ same (fact_at old led.fact.0) ∙ ap (λ (n : ℕ). told (fact_at old n)) (sym e)
-    | inr ne ↦ ap told (stay q ne)
+  -- whatever is read of a row, except its ends, is unchanged
+  same_by : {A : Type 0} (read : Option Fact → A) → ((o : Option Fact) → read (option_map (with_ends led.ends.items) o) ≡ read o) → (q : ℕ) → read (fact_at mid q) ≡ read (fact_at old q)
+  same_by read same q = elim (cases_eq q led.fact.0) [
+    | inl e ↦ ap (λ (n : ℕ). read (fact_at mid n)) e ∙ ap read here ∙ same (fact_at old led.fact.0) ∙ ap (λ (n : ℕ). read (fact_at old n)) (sym e)
+    | inr ne ↦ ap read (stay q ne)
   ]
 
   users_mid : (q : ℕ) → users_of mid q ≡ users_of old q

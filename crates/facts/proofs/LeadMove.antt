@@ -1,4 +1,4 @@
--- Facts once a deprecation changed.
+-- Facts after a deprecation changed.
 use Rattle.std.proofs.Common.{Option, ◌∷◌, ◌≡◌, ℕ, ◌≤◌, Bool, true, false, not, List, [], refl, sym, ap, subst, ◌∙◌}
 use Rattle.std.specs.List.{AllByRecursion, list_any}
 use Rattle.std.proofs.lemmas.Bool.{true≢false}
@@ -96,7 +96,7 @@ module _ (names : Names) (are : AreNames names) (before board : Board) (answers_
     truths = λ q used. a.truths q used refl;
   }
 
-  -- the users of a fact stay, by names
+  -- the users of a fact are unchanged, by names
   used_now : (q : ℕ) → is_used t q ≡ true → is_used new q ≡ true
   used_now q used =
       let f = as_facts (λ p. true) ended in
@@ -109,8 +109,8 @@ module _ (names : Names) (are : AreNames names) (before board : Board) (answers_
       let is = ended.leads_there q (used_now q used) refl in
       same_numbers names are (leads_of Follow t q) (leads_of Follow new q) was.live is.live (was.names ∙ sym is.names)
 
-  unled_right : (q : ℕ) → is_used t q ≡ true → is_led led q ≡ false → is_touched Follow board new q ≡ false → truth_of t q ≡ fact_truth next Follow (kept_at names q).name
-  unled_right q used free untouched =
+  unled_there : (q : ℕ) → is_used t q ≡ true → is_led led q ≡ false → is_touched Follow board new q ≡ false → truth_of t q ≡ fact_truth next Follow (kept_at names q).name
+  unled_there q used free untouched =
       let f = as_facts (λ p. true) ended in
       let n_used = used_now q used in
       let e = same_leads q used free in
@@ -122,7 +122,7 @@ module _ (names : Names) (are : AreNames names) (before board : Board) (answers_
       ∙ right names are Follow board answers next tickets new (λ p. true) f q n_used
 
   pub led_facts : FactsBut names board new next tickets Follow (is_touched Follow board new)
-  led_facts = as_facts (is_touched Follow board new) (does (is_touched Follow board new) (begins (is_touched Follow board new) unled_right))
+  led_facts = as_facts (is_touched Follow board new) (does (is_touched Follow board new) (begins (is_touched Follow board new) unled_there))
 
 pub cleared_whole : (names : Names) (rows : Rows) (t cleared : FactTable) (led : List Led) (n : Values) → ((q : ℕ) → fact_at cleared q ≡ fact_at t q) → ((q : ℕ) → is_used t q ≡ true → leads_to rows.entries (kept_at names q).name n ≡ true → is_led led q ≡ true)
     → (q : ℕ) → is_used cleared q ≡ true → leads_to rows.entries (kept_at names q).name n ≡ true → is_led led q ≡ true

@@ -1,4 +1,4 @@
--- Facts that a statement less uses.
+-- A ticket is removed from facts, one after the other.
 use Rattle.std.proofs.Common.{◌≡◌, ℕ, ◌<◌, Bool, true, false, not, cond, ◌||◌, nat_eq, List, [], ◌∷◌, length, Option, Some, None, refl, sym, ap, subst, ◌∙◌, inl, inr, eq-eqb, eqb-true, arith}
 use Rattle.std.specs.Prelude.{is_some, find}
 use Rattle.std.specs.List.{AllByRecursion}
@@ -44,7 +44,7 @@ rising_still t (x ∷ xs) rising = by (nat_eq x t) (rising_still t xs rising.1)
     by true later = later
     by false later = (above_still x t xs rising.0, later)
 
--- what is above a ticket has it not
+-- a list of greater tickets does not have this one
 above_without : (t : ℕ) (xs : List ℕ) → AllByRecursion (λ (y : ℕ). t < y) xs → without t xs ≡ xs
 above_without t [] all = refl
 above_without t (x ∷ xs) all = ap (λ (b : Bool). cond (not b) (x ∷ without t xs) (without t xs)) (other_number x t (λ e. absurd (omega (arith, e, all.0)))) ∙ ap (λ (us : List ℕ). x ∷ us) (above_without t xs all.1)
@@ -105,7 +105,7 @@ module _ (id : List ℕ) (t : ℕ) where
             ∙ ap (λ (us : List ℕ). cond (refers_to mode n s) (x ∷ us) us) (later h)
             ∙ ap (λ (ts : List ℕ). users_in mode n ts (s ∷ without_first (has_id id) statements)) (sym (stays_first x tickets lt))
 
-    -- a fact to which it doesn't refer has it not
+    -- a fact to which it doesn't refer does not have its ticket
     pub users_without : (tickets : List ℕ) (statements : List Statement) (gone : Statement) → IsRising tickets → ticket_of id tickets statements ≡ Some t → find (has_id id) statements ≡ Some gone → refers_to mode n gone ≡ false
         → without t (users_in mode n tickets statements) ≡ users_in mode n tickets statements
     users_without [] statements gone rising e found free = absurd (none-some t e)

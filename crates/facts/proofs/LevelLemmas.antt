@@ -1,4 +1,4 @@
--- How levels lead to the rows.
+-- Levels give facts the truths that the rows give them.
 use Rattle.std.proofs.Common.{◌≡◌, ℕ, ◌≤◌, List, [], ◌∷◌, refl, sym, ap, ◌∙◌}
 use Rattle.std.specs.List.{AllByRecursion, list_any}
 use Rattle.cpe_name.specs.Eleven.{Values}
@@ -23,27 +23,27 @@ use Rattle.kept_facts.proofs.Truths.{either_more, first_truth, level_shown, leve
 use Rattle.kept_facts.proofs.Answers.{fact_kept, seen_there}
 use Rattle.fact_rows.specs.Truths.{any_covered, any_maybe, is_covered, is_maybe, truth_at}
 
--- what one level tells
-told : (level : Level) → truth (is_covered level) (is_maybe level) ≡ level_truth level
-told Covered = refl
-told Maybe = refl
-told Free = refl
+-- the truth of one level
+of_level : (level : Level) → truth (is_covered level) (is_maybe level) ≡ level_truth level
+of_level Covered = refl
+of_level Maybe = refl
+of_level Free = refl
 
 module _ (names : Names) (board : Board) (rows : Rows) (mode : Mode) (answers : AreAnswers board) (fits : FitsBoard board names) (shows : ShowsRows names board rows mode) where
-  level_tells : (p : ℕ) → 1 ≤ probe_times board p
+  level_right : (p : ℕ) → 1 ≤ probe_times board p
       → truth (is_covered (level_at board p)) (is_maybe (level_at board p)) ≡ truth (list_any (covers (kept_at names p).name) (there rows mode)) (list_any (maybe (kept_at names p).name) (there rows mode))
-  level_tells p some =
+  level_right p some =
       let s = seen_there board p some in
       ap (λ (l : Level). truth (is_covered l) (is_maybe l)) (ap level_in s.1)
-      ∙ told (level_now s.0)
+      ∙ of_level (level_now s.0)
       ∙ level_shown board names (there rows mode) p (λ passes id. shown_passes names (target_times board) (there rows mode) passes id shows.there) (λ passes. passing_shown names (target_times board) (there rows mode) passes shows.there) (level_now s.0) (answers names p s.0 fits s.1)
 
-  names_tell : (numbers : List NameId) → AllByRecursion (λ (x : NameId). 1 ≤ probe_times board x.0) numbers → truth_at board numbers ≡ truth_of_names (names_at names numbers) (there rows mode)
-  names_tell [] on = refl
-  names_tell (x ∷ numbers) on =
+  names_right : (numbers : List NameId) → AllByRecursion (λ (x : NameId). 1 ≤ probe_times board x.0) numbers → truth_at board numbers ≡ truth_of_names (names_at names numbers) (there rows mode)
+  names_right [] on = refl
+  names_right (x ∷ numbers) on =
       either_more (is_covered (level_at board x.0)) (is_maybe (level_at board x.0)) (any_covered board numbers) (any_maybe board numbers)
-      ∙ (λ i. or_of (level_tells x.0 on.0 i) (names_tell numbers on.1 i))
+      ∙ (λ i. or_of (level_right x.0 on.0 i) (names_right numbers on.1 i))
       ∙ sym (first_truth (name_at names x) (names_at names numbers) (there rows mode))
 
   pub shown : (fact : Values) (numbers : List NameId) → AllByRecursion (λ (x : NameId). 1 ≤ probe_times board x.0) numbers → names_at names numbers ≡ leads rows.entries mode fact → truth_at board numbers ≡ fact_truth rows mode fact
-  shown fact numbers on e = names_tell numbers on ∙ sym (fact_kept rows mode names fact numbers e)
+  shown fact numbers on e = names_right numbers on ∙ sym (fact_kept rows mode names fact numbers e)

@@ -1,4 +1,4 @@
--- Facts whose truths stay right where boards move and rows are refreshed.
+-- Facts whose truths are right after boards changed and rows were refreshed.
 use Rattle.std.proofs.Common.{Option, None, ◌+◌, ◌≡◌, ℕ, ◌≤◌, Bool, true, false, not, ◌||◌, nat_eq, List, [], ◌∷◌, refl, sym, ap, subst, ◌∙◌, inl, inr, eq-eqb, eqb-true}
 use Rattle.std.specs.Prelude.{is_some}
 use Rattle.std.specs.List.{AllByRecursion, list_any}
@@ -34,12 +34,12 @@ use Rattle.facts.proofs.UserLemmas.{used_fact, users_refer}
 pub not_marked : (board : Board) (p : ℕ) → AreMarks board → has_end board.marks p ≡ false → is_marked board p ≡ false
 not_marked board p whole free = false_from_ne_true (is_marked board p) (λ on. true≢false (sym (whole p on) ∙ free))
 
--- a fact of a name is found from it
-found_there : (t : FactTable) (q : ℕ) (marks : List NameId) (p : ℕ) → has_end marks p ≡ true → has_end (facts_of t p) q ≡ true → is_under_one t marks q ≡ true
-found_there t q [] p h is = absurd (true≢false (sym h))
-found_there t q (x ∷ marks) p h is = elim (or_cases (nat_eq x.0 p) (has_end marks p) h) [
+-- a fact of a marked name is a fact of one of the marks
+marked_under : (t : FactTable) (q : ℕ) (marks : List NameId) (p : ℕ) → has_end marks p ≡ true → has_end (facts_of t p) q ≡ true → is_under_one t marks q ≡ true
+marked_under t q [] p h is = absurd (true≢false (sym h))
+marked_under t q (x ∷ marks) p h is = elim (or_cases (nat_eq x.0 p) (has_end marks p) h) [
   | inl e ↦ or_left (has_end (facts_of t x.0) q) (is_under_one t marks q) (subst (λ (n : ℕ). has_end (facts_of t n) q ≡ true) (sym (eqb-true x.0 p e)) is)
-  | inr later ↦ or_right (has_end (facts_of t x.0) q) (is_under_one t marks q) (found_there t q marks p later is)
+  | inr later ↦ or_right (has_end (facts_of t x.0) q) (is_under_one t marks q) (marked_under t q marks p later is)
 ]
 
 none_marked : (t : FactTable) (q : ℕ) (board : Board) (numbers : List NameId) → AreMarks board → ((e : ℕ) → has_end numbers e ≡ true → has_end (facts_of t e) q ≡ true) → is_under_one t board.marks q ≡ false
@@ -47,11 +47,11 @@ none_marked : (t : FactTable) (q : ℕ) (board : Board) (numbers : List NameId) 
 none_marked t q board [] whole under free = refl
 none_marked t q board (x ∷ numbers) whole under free =
     let first : is_marked board x.0 ≡ false = false_from_ne_true (is_marked board x.0)
-    (λ on. true≢false (sym (found_there t q board.marks x.0 (whole x.0 on) (under x.0 (or_left (nat_eq x.0 x.0) (has_end numbers x.0) (eq-eqb x.0 x.0 refl)))) ∙ free)) in
+    (λ on. true≢false (sym (marked_under t q board.marks x.0 (whole x.0 on) (under x.0 (or_left (nat_eq x.0 x.0) (has_end numbers x.0) (eq-eqb x.0 x.0 refl)))) ∙ free)) in
     let rest = none_marked t q board numbers whole (λ e h. under e (or_right (nat_eq x.0 e) (has_end numbers e) h)) free in
     ap (λ (b : Bool). b || list_any (λ (y : NameId). is_marked board y.0) numbers) first ∙ rest
 
--- a fact that isn't found from the marks leads to none of them
+-- a fact of none of the marks leads to none of them
 pub untouched : (mode : Mode) (t : FactTable) (board : Board) (q : ℕ) → AreMarks board → AreLinked t → found_from mode t board.marks q ≡ false → is_touched mode board t q ≡ false
 untouched Plain t board q whole linked free = ap {B = Bool} (λ (b : Bool). b || false) (not_marked board q whole free)
 untouched Follow t board q whole linked free = none_marked t q board (ends_of t q) whole (linked q) free
@@ -67,11 +67,11 @@ module _ (names : Names) (are : AreNames names) (mode : Mode) (board : Board) (a
   pub on : (q : ℕ) → is_used t q ≡ true → AllByRecursion (λ (x : NameId). 1 ≤ probe_times board x.0) (leads_of mode t q)
   on q used = facts_on names board rows mode (kept_at names q).name (leads_of mode t q) are s.shows (referred q used) (s.leads_there q used).live (s.leads_there q used).names
 
-  -- so their levels tell its truth
+  -- so their levels give its truth
   pub right : (q : ℕ) → is_used t q ≡ true → truth_at board (leads_of mode t q) ≡ fact_truth rows mode (kept_at names q).name
   right q used = shown names board rows mode answers s.fits s.shows (kept_at names q).name (leads_of mode t q) (on q used) (s.leads_there q used).names
 
--- the same facts lead to the same names, and are found from there
+-- the same facts with the same ends are linked to them
 pub linked_still : (old new : FactTable) → ((q : ℕ) → ends_of new q ≡ ends_of old q) → ((e : ℕ) → facts_of new e ≡ facts_of old e) → AreLinked old → AreLinked new
 linked_still old new ends facts linked q e h = ap (λ (fs : List NameId). has_end fs q) (facts e) ∙ linked q e (sym (ap (λ (es : List NameId). has_end es e) (ends q)) ∙ h)
 
@@ -110,7 +110,7 @@ pub record IsStill (mode : Mode) (old new : FactTable) (board : Board) (q : ℕ)
   pub truth : truth_of new q ≡ truth_of old q
   pub free : is_touched mode board new q ≡ false
 
--- the board moved: such facts are right still
+-- such facts are right after the board changed
 module _ (names : Names) (are : AreNames names) (mode : Mode) (before board : Board) (answers_before : AreAnswers before) (answers : AreAnswers board) (levels : KeepsLevels before board)
     (rows next : Rows) (tickets more : List ℕ) (old new : FactTable) (passes all : ℕ → Bool)
     (s : FactsBut names before old rows tickets mode (λ q. false)) (n : FactsBut names board new next more mode all)
@@ -129,7 +129,7 @@ module _ (names : Names) (are : AreNames names) (mode : Mode) (before board : Bo
   pub moved : FactsBut names board new next more mode passes
   moved = record { shows = n.shows; fits = n.fits; live = n.live; users = n.users; leads_there = n.leads_there; linked = n.linked; truths = right_still }
 
--- the same facts by rows with the same entries and statements, whatever is known of truths
+-- the same facts by rows with the same entries and statements, without their truths
 pub same_rows : (names : Names) (mode : Mode) (before board : Board) (rows next : Rows) (tickets : List ℕ) (t : FactTable) (passes : ℕ → Bool) → FactsBut names before t rows tickets mode passes
     → next.entries ≡ rows.entries → next.statements ≡ rows.statements → ShowsRows names board next mode → FitsBoard board names → FactsBut names board t next tickets mode (λ q. true)
 same_rows names mode before board rows next tickets t passes s entries statements shows fits = record {
@@ -142,7 +142,7 @@ same_rows names mode before board rows next tickets t passes s entries statement
   truths = λ q used free. absurd (true≢false free);
 }
 
--- where no mark is left, and the board is that of the rows still
+-- the same facts over a board of the same rows
 pub settled_facts : (names : Names) (mode : Mode) (before board : Board) (rows : Rows) (tickets : List ℕ) (t : FactTable) (passes : ℕ → Bool) → FactsBut names before t rows tickets mode passes
     → ShowsRows names board rows mode → FitsBoard board names → FactsBut names board t rows tickets mode passes
 settled_facts names mode before board rows tickets t passes s shows fits = record { shows = shows; fits = fits; live = s.live; users = s.users; leads_there = s.leads_there; linked = s.linked; truths = s.truths }
@@ -163,7 +163,7 @@ no_facts names mode board t none linked shows fits = record {
   truths = λ q used free. absurd (no_used t q (none q) used);
 }
 
--- the same facts, of which none is among the changed
+-- the same facts, of which none is a changed one
 module _ (t cleared : FactTable) (stay : (q : ℕ) → fact_at cleared q ≡ fact_at t q) (links : (e : ℕ) → facts_of cleared e ≡ facts_of t e) where
   cleared_used : (q : ℕ) → is_used cleared q ≡ true → is_used t q ≡ true
   cleared_used q used = sym (ap (λ (o : Option Fact). not (is_empty (users_or_none o))) (stay q)) ∙ used
@@ -179,17 +179,17 @@ module _ (t cleared : FactTable) (stay : (q : ℕ) → fact_at cleared q ≡ fac
     truths = λ q used free. ap truth_or_unknown (stay q) ∙ s.truths q (cleared_used q used) free;
   }
 
-  -- what is refreshed then is all that changed
+  -- the facts whose truth is replaced then are all changed ones
   pub all_changed : (new : FactTable) → cleared.changed ≡ [] → ((q : ℕ) → has_end new.changed q ≡ (has_end cleared.changed q || differs (truth_of cleared q) (truth_of new q))) → AreChanges t new
   all_changed new none changed q =
       changed q ∙ ap (λ (cs : List NameId). has_end cs q || differs (truth_of cleared q) (truth_of new q)) none ∙ ap (λ (o : Option Fact). differs (truth_or_unknown o) (truth_of new q)) (stay q)
 
-  -- and all is in use that was
+  -- and each fact is still in use
   pub still_in_use : (new : FactTable) → SameFacts cleared new → ((q : ℕ) → is_fact t q ≡ true → is_used t q ≡ true) → (q : ℕ) → is_fact new q ≡ true → is_used new q ≡ true
   still_in_use new same in_use q is =
       ap (λ (us : List ℕ). not (is_empty us)) (same.users q ∙ ap users_or_none (stay q)) ∙ in_use q (sym (ap is_some (stay q)) ∙ (sym (same.there q) ∙ is))
 
-  -- the board moved to rows with the same entries and statements
+  -- the board changed to that of rows with the same entries and statements
   pub over_items : (names : Names) → AreNames names → (mode : Mode) (before board : Board) → AreAnswers before → AreAnswers board → KeepsLevels before board → (rows next : Rows) (tickets : List ℕ) → FactsBut names before t rows tickets mode (λ q. false)
       → next.entries ≡ rows.entries → next.statements ≡ rows.statements → ShowsRows names board next mode → FitsBoard board names → FactsBut names board cleared next tickets mode (is_touched mode board cleared)
   over_items names are mode before board answers_before answers levels rows next tickets s entries statements shows fits =
@@ -203,7 +203,7 @@ pub both_in_use : (old new : FactsNow) → (((q : ℕ) → is_fact old.plain q �
 both_in_use old new plain follow used Plain = plain (used Plain)
 both_in_use old new plain follow used Follow = follow (used Follow)
 
--- an item that comes or goes looks at what its name and those of its ends meet
+-- the looks of an item that is added or removed, by names
 pub item_looked : (names : Names) (boards : Boards) (rows : Rows) (item : NameId) (led : List NameId) → AreNames names → AreSound boards → ShowsRows names boards.plain rows Plain → ShowsRows names boards.follow rows Follow → LeadsTo names rows.entries Follow item.0 led
     → looks names side.Target boards.plain.probe_ids (item ∷ []) + looks names side.Target boards.follow.probe_ids led ≡ item_looks rows (name_at names item)
 item_looked names boards rows item led are sound plain_shows follow_shows ends_are =

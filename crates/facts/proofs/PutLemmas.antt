@@ -1,4 +1,4 @@
--- Facts once a statement came.
+-- Facts after a statement was added.
 use Rattle.std.proofs.Common.{◌≡◌, ℕ, ◌+◌, ◌<◌, ◌≤◌, Bool, true, false, not, cond, ◌&&◌, ◌||◌, nat_eq, List, [], ◌∷◌, ◌++◌, length, Option, refl, sym, ap, subst, ◌∙◌, inl, inr, eq-eqb, eqb-true, arith}
 use Rattle.std.specs.List.{AllByRecursion, list_any, flat_map, sum_by}
 use Rattle.std.proofs.lemmas.Bool.{both_ways, cases_Bool, true≢false}
@@ -14,8 +14,6 @@ use Rattle.cpe_rows.specs.FactNames.{fact_names}
 use Rattle.cpe_rows.specs.Names.{is_same}
 use Rattle.cpe_rows.specs.Rows.{Rows}
 use Rattle.cpe_rows.specs.declared.edit.Edit.TheVariants as edit
-use Rattle.cpe_rows.specs.declared.truth.Truth.{Truth}
-use Rattle.cpe_rows.specs.declared.truth.Truth.TheVariants.{True, False, Unknown, Error}
 use Rattle.cpe_rows.specs.declared.statement.Mode.{Mode}
 use Rattle.cpe_rows.specs.declared.statement.Mode.TheVariants.{Plain, Follow}
 use Rattle.cpe_rows.specs.declared.statement.Statement.{Statement}
@@ -24,6 +22,7 @@ use Rattle.fact_laws.proofs.Shown.{live_is, other_names, other_number, same_name
 use Rattle.fact_laws.specs.Asked.{fresh_facts, leads, references_of, refers_to, same_mode, there}
 use Rattle.fact_laws.proofs.Counted.{fewer_fresh, same_test}
 use Rattle.fact_laws.proofs.Names.{sum_flat}
+use Rattle.fact_rows.proofs.RefreshLemmas.{differs_not}
 use Rattle.facts.specs.Looks.{statement_looks}
 use Rattle.kept_facts.specs.Kept.{AreLive, board_of, looks_by, ShowsRows}
 use Rattle.fact_rows.specs.Facts.{differs, Fact, fact_at, FactTable, has_end, leads_by, leads_of, truth_of, truth_or_unknown, users_of, users_or_none}
@@ -85,7 +84,7 @@ tickets_more t tickets s statements a all = record { each = omega (arith, one_lo
 -- ---- numbers and names
 
 module _ (names : Names) (are : AreNames names) where
-  -- live numbers are told apart as their names are
+  -- two live numbers are equal exactly if their names are
   number_tests : (a b : ℕ) → IsLive names a → IsLive names b → nat_eq a b ≡ is_same (kept_at names b).name (kept_at names a).name
   number_tests a b la lb = elim (cases_Bool (nat_eq a b)) [
     | inl t ↦ t ∙ sym (same_test (kept_at names b).name (kept_at names a).name ∙ same_names (kept_at names b).name (kept_at names a).name (ap (λ (n : ℕ). (kept_at names n).name) (sym (eqb-true a b t))))
@@ -202,12 +201,6 @@ module _ (names : Names) (are : AreNames names) (mode : Mode) (before board : Bo
 
 -- ---- changes
 
-differs_not : (t : Truth) → differs t t ≡ false
-differs_not True = refl
-differs_not False = refl
-differs_not Unknown = refl
-differs_not Error = refl
-
 pub none_changed : (t cleared : FactTable) → ((q : ℕ) → fact_at cleared q ≡ fact_at t q) → cleared.changed ≡ [] → AreChanges t cleared
 none_changed t cleared stay none q =
     ap (λ (cs : List NameId). has_end cs q) none ∙ sym (ap (λ (o : Option Fact). differs (truth_or_unknown o) (truth_of cleared q)) (sym (stay q)) ∙ differs_not (truth_of cleared q))
@@ -216,7 +209,7 @@ pub both_changed : (old new : FactsNow) → AreChanges old.plain new.plain → A
 both_changed old new plain follow Plain = plain
 both_changed old new plain follow Follow = follow
 
--- what is refreshed is what changed
+-- the facts whose truth is replaced are the changed ones
 pub used_changed : (mid new : FactTable) (cleared : FactTable) (ids fresh : List NameId) (ticket : ℕ) (mode : Mode) (board : Board) → UsersAdded cleared mid (has_end ids) ticket → mid.changed ≡ cleared.changed → Refreshed mid new (has_end fresh) mode board
     → (q : ℕ) → has_end new.changed q ≡ (has_end cleared.changed q || differs (truth_of cleared q) (truth_of new q))
 used_changed mid new cleared ids fresh ticket mode board u same r q =

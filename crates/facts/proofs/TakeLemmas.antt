@@ -1,4 +1,4 @@
--- Facts once a statement went.
+-- Facts after a statement was removed.
 use Rattle.std.proofs.Common.{cond, ◌≡◌, ℕ, Bool, true, false, not, List, [], ◌∷◌, Option, Some, None, refl, sym, ap, subst, ◌∙◌}
 use Rattle.std.specs.Prelude.{is_some, find}
 use Rattle.std.proofs.lemmas.Bool.{true≢false}
@@ -34,7 +34,7 @@ some_with t (x ∷ xs) h = refl
 -- ---- the rows of the statement's mode
 
 module _ (mode : Mode) (old mid new : FactTable) (ids last : List NameId) (ticket : ℕ) (u : UsersRemoved old mid (has_end ids) ticket) (g : FactsRemoved mid new (has_end last)) where
-  -- a fact that is left isn't one of the last
+  -- a fact that was not removed is none of the last ones
   left : (q : ℕ) → is_fact new q ≡ true → has_end last q ≡ false
   left q is = by (has_end last q) refl
     where

@@ -1,4 +1,4 @@
--- Who uses a fact: by tickets and by names.
+-- The users of a fact, by tickets and by names.
 use Rattle.std.proofs.Common.{◌≡◌, ℕ, Bool, true, false, not, cond, ◌||◌, List, [], ◌∷◌, Option, Some, None, refl, sym}
 use Rattle.std.specs.Prelude.{is_some}
 use Rattle.std.proofs.lemmas.Bool.{true≢false}
@@ -11,7 +11,7 @@ use Rattle.fact_rows.specs.Tickets.{is_empty}
 use Rattle.facts.specs.Facts.{is_used}
 use Rattle.facts.specs.Users.{users_in}
 
--- what is used is a fact
+-- a number in use is that of a fact
 pub used_fact : (t : FactTable) (q : ℕ) → is_used t q ≡ true → is_fact t q ≡ true
 used_fact t q used = by (fact_at t q) used
   where
@@ -19,7 +19,7 @@ used_fact t q used = by (fact_at t q) used
     by None h = absurd (true≢false (sym h))
     by (Some f) h = refl
 
--- and some statement refers to its name
+-- some statement refers to the name of a fact in use
 pub users_refer : (mode : Mode) (n : Values) (tickets : List ℕ) (statements : List Statement) → not (is_empty (users_in mode n tickets statements)) ≡ true → is_referred mode statements n ≡ true
 users_refer mode n [] statements h = absurd (true≢false (sym h))
 users_refer mode n (t ∷ tickets) [] h = absurd (true≢false (sym h))

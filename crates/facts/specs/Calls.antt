@@ -40,7 +40,7 @@ pub record MayAddItem (f : FactsNow) (table : Names) (item : NameId) (its_ends :
 -- The item was added.
 pub record ItemAdded (old new : FactsNow) (table : Names) (item : NameId) (its_ends : List NameId) (before now : ℕ) : Type 0 where
   -- the facts are those of the rows with it
-  pub stands : (rows : Rows) (tickets : List ℕ) → HasFacts table old rows tickets → LeadsTo table rows.entries Follow item.0 its_ends
+  pub facts : (rows : Rows) (tickets : List ℕ) → HasFacts table old rows tickets → LeadsTo table rows.entries Follow item.0 its_ends
       → HasFacts table new (after rows (edit.Item (name_at table item))) tickets
   -- the changed facts are exactly those whose truth was replaced
   pub changed : AreChanges old.plain new.plain
@@ -58,7 +58,7 @@ pub record MayRemoveItem (f : FactsNow) (table : Names) (item : NameId) (its_end
 
 -- The item was removed.
 pub record ItemRemoved (old new : FactsNow) (table : Names) (item : NameId) (its_ends : List NameId) (before now : ℕ) : Type 0 where
-  pub stands : (rows : Rows) (tickets : List ℕ) → HasFacts table old rows tickets → LeadsTo table rows.entries Follow item.0 its_ends → list_any (is_same (name_at table item)) rows.items ≡ true
+  pub facts : (rows : Rows) (tickets : List ℕ) → HasFacts table old rows tickets → LeadsTo table rows.entries Follow item.0 its_ends → list_any (is_same (name_at table item)) rows.items ≡ true
       → HasFacts table new (after rows (edit.DropItem (name_at table item))) tickets
   pub changed : AreChanges old.plain new.plain
   pub changed_follow : AreChanges old.follow new.follow
@@ -101,7 +101,7 @@ pub record MayAddStatement (f : FactsNow) (table : Names) (mode : Mode) (ids fre
 
 -- The statement was added.
 pub record StatementAdded (old new : FactsNow) (table : Names) (mode : Mode) (ids fresh asked : List NameId) (ticket before now : ℕ) : Type 0 where
-  pub stands : (rows : Rows) (tickets : List ℕ) (s : Statement) → HasFacts table old rows tickets → IsNewStatement old table rows tickets s mode ids fresh asked ticket
+  pub facts : (rows : Rows) (tickets : List ℕ) (s : Statement) → HasFacts table old rows tickets → IsNewStatement old table rows tickets s mode ids fresh asked ticket
       → HasFacts table new (after rows (edit.PutStatement s)) (tickets ++ ticket ∷ [])
   pub changed : (m : Mode) → AreChanges (table_of old m) (table_of new m)
   -- each fact is in use, if only the fresh ones were not
@@ -143,7 +143,7 @@ pub record MayRemoveStatement (f : FactsNow) (table : Names) (mode : Mode) (ids 
 
 -- The statement was removed.
 pub record StatementRemoved (old new : FactsNow) (table : Names) (mode : Mode) (ids last asked : List NameId) (ticket before now : ℕ) : Type 0 where
-  pub stands : (rows : Rows) (tickets : List ℕ) (id : List ℕ) (s : Statement) → HasFacts table old rows tickets → IsOldStatement old table rows tickets id s mode ids asked ticket
+  pub facts : (rows : Rows) (tickets : List ℕ) (id : List ℕ) (s : Statement) → HasFacts table old rows tickets → IsOldStatement old table rows tickets id s mode ids asked ticket
       → HasFacts table new (after rows (edit.DropStatement id)) (without ticket tickets)
   -- no truth is replaced
   pub changed : (m : Mode) → (table_of new m).changed ≡ []

@@ -27,10 +27,10 @@ use Rattle.facts.specs.Looks.{lead_looks}
 -- These are the ends, before and after a change of the deprecation of an entry, of the items and of the facts that lead to the
 -- entry, and these facts with their new ends. After the change the entries are `left`.
 pub record IsLead (f : FactsNow) (table : Names) (rows : Rows) (left : List Entry) (n : Values) (items_from items_to facts_from facts_to : List NameId) (led : List Led) : Type 0 where
-  pub items_left : SameElements (names_at table items_from) (ends_of_led rows.entries rows.entries n rows.items)
-  pub items_come : SameElements (names_at table items_to) (ends_of_led rows.entries left n rows.items)
-  pub facts_left : SameElements (names_at table facts_from) (ends_of_led rows.entries rows.entries n (facts_in Follow rows.statements))
-  pub facts_come : SameElements (names_at table facts_to) (ends_of_led rows.entries left n (facts_in Follow rows.statements))
+  pub items_before : SameElements (names_at table items_from) (ends_of_led rows.entries rows.entries n rows.items)
+  pub items_after : SameElements (names_at table items_to) (ends_of_led rows.entries left n rows.items)
+  pub facts_before : SameElements (names_at table facts_from) (ends_of_led rows.entries rows.entries n (facts_in Follow rows.statements))
+  pub facts_after : SameElements (names_at table facts_to) (ends_of_led rows.entries left n (facts_in Follow rows.statements))
   pub led_there : AllByRecursion (IsLed table f.follow left) led
   pub whole : (id : ℕ) → is_used f.follow id ≡ true → leads_to rows.entries (kept_at table id).name n ≡ true → is_led led id ≡ true
 
@@ -52,7 +52,7 @@ pub record MayChangeEnds (f : FactsNow) (table : Names) (items_from items_to fac
 
 -- The ends changed.
 pub record EndsChanged (old new : FactsNow) (table : Names) (items_from items_to facts_from facts_to : List NameId) (led : List Led) (before now : ℕ) : Type 0 where
-  pub stands : (rows : Rows) (tickets : List ℕ) (e : Edit) (n : Values) → deprecation_changed e ≡ Some n → HasFacts table old rows tickets
+  pub facts : (rows : Rows) (tickets : List ℕ) (e : Edit) (n : Values) → deprecation_changed e ≡ Some n → HasFacts table old rows tickets
       → IsLead old table rows (after rows e).entries n items_from items_to facts_from facts_to led → HasFacts table new (after rows e) tickets
   -- the changed facts are exactly those whose truth was replaced
   pub changed : (rows : Rows) (tickets : List ℕ) (e : Edit) (n : Values) → deprecation_changed e ≡ Some n → HasFacts table old rows tickets

@@ -39,7 +39,7 @@ impl Model for Facts {
 impl Facts {
     /// No facts and no items. Allocates: no.
     pub fn new(alloc: Global) -> Facts
-        ensures stands { (names : Names) → HasFacts names result no_rows [] }
+        ensures facts { (names : Names) → HasFacts names result no_rows [] }
         ensures used { AreUsed result }
     {
         Facts {

@@ -14,7 +14,7 @@ use kept_facts::KeptFacts;
 
 // Refreshes the facts of mode plain that lead to marked names.
 fn refresh_plain(boards: &KeptFacts, plain: &mut FactRows)
-    ensures stands { (names : Names) (rows : Rows) (tickets : List ℕ) → AreNames names → FactsBut names boards.now.plain plain.old rows tickets Plain (is_touched Plain boards.now.plain plain.old) → FactsOf names boards.now.plain plain.new rows tickets Plain }
+    ensures facts { (names : Names) (rows : Rows) (tickets : List ℕ) → AreNames names → FactsBut names boards.now.plain plain.old rows tickets Plain (is_touched Plain boards.now.plain plain.old) → FactsOf names boards.now.plain plain.new rows tickets Plain }
     ensures same { SameFacts plain.old plain.new }
     ensures changed { (q : ℕ) → has_end plain.new.changed q ≡ (has_end plain.old.changed q || differs (truth_of plain.old q) (truth_of plain.new q)) }
 {
@@ -28,7 +28,7 @@ fn refresh_plain(boards: &KeptFacts, plain: &mut FactRows)
 
 // Refreshes the facts of mode follow that lead to marked names.
 fn refresh_follow(boards: &KeptFacts, follow: &mut FactRows)
-    ensures stands { (names : Names) (rows : Rows) (tickets : List ℕ) → AreNames names → FactsBut names boards.now.follow follow.old rows tickets Follow (is_touched Follow boards.now.follow follow.old) → FactsOf names boards.now.follow follow.new rows tickets Follow }
+    ensures facts { (names : Names) (rows : Rows) (tickets : List ℕ) → AreNames names → FactsBut names boards.now.follow follow.old rows tickets Follow (is_touched Follow boards.now.follow follow.old) → FactsOf names boards.now.follow follow.new rows tickets Follow }
     ensures same { SameFacts follow.old follow.new }
     ensures changed { (q : ℕ) → has_end follow.new.changed q ≡ (has_end follow.old.changed q || differs (truth_of follow.old q) (truth_of follow.new q)) }
 {

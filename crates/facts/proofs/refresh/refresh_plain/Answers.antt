@@ -8,8 +8,8 @@ use Rattle.facts.specs.Facts.{is_touched}
 use Rattle.facts.proofs.MoveLemmas.{refreshed, untouched}
 use Rattle.facts.proofs.refresh.refresh_plain.Goals as goal
 
-pub returns-clause-stands : goal.returns-clause-stands
-returns-clause-stands c names rows tickets are s =
+pub returns-clause-facts : goal.returns-clause-facts
+returns-clause-facts c names rows tickets are s =
     let t = c.args.plain.now in
     let new = c.refresh_facts.new.self in
     let board = c.args.boards.now.plain in

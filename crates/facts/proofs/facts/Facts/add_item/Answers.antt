@@ -24,7 +24,7 @@ returns g c =
     let inside : FactsNow = record { boards = boards; plain = plain; follow = follow } in
     let new : FactsNow = record { boards = c.settle.new.boards; plain = c.settle.new.plain; follow = c.settle.new.follow } in
     record {
-      stands = λ rows tickets stood is.
+      facts = λ rows tickets stood is.
           let s = subst (λ (f : FactsNow). HasFacts names f rows tickets) (sym c.self.view_is) stood in
           let next : Rows = after rows (edit.Item (name_at names c.args.item)) in
           let before : ShowRows names boards rows = record { plain = s.plain.shows; follow = s.follow.shows } in

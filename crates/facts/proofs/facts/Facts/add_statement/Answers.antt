@@ -48,7 +48,7 @@ returns-in-Plain g c =
     let refreshed : Refreshed used_mid.0 c.add_statement_users.new.facts (has_end fresh) Plain mid.plain = subst (λ (b : Board). Refreshed used_mid.0 c.add_statement_users.new.facts (has_end fresh) Plain b) c.board.ensures used_mid.3 in
     let m = subst (λ (k : Mode). MayAddStatement inside names k ids fresh asked ticket) c.in-Plain.is (subst (λ (f : FactsNow). MayAddStatement f names c.args.mode ids fresh asked ticket) (sym c.self.view_is) c.requires) in
     let core : StatementAdded inside new names Plain ids fresh asked ticket before now = record {
-      stands = λ rows tickets s stood put.
+      facts = λ rows tickets s stood put.
           let next : Rows = after rows (edit.PutStatement s) in
           let shown : ShowRows names boards rows = record { plain = stood.plain.shows; follow = stood.follow.shows } in
           let shows = was_asked.shows rows s put.moded shown put.asked_for in
@@ -91,7 +91,7 @@ returns-in-Follow g c =
     let refreshed : Refreshed used_mid.0 c.add_statement_users-in-Follow.new.facts (has_end fresh) Follow mid.follow = subst (λ (b : Board). Refreshed used_mid.0 c.add_statement_users-in-Follow.new.facts (has_end fresh) Follow b) c.board-in-Follow.ensures used_mid.3 in
     let m = subst (λ (k : Mode). MayAddStatement inside names k ids fresh asked ticket) c.in-Follow.is (subst (λ (f : FactsNow). MayAddStatement f names c.args.mode ids fresh asked ticket) (sym c.self.view_is) c.requires) in
     let core : StatementAdded inside new names Follow ids fresh asked ticket before now = record {
-      stands = λ rows tickets s stood put.
+      facts = λ rows tickets s stood put.
           let next : Rows = after rows (edit.PutStatement s) in
           let shown : ShowRows names boards rows = record { plain = stood.plain.shows; follow = stood.follow.shows } in
           let shows = was_asked.shows rows s put.moded shown put.asked_for in

@@ -46,10 +46,10 @@ returns g c =
     let does : (rows : Rows) (tickets : List ℕ) (next : Rows) (passes : ℕ → Bool) → AreLedBut names mid.follow follow_cleared next tickets passes led → AreLedBut names mid.follow c.lead_facts.new.facts next tickets passes [] =
     λ rows tickets next passes a. subst (λ (b : Board). AreLedBut names b c.lead_facts.new.facts next tickets passes []) c.board.ensures
     (c.lead_facts.ensures.facts names next tickets passes are (subst AreAnswers (sym c.board.ensures) (c.lawful-3.ensures.answers Follow)) (subst (λ (b : Board). AreLedBut names b follow_cleared next tickets passes led) (sym c.board.ensures) a)) in
-    let stands : (rows : Rows) (tickets : List ℕ) (e : Edit) (n : Values) → deprecation_changed e ≡ Some n → HasFacts names inside rows tickets → IsLead inside names rows (after rows e).entries n c.args.items_from.now c.args.items_to.now c.args.facts_from.now c.args.facts_to.now led → HasFacts names new (after rows e) tickets = λ rows tickets e n h stood l.
+    let facts : (rows : Rows) (tickets : List ℕ) (e : Edit) (n : Values) → deprecation_changed e ≡ Some n → HasFacts names inside rows tickets → IsLead inside names rows (after rows e).entries n c.args.items_from.now c.args.items_to.now c.args.facts_from.now c.args.facts_to.now led → HasFacts names new (after rows e) tickets = λ rows tickets e n h stood l.
     let next : Rows = after rows e in
     let shown : ShowRows names boards rows = record { plain = stood.plain.shows; follow = stood.follow.shows } in
-    let shows = c.lead.ensures.shows rows e n h shown l.items_left l.items_come l.facts_left l.facts_come in
+    let shows = c.lead.ensures.shows rows e n h shown l.items_before l.items_after l.facts_before l.facts_after in
     let statements = touch.statements rows e n h in
     let fits = c.lead.ensures.fits in
     let was_plain = cleared_facts plain plain_cleared c.clear_changed.ensures.stay c.clear_changed.ensures.links names Plain boards.plain rows tickets (λ q. false) stood.plain in
@@ -65,12 +65,12 @@ returns g c =
       numbered = record { each = omega (arith, stood.numbered.each, ap length statements); rising = stood.numbered.rising };
     } in
     let core : EndsChanged inside new names c.args.items_from.now c.args.items_to.now c.args.facts_from.now c.args.facts_to.now led before now = record {
-      stands = stands;
+      facts = facts;
       changed = λ rows tickets e n h stood l.
           let next : Rows = after rows e in
-          let final = stands rows tickets e n h stood l in
+          let final = facts rows tickets e n h stood l in
           let shown : ShowRows names boards rows = record { plain = stood.plain.shows; follow = stood.follow.shows } in
-          let shows = c.lead.ensures.shows rows e n h shown l.items_left l.items_come l.facts_left l.facts_come in
+          let shows = c.lead.ensures.shows rows e n h shown l.items_before l.items_after l.facts_before l.facts_after in
           let was_follow = cleared_facts follow follow_cleared c.clear_changed-2.ensures.stay c.clear_changed-2.ensures.links names Follow boards.follow rows tickets (λ q. false) stood.follow in
           let first = led_first names are boards.follow mid.follow (c.lawful-2.ensures.answers Follow) (c.lawful-3.ensures.answers Follow) c.lead.ensures.levels.follow rows next tickets n follow_cleared c.lead_facts.new.facts led
           was_follow (touch.statements rows e n h) shows.follow c.lead.ensures.fits.follow (λ x apart. touch.ends rows e n x h apart) (led_cleared names next.entries follow follow_cleared c.clear_changed-2.ensures.stay c.clear_changed-2.ensures.links led l.led_there)
@@ -84,7 +84,7 @@ returns g c =
       steps = λ rows tickets e n h stood l.
           let next : Rows = after rows e in
           let shown : ShowRows names boards rows = record { plain = stood.plain.shows; follow = stood.follow.shows } in
-          let shows = c.lead.ensures.shows rows e n h shown l.items_left l.items_come l.facts_left l.facts_come in
+          let shows = c.lead.ensures.shows rows e n h shown l.items_before l.items_after l.facts_before l.facts_after in
           let by : Side → List Values → Values → ℕ = λ on others m. 1 + near_names on m.product (different others) in
           let looks = c.looks_are_by_names.ensures in (
             c.lead.ensures.rise,
@@ -92,11 +92,11 @@ returns g c =
               arith,
               c.lead.ensures.steps,
               looks.asked names boards.follow rows Follow c.args.items_to.now are (c.lawful-2.ensures.on Follow) stood.follow.shows,
-              l.items_come (by side.Target (asked rows Follow)),
+              l.items_after (by side.Target (asked rows Follow)),
               looks.asked names boards.follow rows Follow c.args.items_from.now are (c.lawful-2.ensures.on Follow) stood.follow.shows,
-              l.items_left (by side.Target (asked rows Follow)),
+              l.items_before (by side.Target (asked rows Follow)),
               looks.there names mid.follow next Follow c.args.facts_to.now are (c.lawful-3.ensures.on Follow) shows.follow,
-              l.facts_come (by side.Source (there next Follow)),
+              l.facts_after (by side.Source (there next Follow)),
             ),
           );
     } in
@@ -123,7 +123,7 @@ lead-requires g c =
       room_facts = m.room_facts;
       few = λ t. omega (arith, m.few_items, c.few_stand.ensures.targets names boards.follow rows Follow t s.follow.shows m.stood.5);
       few_facts = λ p. omega (arith, m.few_facts, c.few_stand.ensures.probes names boards.follow rows Follow p s.follow.shows m.stood.5);
-      there = part_there names are (target_times boards.follow) (ends rows.entries) (λ x. leads_to rows.entries x n) rows.items c.args.items_from.now m.live_items_from s.follow.shows.there l.items_left;
-      asked = part_there names are (probe_times boards.follow) (ends rows.entries) (λ x. leads_to rows.entries x n) (facts_in Follow rows.statements) c.args.facts_from.now m.live_facts_from s.follow.shows.asked l.facts_left;
+      there = part_there names are (target_times boards.follow) (ends rows.entries) (λ x. leads_to rows.entries x n) rows.items c.args.items_from.now m.live_items_from s.follow.shows.there l.items_before;
+      asked = part_there names are (probe_times boards.follow) (ends rows.entries) (λ x. leads_to rows.entries x n) (facts_in Follow rows.statements) c.args.facts_from.now m.live_facts_from s.follow.shows.asked l.facts_before;
       settled = s.settled;
     }

@@ -3,8 +3,8 @@ use Rattle.cpe_rows.specs.declared.statement.Mode.TheVariants.{Plain, Follow}
 use Rattle.facts.proofs.MoveLemmas.{no_facts}
 use Rattle.facts.proofs.facts.Facts.new.Goals as goal
 
-pub returns-clause-stands : goal.returns-clause-stands
-returns-clause-stands c names =
+pub returns-clause-facts : goal.returns-clause-facts
+returns-clause-facts c names =
     let plain = c.new-2.result in
     let follow = c.new-3.result in
     record {

@@ -39,7 +39,7 @@ returns-in-Plain g c =
     let less = less_from plain plain_cleared left.0 (has_end ids) ticket c.clear_changed.ensures.stay c.clear_changed.ensures.links left.1 in
     let m = subst (λ (k : Mode). MayRemoveStatement inside names k ids last asked ticket) c.in-Plain.is (subst (λ (f : FactsNow). MayRemoveStatement f names c.args.mode ids last asked ticket) (sym c.self.view_is) c.requires) in
     let core : StatementRemoved inside new names Plain ids last asked ticket before now = record {
-      stands = λ rows tickets id s stood taken.
+      facts = λ rows tickets id s stood taken.
           let next : Rows = after rows (edit.DropStatement id) in
           let shown : ShowRows names boards rows = record { plain = stood.plain.shows; follow = stood.follow.shows } in
           let shows = unasked.shows rows id s taken.moded taken.there shown taken.asked_for in
@@ -79,7 +79,7 @@ returns-in-Follow g c =
     let less = less_from follow follow_cleared left.0 (has_end ids) ticket c.clear_changed-2.ensures.stay c.clear_changed-2.ensures.links left.1 in
     let m = subst (λ (k : Mode). MayRemoveStatement inside names k ids last asked ticket) c.in-Follow.is (subst (λ (f : FactsNow). MayRemoveStatement f names c.args.mode ids last asked ticket) (sym c.self.view_is) c.requires) in
     let core : StatementRemoved inside new names Follow ids last asked ticket before now = record {
-      stands = λ rows tickets id s stood taken.
+      facts = λ rows tickets id s stood taken.
           let next : Rows = after rows (edit.DropStatement id) in
           let shown : ShowRows names boards rows = record { plain = stood.plain.shows; follow = stood.follow.shows } in
           let shows = unasked.shows rows id s taken.moded taken.there shown taken.asked_for in

@@ -13,7 +13,7 @@ returns c names =
       statements = ap (map (λ (j : StatementRow). j.statement)) none;
       checks = c.new-2.ensures.checks;
       numbered = subst (AllByRecursion (IsNumbered names)) (sym none) tt;
-      facts = subst (HasFacts names c.new.result no_rows) (sym (ap tickets_in none)) (c.new.ensures.stands names);
+      facts = subst (HasFacts names c.new.result no_rows) (sym (ap tickets_in none)) (c.new.ensures.facts names);
       used = c.new.ensures.used;
       judged = subst (AllByRecursion (λ (j : StatementRow). judge (truths_in c.new.result) c.new-2.result.checks j ≡ j)) (sym none) tt;
     }

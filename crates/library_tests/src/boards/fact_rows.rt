@@ -1,0 +1,68 @@
+// A fact leaves the ends that it had; and a fact of mode follow without ends is FALSE, whatever its own name covers.
+ghost use Rattle.std.specs.Prelude.{◌≡◌, [], Some};
+ghost use Rattle.cpe_rows.specs.declared.truth.Truth.TheVariants.{False};
+ghost use Rattle.fact_rows.specs.Facts.{fact_at, new_fact, truth_of};
+
+use cpe_rows::Mode;
+use cpe_values::Memory;
+use fact_rows::FactRows;
+use level_board::LevelBoard;
+use name_index::NameId;
+use std::alloc::Global;
+
+// The fact of a removed name, which has no end.
+fn refresh_fact_without_ends(facts: &mut FactRows, board: &LevelBoard, fact: NameId)
+    requires { fact_at facts.old fact.0 ≡ Some (new_fact []) }
+    ensures { truth_of facts.new fact.0 ≡ False }
+{
+    facts.refresh_facts(Mode::Follow, &[fact], board);
+}
+
+fn one_end(alloc: Global, end: u32) -> Result<Vec<NameId>, Memory> {
+    let mut ends = Vec::new(alloc);
+    ends.push(NameId(end))?;
+    Ok(ends)
+}
+
+// Adds the fact, unless it is one already.
+fn add(alloc: Global, facts: &mut FactRows, fact: u32, end: u32) -> bool {
+    if facts.has(NameId(fact)) {
+        return false;
+    }
+    match one_end(alloc, end) {
+        Ok(ends) => facts.add_fact(alloc, NameId(fact), ends).is_ok(),
+        Err(_) => false,
+    }
+}
+
+fn lead(alloc: Global, facts: &mut FactRows, fact: u32, end: u32) -> bool {
+    match one_end(alloc, end) {
+        Ok(ends) => {
+            let linked = facts.link(alloc, NameId(fact), &ends).is_ok();
+            facts.set_ends(NameId(fact), ends);
+            linked
+        }
+        Err(_) => false,
+    }
+}
+
+// The end has this fact alone.
+fn has_one(facts: &FactRows, end: u32, fact: u32) -> bool {
+    match facts.facts_of(NameId(end)) {
+        [only] => only.0 == fact,
+        _ => false,
+    }
+}
+
+// Two facts have the same end, and one of them gets another.
+fn leads_elsewhere(alloc: Global) -> bool {
+    let mut facts = FactRows::new(alloc);
+    let added = add(alloc, &mut facts, 1, 8) && add(alloc, &mut facts, 2, 8);
+    let led = lead(alloc, &mut facts, 1, 9);
+    added && led && has_one(&facts, 8, 2) && has_one(&facts, 9, 1)
+}
+
+#[test]
+fn a_fact_gets_another_end(rt: HostRuntime) {
+    assert!(rt; leads_elsewhere(rt.alloc()));
+}
