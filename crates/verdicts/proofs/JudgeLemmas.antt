@@ -11,8 +11,9 @@ use Rattle.cpe_rows.specs.declared.statement.Mode.{Mode}
 use Rattle.cpe_rows.specs.declared.statement.Mode.TheVariants.{Plain, Follow}
 use Rattle.cpe_rows.specs.declared.test.CheckKey.{CheckKey}
 use Rattle.cpe_rows.specs.declared.truth.Truth.{Truth}
-use Rattle.fact_rows.specs.Facts.{differs}
-use Rattle.facts.specs.Facts.{AreChanges, AreUsed, FactsNow, HasFacts, table_of}
+use Rattle.fact_rows.specs.Facts.{differs, FactTable, is_fact, truth_of}
+use Rattle.facts.specs.Facts.{AreChanges, AreUsed, FactsNow, HasFacts, is_used, table_of}
+use Rattle.facts.specs.Room.{KeepsFacts}
 use Rattle.facts.proofs.ChangeLemmas.{differs_is}
 use Rattle.statement_rows.specs.Readings.{FactTruths, has_fact}
 use Rattle.statement_rows.specs.State.{AreJudged, at_tickets, judge, SameRoom, State, StatementRow, statements_of}
@@ -111,3 +112,21 @@ room_none s = record { askers = refl; next = refl; ready = refl }
 
 pub room_again : (a b c : State) → SameRoom a b → SameRoom b c → SameRoom a c
 room_again a b c u v = record { askers = v.askers ∙ u.askers; next = v.next ∙ u.next; ready = v.ready ∙ u.ready }
+
+-- ---- the same facts with more room
+
+tables_same : (f new : FactsNow) → new.plain ≡ f.plain → new.follow ≡ f.follow → (mode : Mode) → table_of new mode ≡ table_of f mode
+tables_same f new plain follow Plain = plain
+tables_same f new plain follow Follow = follow
+
+pub roomier : (names : Names) (v : VerdictsNow) (new : FactsNow) (rows : Rows) → KeepsFacts v.facts new → new.plain ≡ v.facts.plain → new.follow ≡ v.facts.follow → HasVerdicts names v rows → HasVerdicts names (record { facts = new; statements = v.statements }) rows
+roomier names v new rows keeps plain follow h =
+    let same = tables_same v.facts new plain follow in
+    record {
+      statements = h.statements;
+      checks = h.checks;
+      numbered = h.numbered;
+      facts = keeps names rows (tickets_in v.statements.rows) h.facts;
+      used = λ mode id. subst (λ (t : FactTable). is_fact t id ≡ true → is_used t id ≡ true) (sym (same mode)) (h.used mode id);
+      judged = subst (λ (truth : FactTruths). AreJudged v.statements truth) (λ i mode q. truth_of (sym (same mode) i) q) h.judged;
+    }

@@ -1,14 +1,13 @@
 // Items are added and removed.
-ghost use Rattle.std.specs.Prelude.{◌≡◌, ℕ, List, true, length, OnOk};
+ghost use Rattle.std.specs.Prelude.{◌≡◌, ◌≤◌, true, length, OnOk};
 ghost use Rattle.std.specs.List.{list_any};
-ghost use Rattle.name_index.specs.Prelude.{IsLive, StepsWithin};
+ghost use Rattle.name_index.specs.Prelude.{IsLive, Names, StepsWithin};
 ghost use Rattle.cpe_rows.specs.Prelude.{after, is_same, IsLawful, Rows};
 ghost use Rattle.cpe_rows.specs.declared.edit.Edit.TheVariants as edit;
 ghost use Rattle.cpe_rows.specs.declared.statement.Mode.TheVariants.{Follow};
 ghost use Rattle.fact_laws.specs.Shown.{name_at};
 ghost use Rattle.facts.specs.Facts.{LeadsTo};
 ghost use Rattle.facts.specs.Looks.{item_looks};
-ghost use Rattle.facts.specs.Room.{RoomOnBoards};
 ghost use Rattle.verdicts.specs.Items.{HasRoomForItem};
 ghost use Rattle.verdicts.specs.Verdicts.{HasVerdicts, SameStatements};
 
@@ -21,6 +20,25 @@ use name_index::{NameId, NameTable};
 use std::sync::ledger::Ledger;
 
 impl Verdicts {
+    /// Reserves room for an item with these ends.
+    ///
+    /// # Errors
+    /// Only that memory ran out.
+    pub fn reserve_item(&mut self, table: &NameTable, ends: &[NameId]) -> Result<(), Memory>
+        requires few { length ends.now ≤ 256 }
+        requires stood { (rows : Rows) × IsLawful rows × HasVerdicts table.now self.old rows }
+        ensures verdicts { (names : Names) (rows : Rows) → HasVerdicts names self.old rows → HasVerdicts names self.new rows }
+        ensures same { SameStatements self.old self.new }
+        ensures room { OnOk result (HasRoomForItem self.new.facts table.now (length ends.now)) }
+    {
+        let plain = Wanted { asked: 0, there: 1 };
+        let follow = Wanted {
+            asked: 0,
+            there: ends.len() as u32,
+        };
+        self.facts.reserve(table, plain, follow)
+    }
+
     /// Adds an item with these ends. Allocates: no.
     pub fn add_item<L: Ledger>(
         &mut self,
