@@ -1,0 +1,369 @@
+#!/usr/bin/env python3
+"""Runs the conformance cases of CPE 2.3 by adapters, and prints where each implementation is right and wrong.
+
+An ADAPTER is a command, such as 'python3 mine.py'. It reads a case a line, {"id", "kind", "input"}, and writes a line
+{"id", "result"} for it, which it flushes before it reads the next. README.md beside this file has the kinds and results.
+
+Exit status, as pytest has it: 0 all passed or are not offered, 1 some did not pass, 2 interrupted, 3 this program failed,
+4 wrong words, 5 no case was run.
+"""
+
+import argparse
+import contextlib
+import enum
+import json
+import os
+import pathlib
+import re
+import selectors
+import shlex
+import shutil
+import signal
+import subprocess
+import sys
+import tempfile
+import time
+from collections import Counter
+from collections.abc import Iterator
+from dataclasses import dataclass, field
+from xml.etree import ElementTree
+
+HERE = pathlib.Path(__file__).resolve().parent
+# After so many cases in a row at which it died or was too slow, an adapter is not started again.
+MOST_IN_A_ROW = 25
+# A line of an adapter has at most so many bytes.
+MOST_BYTES = 1 << 20
+# Lists of results in which the order doesn't matter.
+UNORDERED = ("ends", "found")
+
+
+class Outcome(enum.Enum):
+    PASSED = "passed"
+    FAILED = "failed"
+    REFUSED = "refused"
+    NOT_OFFERED = "not offered"
+    DIED = "died"
+    TOO_SLOW = "too slow"
+    NOT_RUN = "not run"
+
+
+GOOD = (Outcome.PASSED, Outcome.NOT_OFFERED)
+
+
+class Wrong(Exception):
+    """The words, or the cases, can't be used."""
+
+
+class Died(Exception):
+    """The adapter ended, or wrote what is no result."""
+
+
+class TooSlow(Exception):
+    """The adapter wrote nothing in time."""
+
+
+@dataclass(frozen=True)
+class Judged:
+    """A case with what became of it, and as text what the adapter did."""
+
+    case: dict
+    outcome: Outcome
+    said: str = ""
+    seconds: float = 0.0
+    # Whether the place of a refusal is the expected one; None if there is none to compare.
+    is_place_right: bool | None = None
+
+    @property
+    def section(self) -> tuple[str, str]:
+        return self.case["report"], self.case["section"] + (" (own)" if self.case["own"] else "")
+
+
+@dataclass
+class Run:
+    """What became of all cases with one adapter."""
+
+    adapter: str
+    judged: list[Judged] = field(default_factory=list)
+
+    def is_good(self) -> bool:
+        return all(it.outcome in GOOD for it in self.judged)
+
+    def bad(self) -> Iterator[Judged]:
+        return (it for it in self.judged if it.outcome not in GOOD)
+
+
+class Adapter:
+    """A running adapter, which is given one case at a time."""
+
+    def __init__(self, words: list[str], seconds: float) -> None:
+        self._seconds = seconds
+        self._said = tempfile.TemporaryFile()  # noqa: SIM115 (closed by `end`)
+        # (a session of its own, so that what it starts ends with it)
+        self._child = subprocess.Popen(words, stdin=subprocess.PIPE, stdout=subprocess.PIPE, stderr=self._said, start_new_session=True)
+        self._rest = b""
+
+    def answer(self, case: dict) -> object:
+        """The result for a case; or `Died` or `TooSlow`."""
+        asked = json.dumps({it: case[it] for it in ("id", "kind", "input")}) + "\n"
+        try:
+            self._child.stdin.write(asked.encode())
+            self._child.stdin.flush()
+        except OSError:
+            raise Died(self._end()) from None
+        line = self._line(time.monotonic() + self._seconds)
+        try:
+            answered = json.loads(line)
+        except (ValueError, RecursionError):
+            answered = None
+        if not isinstance(answered, dict) or answered.get("id") != case["id"] or "result" not in answered:
+            raise Died(f"it wrote no result of this case: {line[:200].decode(errors='replace')}")
+        return answered["result"]
+
+    def _line(self, until: float) -> bytes:
+        with selectors.DefaultSelector() as selector:
+            selector.register(self._child.stdout, selectors.EVENT_READ)
+            while b"\n" not in self._rest:
+                left = until - time.monotonic()
+                if left <= 0 or not selector.select(left):
+                    raise TooSlow(f"no answer within {self._seconds:g} s; does it flush each line?")
+                piece = os.read(self._child.stdout.fileno(), 1 << 16)
+                if not piece:
+                    raise Died(self._end())
+                self._rest += piece
+                if len(self._rest) > MOST_BYTES:
+                    raise Died(f"it wrote over {MOST_BYTES} bytes for one case")
+        line, _, self._rest = self._rest.partition(b"\n")
+        return line
+
+    def _end(self) -> str:
+        """How it ended, with the last that it wrote to standard error."""
+        try:
+            status = self._child.wait(self._seconds)
+        except subprocess.TimeoutExpired:
+            return "it closed its output"
+        how = signal.Signals(-status).name if status < 0 else f"status {status}"
+        size = self._said.seek(0, os.SEEK_END)
+        self._said.seek(max(0, size - 10_000))
+        lines = self._said.read().decode(errors="replace").strip().splitlines() or [""]
+        # (Go's reason is above its stack)
+        last = next((it for it in lines if it.startswith(("panic: ", "fatal error: "))), lines[-1])
+        return f"it ended with {how}: {last}".removesuffix(": ")
+
+    def end(self, is_kind: bool = True) -> None:
+        """Closes its input, waits for its end, and ends what is left of it."""
+        with contextlib.suppress(OSError):
+            self._child.stdin.close()
+        if is_kind:
+            with contextlib.suppress(subprocess.TimeoutExpired):
+                self._child.wait(self._seconds)
+        with contextlib.suppress(ProcessLookupError):
+            os.killpg(self._child.pid, signal.SIGKILL)
+        self._child.wait()
+        self._child.stdout.close()
+        self._said.close()
+
+
+def as_one(value: object) -> str:
+    """Equal texts for equal values; true isn't 1."""
+    return json.dumps(value, sort_keys=True)
+
+
+def compared(result: dict, name: str) -> object:
+    value = result[name]
+    is_set = name in UNORDERED and isinstance(value, list)
+    return sorted(map(as_one, value)) if is_set else as_one(value)
+
+
+def judge(case: dict, result: object, with_places: bool) -> tuple[Outcome, bool | None]:
+    """What a result makes of a case, and whether its place is right."""
+    expect = case["expect"]
+    if not isinstance(result, dict):
+        return Outcome.FAILED, None
+    if result.get("offered") is False:
+        return Outcome.NOT_OFFERED, None
+    if result.get("refused") is True:
+        if "refused" not in expect:
+            return Outcome.REFUSED, None
+        is_right = result["place"] == expect["place"] if "place" in expect and "place" in result else None
+        return (Outcome.FAILED if with_places and is_right is False else Outcome.PASSED), is_right
+    if all(it in result and compared(result, it) == compared(expect, it) for it in expect):
+        return Outcome.PASSED, None
+    return Outcome.FAILED, None
+
+
+def run(command: str, cases: list[dict], words: argparse.Namespace) -> Run:
+    """Gives each case to the adapter. It is started again after a case at which it ended or was too slow."""
+    found, adapter, lost = Run(command), None, 0
+    try:
+        for case in cases:
+            if lost == MOST_IN_A_ROW:
+                found.judged.append(Judged(case, Outcome.NOT_RUN, f"it was lost at {MOST_IN_A_ROW} cases in a row"))
+                continue
+            began = time.monotonic()
+            adapter = adapter or Adapter(shlex.split(command), words.limit)
+            try:
+                result = adapter.answer(case)
+            except (Died, TooSlow) as why:
+                outcome = Outcome.DIED if isinstance(why, Died) else Outcome.TOO_SLOW
+                adapter.end(is_kind=False)
+                adapter, lost = None, lost + 1
+                found.judged.append(Judged(case, outcome, str(why), time.monotonic() - began))
+                continue
+            lost = 0
+            outcome, is_right = judge(case, result, words.places)
+            found.judged.append(Judged(case, outcome, json.dumps(result)[:2000], time.monotonic() - began, is_right))
+    finally:
+        if adapter:
+            adapter.end()
+    return found
+
+
+def table(found: Run) -> Iterator[str]:
+    """A row for each section, and one for all."""
+    columns = [it for it in Outcome if it is not Outcome.NOT_RUN or any(each.outcome is it for each in found.judged)]
+    rows: dict[tuple[str, str], Counter[Outcome]] = {}
+    for it in found.judged:
+        rows.setdefault(it.section, Counter())[it.outcome] += 1
+    yield f"{'REPORT':<8}{'SECTION':<24}{'CASES':>6}" + "".join(f"{it.value.upper():>{len(it.value) + 2}}" for it in columns)
+    for (report, section), counts in sorted(rows.items()):
+        yield row(report, section, counts, columns)
+    yield row("all", "", sum(rows.values(), Counter()), columns)
+
+
+def row(report: str, section: str, counts: Counter[Outcome], columns: list[Outcome]) -> str:
+    return f"{report:<8}{section:<24}{counts.total():>6}" + "".join(f"{counts[it]:>{len(it.value) + 2}}" for it in columns)
+
+
+def first_bad(found: Run, most: int) -> Iterator[str]:
+    bad = list(found.bad())
+    for it in bad[:most]:
+        case = it.case
+        yield ""
+        yield f"{it.outcome.value.upper()} {case['id']} (NIST IR {case['report']}, {case['section']}): {case['why']}"
+        yield f"  input     {json.dumps(case['input'])[:1000]}"
+        yield f"  expected  {json.dumps(case['expect'])[:1000]}"
+        yield f"  {'answered' if it.outcome in (Outcome.FAILED, Outcome.REFUSED) else 'but      '}  {it.said[:1000]}"
+    if len(bad) > most:
+        yield ""
+        yield f"{len(bad) - most} more did not pass; --first {len(bad)} shows all"
+
+
+def report(found: Run, words: argparse.Namespace, left_out: int) -> None:
+    print(f"\n{found.adapter}")
+    print("\n".join(table(found)))
+    places = Counter(it.is_place_right for it in found.judged)
+    if places[True] or places[False]:
+        print(f"places of refusals, an extra: {places[True]} as expected, {places[False]} others")
+    if left_out:
+        print(f"left out: {left_out} cases of rules that are cpe's own, and not the reports'; --own runs them")
+    print("\n".join(first_bad(found, words.first)), flush=True)
+
+
+def xml_text(text: str) -> str:
+    """The text without characters that XML doesn't allow."""
+    return re.sub(r"[^\t\n\r\x20-\ud7ff\ue000-\ufffd\U00010000-\U0010ffff]", "\N{REPLACEMENT CHARACTER}", text)
+
+
+def junit(runs: list[Run], path: pathlib.Path) -> None:
+    top = ElementTree.Element("testsuites")
+    for found in runs:
+        counts = Counter(it.outcome for it in found.judged)
+        suite = ElementTree.SubElement(
+            top,
+            "testsuite",
+            name=xml_text(found.adapter),
+            tests=str(len(found.judged)),
+            failures=str(counts[Outcome.FAILED] + counts[Outcome.REFUSED]),
+            errors=str(counts[Outcome.DIED] + counts[Outcome.TOO_SLOW]),
+            skipped=str(counts[Outcome.NOT_OFFERED] + counts[Outcome.NOT_RUN]),
+            time=f"{sum(it.seconds for it in found.judged):.3f}",
+        )
+        for it in found.judged:
+            place = ElementTree.SubElement(suite, "testcase", classname=" ".join(it.section), name=it.case["id"], time=f"{it.seconds:.3f}")
+            kind = {Outcome.PASSED: None, Outcome.NOT_OFFERED: "skipped", Outcome.NOT_RUN: "skipped", Outcome.FAILED: "failure", Outcome.REFUSED: "failure"}
+            tag = kind.get(it.outcome, "error")
+            if tag:
+                told = ElementTree.SubElement(place, tag, message=xml_text(f"{it.outcome.value}: {it.case['why']}"))
+                told.text = xml_text(f"input {json.dumps(it.case['input'])}\nexpected {json.dumps(it.case['expect'])}\nanswered {it.said}")
+    new = path.with_name(path.name + ".new")
+    ElementTree.ElementTree(top).write(new, encoding="utf-8", xml_declaration=True)
+    new.replace(path)
+
+
+def read_cases(paths: list[pathlib.Path]) -> Iterator[dict]:
+    for path in paths:
+        try:
+            lines = path.read_text(encoding="utf-8").splitlines()
+            yield from (json.loads(line) for line in lines)
+        except (OSError, ValueError) as why:
+            raise Wrong(f"{path}: {why}") from None
+
+
+def is_chosen(case: dict, words: argparse.Namespace) -> bool:
+    """Whether the words choose a case; of the words that are given each has to."""
+    choices = ((words.report, "report"), (words.section, "section"), (words.kind, "kind"))
+    if any(wanted and case[member] not in wanted for wanted, member in choices):
+        return False
+    return not words.id or bool({case["id"], case["id"].rpartition("-")[0]} & set(words.id))
+
+
+class Parser(argparse.ArgumentParser):
+    def error(self, message: str) -> None:
+        self.print_usage(sys.stderr)
+        self.exit(4, f"{self.prog}: {message}\n")
+
+
+def said() -> argparse.Namespace:
+    parser = Parser(description=__doc__, formatter_class=argparse.RawDescriptionHelpFormatter)
+    parser.add_argument("adapter", nargs="+", metavar="ADAPTER", help="a command, as one word")
+    parser.add_argument("--cases", nargs="+", type=pathlib.Path, metavar="FILE", help="files of cases (all in cases/ beside this program)")
+    parser.add_argument("--report", action="append", choices=("7695", "7696", "7697", "7698"), help="only cases of this report")
+    parser.add_argument("--section", action="append", help="only cases of this section or subject")
+    parser.add_argument("--kind", action="append", help="only cases of this kind")
+    parser.add_argument("--id", action="append", help="only this case, or the cases of this group")
+    parser.add_argument("--own", action="store_true", help="also cases of rules that are cpe's own")
+    parser.add_argument("--places", action="store_true", help="a refusal with another place fails")
+    parser.add_argument("--limit", type=float, default=10, metavar="SECONDS", help="the longest that a case may take (10)")
+    parser.add_argument("--first", type=int, default=10, metavar="COUNT", help="so many cases that did not pass are shown (10)")
+    parser.add_argument("--junit", type=pathlib.Path, metavar="FILE", help="where the results are written as JUnit's XML")
+    words = parser.parse_intermixed_args()
+    if not words.limit > 0 or words.first < 0:
+        parser.error("--limit is above 0, and --first is not below it")
+    for command in words.adapter:
+        try:
+            program = shlex.split(command)[:1]
+        except ValueError as why:
+            parser.error(f"{command}: {why}")
+        if not program or not shutil.which(program[0]):
+            parser.error(f"there is no program {command!r}; an adapter is one word, such as 'python3 mine.py'")
+    return words
+
+
+def main() -> int:
+    words = said()
+    cases = [it for it in read_cases(words.cases or sorted((HERE / "cases").glob("*.jsonl"))) if is_chosen(it, words)]
+    chosen = [it for it in cases if words.own or not it["own"]]
+    print(f"CPE 2.3 conformance cases, version {(HERE / 'cases' / 'VERSION').read_text().strip()}: {len(chosen)}", flush=True)
+    if not chosen:
+        print("no case is chosen")
+        return 5
+    runs = []
+    for command in words.adapter:
+        runs.append(run(command, chosen, words))
+        report(runs[-1], words, len(cases) - len(chosen))
+    if words.junit:
+        junit(runs, words.junit)
+    return 0 if all(it.is_good() for it in runs) else 1
+
+
+if __name__ == "__main__":
+    try:
+        sys.exit(main())
+    except KeyboardInterrupt:
+        sys.exit(2)
+    except Wrong as why:
+        print(why, file=sys.stderr)
+        sys.exit(4)
+    except OSError as why:
+        print(f"this program failed: {why}", file=sys.stderr)
+        sys.exit(3)
