@@ -26,6 +26,7 @@ import time
 from collections import Counter
 from collections.abc import Iterator
 from dataclasses import dataclass, field
+from typing import IO, NoReturn
 from xml.etree import ElementTree
 
 HERE = pathlib.Path(__file__).resolve().parent
@@ -97,20 +98,19 @@ class Adapter:
 
     def __init__(self, words: list[str], seconds: float) -> None:
         self._seconds = seconds
-        self._said = tempfile.TemporaryFile()  # noqa: SIM115 (closed by `end`)
+        self._said = tempfile.TemporaryFile()  # (closed by `end`)
         # (a session of its own, so that what it starts ends with it)
-        self._child = subprocess.Popen(words, stdin=subprocess.PIPE, stdout=subprocess.PIPE, stderr=self._said, start_new_session=True)
+        pipes = {"stdin": subprocess.PIPE, "stdout": subprocess.PIPE, "stderr": self._said}
+        self._child = subprocess.Popen(words, bufsize=0, start_new_session=True, **pipes)
+        os.set_blocking(self._child.stdin.fileno(), False)
         self._rest = b""
 
     def answer(self, case: dict) -> object:
         """The result for a case; or `Died` or `TooSlow`."""
+        until = time.monotonic() + self._seconds
         asked = json.dumps({it: case[it] for it in ("id", "kind", "input")}) + "\n"
-        try:
-            self._child.stdin.write(asked.encode())
-            self._child.stdin.flush()
-        except OSError:
-            raise Died(self._end()) from None
-        line = self._line(time.monotonic() + self._seconds)
+        self._send(asked.encode(), until)
+        line = self._line(until)
         try:
             answered = json.loads(line)
         except (ValueError, RecursionError):
@@ -119,28 +119,39 @@ class Adapter:
             raise Died(f"it wrote no result of this case: {line[:200].decode(errors='replace')}")
         return answered["result"]
 
-    def _line(self, until: float) -> bytes:
+    def _wait(self, stream: IO[bytes], event: int, until: float) -> None:
+        """Returns if the stream is ready in time."""
         with selectors.DefaultSelector() as selector:
-            selector.register(self._child.stdout, selectors.EVENT_READ)
-            while b"\n" not in self._rest:
-                left = until - time.monotonic()
-                if left <= 0 or not selector.select(left):
-                    raise TooSlow(f"no answer within {self._seconds:g} s; does it flush each line?")
-                piece = os.read(self._child.stdout.fileno(), 1 << 16)
-                if not piece:
-                    raise Died(self._end())
-                self._rest += piece
-                if len(self._rest) > MOST_BYTES:
-                    raise Died(f"it wrote over {MOST_BYTES} bytes for one case")
+            selector.register(stream, event)
+            if not selector.select(max(0, until - time.monotonic())):
+                raise TooSlow(f"no answer within {self._seconds:g} s; does it flush each line?")
+
+    def _send(self, text: bytes, until: float) -> None:
+        while text:
+            self._wait(self._child.stdin, selectors.EVENT_WRITE, until)
+            try:
+                text = text[os.write(self._child.stdin.fileno(), text) :]
+            except OSError:
+                raise Died(self._end()) from None
+
+    def _line(self, until: float) -> bytes:
+        while b"\n" not in self._rest:
+            self._wait(self._child.stdout, selectors.EVENT_READ, until)
+            piece = os.read(self._child.stdout.fileno(), 1 << 16)
+            if not piece:
+                raise Died(self._end())
+            self._rest += piece
+            if len(self._rest) > MOST_BYTES:
+                raise Died(f"it wrote over {MOST_BYTES} bytes for one case")
         line, _, self._rest = self._rest.partition(b"\n")
         return line
 
     def _end(self) -> str:
-        """How it ended, with the last that it wrote to standard error."""
+        """How it ended, with what it wrote to standard error last."""
         try:
             status = self._child.wait(self._seconds)
         except subprocess.TimeoutExpired:
-            return "it closed its output"
+            return "it closed its input or its output"
         how = signal.Signals(-status).name if status < 0 else f"status {status}"
         size = self._said.seek(0, os.SEEK_END)
         self._said.seek(max(0, size - 10_000))
@@ -149,13 +160,11 @@ class Adapter:
         last = next((it for it in lines if it.startswith(("panic: ", "fatal error: "))), lines[-1])
         return f"it ended with {how}: {last}".removesuffix(": ")
 
-    def end(self, is_kind: bool = True) -> None:
-        """Closes its input, waits for its end, and ends what is left of it."""
-        with contextlib.suppress(OSError):
-            self._child.stdin.close()
-        if is_kind:
-            with contextlib.suppress(subprocess.TimeoutExpired):
-                self._child.wait(self._seconds)
+    def end(self, seconds: float = 0) -> None:
+        """Closes its input, waits for so many seconds, and ends what is left of it."""
+        self._child.stdin.close()
+        with contextlib.suppress(subprocess.TimeoutExpired):
+            self._child.wait(seconds)
         with contextlib.suppress(ProcessLookupError):
             os.killpg(self._child.pid, signal.SIGKILL)
         self._child.wait()
@@ -205,14 +214,18 @@ def run(command: str, cases: list[dict], words: argparse.Namespace) -> Run:
                 result = adapter.answer(case)
             except (Died, TooSlow) as why:
                 outcome = Outcome.DIED if isinstance(why, Died) else Outcome.TOO_SLOW
-                adapter.end(is_kind=False)
-                adapter, lost = None, lost + 1
                 found.judged.append(Judged(case, outcome, str(why), time.monotonic() - began))
+                adapter.end()
+                adapter, lost = None, lost + 1
                 continue
             lost = 0
             outcome, is_right = judge(case, result, words.places)
             found.judged.append(Judged(case, outcome, json.dumps(result)[:2000], time.monotonic() - began, is_right))
+        if adapter:
+            adapter.end(words.limit)
+            adapter = None
     finally:
+        # (an interrupt waits for nothing)
         if adapter:
             adapter.end()
     return found
@@ -280,7 +293,13 @@ def junit(runs: list[Run], path: pathlib.Path) -> None:
         )
         for it in found.judged:
             place = ElementTree.SubElement(suite, "testcase", classname=" ".join(it.section), name=it.case["id"], time=f"{it.seconds:.3f}")
-            kind = {Outcome.PASSED: None, Outcome.NOT_OFFERED: "skipped", Outcome.NOT_RUN: "skipped", Outcome.FAILED: "failure", Outcome.REFUSED: "failure"}
+            kind = {
+                Outcome.PASSED: None,
+                Outcome.NOT_OFFERED: "skipped",
+                Outcome.NOT_RUN: "skipped",
+                Outcome.FAILED: "failure",
+                Outcome.REFUSED: "failure",
+            }
             tag = kind.get(it.outcome, "error")
             if tag:
                 told = ElementTree.SubElement(place, tag, message=xml_text(f"{it.outcome.value}: {it.case['why']}"))
@@ -308,7 +327,7 @@ def is_chosen(case: dict, words: argparse.Namespace) -> bool:
 
 
 class Parser(argparse.ArgumentParser):
-    def error(self, message: str) -> None:
+    def error(self, message: str) -> NoReturn:
         self.print_usage(sys.stderr)
         self.exit(4, f"{self.prog}: {message}\n")
 
@@ -339,8 +358,13 @@ def said() -> argparse.Namespace:
     return words
 
 
+def stop(*_: object) -> NoReturn:
+    raise KeyboardInterrupt
+
+
 def main() -> int:
     words = said()
+    signal.signal(signal.SIGTERM, stop)
     cases = [it for it in read_cases(words.cases or sorted((HERE / "cases").glob("*.jsonl"))) if is_chosen(it, words)]
     chosen = [it for it in cases if words.own or not it["own"]]
     print(f"CPE 2.3 conformance cases, version {(HERE / 'cases' / 'VERSION').read_text().strip()}: {len(chosen)}", flush=True)

@@ -8,6 +8,7 @@ path=$top/build/conformance/go
 program=$path/bin/$adapter
 if [ ! "$program" -nt "$here/$adapter/main.go" ] || { [ -n "${library:-}" ] && [ ! "$program" -nt "$library" ]; }; then
     mkdir -p "$path/src" "$path/bin"
+    [ -n "${HOME:-}" ] || export GOCACHE="$path/cache"
     ln -sfn "$here/$adapter" "$path/src/$adapter"
     [ -z "${package:-}" ] || ln -sfn "$top/$folder" "$path/src/$package"
     GOPATH=$path:/usr/share/gocode GO111MODULE=off GOFLAGS='' go build -o "$program.new" "$adapter" >&2

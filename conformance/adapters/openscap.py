@@ -147,7 +147,9 @@ def evaluated(given: dict) -> dict:
     results = {tuple(it[key].encode() for key in keys): it["result"] for it in given["checks"]}
     if "mode" in given or "entries" in given or any(it not in ("TRUE", "FALSE") for it in used(given["test"], results)):
         raise NotOffered
-    language = f'<platform-specification xmlns="{LANGUAGE}"><platform id="it">{xml(given["test"])}</platform></platform-specification>'.encode()
+    language = (
+        f'<platform-specification xmlns="{LANGUAGE}"><platform id="it">{xml(given["test"])}</platform></platform-specification>'.encode()
+    )
     source = openscap.oscap_source_new_from_memory(language, len(language), b"it.xml")
     model = openscap.cpe_lang_model_import_source(source)
     if not model:

@@ -78,7 +78,9 @@ def read(text: str, values: Json, why: str) -> Case:
 def refused(marked: str, why: str) -> Case:
     """A text that no name has. The caret is where it goes wrong; without one, at its end."""
     before, _, rest = marked.partition(CARET)
-    return Case({"text": before + rest}, {"refused": True, "place": len(before.encode()) if rest else len(marked.removesuffix(CARET).encode())}, why)
+    return Case(
+        {"text": before + rest}, {"refused": True, "place": len(before.encode()) if rest else len(marked.removesuffix(CARET).encode())}, why
+    )
 
 
 def written(values: Json, text: str, why: str) -> Case:

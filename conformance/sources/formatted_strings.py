@@ -156,7 +156,9 @@ def read_everywhere() -> Iterator[Case]:
         values = {at: value for at, value in name().items() if at != it}
         yield read(fs(**{it: "*"}), values, f"an asterisk as {it} is ANY")
     yield read("cpe:2.3:*:*:*:*:*:*:*:*:*:*:*", {}, "each attribute is ANY")
-    yield read(fs(**dict.fromkeys(ATTRIBUTES[1:], "-")), {"part": "a"} | dict.fromkeys(ATTRIBUTES[1:]), "each attribute except the part is NA")
+    yield read(
+        fs(**dict.fromkeys(ATTRIBUTES[1:], "-")), {"part": "a"} | dict.fromkeys(ATTRIBUTES[1:]), "each attribute except the part is NA"
+    )
     all_of_them = ("a", "b", "c", "d", "e", "f", "en", "g", "h", "i", "j")
     yield read("cpe:2.3:" + ":".join(all_of_them), dict(zip(ATTRIBUTES, all_of_them, strict=True)), "each attribute has another text")
 
@@ -275,7 +277,9 @@ def written_everywhere() -> Iterator[Case]:
     for it in ATTRIBUTES[1:]:
         yield written(name(**{it: None}), fs(**{it: "-"}), f"NA as {it} is a hyphen")
     yield written({}, "cpe:2.3:*:*:*:*:*:*:*:*:*:*:*", "each attribute is ANY")
-    yield written({"part": "a"} | dict.fromkeys(ATTRIBUTES[1:]), fs(**dict.fromkeys(ATTRIBUTES[1:], "-")), "each attribute except the part is NA")
+    yield written(
+        {"part": "a"} | dict.fromkeys(ATTRIBUTES[1:]), fs(**dict.fromkeys(ATTRIBUTES[1:], "-")), "each attribute except the part is NA"
+    )
     for part in "aoh":
         yield written({"part": part}, fs(part=part, vendor="*", product="*"), f"the part {part} alone")
     for it in ("vendor", "product"):
@@ -344,14 +348,46 @@ def own_values() -> Iterator[Case]:
         yield no_name(name(product=f"a{quoted(it)}"), f"a quoted {it}, which needs no quote")
     for it in "AOH":
         yield no_name(name(part=it), f"the part {it} in capital letters")
-    for it in ("e", "engl", "english", "e1", r"en\-u", r"en\-usa", r"en\-4", r"en\-41", r"en\-4199", r"zh\-Hant", "en_us", "en*", "?n", r"en\-"):
+    for it in (
+        "e",
+        "engl",
+        "english",
+        "e1",
+        r"en\-u",
+        r"en\-usa",
+        r"en\-4",
+        r"en\-41",
+        r"en\-4199",
+        r"zh\-Hant",
+        "en_us",
+        "en*",
+        "?n",
+        r"en\-",
+    ):
         yield no_name(name(language=it), f"the language {it}")
 
 
 def own_languages_and_parts() -> Iterator[Case]:
     for it in "AOH":
         yield refused(fs(part=f"‸{it}"), f"the part {it} in capital letters")
-    for it in ("e‸", "eng‸l", "eng‸lish", "e‸1", "en-u‸", "en-us‸a", "en-4‸", "en-41‸", "en-419‸9", "zh-Ha‸nt", "en‸_us", "en‸*", "‸?n", "en-‸", "‸1", "*‸en"):
+    for it in (
+        "e‸",
+        "eng‸l",
+        "eng‸lish",
+        "e‸1",
+        "en-u‸",
+        "en-us‸a",
+        "en-4‸",
+        "en-41‸",
+        "en-419‸9",
+        "zh-Ha‸nt",
+        "en‸_us",
+        "en‸*",
+        "‸?n",
+        "en-‸",
+        "‸1",
+        "*‸en",
+    ):
         yield refused(fs(language=it), f"the language {it.replace('‸', '')}")
 
 
@@ -361,7 +397,12 @@ def groups() -> list[Group]:
 
     return [
         group("fs-read-example", "6.2.3", "unbind-fs", (read(text, values, "an example of the report") for text, values in EXAMPLES)),
-        group("fs-refuse-example", "6.2.3", "unbind-fs", [refused(r"cpe:2.3:a:hp:insight_diagnostics:7.4.*‸.1570:*:*:*:*:*:*", "an example of the report")]),
+        group(
+            "fs-refuse-example",
+            "6.2.3",
+            "unbind-fs",
+            [refused(r"cpe:2.3:a:hp:insight_diagnostics:7.4.*‸.1570:*:*:*:*:*:*", "an example of the report")],
+        ),
         group("fs-read-attribute", "6.2.3", "unbind-fs", read_everywhere()),
         group("fs-read-character", "6.2.3", "unbind-fs", read_characters()),
         group("fs-read-special", "6.2.3", "unbind-fs", read_specials()),
@@ -374,7 +415,12 @@ def groups() -> list[Group]:
         group("fs-refuse-own", "6.2.1", "unbind-fs", own_texts(), is_own=True),
         group("fs-refuse-part", "5.3", "unbind-fs", refused_parts()),
         group("fs-refuse-own-value", "5.3", "unbind-fs", own_languages_and_parts(), is_own=True),
-        group("fs-write-example", "6.2.2", "bind-fs", (written(values, text, "an example of the report") for text, values in EXAMPLES_OF_WRITING)),
+        group(
+            "fs-write-example",
+            "6.2.2",
+            "bind-fs",
+            (written(values, text, "an example of the report") for text, values in EXAMPLES_OF_WRITING),
+        ),
         group("fs-write-attribute", "6.2.2", "bind-fs", written_everywhere()),
         group("fs-write-character", "6.2.2", "bind-fs", written_characters()),
         group("fs-write-word", "6.2.2", "bind-fs", written_words()),

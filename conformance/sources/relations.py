@@ -190,7 +190,16 @@ def letters() -> Iterator[Case]:
         yield values("product", f"a{quoted(it)}b", f"a{quoted(it)}b", "EQUAL", f"a text with a quoted {it} is equal to itself")
     for it in QUOTED_IN_TEXTS:
         yield values("product", f"a{quoted(it)}", "a", "DISJOINT", f"a text with a quoted {it} is not the text without it")
-    for source, target in (("a", "aa"), ("1.0", "1.00"), ("1.0", "1"), ("a_b", "ab"), ("a-b", "ab"), ("0", "00"), ("any", "na"), ("na", "any")):
+    for source, target in (
+        ("a", "aa"),
+        ("1.0", "1.00"),
+        ("1.0", "1"),
+        ("a_b", "ab"),
+        ("a-b", "ab"),
+        ("0", "00"),
+        ("any", "na"),
+        ("na", "any"),
+    ):
         yield values("version", source, target, "DISJOINT", f"{source} is not {target}")
     for source, target, relation in (("any", "*", "SUBSET"), ("*", "any", "SUPERSET"), ("na", "-", "DISJOINT"), ("-", "na", "DISJOINT")):
         yield values("version", source, target, relation, f"the texts any and na are no logical values: {source} to {target}")

@@ -38,19 +38,25 @@ def evaluated(of: Json, truth: str, why: str, items: list[str] | None = None, re
 
 
 def joined(op: str, truths: tuple[str, ...], negate: bool = False) -> str:
-    """The truth of a test by the report's tables, in which UNKNOWN has the place that docs/PROFILE.md gives it."""
+    """The truth of a test. An ERROR or UNKNOWN beside other truths has the place that docs/PROFILE.md gives it."""
     order = ("FALSE", "ERROR", "UNKNOWN", "TRUE") if op == "AND" else ("TRUE", "ERROR", "UNKNOWN", "FALSE")
     first = next(it for it in order if it in truths)
     return {"TRUE": "FALSE", "FALSE": "TRUE"}.get(first, first) if negate else first
 
 
-def tables() -> Iterator[Case]:
-    """Each cell for one, two and three children, each of which is a check."""
+def is_of_profile(truths: tuple[str, ...]) -> bool:
+    """Whether docs/PROFILE.md gives these truths their place: if there is an UNKNOWN, or an ERROR beside another truth."""
+    return "UNKNOWN" in truths or ("ERROR" in truths and len(set(truths)) > 1)
+
+
+def tables(truths_of_all: tuple[str, ...], most: int, is_own: bool) -> Iterator[Case]:
+    """Each cell for one child, two, and up to so many, each of which is a check."""
     for op in ("AND", "OR"):
-        for count in (1, 2, 3):
-            for truths in itertools.product(TRUTHS, repeat=count):
-                of = test(op, *(check(it) for it in truths))
-                yield evaluated(of, joined(op, truths), f"{op} of {', '.join(truths)}")
+        for count in range(1, most + 1):
+            for truths in itertools.product(truths_of_all, repeat=count):
+                if is_of_profile(truths) is is_own:
+                    of = test(op, *(check(it) for it in truths))
+                    yield evaluated(of, joined(op, truths), f"{op} of {', '.join(truths)}")
 
 
 def negated_checks() -> Iterator[Case]:
@@ -85,15 +91,6 @@ def negated_facts() -> Iterator[Case]:
     yield evaluated(test("OR", test("AND", check("ERROR"), negate=True), negate=True), "ERROR", "negated twice: ERROR")
 
 
-def own_tables() -> Iterator[Case]:
-    """Cells that have an UNKNOWN, which the report doesn't know."""
-    for op in ("AND", "OR"):
-        for count in (1, 2):
-            for truths in itertools.product((*TRUTHS, "UNKNOWN"), repeat=count):
-                if "UNKNOWN" in truths:
-                    yield evaluated(test(op, *(check(it) for it in truths)), joined(op, truths), f"{op} of {', '.join(truths)}")
-
-
 def own_negated() -> Iterator[Case]:
     for op in ("AND", "OR"):
         for count in (1, 2):
@@ -106,7 +103,9 @@ def nested() -> Iterator[Case]:
     for outer, inner in itertools.product(("AND", "OR"), repeat=2):
         for one, two, three in itertools.product(TRUTHS[:2], repeat=3):
             truth = joined(outer, (joined(inner, (one, two)), three))
-            yield evaluated(test(outer, test(inner, fact(one), fact(two)), fact(three)), truth, f"{outer} of ({inner} of {one}, {two}), {three}")
+            yield evaluated(
+                test(outer, test(inner, fact(one), fact(two)), fact(three)), truth, f"{outer} of ({inner} of {one}, {two}), {three}"
+            )
     for outer, inner in itertools.product(("AND", "OR"), repeat=2):
         yield evaluated(test(outer, test(inner, check("ERROR"))), "ERROR", f"{outer} of ({inner} of ERROR)")
     deep = test("AND", fact("TRUE"))
@@ -203,7 +202,9 @@ def own_items() -> Iterator[Case]:
     yield evaluated(of_fact(fs(product="other", version="8.0")), "FALSE", "another product than that of an item of version 8.*", [part])
     whole = fs(product="suite", version="8.1")
     yield evaluated(of_fact(whole), "TRUE", "an item that is covered beside one that is known in part", [part, whole])
-    yield evaluated(of_fact(fs(product="suite", version="8.0")), "UNKNOWN", "an item of another version beside one that is known in part", [part, whole])
+    yield evaluated(
+        of_fact(fs(product="suite", version="8.0")), "UNKNOWN", "an item of another version beside one that is known in part", [part, whole]
+    )
 
 
 def own_follow() -> Iterator[Case]:
@@ -216,16 +217,30 @@ def own_follow() -> Iterator[Case]:
         return known
 
     old_and_new = [entry("old", "new"), entry("new")]
-    for asked, item, truth in (("old", "new", "TRUE"), ("new", "old", "TRUE"), ("old", "old", "TRUE"), ("new", "new", "TRUE"), ("other", "old", "FALSE")):
+    for asked, item, truth in (
+        ("old", "new", "TRUE"),
+        ("new", "old", "TRUE"),
+        ("old", "old", "TRUE"),
+        ("new", "new", "TRUE"),
+        ("other", "old", "FALSE"),
+    ):
         for mode in ("follow", "plain"):
             expected = truth if mode == "follow" or asked == item else "FALSE"
-            yield evaluated(of_fact(fs(product=asked)), expected, f"{mode}: {asked} over {item}", [fs(product=item)], entries=old_and_new, mode=mode)
+            yield evaluated(
+                of_fact(fs(product=asked)), expected, f"{mode}: {asked} over {item}", [fs(product=item)], entries=old_and_new, mode=mode
+            )
     two = [entry("old", "one", "two"), entry("one"), entry("two")]
     for item in ("one", "two"):
-        yield evaluated(of_fact(fs(product="old")), "TRUE", f"follow: one of two ends is {item}", [fs(product=item)], entries=two, mode="follow")
+        yield evaluated(
+            of_fact(fs(product="old")), "TRUE", f"follow: one of two ends is {item}", [fs(product=item)], entries=two, mode="follow"
+        )
     gone = [{"name": fs(product="gone"), "deprecation": {"kind": "NAME_REMOVAL", "successors": []}}]
-    yield evaluated(of_fact(fs(product="gone")), "FALSE", "follow: a removed name has no end", [fs(product="gone")], entries=gone, mode="follow")
-    yield evaluated(of_fact(fs(product="gone")), "TRUE", "plain: a removed name covers itself", [fs(product="gone")], entries=gone, mode="plain")
+    yield evaluated(
+        of_fact(fs(product="gone")), "FALSE", "follow: a removed name has no end", [fs(product="gone")], entries=gone, mode="follow"
+    )
+    yield evaluated(
+        of_fact(fs(product="gone")), "TRUE", "plain: a removed name covers itself", [fs(product="gone")], entries=gone, mode="plain"
+    )
 
 
 def own_depths() -> Iterator[Case]:
@@ -244,12 +259,12 @@ def groups() -> list[Group]:
         group("test-fact", "facts", facts()),
         group("test-fact-special", "facts", facts_with_specials()),
         group("test-check", "checks", checks()),
-        group("test-table", "truths", tables()),
+        group("test-table", "truths", tables(TRUTHS, 3, is_own=False)),
         group("test-table-fact", "truths", tables_of_facts()),
         group("test-negate", "negation", negated_checks()),
         group("test-negate-fact", "negation", negated_facts()),
         group("test-nested", "nesting", nested()),
-        group("test-table-own", "truths", own_tables(), is_own=True),
+        group("test-table-own", "truths", tables((*TRUTHS, "UNKNOWN"), 3, is_own=True), is_own=True),
         group("test-negate-own", "negation", own_negated(), is_own=True),
         group("test-check-own", "checks", own_checks(), is_own=True),
         group("test-item-own", "facts", own_items(), is_own=True),

@@ -3,7 +3,24 @@
 import itertools
 from collections.abc import Iterator
 
-from .cases import COMPONENTS, DIGITS, LETTERS, PACKED, QUOTED_IN_NAMES, QUOTED_IN_TEXTS, Case, Group, Json, name, percent, quoted, read, refused, uri, written
+from .cases import (
+    COMPONENTS,
+    DIGITS,
+    LETTERS,
+    PACKED,
+    QUOTED_IN_NAMES,
+    QUOTED_IN_TEXTS,
+    Case,
+    Group,
+    Json,
+    name,
+    percent,
+    quoted,
+    read,
+    refused,
+    uri,
+    written,
+)
 
 REPORT = "7695"
 
@@ -104,7 +121,27 @@ MISPLACED_SPECIALS = [
     ("a%01%01‸b", "two question marks in the middle"),
 ]
 # Percent forms of no character that a URI encodes: controls, letters, digits, the underscore, DEL, and bytes above ASCII.
-NO_FORMS = ["%0‸0", "%0‸3", "%0‸7", "%0‸9", "%0‸a", "%‸10", "%‸1f", "%2‸0", "%3‸0", "%3‸9", "%4‸1", "%5‸a", "%5‸f", "%6‸1", "%7‸a", "%7‸f", "%‸80", "%‸a9", "%‸ff"]
+NO_FORMS = [
+    "%0‸0",
+    "%0‸3",
+    "%0‸7",
+    "%0‸9",
+    "%0‸a",
+    "%‸10",
+    "%‸1f",
+    "%2‸0",
+    "%3‸0",
+    "%3‸9",
+    "%4‸1",
+    "%5‸a",
+    "%5‸f",
+    "%6‸1",
+    "%7‸a",
+    "%7‸f",
+    "%‸80",
+    "%‸a9",
+    "%‸ff",
+]
 BROKEN_FORMS = ["%‸zz", "%2‸z", "%‸%21", "%‸g1", "%2‸", "%‸", "%‸-1", "%‸ 1", "%‸x21"]
 
 
@@ -124,7 +161,11 @@ def packings() -> Iterator[tuple[str, Json, str]]:
 def read_components() -> Iterator[Case]:
     components = ("a", "v", "p", "1", "u", "e", "en")
     for count in range(1, 8):
-        yield read(uri(*components[:count]), dict(zip(COMPONENTS[:count], components, strict=False)), f"{count} components; those that are missing are ANY")
+        yield read(
+            uri(*components[:count]),
+            dict(zip(COMPONENTS[:count], components, strict=False)),
+            f"{count} components; those that are missing are ANY",
+        )
     for missing in range(1, 6):
         given = ["" if at == missing else it for at, it in enumerate(components)]
         values = {at: it for at, it in zip(COMPONENTS, components, strict=True) if at != COMPONENTS[missing]}
@@ -170,7 +211,11 @@ def read_packed() -> Iterator[Case]:
         fields = ["%02a%21.b%01" if place == at else "x" for place in range(5)]
         values = name(**{each: r"*a\!\.b?" if each == it else "x" for each in PACKED})
         yield read(uri("a", "v", "p", "", "", "~" + "~".join(fields)), values, f"packed: specials and a percent form in {it}")
-    yield read(uri("a", "v", "p", "", "", "~~SW~~~", "en"), name(sw_edition="sw", language="en"), "packed: letters are lowered, and a language follows")
+    yield read(
+        uri("a", "v", "p", "", "", "~~SW~~~", "en"),
+        name(sw_edition="sw", language="en"),
+        "packed: letters are lowered, and a language follows",
+    )
 
 
 def refused_forms() -> Iterator[Case]:
@@ -318,7 +363,12 @@ def groups() -> list[Group]:
         group("uri-refuse-part", "5.3", "unbind-uri", refused_parts()),
         group("uri-read-own", "6.1.3", "unbind-uri", own_readings(), is_own=True),
         group("uri-refuse-own", "6.1.1", "unbind-uri", own_refusals(), is_own=True),
-        group("uri-write-example", "6.1.2", "bind-uri", (written(values, text, "an example of the report") for text, values in EXAMPLES_OF_WRITING)),
+        group(
+            "uri-write-example",
+            "6.1.2",
+            "bind-uri",
+            (written(values, text, "an example of the report") for text, values in EXAMPLES_OF_WRITING),
+        ),
         group("uri-write-component", "6.1.2", "bind-uri", written_components()),
         group("uri-write-character", "6.1.2", "bind-uri", written_characters()),
         group("uri-write-packed", "6.1.2", "bind-uri", written_packed()),

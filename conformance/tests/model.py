@@ -226,7 +226,11 @@ def truth_of_fact(fact: str, given: dict) -> str:
     pairs = [(it, item) for it in of(fact) for each in given["items"] for item in of(each)]
     if any(covers(*it) for it in pairs):
         return "TRUE"
-    return "UNKNOWN" if any(map(has_special, unbind_fs(item).values()) for _, item in pairs) and any(may_cover(*it) for it in pairs) else "FALSE"
+    return (
+        "UNKNOWN"
+        if any(map(has_special, unbind_fs(item).values()) for _, item in pairs) and any(may_cover(*it) for it in pairs)
+        else "FALSE"
+    )
 
 
 def truth_of_check(key: dict, given: dict) -> str:

@@ -2,6 +2,7 @@
 
 import itertools
 import json
+import re
 import unittest
 
 import conformance
@@ -24,7 +25,15 @@ class Form(unittest.TestCase):
     def test_the_schema_refuses_other_forms(self):
         root = json.loads((SUITE / "case.schema.json").read_text())
         case = next(it for it in CASES if it["kind"] == "unbind-fs" and "name" in it["expect"])
-        for wrong in ({"own": 1}, {"kind": "unbind"}, {"id": "x"}, {"expect": {}}, {"input": {}}, {"expect": {"name": {"vendors": "v"}}}, {"note": ""}):
+        for wrong in (
+            {"own": 1},
+            {"kind": "unbind"},
+            {"id": "x"},
+            {"expect": {}},
+            {"input": {}},
+            {"expect": {"name": {"vendors": "v"}}},
+            {"note": ""},
+        ):
             self.assertTrue(list(json_schema.faults_by(case | wrong, root)), wrong)
 
     def test_there_are_enough_and_each_section_has_some(self):
@@ -71,6 +80,38 @@ class Meaning(unittest.TestCase):
             self.assertEqual((SUITE / "cases" / name).read_text(encoding="utf-8"), make_cases.lines(records), name)
 
 
+class Patterns(unittest.TestCase):
+    """Texts of names against the patterns of cpe-naming_2.3.xsd, the schema that NIST published with the reports."""
+
+    # (of cpe23Type, and of cpe22Type)
+    TEXT = r"((\?*|\*?)([a-zA-Z0-9\-\._]|(\\[\\\*\?!\"#$%&'\(\)\+,/:;<=>@\[\]\^`\{\|}~]))+(\?*|\*?))|[\*\-]"
+    LANGUAGE = r"([a-zA-Z]{2,3}(-([a-zA-Z]{2}|[0-9]{3}))?)|[\*\-]"
+    FORMATTED_STRING = re.compile(rf"cpe:2\.3:[aho\*\-](:({TEXT})){{5}}(:({LANGUAGE}))(:({TEXT})){{4}}")
+    URI = re.compile(r"[cC][pP][eE]:/[AHOaho]?(:[A-Za-z0-9\._\-~%]*){0,6}")
+
+    def test_formatted_strings_are_those_of_the_pattern(self):
+        for it in conformance.of_kinds("unbind-fs"):
+            is_name = bool(self.FORMATTED_STRING.fullmatch(it["input"]["text"]))
+            self.assertEqual(is_name, "name" in it["expect"], it["id"])
+
+    def test_written_formatted_strings_have_the_pattern(self):
+        for it in conformance.of_kinds("bind-fs"):
+            if "text" in it["expect"]:
+                self.assertTrue(self.FORMATTED_STRING.fullmatch(it["expect"]["text"]), it["id"])
+
+    def test_uris_have_the_pattern(self):
+        # (it allows any text after a percent sign, and not the part NA)
+        for it in conformance.of_kinds("unbind-uri", "bind-uri"):
+            text = it["input"].get("text") or it["expect"].get("text")
+            if "refused" not in it["expect"] and not text.startswith("cpe:/-"):
+                self.assertTrue(self.URI.fullmatch(text), it["id"])
+
+    def test_texts_that_the_grammar_of_uris_refuses_have_not_the_pattern(self):
+        for it in CASES:
+            if it["id"].startswith("uri-refuse-text"):
+                self.assertFalse(self.URI.fullmatch(it["input"]["text"]), it["id"])
+
+
 class Clauses(unittest.TestCase):
     """Each clause is changed alone in the model: then cases fail, and only those that are about it."""
 
@@ -95,10 +136,14 @@ class Clauses(unittest.TestCase):
                 model = conformance.made()
                 right = model[call]
                 characters = model["characters"]
-                model[call] = lambda value, right=right, it=it, of=characters: right(value) + ("?" if value and "\\" + it in of(value) else "")
+                model[call] = lambda value, right=right, it=it, of=characters: right(value) + (
+                    "?" if value and "\\" + it in of(value) else ""
+                )
                 found = failing(model, conformance.of_kinds(kind))
                 self.assertTrue(found, (kind, it))
-                self.assertTrue(all(any("\\" + it in (value or "") for value in each["input"]["name"].values()) for each in found), (kind, it))
+                self.assertTrue(
+                    all(any("\\" + it in (value or "") for value in each["input"]["name"].values()) for each in found), (kind, it)
+                )
 
     def test_each_percent_form(self):
         for it in QUOTED_IN_TEXTS:
@@ -145,7 +190,7 @@ class Clauses(unittest.TestCase):
 
     def test_each_cell_of_the_tables_of_truths(self):
         for op in ("AND", "OR"):
-            for pair in itertools.combinations_with_replacement(("TRUE", "FALSE", "ERROR"), 2):
+            for pair in itertools.combinations_with_replacement(("TRUE", "FALSE", "ERROR", "UNKNOWN"), 2):
                 model = conformance.made()
                 right = model["joined"]
 
@@ -153,7 +198,7 @@ class Clauses(unittest.TestCase):
                     return "none" if (at, sorted(truths)) == cell else right(at, truths)
 
                 model["joined"] = other
-                found = [each for each in failing(model, conformance.of_kinds("evaluate")) if not each["own"]]
+                found = failing(model, conformance.of_kinds("evaluate"))
                 self.assertIn("truths", {each["section"] for each in found}, (op, pair))
 
 

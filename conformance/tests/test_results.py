@@ -30,6 +30,13 @@ def row(name):
     return found[1], [int(it) for it in found[2].split(" | ")]
 
 
+def column(name):
+    """What the table by section has for an implementation."""
+    rows = [line.strip("| ").split(" | ") for line in PAGE.split("\n| Section |")[1].split("\n\n")[0].splitlines()]
+    place = ["Cases", *rows[0][1:]].index(name)
+    return {it[0]: it[1 + place] for it in rows[2:]}
+
+
 def listed(name):
     """The ids in the section of an implementation, each as often as it is there."""
     section = PAGE.split(f"\n## {name}\n")[1].split("\n## ")[0]
@@ -52,17 +59,22 @@ class Results(unittest.TestCase):
         with unittest.mock.patch.dict(os.environ, given):
             return run.run(shlex.join([str(it) for it in words]), CASES, argparse.Namespace(limit=60, places=True))
 
-    def check_row(self, name, found):
+    def check_rows(self, name, found):
+        """The row of an implementation, and its column in the table by section."""
         reports = [it for it in found.judged if not it.case["own"]]
         counts = Counter(it.outcome for it in reports)
         self.assertEqual([len(reports), *(counts[it] for it in OUTCOMES)], row(name)[1])
+        passed = Counter(it.section for it in reports if it.outcome is run.Outcome.PASSED)
+        offered = Counter(it.section for it in reports if it.outcome is not run.Outcome.NOT_OFFERED)
+        cells = {", ".join(it): f"{passed[it]} of {offered[it]}" if offered[it] else "-" for it in {each.section for each in reports}}
+        self.assertEqual(cells, column(name))
 
     def check_other(self, name, package, *words):
         version = version_of(package)
         if version != row(name)[0]:
             self.skipTest(f"{package} {row(name)[0]} is not installed")
         found = self.run_it(*words)
-        self.check_row(name, found)
+        self.check_rows(name, found)
         self.assertEqual(Counter(it.case["id"] for it in found.bad() if not it.case["own"]), listed(name))
 
     def check_all(self, *words, **given):
@@ -71,10 +83,10 @@ class Results(unittest.TestCase):
         self.assertEqual([it.case["id"] for it in found.judged if it.outcome is not run.Outcome.PASSED], [])
         return found
 
-    @unittest.skipUnless(os.access(cpe_program.PROGRAM, os.X_OK), "there is no program: make program")
+    @unittest.skipUnless(shutil.which(cpe_program.PROGRAM), "there is no program: make program")
     def test_the_program(self):
         found = self.check_all(sys.executable, "-B", ADAPTERS / "cpe_program.py")
-        self.check_row("`cpe`", found)
+        self.check_rows("`cpe`", found)
         refused = [it for it in found.judged if "place" in it.case["expect"]]
         self.assertEqual([it.case["id"] for it in refused if not it.is_place_right], [])
 

@@ -48,6 +48,17 @@ class Runner(unittest.TestCase):
         given = {**os.environ, "EXPECTED": json.dumps(expected), "MARK": str(self.folder / "mark")}
         return subprocess.run(command, capture_output=True, text=True, env=given, **more)
 
+    def is_over(self, process):
+        """Whether a process ends, within seconds."""
+        for _ in range(100):
+            try:
+                if Path(f"/proc/{process}/stat").read_text().rpartition(")")[2].split()[0] == "Z":
+                    return True
+            except OSError:
+                return True
+            time.sleep(0.05)
+        return False
+
     def counts(self, said):
         """The row of all sections: cases, passed, failed, refused, not offered, died, too slow, not run."""
         row = next(it for it in said.stdout.splitlines() if it.startswith("all "))
@@ -108,18 +119,15 @@ class Runner(unittest.TestCase):
         self.cases = self.write_cases(PICKED[:1])
         self.run_it(self.adapter(starts), "--limit", "1")
         child = int((self.folder / "mark").read_text())
-        for _ in range(100):
-            try:
-                state = Path(f"/proc/{child}/stat").read_text().rpartition(")")[2].split()[0]
-            except OSError:
-                return
-            if state == "Z":
-                return
-            time.sleep(0.05)
-        self.fail(f"{child} still runs")
+        self.assertTrue(self.is_over(child))
 
     def test_nonsense_counts_as_died(self):
-        for line in ("print('x', flush=True)", "print(json.dumps({'id': 'x', 'result': {}}), flush=True)", "print('[' * 100000, flush=True)", "print(flush=True)"):
+        for line in (
+            "print('x', flush=True)",
+            "print(json.dumps({'id': 'x', 'result': {}}), flush=True)",
+            "print('[' * 100000, flush=True)",
+            "print(flush=True)",
+        ):
             said = self.run_it(self.adapter(line))
             self.assertEqual((said.returncode, self.counts(said)), (1, [4, 0, 0, 0, 0, 4, 0]), line)
             self.assertIn("it wrote no result of this case", said.stdout)
@@ -135,6 +143,12 @@ class Runner(unittest.TestCase):
         said = self.run_it("false", cases=cases)
         self.assertEqual((said.returncode, self.counts(said)), (1, [40, 0, 0, 0, 0, 25, 0, 15]))
         self.assertIn("it was lost at 25 cases in a row", self.run_it("false", "--first", "40", cases=cases).stdout)
+
+    def test_an_adapter_that_dies_at_each_second_case_is_not_given_up(self):
+        cases = [it for it in CASES if it["kind"] == "relate-values"][:60]
+        self.cases = self.write_cases(cases)
+        said = self.run_it(self.adapter("if number: sys.exit(1)\nwrite(case, right(case))"), cases=cases)
+        self.assertEqual((said.returncode, self.counts(said)), (1, [60, 30, 0, 0, 0, 30, 0]))
 
     def test_places_are_an_extra(self):
         cases = [it for it in CASES if it["id"].startswith("fs-refuse-special")][:5]
@@ -182,7 +196,16 @@ class Runner(unittest.TestCase):
 
     def test_wrong_words(self):
         right = self.adapter("write(case, right(case))")
-        for words in ((), ("no-such-program",), ("'",), ("",), (right, "--limit", "0"), (right, "--limit", "x"), (right, "--first", "-1"), (right, "--report", "1")):
+        for words in (
+            (),
+            ("no-such-program",),
+            ("'",),
+            ("",),
+            (right, "--limit", "0"),
+            (right, "--limit", "x"),
+            (right, "--first", "-1"),
+            (right, "--report", "1"),
+        ):
             said = self.run_it(*words)
             self.assertEqual(said.returncode, 4, words)
             self.assertIn("usage", said.stderr)
@@ -198,23 +221,45 @@ class Runner(unittest.TestCase):
         self.assertEqual(said.returncode, 1)
         self.assertEqual(said.stdout.count("REPORT"), 2)
 
-    def test_an_interrupt_ends_it_with_status_2(self):
-        hangs = self.adapter('open(os.environ["MARK"], "w").close()\ntime.sleep(60)')
-        command = [sys.executable, "-B", str(SUITE / "run.py"), hangs, "--cases", str(self.cases)]
+    def test_an_adapter_that_reads_nothing_is_too_slow(self):
+        long = PICKED[0] | {"input": {"text": "x" * 1_000_000}}
+        self.cases = self.write_cases([long])
+        said = self.run_it("sleep 60", "--limit", "1", cases=[long])
+        self.assertEqual((said.returncode, self.counts(said)), (1, [1, 0, 0, 0, 0, 0, 1]))
+
+    def test_an_adapter_that_closes_its_output_died(self):
+        said = self.run_it(self.adapter("os.close(1); time.sleep(60)"), "--limit", "1")
+        self.assertEqual((said.returncode, self.counts(said)), (1, [4, 0, 0, 0, 0, 4, 0]))
+        self.assertIn("it closed its input or its output", said.stdout)
+
+    def test_two_lines_for_a_case_are_not_taken_for_the_next(self):
+        twice = f"write(case, right(case))\nif case['id'] == {PICKED[0]['id']!r}: write(case, right(case))"
+        said = self.run_it(self.adapter(twice))
+        self.assertEqual((said.returncode, self.counts(said)), (1, [4, 3, 0, 0, 0, 1, 0]))
+
+    def test_an_interrupt_ends_it_with_status_2_and_its_adapter(self):
+        hangs = self.adapter('open(os.environ["MARK"], "w").write(f"{os.getpid()}\\n")\ntime.sleep(60)')
+        command = [sys.executable, "-B", str(SUITE / "run.py"), hangs, "--cases", str(self.cases), "--limit", "50"]
         mark = self.folder / "mark"
-        # (a process that a shell runs in the background passes over the signal)
-        obeys = lambda: signal.signal(signal.SIGINT, signal.default_int_handler)  # noqa: E731
-        child = subprocess.Popen(command, stdout=subprocess.DEVNULL, env={**os.environ, "MARK": str(mark)}, preexec_fn=obeys)
-        while not mark.exists():
-            time.sleep(0.05)
-        child.send_signal(signal.SIGINT)
-        self.assertEqual(child.wait(60), 2)
+        for number in (signal.SIGINT, signal.SIGTERM):
+            # (a process that a shell runs in the background passes over SIGINT)
+            obeys = lambda: signal.signal(signal.SIGINT, signal.default_int_handler)  # noqa: E731
+            child = subprocess.Popen(command, stdout=subprocess.DEVNULL, env={**os.environ, "MARK": str(mark)}, preexec_fn=obeys)
+            while not (mark.exists() and mark.read_text().endswith("\n")):
+                time.sleep(0.05)
+            adapter = int(mark.read_text())
+            mark.unlink()
+            child.send_signal(number)
+            self.assertEqual(child.wait(30), 2)
+            self.assertTrue(self.is_over(adapter), number)
 
     def test_junit(self):
         odd = [PICKED[0], next(it for it in CASES if "\x01" in it["input"].get("text", "")), *PICKED[1:]]
         self.cases = self.write_cases(odd)
         path = self.folder / "results.xml"
-        answers = dict(zip([it["id"] for it in odd], [{"offered": False}, {"name": {}}, None, odd[3]["expect"], {"refused": True}], strict=True))
+        answers = dict(
+            zip([it["id"] for it in odd], [{"offered": False}, {"name": {}}, None, odd[3]["expect"], {"refused": True}], strict=True)
+        )
         body = f"result = {answers}[case['id']]\nif not result: os.write(2, b'\\x00\\xff'); sys.exit(3)\nwrite(case, result)"
         self.run_it(self.adapter(body), "--junit", path, cases=odd)
         suite = ElementTree.parse(path).getroot()[0]
