@@ -53,7 +53,7 @@ def lines(records: list[dict]) -> str:
 def changed_meanings(kept: str, records: list[dict]) -> Iterator[str]:
     """The ids of a kept file that are missing now, or mean something else."""
     now = {it["id"]: it for it in records}
-    for line in kept.splitlines():
+    for line in filter(None, kept.split("\n")):
         before = json.loads(line)
         after = now.get(before["id"])
         if after is None:

@@ -32,8 +32,12 @@ from xml.etree import ElementTree
 HERE = pathlib.Path(__file__).resolve().parent
 # After so many cases in a row at which it died or was too slow, an adapter is not started again.
 MOST_IN_A_ROW = 25
+MOST_SECONDS = 1_000_000
 # A line of an adapter has at most so many bytes.
 MOST_BYTES = 1 << 20
+SIGNALS = {it.value: it.name for it in signal.Signals}
+# What each case has that this program reads.
+MEMBERS = ("id", "report", "section", "kind", "input", "expect", "own", "why")
 # Lists of results in which the order doesn't matter.
 UNORDERED = ("ends", "found")
 
@@ -48,6 +52,16 @@ class Outcome(enum.Enum):
     NOT_RUN = "not run"
 
 
+# What JUnit calls each.
+TAGS = {
+    Outcome.PASSED: "",
+    Outcome.FAILED: "failure",
+    Outcome.REFUSED: "failure",
+    Outcome.NOT_OFFERED: "skipped",
+    Outcome.DIED: "error",
+    Outcome.TOO_SLOW: "error",
+    Outcome.NOT_RUN: "skipped",
+}
 GOOD = (Outcome.PASSED, Outcome.NOT_OFFERED)
 
 
@@ -152,7 +166,7 @@ class Adapter:
             status = self._child.wait(self._seconds)
         except subprocess.TimeoutExpired:
             return "it closed its input or its output"
-        how = signal.Signals(-status).name if status < 0 else f"status {status}"
+        how = SIGNALS.get(-status, f"signal {-status}") if status < 0 else f"status {status}"
         size = self._said.seek(0, os.SEEK_END)
         self._said.seek(max(0, size - 10_000))
         lines = self._said.read().decode(errors="replace").strip().splitlines() or [""]
@@ -247,6 +261,11 @@ def row(report: str, section: str, counts: Counter[Outcome], columns: list[Outco
     return f"{report:<8}{section:<24}{counts.total():>6}" + "".join(f"{counts[it]:>{len(it.value) + 2}}" for it in columns)
 
 
+def printable(text: str) -> str:
+    """The text without what could move a terminal's cursor."""
+    return "".join(it if it.isprintable() else "\N{REPLACEMENT CHARACTER}" for it in text)
+
+
 def first_bad(found: Run, most: int) -> Iterator[str]:
     bad = list(found.bad())
     for it in bad[:most]:
@@ -255,7 +274,7 @@ def first_bad(found: Run, most: int) -> Iterator[str]:
         yield f"{it.outcome.value.upper()} {case['id']} (NIST IR {case['report']}, {case['section']}): {case['why']}"
         yield f"  input     {json.dumps(case['input'])[:1000]}"
         yield f"  expected  {json.dumps(case['expect'])[:1000]}"
-        yield f"  {'answered' if it.outcome in (Outcome.FAILED, Outcome.REFUSED) else 'but      '}  {it.said[:1000]}"
+        yield f"  {'answered' if it.outcome in (Outcome.FAILED, Outcome.REFUSED) else 'but     '}  {printable(it.said[:1000])}"
     if len(bad) > most:
         yield ""
         yield f"{len(bad) - most} more did not pass; --first {len(bad)} shows all"
@@ -277,33 +296,25 @@ def xml_text(text: str) -> str:
     return re.sub(r"[^\t\n\r\x20-\ud7ff\ue000-\ufffd\U00010000-\U0010ffff]", "\N{REPLACEMENT CHARACTER}", text)
 
 
-def junit(runs: list[Run], path: pathlib.Path) -> None:
+def suite_of(found: Run) -> ElementTree.Element:
+    """The results of an adapter in JUnit's form."""
+    tags = Counter(TAGS[it.outcome] for it in found.judged)
+    counts = {"tests": len(found.judged), "failures": tags["failure"], "errors": tags["error"], "skipped": tags["skipped"]}
+    seconds = sum(it.seconds for it in found.judged)
+    suite = ElementTree.Element(
+        "testsuite", {at: str(it) for at, it in counts.items()}, name=xml_text(found.adapter), time=f"{seconds:.3f}"
+    )
+    for it in found.judged:
+        place = ElementTree.SubElement(suite, "testcase", classname=" ".join(it.section), name=it.case["id"], time=f"{it.seconds:.3f}")
+        if TAGS[it.outcome]:
+            told = ElementTree.SubElement(place, TAGS[it.outcome], message=xml_text(f"{it.outcome.value}: {it.case['why']}"))
+            told.text = xml_text(f"input {json.dumps(it.case['input'])}\nexpected {json.dumps(it.case['expect'])}\nanswered {it.said}")
+    return suite
+
+
+def write_junit(runs: list[Run], path: pathlib.Path) -> None:
     top = ElementTree.Element("testsuites")
-    for found in runs:
-        counts = Counter(it.outcome for it in found.judged)
-        suite = ElementTree.SubElement(
-            top,
-            "testsuite",
-            name=xml_text(found.adapter),
-            tests=str(len(found.judged)),
-            failures=str(counts[Outcome.FAILED] + counts[Outcome.REFUSED]),
-            errors=str(counts[Outcome.DIED] + counts[Outcome.TOO_SLOW]),
-            skipped=str(counts[Outcome.NOT_OFFERED] + counts[Outcome.NOT_RUN]),
-            time=f"{sum(it.seconds for it in found.judged):.3f}",
-        )
-        for it in found.judged:
-            place = ElementTree.SubElement(suite, "testcase", classname=" ".join(it.section), name=it.case["id"], time=f"{it.seconds:.3f}")
-            kind = {
-                Outcome.PASSED: None,
-                Outcome.NOT_OFFERED: "skipped",
-                Outcome.NOT_RUN: "skipped",
-                Outcome.FAILED: "failure",
-                Outcome.REFUSED: "failure",
-            }
-            tag = kind.get(it.outcome, "error")
-            if tag:
-                told = ElementTree.SubElement(place, tag, message=xml_text(f"{it.outcome.value}: {it.case['why']}"))
-                told.text = xml_text(f"input {json.dumps(it.case['input'])}\nexpected {json.dumps(it.case['expect'])}\nanswered {it.said}")
+    top.extend(map(suite_of, runs))
     new = path.with_name(path.name + ".new")
     ElementTree.ElementTree(top).write(new, encoding="utf-8", xml_declaration=True)
     new.replace(path)
@@ -312,10 +323,13 @@ def junit(runs: list[Run], path: pathlib.Path) -> None:
 def read_cases(paths: list[pathlib.Path]) -> Iterator[dict]:
     for path in paths:
         try:
-            lines = path.read_text(encoding="utf-8").splitlines()
-            yield from (json.loads(line) for line in lines)
+            lines = path.read_text(encoding="utf-8").split("\n")
+            cases = [json.loads(line) for line in lines if line]
         except (OSError, ValueError) as why:
             raise Wrong(f"{path}: {why}") from None
+        if not all(isinstance(it, dict) and it.keys() >= set(MEMBERS) for it in cases):
+            raise Wrong(f"{path}: a line is no case")
+        yield from cases
 
 
 def is_chosen(case: dict, words: argparse.Namespace) -> bool:
@@ -346,8 +360,8 @@ def said() -> argparse.Namespace:
     parser.add_argument("--first", type=int, default=10, metavar="COUNT", help="so many cases that did not pass are shown (10)")
     parser.add_argument("--junit", type=pathlib.Path, metavar="FILE", help="where the results are written as JUnit's XML")
     words = parser.parse_intermixed_args()
-    if not words.limit > 0 or words.first < 0:
-        parser.error("--limit is above 0, and --first is not below it")
+    if not 0 < words.limit < MOST_SECONDS or words.first < 0:
+        parser.error(f"--limit is above 0 and below {MOST_SECONDS}, and --first is not below 0")
     for command in words.adapter:
         try:
             program = shlex.split(command)[:1]
@@ -365,6 +379,7 @@ def stop(*_: object) -> NoReturn:
 def main() -> int:
     words = said()
     signal.signal(signal.SIGTERM, stop)
+    sys.stdout.reconfigure(errors="backslashreplace")
     cases = [it for it in read_cases(words.cases or sorted((HERE / "cases").glob("*.jsonl"))) if is_chosen(it, words)]
     chosen = [it for it in cases if words.own or not it["own"]]
     print(f"CPE 2.3 conformance cases, version {(HERE / 'cases' / 'VERSION').read_text().strip()}: {len(chosen)}", flush=True)
@@ -376,7 +391,7 @@ def main() -> int:
         runs.append(run(command, chosen, words))
         report(runs[-1], words, len(cases) - len(chosen))
     if words.junit:
-        junit(runs, words.junit)
+        write_junit(runs, words.junit)
     return 0 if all(it.is_good() for it in runs) else 1
 
 
@@ -388,6 +403,7 @@ if __name__ == "__main__":
     except Wrong as why:
         print(why, file=sys.stderr)
         sys.exit(4)
-    except OSError as why:
-        print(f"this program failed: {why}", file=sys.stderr)
+    except Exception as why:
+        # (Python's own status would say that cases failed)
+        print(f"this program failed: {type(why).__name__}: {why}", file=sys.stderr)
         sys.exit(3)

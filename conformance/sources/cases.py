@@ -1,6 +1,6 @@
 """What a case is, and short ways to write its texts and names. The modules beside this one choose the cases."""
 
-from collections.abc import Iterator
+from collections.abc import Iterable, Iterator
 from dataclasses import dataclass
 
 Json = dict[str, object]
@@ -35,11 +35,11 @@ class Case:
 class Group:
     """Cases of one section and kind. Their numbers go on in their order, so new ones are added at the end."""
 
-    id: str
     report: str
+    id: str
     section: str
     kind: str
-    cases: Iterator[Case] | list[Case]
+    cases: Iterable[Case]
     is_own: bool = False
 
     def records(self) -> Iterator[Json]:
@@ -76,11 +76,10 @@ def read(text: str, values: Json, why: str) -> Case:
 
 
 def refused(marked: str, why: str) -> Case:
-    """A text that no name has. The caret is where it goes wrong; without one, at its end."""
-    before, _, rest = marked.partition(CARET)
-    return Case(
-        {"text": before + rest}, {"refused": True, "place": len(before.encode()) if rest else len(marked.removesuffix(CARET).encode())}, why
-    )
+    """A text that no name has. The caret is where it goes wrong."""
+    before, caret, rest = marked.partition(CARET)
+    assert caret, marked
+    return Case({"text": before + rest}, {"refused": True, "place": len(before.encode())}, why)
 
 
 def written(values: Json, text: str, why: str) -> Case:

@@ -1,5 +1,6 @@
 """Cases of dictionaries (NIST IR 7697): which names are entries, look-ups, searches, deprecations and their chains."""
 
+import functools
 from collections.abc import Iterator
 
 from .cases import ATTRIBUTES, FREE, Case, Group, Json, fs
@@ -202,9 +203,7 @@ def own_deprecations() -> Iterator[Case]:
 
 
 def groups() -> list[Group]:
-    def group(id: str, section: str, kind: str, cases, is_own: bool = False) -> Group:
-        return Group(id, REPORT, section, kind, list(cases), is_own)
-
+    group = functools.partial(Group, REPORT)
     return [
         group("entry-name", "names of entries", "identifier", identifiers()),
         group("entry-name-own", "names of entries", "identifier", own_identifiers(), is_own=True),

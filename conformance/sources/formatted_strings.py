@@ -1,5 +1,6 @@
 """Cases of formatted strings (NIST IR 7695, 6.2): reading them, writing them, and texts that are none."""
 
+import functools
 from collections.abc import Iterator
 
 from .cases import (
@@ -392,9 +393,7 @@ def own_languages_and_parts() -> Iterator[Case]:
 
 
 def groups() -> list[Group]:
-    def group(id: str, section: str, kind: str, cases, is_own: bool = False) -> Group:
-        return Group(id, REPORT, section, kind, list(cases), is_own)
-
+    group = functools.partial(Group, REPORT)
     return [
         group("fs-read-example", "6.2.3", "unbind-fs", (read(text, values, "an example of the report") for text, values in EXAMPLES)),
         group(

@@ -1,5 +1,6 @@
 """Cases of relations (NIST IR 7696): of two values (6.2), cell by cell, and of two names (6.3)."""
 
+import functools
 import itertools
 from collections.abc import Iterator
 
@@ -279,9 +280,7 @@ def own_names() -> Iterator[Case]:
 
 
 def groups() -> list[Group]:
-    def group(id: str, section: str, kind: str, cases, is_own: bool = False) -> Group:
-        return Group(id, REPORT, section, kind, list(cases), is_own)
-
+    group = functools.partial(Group, REPORT)
     return [
         group("value-cell", "6.2", "relate-values", cells()),
         group("value-cell-plain", "6.2", "relate-values", cells_without_specials(is_of_part_na=False)),

@@ -1,5 +1,6 @@
 """Cases of applicability (NIST IR 7698): facts, checks, and tests over them."""
 
+import functools
 import itertools
 from collections.abc import Iterator
 
@@ -252,22 +253,20 @@ def own_depths() -> Iterator[Case]:
 
 
 def groups() -> list[Group]:
-    def group(id: str, section: str, cases, is_own: bool = False) -> Group:
-        return Group(id, REPORT, section, "evaluate", list(cases), is_own)
-
+    group = functools.partial(Group, REPORT)
     return [
-        group("test-fact", "facts", facts()),
-        group("test-fact-special", "facts", facts_with_specials()),
-        group("test-check", "checks", checks()),
-        group("test-table", "truths", tables(TRUTHS, 3, is_own=False)),
-        group("test-table-fact", "truths", tables_of_facts()),
-        group("test-negate", "negation", negated_checks()),
-        group("test-negate-fact", "negation", negated_facts()),
-        group("test-nested", "nesting", nested()),
-        group("test-table-own", "truths", tables((*TRUTHS, "UNKNOWN"), 3, is_own=True), is_own=True),
-        group("test-negate-own", "negation", own_negated(), is_own=True),
-        group("test-check-own", "checks", own_checks(), is_own=True),
-        group("test-item-own", "facts", own_items(), is_own=True),
-        group("test-follow-own", "facts", own_follow(), is_own=True),
-        group("test-depth-own", "nesting", own_depths(), is_own=True),
+        group("test-fact", "facts", "evaluate", facts()),
+        group("test-fact-special", "facts", "evaluate", facts_with_specials()),
+        group("test-check", "checks", "evaluate", checks()),
+        group("test-table", "truths", "evaluate", tables(TRUTHS, 3, is_own=False)),
+        group("test-table-fact", "truths", "evaluate", tables_of_facts()),
+        group("test-negate", "negation", "evaluate", negated_checks()),
+        group("test-negate-fact", "negation", "evaluate", negated_facts()),
+        group("test-nested", "nesting", "evaluate", nested()),
+        group("test-table-own", "truths", "evaluate", tables((*TRUTHS, "UNKNOWN"), 3, is_own=True), is_own=True),
+        group("test-negate-own", "negation", "evaluate", own_negated(), is_own=True),
+        group("test-check-own", "checks", "evaluate", own_checks(), is_own=True),
+        group("test-item-own", "facts", "evaluate", own_items(), is_own=True),
+        group("test-follow-own", "facts", "evaluate", own_follow(), is_own=True),
+        group("test-depth-own", "nesting", "evaluate", own_depths(), is_own=True),
     ]

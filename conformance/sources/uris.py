@@ -1,5 +1,6 @@
 """Cases of URIs (NIST IR 7695, 6.1): reading them, writing them, and texts that are none."""
 
+import functools
 import itertools
 from collections.abc import Iterator
 
@@ -348,9 +349,7 @@ def own_written() -> Iterator[Case]:
 
 
 def groups() -> list[Group]:
-    def group(id: str, section: str, kind: str, cases, is_own: bool = False) -> Group:
-        return Group(id, REPORT, section, kind, list(cases), is_own)
-
+    group = functools.partial(Group, REPORT)
     return [
         group("uri-read-example", "6.1.3", "unbind-uri", (read(text, values, "an example of the report") for text, values in EXAMPLES)),
         group("uri-refuse-example", "6.1.3", "unbind-uri", (refused(it, "an example of the report") for it in REFUSED_EXAMPLES)),

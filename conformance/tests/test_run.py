@@ -121,6 +121,13 @@ class Runner(unittest.TestCase):
         child = int((self.folder / "mark").read_text())
         self.assertTrue(self.is_over(child))
 
+    def test_nothing_that_an_adapter_writes_moves_a_cursor(self):
+        said = self.run_it(self.adapter("print('\\x1b[2J', flush=True)"))
+        self.assertNotIn("\x1b", said.stdout)
+        said = self.run_it(self.adapter("os.write(2, b'\\x1b[2J'); sys.exit(1)"))
+        self.assertNotIn("\x1b", said.stdout)
+        self.assertIn("it ended with status 1: \N{REPLACEMENT CHARACTER}[2J", said.stdout)
+
     def test_nonsense_counts_as_died(self):
         for line in (
             "print('x', flush=True)",
@@ -202,6 +209,8 @@ class Runner(unittest.TestCase):
             ("'",),
             ("",),
             (right, "--limit", "0"),
+            (right, "--limit", "inf"),
+            (right, "--limit", "nan"),
             (right, "--limit", "x"),
             (right, "--first", "-1"),
             (right, "--report", "1"),
@@ -211,8 +220,9 @@ class Runner(unittest.TestCase):
             self.assertIn("usage", said.stderr)
         self.cases = self.folder / "none.jsonl"
         self.assertEqual(self.run_it(right).returncode, 4)
-        self.cases.write_text("{\n")
-        self.assertEqual(self.run_it(right).returncode, 4)
+        for text in ("{\n", "[]\n", '{"id": "x-001"}\n'):
+            self.cases.write_text(text)
+            self.assertEqual(self.run_it(right).returncode, 4, text)
 
     def test_several_adapters(self):
         right, wrong = self.adapter("write(case, right(case))"), self.adapter("write(case, {})", "wrong.py")
