@@ -153,6 +153,8 @@ def read_everywhere() -> Iterator[Case]:
             yield read(fs(**{it: "value"}), name(**{it: "value"}), f"a text as {it}")
     for it in ATTRIBUTES[1:]:
         yield read(fs(**{it: "-"}), name(**{it: None}), f"a hyphen as {it} is NA")
+    for part in "oh":
+        yield read(fs(part=part), name(part=part), f"the part {part}")
     for it in ("part", "vendor", "product"):
         values = {at: value for at, value in name().items() if at != it}
         yield read(fs(**{it: "*"}), values, f"an asterisk as {it} is ANY")
@@ -262,7 +264,7 @@ def own_texts() -> Iterator[Case]:
     """What docs/PROFILE.md narrows: one spelling for each name."""
     for it in ".-_":
         yield refused(fs(product=f"a\\‸{it}b"), f"a quoted {it}, which needs no quote")
-    for it in "aZ0":
+    for it in "aZ0x":
         yield refused(fs(product=f"\\‸{it}b"), f"a quoted {it}, which needs no quote")
     yield refused(fs(product="\\‸-"), "a quoted hyphen alone")
     for text, why in ALONE_SPECIALS:
@@ -345,7 +347,7 @@ def own_values() -> Iterator[Case]:
     yield no_name(name(product=r"\-"), "a quoted hyphen alone")
     for text in ("*", "?", "??", "**", "*?"):
         yield no_name(name(product=text), f"the specials {text} alone")
-    for it in "aZ0_":
+    for it in "aZ0_x":
         yield no_name(name(product=f"a{quoted(it)}"), f"a quoted {it}, which needs no quote")
     for it in "AOH":
         yield no_name(name(part=it), f"the part {it} in capital letters")

@@ -201,6 +201,10 @@ def own_items() -> Iterator[Case]:
     for version, truth in (("8.0", "UNKNOWN"), ("8.*", "UNKNOWN"), ("9", "UNKNOWN"), ("*", "UNKNOWN"), ("-", "UNKNOWN")):
         yield evaluated(of_fact(fs(product="suite", version=version)), truth, f"version {version} over an item of version 8.*", [part])
     yield evaluated(of_fact(fs(product="other", version="8.0")), "FALSE", "another product than that of an item of version 8.*", [part])
+    yield evaluated(of_fact(fs(product="*", version="8.0")), "UNKNOWN", "each product over an item of version 8.*", [part])
+    yield evaluated(
+        of_fact(fs(product="suite", version="8.0", update="u")), "FALSE", "an update over an item of version 8.* without one", [part]
+    )
     whole = fs(product="suite", version="8.1")
     yield evaluated(of_fact(whole), "TRUE", "an item that is covered beside one that is known in part", [part, whole])
     yield evaluated(

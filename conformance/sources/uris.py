@@ -219,6 +219,16 @@ def read_packed() -> Iterator[Case]:
     )
 
 
+def read_languages() -> Iterator[Case]:
+    for it in ("en", "eng", "en-us", "eng-us", "en-419", "eng-419"):
+        yield read(uri("a", "v", "p", "", "", "", it), name(language=it.replace("-", r"\-")), f"the language {it}")
+
+
+def written_languages() -> Iterator[Case]:
+    for it in ("en", "eng", "en-us", "eng-us", "en-419", "eng-419"):
+        yield written(name(language=it.replace("-", r"\-")), uri("a", "v", "p", "", "", "", it), f"the language {it}")
+
+
 def refused_forms() -> Iterator[Case]:
     for it in NO_FORMS:
         yield refused(uri("a", "v", f"a{it}"), f"{it.replace('‸', '')} encodes no character of a URI")
@@ -281,8 +291,6 @@ def own_readings() -> Iterator[Case]:
     for count in range(1, 5):
         yield read("cpe:/a:v:p" + ":" * count, name(), f"{count} colons at the end")
     yield read("cpe:/::::::", {}, "six colons alone")
-    for it in ("en", "eng", "en-us", "eng-419"):
-        yield read(uri("a", "v", "p", "", "", "", it), name(language=it.replace("-", r"\-")), f"the language {it}")
 
 
 def own_refusals() -> Iterator[Case]:
@@ -355,6 +363,7 @@ def groups() -> list[Group]:
         group("uri-refuse-example", "6.1.3", "unbind-uri", (refused(it, "an example of the report") for it in REFUSED_EXAMPLES)),
         group("uri-read-component", "6.1.3", "unbind-uri", read_components()),
         group("uri-read-character", "6.1.3", "unbind-uri", read_characters()),
+        group("uri-read-language", "6.1.3", "unbind-uri", read_languages()),
         group("uri-read-packed", "6.1.3", "unbind-uri", read_packed()),
         group("uri-refuse-form", "6.1.3", "unbind-uri", refused_forms()),
         group("uri-refuse-text", "6.1.1", "unbind-uri", refused_texts()),
@@ -370,6 +379,7 @@ def groups() -> list[Group]:
         ),
         group("uri-write-component", "6.1.2", "bind-uri", written_components()),
         group("uri-write-character", "6.1.2", "bind-uri", written_characters()),
+        group("uri-write-language", "6.1.2", "bind-uri", written_languages()),
         group("uri-write-packed", "6.1.2", "bind-uri", written_packed()),
         group("uri-write-own", "6.1.2", "bind-uri", own_written(), is_own=True),
     ]

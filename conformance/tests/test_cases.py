@@ -43,6 +43,11 @@ class Form(unittest.TestCase):
         self.assertLessEqual(wanted, sections)
         self.assertEqual({report for report, _ in sections}, {"7695", "7696", "7697", "7698"})
 
+    def test_the_example_of_the_page_is_a_case(self):
+        page = (SUITE / "README.md").read_text(encoding="utf-8")
+        example = next(json.loads(line) for line in page.splitlines() if line.startswith('    {"id"'))
+        self.assertIn(example, CASES)
+
     def test_refused_texts_have_places_within_them(self):
         for it in CASES:
             if it["kind"].startswith("unbind") and "refused" in it["expect"]:
