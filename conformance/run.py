@@ -26,7 +26,7 @@ import time
 from collections import Counter
 from collections.abc import Iterator
 from dataclasses import dataclass, field
-from typing import IO, NoReturn
+from typing import NoReturn
 from xml.etree import ElementTree
 
 HERE = pathlib.Path(__file__).resolve().parent
@@ -77,6 +77,11 @@ class TooSlow(Exception):
     """The adapter wrote nothing in time."""
 
 
+def section_of(case: dict) -> tuple[str, str]:
+    """The report and the section, as the table has them."""
+    return case["report"], case["section"] + (" (own)" if case["own"] else "")
+
+
 @dataclass(frozen=True)
 class Judged:
     """A case with what became of it, and as text what the adapter did."""
@@ -87,10 +92,6 @@ class Judged:
     seconds: float = 0.0
     # Whether the place of a refusal is the expected one; None if there is none to compare.
     is_place_right: bool | None = None
-
-    @property
-    def section(self) -> tuple[str, str]:
-        return self.case["report"], self.case["section"] + (" (own)" if self.case["own"] else "")
 
 
 @dataclass
@@ -117,6 +118,9 @@ class Adapter:
         pipes = {"stdin": subprocess.PIPE, "stdout": subprocess.PIPE, "stderr": self._said}
         self._child = subprocess.Popen(words, bufsize=0, start_new_session=True, **pipes)
         os.set_blocking(self._child.stdin.fileno(), False)
+        self._readable, self._writable = selectors.DefaultSelector(), selectors.DefaultSelector()
+        self._readable.register(self._child.stdout, selectors.EVENT_READ)
+        self._writable.register(self._child.stdin, selectors.EVENT_WRITE)
         self._rest = b""
 
     def answer(self, case: dict) -> object:
@@ -133,24 +137,23 @@ class Adapter:
             raise Died(f"it wrote no result of this case: {line[:200].decode(errors='replace')}")
         return answered["result"]
 
-    def _wait(self, stream: IO[bytes], event: int, until: float) -> None:
+    def _wait(self, ready: selectors.BaseSelector, until: float) -> None:
         """Returns if the stream is ready in time."""
-        with selectors.DefaultSelector() as selector:
-            selector.register(stream, event)
-            if not selector.select(max(0, until - time.monotonic())):
-                raise TooSlow(f"no answer within {self._seconds:g} s; does it flush each line?")
+        if not ready.select(max(0, until - time.monotonic())):
+            raise TooSlow(f"no answer within {self._seconds:g} s; does it flush each line?")
 
     def _send(self, text: bytes, until: float) -> None:
         while text:
-            self._wait(self._child.stdin, selectors.EVENT_WRITE, until)
             try:
                 text = text[os.write(self._child.stdin.fileno(), text) :]
+            except BlockingIOError:
+                self._wait(self._writable, until)
             except OSError:
                 raise Died(self._end()) from None
 
     def _line(self, until: float) -> bytes:
         while b"\n" not in self._rest:
-            self._wait(self._child.stdout, selectors.EVENT_READ, until)
+            self._wait(self._readable, until)
             piece = os.read(self._child.stdout.fileno(), 1 << 16)
             if not piece:
                 raise Died(self._end())
@@ -176,6 +179,8 @@ class Adapter:
 
     def end(self, seconds: float = 0) -> None:
         """Closes its input, waits for so many seconds, and ends what is left of it."""
+        self._readable.close()
+        self._writable.close()
         self._child.stdin.close()
         with contextlib.suppress(subprocess.TimeoutExpired):
             self._child.wait(seconds)
@@ -250,7 +255,7 @@ def table(found: Run) -> Iterator[str]:
     columns = [it for it in Outcome if it is not Outcome.NOT_RUN or any(each.outcome is it for each in found.judged)]
     rows: dict[tuple[str, str], Counter[Outcome]] = {}
     for it in found.judged:
-        rows.setdefault(it.section, Counter())[it.outcome] += 1
+        rows.setdefault(section_of(it.case), Counter())[it.outcome] += 1
     yield f"{'REPORT':<8}{'SECTION':<24}{'CASES':>6}" + "".join(f"{it.value.upper():>{len(it.value) + 2}}" for it in columns)
     for (report, section), counts in sorted(rows.items()):
         yield row(report, section, counts, columns)
@@ -305,7 +310,9 @@ def suite_of(found: Run) -> ElementTree.Element:
         "testsuite", {at: str(it) for at, it in counts.items()}, name=xml_text(found.adapter), time=f"{seconds:.3f}"
     )
     for it in found.judged:
-        place = ElementTree.SubElement(suite, "testcase", classname=" ".join(it.section), name=it.case["id"], time=f"{it.seconds:.3f}")
+        place = ElementTree.SubElement(
+            suite, "testcase", classname=" ".join(section_of(it.case)), name=it.case["id"], time=f"{it.seconds:.3f}"
+        )
         if TAGS[it.outcome]:
             told = ElementTree.SubElement(place, TAGS[it.outcome], message=xml_text(f"{it.outcome.value}: {it.case['why']}"))
             told.text = xml_text(f"input {json.dumps(it.case['input'])}\nexpected {json.dumps(it.case['expect'])}\nanswered {it.said}")

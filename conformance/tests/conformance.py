@@ -25,6 +25,9 @@ def is_passed(model, case):
         result = model["answer"](case["kind"], case["input"])
     except model["Refused"]:
         result = {"refused": True}
+    except Exception:
+        # (as an adapter it would have died)
+        return False
     return run.judge(case, result, False)[0] is run.Outcome.PASSED
 
 

@@ -28,12 +28,11 @@ def changes(node: ast.AST) -> Iterator[tuple[str, object]]:
 
 def is_noticed(tree: ast.Module) -> bool:
     """Whether a case fails with the model of this tree."""
-    model = {"__name__": "model"}
     try:
-        exec(compile(ast.fix_missing_locations(tree), "model.py", "exec"), model)
-        return not all(conformance.is_passed(model, it) for it in conformance.CASES)
+        model = conformance.made(ast.unparse(tree))
     except Exception:
         return True
+    return not all(conformance.is_passed(model, it) for it in conformance.CASES)
 
 
 def main() -> None:

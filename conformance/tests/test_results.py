@@ -64,9 +64,12 @@ class Results(unittest.TestCase):
         reports = [it for it in found.judged if not it.case["own"]]
         counts = Counter(it.outcome for it in reports)
         self.assertEqual([len(reports), *(counts[it] for it in OUTCOMES)], row(name)[1])
-        passed = Counter(it.section for it in reports if it.outcome is run.Outcome.PASSED)
-        offered = Counter(it.section for it in reports if it.outcome is not run.Outcome.NOT_OFFERED)
-        cells = {", ".join(it): f"{passed[it]} of {offered[it]}" if offered[it] else "-" for it in {each.section for each in reports}}
+        passed = Counter(run.section_of(it.case) for it in reports if it.outcome is run.Outcome.PASSED)
+        offered = Counter(run.section_of(it.case) for it in reports if it.outcome is not run.Outcome.NOT_OFFERED)
+        cells = {
+            ", ".join(it): f"{passed[it]} of {offered[it]}" if offered[it] else "-"
+            for it in {run.section_of(each.case) for each in reports}
+        }
         self.assertEqual(cells, column(name))
 
     def check_other(self, name, package, *words):

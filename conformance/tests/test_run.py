@@ -147,9 +147,9 @@ class Runner(unittest.TestCase):
     def test_an_adapter_that_always_dies_is_given_up(self):
         cases = [it for it in CASES if it["kind"] == "relate-values"][:40]
         self.cases = self.write_cases(cases)
-        said = self.run_it("false", cases=cases)
+        said = self.run_it("false", "--first", "40", cases=cases)
         self.assertEqual((said.returncode, self.counts(said)), (1, [40, 0, 0, 0, 0, 25, 0, 15]))
-        self.assertIn("it was lost at 25 cases in a row", self.run_it("false", "--first", "40", cases=cases).stdout)
+        self.assertIn("it was lost at 25 cases in a row", said.stdout)
 
     def test_an_adapter_that_dies_at_each_second_case_is_not_given_up(self):
         cases = [it for it in CASES if it["kind"] == "relate-values"][:60]
