@@ -30,10 +30,10 @@ from typing import NoReturn
 from xml.etree import ElementTree
 
 HERE = pathlib.Path(__file__).resolve().parent
-# After so many cases in a row at which it died or was too slow, an adapter is not started again.
+# The most cases in a row at which an adapter may die or be too slow. After them it is not started again.
 MOST_IN_A_ROW = 25
 MOST_SECONDS = 1_000_000
-# A line of an adapter has at most so many bytes.
+# The most bytes that an adapter may write for a case.
 MOST_BYTES = 1 << 20
 SIGNALS = {it.value: it.name for it in signal.Signals}
 # What each case has that this program reads.
@@ -178,7 +178,7 @@ class Adapter:
         return f"it ended with {how}: {last}".removesuffix(": ")
 
     def end(self, seconds: float = 0) -> None:
-        """Closes its input, waits for so many seconds, and ends what is left of it."""
+        """Closes its input, waits for its end, at most these seconds, and ends what is left of it."""
         self._readable.close()
         self._writable.close()
         self._child.stdin.close()
@@ -314,17 +314,15 @@ def suite_of(found: Run) -> ElementTree.Element:
             suite, "testcase", classname=" ".join(section_of(it.case)), name=it.case["id"], time=f"{it.seconds:.3f}"
         )
         if TAGS[it.outcome]:
-            told = ElementTree.SubElement(place, TAGS[it.outcome], message=xml_text(f"{it.outcome.value}: {it.case['why']}"))
-            told.text = xml_text(f"input {json.dumps(it.case['input'])}\nexpected {json.dumps(it.case['expect'])}\nanswered {it.said}")
+            details = ElementTree.SubElement(place, TAGS[it.outcome], message=xml_text(f"{it.outcome.value}: {it.case['why']}"))
+            details.text = xml_text(f"input {json.dumps(it.case['input'])}\nexpected {json.dumps(it.case['expect'])}\nanswered {it.said}")
     return suite
 
 
 def write_junit(runs: list[Run], path: pathlib.Path) -> None:
     top = ElementTree.Element("testsuites")
     top.extend(map(suite_of, runs))
-    new = path.with_name(path.name + ".new")
-    ElementTree.ElementTree(top).write(new, encoding="utf-8", xml_declaration=True)
-    new.replace(path)
+    path.write_bytes(ElementTree.tostring(top, encoding="utf-8", xml_declaration=True))
 
 
 def read_cases(paths: list[pathlib.Path]) -> Iterator[dict]:
@@ -364,7 +362,7 @@ def said() -> argparse.Namespace:
     parser.add_argument("--own", action="store_true", help="also cases of rules that are cpe's own")
     parser.add_argument("--places", action="store_true", help="a refusal with another place fails")
     parser.add_argument("--limit", type=float, default=10, metavar="SECONDS", help="the longest that a case may take (10)")
-    parser.add_argument("--first", type=int, default=10, metavar="COUNT", help="so many cases that did not pass are shown (10)")
+    parser.add_argument("--first", type=int, default=10, metavar="COUNT", help="the most cases to show that did not pass (10)")
     parser.add_argument("--junit", type=pathlib.Path, metavar="FILE", help="where the results are written as JUnit's XML")
     words = parser.parse_intermixed_args()
     if not 0 < words.limit < MOST_SECONDS or words.first < 0:

@@ -20,7 +20,7 @@ PARTS = {1: "h", 2: "o", 3: "a"}
 LANGUAGE = "http://cpe.mitre.org/language/2.0"
 # A name of CPE 2.1 as a formatted string, with the components that a URI has.
 OLD_NAME = re.compile(r"cpe:2\.3:([aoh](?::(?:[A-Za-z0-9_.]+|\*)){6})(?::\*){4}")
-# How a check of an item is told from those of the statement.
+# The system, the document and the id of the check of each item.
 INSTALLED = b"installed"
 
 POINTER, TEXT, FLAG = ctypes.c_void_p, ctypes.c_char_p, ctypes.c_bool

@@ -308,7 +308,7 @@ def written_characters() -> Iterator[Case]:
 
 
 def own_parts() -> Iterator[Case]:
-    """The part NA, of which docs/PROFILE.md speaks, and the report doesn't."""
+    """The part NA, which docs/PROFILE.md has."""
     yield read(fs(part="-"), name(part=None), "a hyphen as part is NA")
     yield read("cpe:2.3:-:-:-:-:-:-:-:-:-:-:-", dict.fromkeys(ATTRIBUTES), "each attribute is NA")
 

@@ -164,7 +164,7 @@ def cells() -> Iterator[Case]:
 
 
 def cells_without_specials(is_of_part_na: bool) -> Iterator[Case]:
-    """The cells of the part and the language. Only docs/PROFILE.md speaks of the part NA."""
+    """The cells of the part and the language. The part NA is a rule of docs/PROFILE.md."""
     for attribute, one, other in (("part", "a", "o"), ("language", "en", "de")):
         of = {"*": "*", "-": "-", "it": one, "at": other}
         for source, target, relation, why in CELLS:

@@ -51,7 +51,7 @@ def is_of_profile(truths: tuple[str, ...]) -> bool:
 
 
 def tables(truths_of_all: tuple[str, ...], most: int, is_own: bool) -> Iterator[Case]:
-    """Each cell for one child, two, and up to so many, each of which is a check."""
+    """Each cell for one child, for two, and so on up to the most. Each child is a check."""
     for op in ("AND", "OR"):
         for count in range(1, most + 1):
             for truths in itertools.product(truths_of_all, repeat=count):

@@ -278,9 +278,16 @@ class Runner(unittest.TestCase):
         self.assertEqual([case[0].tag if len(case) else None for case in suite], ["skipped", "failure", "error", None, "failure"])
 
     def test_a_file_that_can_not_be_written(self):
-        said = self.run_it(self.adapter("write(case, right(case))"), "--junit", self.folder / "none" / "results.xml")
+        for path in (self.folder / "none" / "results.xml", Path("/dev/full")):
+            said = self.run_it(self.adapter("write(case, right(case))"), "--junit", path)
+            self.assertEqual(said.returncode, 3)
+            self.assertIn("this program failed", said.stderr)
+
+    def test_its_own_output_that_can_not_be_written(self):
+        command = [sys.executable, "-B", str(SUITE / "run.py"), self.adapter("write(case, {})"), "--cases", str(self.cases)]
+        with open("/dev/full", "wb") as full:
+            said = subprocess.run(command, stdout=full, stderr=subprocess.PIPE, text=True)
         self.assertEqual(said.returncode, 3)
-        self.assertIn("this program failed", said.stderr)
 
     def test_the_example_of_the_page(self):
         """The adapter of README.md is run as it is there, beside a model in place of one's own code."""
