@@ -109,15 +109,15 @@ class Runner(unittest.TestCase):
     def test_an_adapter_that_hangs_is_too_slow_once(self):
         hangs = f"if case['id'] == {PICKED[1]['id']!r}: time.sleep(60)\nwrite(case, right(case))"
         began = time.monotonic()
-        said = self.run_it(self.adapter(hangs), "--limit", "1")
+        said = self.run_it(self.adapter(hangs), "--limit", "5")
         self.assertEqual((said.returncode, self.counts(said)), (1, [4, 3, 0, 0, 0, 0, 1]))
-        self.assertLess(time.monotonic() - began, 30)
-        self.assertIn("no answer within 1 s; does it flush each line?", said.stdout)
+        self.assertLess(time.monotonic() - began, 50)
+        self.assertIn("no answer within 5 s; does it flush each line?", said.stdout)
 
     def test_what_an_adapter_started_ends_with_it(self):
         starts = 'import subprocess\nchild = subprocess.Popen(["sleep", "60"])\nopen(os.environ["MARK"], "w").write(str(child.pid))\ntime.sleep(60)'
         self.cases = self.write_cases(PICKED[:1])
-        self.run_it(self.adapter(starts), "--limit", "1")
+        self.run_it(self.adapter(starts), "--limit", "5")
         child = int((self.folder / "mark").read_text())
         self.assertTrue(self.is_over(child))
 
@@ -238,8 +238,9 @@ class Runner(unittest.TestCase):
         self.assertEqual((said.returncode, self.counts(said)), (1, [1, 0, 0, 0, 0, 0, 1]))
 
     def test_an_adapter_that_closes_its_output_died(self):
-        said = self.run_it(self.adapter("os.close(1); time.sleep(60)"), "--limit", "1")
-        self.assertEqual((said.returncode, self.counts(said)), (1, [4, 0, 0, 0, 0, 4, 0]))
+        self.cases = self.write_cases(PICKED[:1])
+        said = self.run_it(self.adapter("os.close(1); time.sleep(60)"), "--limit", "5")
+        self.assertEqual((said.returncode, self.counts(said)), (1, [1, 0, 0, 0, 0, 1, 0]))
         self.assertIn("it closed its input or its output", said.stdout)
 
     def test_two_lines_for_a_case_are_not_taken_for_the_next(self):
