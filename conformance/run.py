@@ -4,8 +4,8 @@
 An ADAPTER is a command, such as 'python3 mine.py'. It reads a case a line, {"id", "kind", "input"}, and writes a line
 {"id", "result"} for it, which it flushes before it reads the next. README.md beside this file has the kinds and results.
 
-Exit status, as pytest has it: 0 all passed or are not offered, 1 some did not pass, 2 interrupted, 3 this program failed,
-4 wrong words, 5 no case was run.
+Exit status, as pytest has it: 0 each case passed or isn't offered, 1 a case did not pass, 2 interrupted, 3 this program
+failed, 4 wrong words, 5 no case was chosen.
 """
 
 import argparse
