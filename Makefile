@@ -23,8 +23,8 @@ help:
 	@echo 'make build    proves the program, and builds it into build/cpe'
 	@echo 'make library  proves the library for C, and builds it into build/libcpe.a and build/libcpe.so (needs cc and binutils)'
 	@echo 'make test     the gate: rt ci, what each crate took, then checks of the program as rt ci built it, of the release, of the'
-	@echo '              manual page, of the recipes, of the library for C where make library was run before, and of the package and'
-	@echo '              the completions'
+	@echo '              manual page, of the recipes, of the library for C where make library was run before, of the package and'
+	@echo '              the completions, and of the conformance cases'
 	@echo 'make release  makes release/ from what make test built, in a tree without changes'
 	@echo 'make limits   fills the program up to its limits, refuses each allocation of short sessions, and measures the stack that'
 	@echo '              each word needs: minutes, and 6 GB of memory; not in the gate'
@@ -78,6 +78,7 @@ test: need_rt
 	sh tests/scan-checks.sh build/cpe
 	sh tests/library-checks.sh build/cpe
 	sh tests/package-checks.sh build/cpe
+	sh tests/conformance-checks.sh build/cpe
 
 # The last step of a change to a crate that the program stands on.
 release: need_rt

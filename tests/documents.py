@@ -14,7 +14,7 @@ import sys
 from collections.abc import Iterator
 
 TOP = pathlib.Path(__file__).resolve().parent.parent
-PLACES = ("*.md", "docs/*.md", "bench/*.md", "recipes/*.md", "examples/*.md", "bindings/*/*.md", "crates/*/*.md")
+PLACES = ("*.md", "docs/*.md", "bench/*.md", "recipes/*.md", "examples/*.md", "bindings/*/*.md", "conformance/*.md", "crates/*/*.md")
 MOST_LINE = 120
 MOST_CELL = 200
 # A cell of examples: code, and what parts it.

@@ -23,7 +23,11 @@ def schema(name):
 
 def faults(value, name):
     """What is wrong with a value by the schema of this name, each with its place."""
-    root = schema(name)
+    return faults_by(value, schema(name))
+
+
+def faults_by(value, root):
+    """What is wrong with a value by this schema, each with its place."""
     return list(_Checker(root).faults(value, root, ""))
 
 
