@@ -3,6 +3,7 @@ ghost use Rattle.std.specs.Prelude.{◌≡◌, ℕ, List, [], true};
 ghost use Rattle.cpe_rows.specs.Prelude.{fact_truth, no_rows, Rows};
 ghost use Rattle.name_index.specs.Table.{Names};
 ghost use Rattle.fact_laws.specs.Shown.{name_at};
+ghost use Rattle.kept_facts.specs.Kept.{AreSound};
 ghost use Rattle.fact_rows.specs.Facts.{truth_of, users_of};
 ghost use Rattle.facts.specs.Facts.{AreUsed, HasFacts, is_used, table_of};
 ghost use Rattle.facts.specs.LeadCalls.{EndsChanged, MayChangeEnds};
@@ -80,6 +81,13 @@ impl Facts {
             Mode::Plain => self.plain.changed(),
             Mode::Follow => self.follow.changed(),
         }
+    }
+
+    /// The boards are right: each level is that of its name. No-op, for proofs.
+    pub fn lawful(&self)
+        ensures { AreSound self.now.boards }
+    {
+        self.boards.lawful();
     }
 
     // ---- items

@@ -10,7 +10,7 @@ use Rattle.cpe_rows.specs.declared.statement.Statement.{Statement}
 use Rattle.cpe_rows.specs.declared.test.CheckKey.{CheckKey}
 use Rattle.cpe_rows.specs.declared.truth.Truth.{Truth}
 use Rattle.fact_laws.specs.Shown.{names_at}
-use Rattle.kept_facts.specs.Kept.{AreLive}
+use Rattle.kept_facts.specs.Kept.{AreLive, AreSound}
 use Rattle.fact_rows.specs.Facts.{truth_of, users_of}
 use Rattle.facts.specs.Facts.{AreUsed, FactsNow, HasFacts, table_of}
 use Rattle.statement_rows.specs.Readings.{FactTruths}
@@ -55,6 +55,8 @@ pub record HasVerdicts (names : Names) (v : VerdictsNow) (rows : Rows) : Type 0 
   pub numbered : AllByRecursion (IsNumbered names) v.statements.rows
   pub facts : HasFacts names v.facts rows (tickets_in v.statements.rows)
   pub used : AreUsed v.facts
+  -- the boards are right
+  pub sound : AreSound v.facts.boards
   pub judged : AreJudged v.statements (truths_in v.facts)
 
 -- what callers see of the statements is unchanged
