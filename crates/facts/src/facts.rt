@@ -138,8 +138,8 @@ impl Facts {
 
     // ---- statements
 
-    /// Adds the ticket of a statement to the facts to which it refers. `fresh` are those of them that no statement used before;
-    /// `asked` are the names to which these lead. Allocates: no.
+    /// Adds the ticket of a statement to the facts to which it refers. `fresh` are those facts that are not in use yet; `asked`
+    /// are the names to which the fresh facts lead. Allocates: no.
     pub fn add_statement<L: Ledger>(
         &mut self,
         table: &NameTable,
@@ -181,8 +181,8 @@ impl Facts {
         }
     }
 
-    /// Removes the ticket of a statement from the facts to which it refers. `last` are those of them that no other statement
-    /// uses, which are removed; `asked` are the names to which these lead. Allocates: no.
+    /// Removes the ticket of a statement from the facts to which it refers. `last` are those facts that no other statement
+    /// uses, which are removed; `asked` are the names to which the last facts lead. Allocates: no.
     pub fn remove_statement<L: Ledger>(
         &mut self,
         table: &NameTable,
