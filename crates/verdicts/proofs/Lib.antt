@@ -3,3 +3,4 @@ pub mod JudgeLemmas
 pub mod VerdictLemmas
 pub mod ResultLemmas
 pub mod TableLemmas
+pub mod EntryLemmas

@@ -1,30 +1,39 @@
 -- Verdicts after a table in which a name was held or released.
-use Rattle.std.proofs.Common.{◌≡◌, ℕ, Bool, true, false, cond, ◌&&◌, ◌||◌, List, [], ◌∷◌, Option, Some, None, IsSome, refl, sym, ap, ◌∙◌, inl, inr}
+use Rattle.std.proofs.Common.{◌≡◌, ◌≤◌, ℕ, Bool, true, false, cond, ◌&&◌, ◌||◌, not, nat_eq, List, [], ◌∷◌, ◌++◌, Option, Some, None, IsSome, refl, sym, ap, subst, ◌∙◌, inl, inr, eq-eqb, arith}
 use Rattle.std.specs.Prelude.{is_some}
-use Rattle.std.specs.List.{AllByRecursion, list_any}
-use Rattle.std.proofs.lemmas.Bool.{cases_eq, true≢false}
+use Rattle.std.specs.List.{AllByRecursion, flat_map, list_any}
+use Rattle.std.proofs.lemmas.Bool.{cases_eq, or_cases, or_left, or_right, true≢false}
+use Rattle.std.proofs.lemmas.List.Folds.{list_any-append}
+use Rattle.std.proofs.lemmas.List.Sums.{sum_by-append}
 use Rattle.std.proofs.lemmas.Option.{none-some}
 use Rattle.cpe_name.specs.Eleven.{Values}
+use Rattle.cpe_name.specs.Equal.{same_name}
 use Rattle.name_index.specs.declared.table.NameId.{NameId}
-use Rattle.name_index.specs.Table.{find_kept, Holding, Holds, IsLive, Kept, kept_at, kept_or, Names}
-use Rattle.level_board.specs.Board.{Board, FitsBoard}
+use Rattle.name_index.specs.Table.{AreNames, find_kept, Holding, Holds, IsLive, Kept, kept_at, kept_or, Names, Releases}
+use Rattle.level_board.specs.Board.{Board, FitsBoard, probe_times}
+use Rattle.cpe_rows.specs.FactNames.{fact_names}
 use Rattle.cpe_rows.specs.Names.{is_same}
 use Rattle.cpe_rows.specs.Rows.{Rows}
 use Rattle.cpe_rows.specs.Verdict.{fact_truth}
 use Rattle.cpe_rows.specs.declared.statement.Mode.{Mode}
 use Rattle.cpe_rows.specs.declared.statement.Mode.TheVariants.{Plain, Follow}
-use Rattle.fact_laws.specs.Asked.{leads, refers_to, same_mode}
-use Rattle.fact_laws.specs.Shown.{names_at}
+use Rattle.cpe_rows.specs.declared.statement.Statement.{Statement}
+use Rattle.fact_laws.specs.Asked.{entry_names, is_referred, leads, names_kept, refers_to, same_mode}
+use Rattle.fact_laws.specs.Shown.{names_at, times_named}
 use Rattle.fact_laws.proofs.Counted.{same_test}
 use Rattle.fact_laws.proofs.Shown.{live_is, other_names}
-use Rattle.fact_laws.proofs.Tables.{keeps}
-use Rattle.kept_facts.specs.Kept.{AreLive, board_of, FitBoards, ShowRows, ShowsRows}
-use Rattle.fact_rows.specs.Facts.{Fact, fact_at, FactTable, is_fact, leads_of, users_of, users_or_none}
+use Rattle.fact_laws.proofs.Different.{some_named}
+use Rattle.fact_laws.proofs.Tables.{keeps, was_live}
+use Rattle.kept_facts.specs.Kept.{AreKnown, AreLive, board_of, FitBoards, ShowRows, ShowsRows}
+use Rattle.fact_rows.specs.Facts.{Fact, fact_at, FactTable, has_end, is_fact, leads_of, users_of, users_or_none}
 use Rattle.facts.specs.Facts.{FactsNow, FactsOf, HasFacts, is_used, LeadsTo, table_of}
 use Rattle.facts.specs.Users.{users_in}
-use Rattle.facts.proofs.UserLemmas.{used_fact}
+use Rattle.fact_rows.specs.Tickets.{is_empty}
+use Rattle.facts.proofs.MoveLemmas.{on}
+use Rattle.facts.proofs.UserLemmas.{used_fact, users_refer}
 use Rattle.statement_rows.specs.State.{StatementRow, statements_of}
 use Rattle.verdicts.specs.Verdicts.{HasVerdicts, IsNumbered, tickets_in, VerdictsNow}
+use Rattle.verdicts.proofs.UserLemmas.{refers_by}
 
 -- ---- no statement refers to a name without a number
 
@@ -162,3 +171,107 @@ module _ (old new : Names) (id : ℕ) (name : Values) (h : Holds old new id name
       sound = k.sound;
       judged = k.judged;
     }
+
+-- ---- a name was released
+
+both_right : (a b : Bool) → (a && b) ≡ true → b ≡ true
+both_right true b e = e
+both_right false b e = absurd (true≢false (sym e))
+
+-- the name of a fact reference of one of the statements is among the names of the rows
+referred_named : (mode : Mode) (n : Values) (ss : List Statement) → is_referred mode ss n ≡ true → list_any (same_name n) (flat_map (λ (s : Statement). fact_names s.test) ss) ≡ true
+referred_named mode n [] h = absurd (true≢false (sym h))
+referred_named mode n (s ∷ ss) h =
+    let rest = flat_map (λ (x : Statement). fact_names x.test) ss in
+    list_any-append (same_name n) (fact_names s.test) rest ∙ elim (or_cases (refers_to mode n s) (is_referred mode ss n) h) [
+      | inl r ↦ or_left (list_any (same_name n) (fact_names s.test)) (list_any (same_name n) rest) ((λ i. list_any (λ (m : Values). sym (same_test n m) i) (fact_names s.test)) ∙ both_right (same_mode mode s.mode) (list_any (is_same n) (fact_names s.test)) r)
+      | inr later ↦ or_right (list_any (same_name n) (fact_names s.test)) (list_any (same_name n) rest) (referred_named mode n ss later)
+    ]
+
+kept_named : (rows : Rows) (mode : Mode) (n : Values) → is_referred mode rows.statements n ≡ true → 1 ≤ times_named n (names_kept rows)
+kept_named rows mode n h =
+    let facts = flat_map (λ (s : Statement). fact_names s.test) rows.statements in
+    omega (arith, some_named n facts (referred_named mode n rows.statements h), sum_by-append (λ (m : Values). cond (same_name n m) 1 0) (entry_names rows.entries ++ rows.items) facts)
+
+-- each statement of these rows refers for all of them
+all_referred : (js : List StatementRow) → AllByRecursion (λ (j : StatementRow). (mode : Mode) (n : Values) → refers_to mode n j.statement ≡ true → is_referred mode (statements_of js) n ≡ true) js
+all_referred [] = tt
+all_referred (j ∷ js) = (λ mode n r. or_left (refers_to mode n j.statement) (is_referred mode (statements_of js) n) r, more js (all_referred js))
+  where
+    more : (ks : List StatementRow) → AllByRecursion (λ (k : StatementRow). (mode : Mode) (n : Values) → refers_to mode n k.statement ≡ true → is_referred mode (statements_of js) n ≡ true) ks
+        → AllByRecursion (λ (k : StatementRow). (mode : Mode) (n : Values) → refers_to mode n k.statement ≡ true → is_referred mode (statements_of (j ∷ js)) n ≡ true) ks
+    more [] all = tt
+    more (k ∷ ks) all = (λ mode n r. or_right (refers_to mode n j.statement) (is_referred mode (statements_of js) n) (all.0 mode n r), more ks all.1)
+
+module _ (old new : Names) (id : ℕ) (are : AreNames old) (r : Releases old new id) (v : VerdictsNow) (rows : Rows) (k : HasVerdicts old v rows) (known : AreKnown new rows) (shows : ShowRows new v.facts.boards rows) where
+  abbrev tickets_now : List ℕ
+  tickets_now = tickets_in v.statements.rows
+
+  facts_then : (mode : Mode) → FactsOf old (board_of v.facts.boards mode) (table_of v.facts mode) rows tickets_now mode
+  facts_then = mode_of old v.facts rows tickets_now k.facts
+
+  released_live : (q : ℕ) → IsLive old q → 1 ≤ times_named (kept_at old q).name (names_kept rows) → IsLive new q
+  released_live q live h =
+      let kept = known (kept_at old q).name h in
+      let j = was_live old new id r kept.0 kept.1.0 kept.1.1 in
+      let at : kept.0 ≡ q = sym (are.different q kept.0 (kept_at old q) j.0 (live_is old q live) j.1 (sym (j.2 ∙ kept.1.2))) in
+      subst (IsLive new) at (live_some (find_kept new kept.0) (λ none. none-some kept.1.0 (sym none ∙ kept.1.1)))
+
+  released_same : (q : ℕ) → IsLive old q → IsLive new q → (kept_at new q).name ≡ (kept_at old q).name
+  released_same q was live =
+      let j = was_live old new id r q (kept_at new q) (live_is new q live) in
+      sym j.2 ∙ ap (λ (o : Option Kept). (kept_or o).name) (sym j.1)
+
+  live_in_use : (mode : Mode) (q : ℕ) → is_used (table_of v.facts mode) q ≡ true → IsLive new q
+  live_in_use mode q used =
+      let s = facts_then mode in
+      let live = s.live q (used_fact (table_of v.facts mode) q used) in
+      let n = (kept_at old q).name in
+      released_live q live (kept_named rows mode n (users_refer mode n tickets_now rows.statements (subst (λ (us : List ℕ). not (is_empty us) ≡ true) (s.users q live) used)))
+
+  asked_live : (mode : Mode) (numbers : List NameId) → AllByRecursion (λ (x : NameId). 1 ≤ probe_times (board_of v.facts.boards mode) x.0) numbers → AreLive new numbers
+  asked_live mode [] all = tt
+  asked_live mode (x ∷ numbers) all = (live_some (find_kept new x.0) (λ none. nowhere mode none all.0), asked_live mode numbers all.1)
+    where
+      nowhere : (m : Mode) → find_kept new x.0 ≡ None → 1 ≤ probe_times (board_of v.facts.boards m) x.0 → ⊥
+      nowhere Plain none one = omega (arith, one, shows.plain.asked.nowhere x.0 none)
+      nowhere Follow none one = omega (arith, one, shows.follow.asked.nowhere x.0 none)
+
+  ends_in_use : (mode : Mode) (q : ℕ) → is_used (table_of v.facts mode) q ≡ true → AreLive new (leads_of mode (table_of v.facts mode) q)
+  ends_in_use mode q used =
+      asked_live mode (leads_of mode (table_of v.facts mode) q)
+      (on old are mode (board_of v.facts.boards mode) (k.sound.answers mode) rows tickets_now (table_of v.facts mode) (λ p. false) (facts_then mode) q used)
+
+  users_then : (mode : Mode) (q : ℕ) → IsLive new q → users_of (table_of v.facts mode) q ≡ users_in mode (kept_at new q).name tickets_now rows.statements
+  users_then mode q live =
+      let j = was_live old new id r q (kept_at new q) (live_is new q live) in
+      let was : IsLive old q = live_some (find_kept old q) (λ none. none-some j.0 (sym none ∙ j.1)) in
+      (facts_then mode).users q was ∙ ap (λ (n : Values). users_in mode n tickets_now rows.statements) (sym (released_same q was live))
+
+  released_mode : (mode : Mode) → ShowsRows new (board_of v.facts.boards mode) rows mode → FitsBoard (board_of v.facts.boards mode) new → FactsOf new (board_of v.facts.boards mode) (table_of v.facts mode) rows tickets_now mode
+  released_mode mode = over_table old new (board_of v.facts.boards mode) (table_of v.facts mode) rows tickets_now mode (facts_then mode) (k.used mode) released_same (live_in_use mode) (ends_in_use mode) (users_then mode)
+
+  ids_live : (j : StatementRow) → IsNumbered old j → ((mode : Mode) (n : Values) → refers_to mode n j.statement ≡ true → is_referred mode (statements_of v.statements.rows) n ≡ true) → (ids : List NameId) → AreLive old ids → ((q : ℕ) → has_end ids q ≡ true → has_end j.ids q ≡ true) → AreLive new ids
+  ids_live j numbered refers [] all within = tt
+  ids_live j numbered refers (x ∷ ids) all within =
+      let n = (kept_at old x.0).name in
+      let has = within x.0 (or_left (nat_eq x.0 x.0) (has_end ids x.0) (eq-eqb x.0 x.0 refl)) in
+      let referred = subst (λ (ss : List Statement). is_referred j.statement.mode ss n ≡ true) k.statements (refers j.statement.mode n (refers_by old j.statement.mode j.statement j.ids x.0 refl numbered.named has)) in
+      (released_live x.0 all.0 (kept_named rows j.statement.mode n referred), ids_live j numbered refers ids all.1 (λ q h. within q (or_right (nat_eq x.0 q) (has_end ids q) h)))
+
+  released_numbered : (js : List StatementRow) → AllByRecursion (λ (j : StatementRow). (mode : Mode) (n : Values) → refers_to mode n j.statement ≡ true → is_referred mode (statements_of v.statements.rows) n ≡ true) js → AllByRecursion (IsNumbered old) js → AllByRecursion (IsNumbered new) js
+  released_numbered [] refers all = tt
+  released_numbered (j ∷ js) refers all =
+      let still = ids_live j all.0 refers.0 j.ids all.0.live (λ q h. h) in
+      (record { live = still; named = numbers_same old new released_same j.ids all.0.live still ∙ all.0.named }, released_numbered js refers.1 all.1)
+
+  pub released_verdicts : FitBoards v.facts.boards new → HasVerdicts new v rows
+  released_verdicts fits = record {
+    statements = k.statements;
+    checks = k.checks;
+    numbered = released_numbered v.statements.rows (all_referred v.statements.rows) k.numbered;
+    facts = record { plain = released_mode Plain shows.plain fits.plain; follow = released_mode Follow shows.follow fits.follow; settled = k.facts.settled; numbered = k.facts.numbered };
+    used = k.used;
+    sound = k.sound;
+    judged = k.judged;
+  }
