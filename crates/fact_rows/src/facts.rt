@@ -173,7 +173,7 @@ impl FactRows {
         remove_row(&mut self.rows, fact.0);
     }
 
-    /// Adds a user to a fact, unless it is its last one. Allocates: no.
+    /// Appends a ticket to the users of a fact, unless it is already the last of them. Allocates: no.
     pub fn add_user(&mut self, fact: NameId, ticket: u64)
         requires { (has_room self.old fact.0 || ends_with ticket (users_of self.old fact.0)) ≡ true }
         ensures { UsersTo self.old self.new fact.0 (with_last ticket (users_of self.old fact.0)) }
@@ -192,7 +192,8 @@ impl FactRows {
 
     // ---- truths
 
-    /// Computes again the truth of each fact of one of these ends, in mode follow. Allocates: no. Cost: that of their ends.
+    /// Computes again, in mode follow, the truth of each fact that any of these ends lists. Allocates: no. Cost: that of their
+    /// ends.
     pub fn refresh_ends(&mut self, ends: &[NameId], board: &LevelBoard)
         ensures { Refreshed self.old self.new (is_under_one self.old ends.now) Follow board.now }
     {

@@ -71,7 +71,7 @@ impl FactRow {
         }
     }
 
-    // Adds a user, unless it is the last one.
+    // Appends a ticket to the users, unless it is already at the end of the list.
     pub(crate) fn add_user(&mut self, ticket: u64)
         requires { (nat_lt (length self.old.users.items) (vec_capacity self.old.users) || ends_with ticket self.old.users.items) ≡ true }
         ensures users { self.new.users.items ≡ with_last ticket self.old.users.items }

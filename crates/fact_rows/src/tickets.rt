@@ -42,7 +42,7 @@ fn ends_with(list: &[u64], ticket: u64) -> bool
     }
 }
 
-// Appends a ticket, unless it is the last one. It takes no memory.
+// Appends a ticket, unless it is already at the end of the list. It takes no memory.
 pub(crate) fn add_last(list: &mut Vec<u64>, ticket: u64)
     requires { (nat_lt (length list.old.items) (vec_capacity list.old) || ends_with ticket list.old.items) ≡ true }
     ensures { list.new.items ≡ with_last ticket list.old.items }

@@ -3,6 +3,7 @@ ghost use Rattle.std.specs.Prelude.{◌≡◌, ℕ, List, [], true};
 ghost use Rattle.cpe_rows.specs.Prelude.{fact_truth, no_rows, Rows};
 ghost use Rattle.name_index.specs.Table.{Names};
 ghost use Rattle.fact_laws.specs.Shown.{name_at};
+ghost use Rattle.kept_facts.specs.Kept.{AreSound};
 ghost use Rattle.fact_rows.specs.Facts.{truth_of, users_of};
 ghost use Rattle.facts.specs.Facts.{AreUsed, HasFacts, is_used, table_of};
 ghost use Rattle.facts.specs.LeadCalls.{EndsChanged, MayChangeEnds};
@@ -82,6 +83,13 @@ impl Facts {
         }
     }
 
+    /// The boards are right: each level is that of its name. No-op, for proofs.
+    pub fn lawful(&self)
+        ensures { AreSound self.now.boards }
+    {
+        self.boards.lawful();
+    }
+
     // ---- items
 
     /// Adds an item with these ends. Allocates: no.
@@ -130,8 +138,8 @@ impl Facts {
 
     // ---- statements
 
-    /// Adds the ticket of a statement to the facts to which it refers. `fresh` are those of them that no statement used before;
-    /// `asked` are the names to which these lead. Allocates: no.
+    /// Adds the ticket of a statement to the facts to which it refers. `fresh` are those facts that are not in use yet; `asked`
+    /// are the names to which the fresh facts lead. Allocates: no.
     pub fn add_statement<L: Ledger>(
         &mut self,
         table: &NameTable,
@@ -173,8 +181,8 @@ impl Facts {
         }
     }
 
-    /// Removes the ticket of a statement from the facts to which it refers. `last` are those of them that no other statement
-    /// uses, which are removed; `asked` are the names to which these lead. Allocates: no.
+    /// Removes the ticket of a statement from the facts to which it refers. `last` are those facts that no other statement
+    /// uses, which are removed; `asked` are the names to which the last facts lead. Allocates: no.
     pub fn remove_statement<L: Ledger>(
         &mut self,
         table: &NameTable,

@@ -147,7 +147,7 @@ fn add(askers: &mut HashMap<CheckKey, Vec<u64>>, key: &CheckKey, ticket: u64)
     }
 }
 
-// Adds a ticket as one that asks for the checks of a test, unless it is the last of these. Takes no memory.
+// For each check in a test, appends a ticket to the list of those that ask for it, unless it is already the last one there. Takes no memory.
 pub(crate) fn add_all(askers: &mut HashMap<CheckKey, Vec<u64>>, test: &Test, ticket: u64)
     requires { (q : CheckKey) → is_asked (check_keys test.now) q ≡ true → may_enter ticket (list_at askers.old.entries q) ≡ true }
     ensures tickets { (q : CheckKey) → askers_at askers.new.entries q ≡ with_last_if (is_asked (check_keys test.now) q) ticket (askers_at askers.old.entries q) }

@@ -11,6 +11,7 @@ use Rattle.cpe_rows.specs.declared.statement.Mode.{Mode}
 use Rattle.cpe_rows.specs.declared.statement.Mode.TheVariants.{Plain, Follow}
 use Rattle.cpe_rows.specs.declared.test.CheckKey.{CheckKey}
 use Rattle.cpe_rows.specs.declared.truth.Truth.{Truth}
+use Rattle.kept_facts.specs.Kept.{AreSound}
 use Rattle.fact_rows.specs.Facts.{differs, FactTable, is_fact, truth_of}
 use Rattle.facts.specs.Facts.{AreChanges, AreUsed, FactsNow, HasFacts, is_used, table_of}
 use Rattle.facts.specs.Room.{KeepsFacts}
@@ -74,10 +75,10 @@ module _ (same : SameTruths) (names : Names) (old new : FactsNow) (rows : Rows) 
 
 -- ---- verdicts after facts changed
 
-pub refreshed : SameTruths → Refreshes → (names : Names) (v : VerdictsNow) (new : FactsNow) (after : State) (rows next : Rows) → HasVerdicts names v rows → HasFacts names new next (tickets_in v.statements.rows) → AreUsed new
+pub refreshed : SameTruths → Refreshes → (names : Names) (v : VerdictsNow) (new : FactsNow) (after : State) (rows next : Rows) → HasVerdicts names v rows → HasFacts names new next (tickets_in v.statements.rows) → AreUsed new → AreSound new.boards
     → next.statements ≡ rows.statements → next.checks ≡ rows.checks → ((m : Mode) → AreChanges (table_of v.facts m) (table_of new m)) → after.rows ≡ at_tickets (users_of_all new) (judge (truths_in new) v.statements.checks) v.statements.rows → after.checks ≡ v.statements.checks
     → HasVerdicts names (record { facts = new; statements = after }) next
-refreshed same judged names v new after rows next h facts used statements checks changes is kept =
+refreshed same judged names v new after rows next h facts used sound statements checks changes is kept =
     let old_rows = v.statements.rows in
     let cs = v.statements.checks in
     let truth = truths_in new in
@@ -88,6 +89,7 @@ refreshed same judged names v new after rows next h facts used statements checks
       numbered = subst (AllByRecursion (IsNumbered names)) (sym is) (at_numbered truth cs ts names old_rows h.numbered);
       facts = subst (HasFacts names new next) (sym (ap tickets_in is ∙ at_map truth cs ts (λ (j : StatementRow). j.ticket) (λ j. refl) old_rows)) facts;
       used = used;
+      sound = sound;
       judged = judged (truths_in v.facts) truth ts v.statements after is kept h.judged (rows_same same names v.facts new next old_rows facts (h.statements ∙ sym statements) changes cs h.numbered);
     }
 
@@ -119,8 +121,8 @@ tables_same : (f new : FactsNow) → new.plain ≡ f.plain → new.follow ≡ f.
 tables_same f new plain follow Plain = plain
 tables_same f new plain follow Follow = follow
 
-pub roomier : (names : Names) (v : VerdictsNow) (new : FactsNow) (rows : Rows) → KeepsFacts v.facts new → new.plain ≡ v.facts.plain → new.follow ≡ v.facts.follow → HasVerdicts names v rows → HasVerdicts names (record { facts = new; statements = v.statements }) rows
-roomier names v new rows keeps plain follow h =
+pub roomier : (names : Names) (v : VerdictsNow) (new : FactsNow) (rows : Rows) → KeepsFacts v.facts new → new.plain ≡ v.facts.plain → new.follow ≡ v.facts.follow → AreSound new.boards → HasVerdicts names v rows → HasVerdicts names (record { facts = new; statements = v.statements }) rows
+roomier names v new rows keeps plain follow sound h =
     let same = tables_same v.facts new plain follow in
     record {
       statements = h.statements;
@@ -128,5 +130,6 @@ roomier names v new rows keeps plain follow h =
       numbered = h.numbered;
       facts = keeps names rows (tickets_in v.statements.rows) h.facts;
       used = λ mode id. subst (λ (t : FactTable). is_fact t id ≡ true → is_used t id ≡ true) (sym (same mode)) (h.used mode id);
+      sound = sound;
       judged = subst (λ (truth : FactTruths). AreJudged v.statements truth) (λ i mode q. truth_of (sym (same mode) i) q) h.judged;
     }

@@ -2,3 +2,5 @@ pub mod UserLemmas
 pub mod JudgeLemmas
 pub mod VerdictLemmas
 pub mod ResultLemmas
+pub mod TableLemmas
+pub mod EntryLemmas

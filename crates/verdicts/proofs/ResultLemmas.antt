@@ -13,7 +13,7 @@ use Rattle.level_board.specs.Board.{Board}
 use Rattle.fact_rows.specs.Facts.{FactTable}
 use Rattle.cpe_rows.specs.FactNames.{fact_names}
 use Rattle.fact_laws.specs.Shown.{names_at}
-use Rattle.kept_facts.specs.Kept.{AreLive}
+use Rattle.kept_facts.specs.Kept.{AreLive, AreSound}
 use Rattle.facts.specs.Facts.{AreUsed, FactsNow, FactsOf, HasFacts}
 use Rattle.statement_rows.specs.State.{AreJudged, State, StatementRow, without_verdict}
 use Rattle.verdicts.specs.Verdicts.{HasVerdicts, IsNumbered, statements_in, tickets_in, truths_in, VerdictsNow}
@@ -74,14 +74,15 @@ facts_over names f rows checks tickets s = record {
 }
 
 -- verdicts once a result changed, by which they were judged
-pub with_results : (names : Names) (v : VerdictsNow) (new : State) (next : Rows) → AllByRecursion (IsNumbered names) v.statements.rows → HasFacts names v.facts next (tickets_in v.statements.rows) → AreUsed v.facts → statements_in v ≡ next.statements
+pub with_results : (names : Names) (v : VerdictsNow) (new : State) (next : Rows) → AllByRecursion (IsNumbered names) v.statements.rows → HasFacts names v.facts next (tickets_in v.statements.rows) → AreUsed v.facts → AreSound v.facts.boards → statements_in v ≡ next.statements
     → map without_verdict new.rows ≡ map without_verdict v.statements.rows → new.checks ≡ next.checks → AreJudged new (truths_in v.facts) → HasVerdicts names (record { facts = v.facts; statements = new }) next
-with_results names v new next numbered facts used statements same checks judged = record {
+with_results names v new next numbered facts used sound statements same checks judged = record {
   statements = same_statements new.rows v.statements.rows same ∙ statements;
   checks = checks;
   numbered = numbered_still names v.statements.rows new.rows same numbered;
   facts = subst (HasFacts names v.facts next) (sym (same_tickets new.rows v.statements.rows same)) facts;
   used = used;
+  sound = sound;
   judged = judged;
 }
 

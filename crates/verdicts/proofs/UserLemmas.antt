@@ -60,7 +60,7 @@ name_among names (x ∷ ids) q h = elim (or_cases (nat_eq x.0 q) (has_end ids q)
   | inr later ↦ or_right (is_same (kept_at names q).name (kept_at names x.0).name) (list_any (is_same (kept_at names q).name) (names_at names ids)) (name_among names ids q later)
 ]
 
-refers_by : (names : Names) (mode : Mode) (s : Statement) (ids : List NameId) (q : ℕ) → s.mode ≡ mode → names_at names ids ≡ fact_names s.test → has_end ids q ≡ true → refers_to mode (kept_at names q).name s ≡ true
+pub refers_by : (names : Names) (mode : Mode) (s : Statement) (ids : List NameId) (q : ℕ) → s.mode ≡ mode → names_at names ids ≡ fact_names s.test → has_end ids q ≡ true → refers_to mode (kept_at names q).name s ≡ true
 refers_by names mode s ids q moded named has = λ i. (ap (same_mode mode) moded ∙ same_itself mode) i && (ap (list_any (is_same (kept_at names q).name)) (sym named) ∙ name_among names ids q has) i
 
 -- one of the numbers is live if all are

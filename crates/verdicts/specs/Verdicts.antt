@@ -1,16 +1,17 @@
 -- Verdicts (NIST IR 7698), and the rows of which they are.
-use Rattle.std.specs.Prelude.{◌≡◌, ℕ, List, map}
+use Rattle.std.specs.Prelude.{◌≡◌, ℕ, List, [], map}
 use Rattle.std.specs.List.{AllByRecursion, flat_map}
 use Rattle.name_index.specs.declared.table.NameId.{NameId}
 use Rattle.name_index.specs.Table.{Names}
 use Rattle.cpe_rows.specs.FactNames.{fact_names}
 use Rattle.cpe_rows.specs.Rows.{Rows}
+use Rattle.cpe_rows.specs.declared.entry.Entry.{Entry}
 use Rattle.cpe_rows.specs.declared.statement.Mode.{Mode}
 use Rattle.cpe_rows.specs.declared.statement.Statement.{Statement}
 use Rattle.cpe_rows.specs.declared.test.CheckKey.{CheckKey}
 use Rattle.cpe_rows.specs.declared.truth.Truth.{Truth}
 use Rattle.fact_laws.specs.Shown.{names_at}
-use Rattle.kept_facts.specs.Kept.{AreLive}
+use Rattle.kept_facts.specs.Kept.{AreLive, AreSound}
 use Rattle.fact_rows.specs.Facts.{truth_of, users_of}
 use Rattle.facts.specs.Facts.{AreUsed, FactsNow, HasFacts, table_of}
 use Rattle.statement_rows.specs.Readings.{FactTruths}
@@ -55,7 +56,13 @@ pub record HasVerdicts (names : Names) (v : VerdictsNow) (rows : Rows) : Type 0 
   pub numbered : AllByRecursion (IsNumbered names) v.statements.rows
   pub facts : HasFacts names v.facts rows (tickets_in v.statements.rows)
   pub used : AreUsed v.facts
+  -- the boards are right
+  pub sound : AreSound v.facts.boards
   pub judged : AreJudged v.statements (truths_in v.facts)
+
+-- rows that are these entries alone
+abbrev pub only_entries : List Entry → Rows
+only_entries es = record { entries = es; items = []; statements = []; checks = [] }
 
 -- what callers see of the statements is unchanged
 pub record SameStatements (old new : VerdictsNow) : Type 0 where

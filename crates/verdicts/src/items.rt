@@ -36,7 +36,9 @@ impl Verdicts {
             asked: 0,
             there: ends.len() as u32,
         };
-        self.facts.reserve(table, plain, follow)
+        let reserved = self.facts.reserve(table, plain, follow);
+        self.facts.lawful();
+        reserved
     }
 
     /// Adds an item with these ends. Allocates: no.
@@ -57,6 +59,7 @@ impl Verdicts {
         statement_rows::law::refreshes_judge();
         statement_rows::law::same_truths_judge_the_same();
         self.facts.add_item(table, item, ends, steps);
+        self.facts.lawful();
         refresh(&mut self.statements, &self.facts);
     }
 
@@ -78,6 +81,7 @@ impl Verdicts {
         statement_rows::law::refreshes_judge();
         statement_rows::law::same_truths_judge_the_same();
         self.facts.remove_item(table, item, ends, steps);
+        self.facts.lawful();
         refresh(&mut self.statements, &self.facts);
     }
 }

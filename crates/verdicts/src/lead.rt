@@ -41,6 +41,7 @@ impl Verdicts {
         self.facts.lead(
             table, items_from, items_to, facts_from, facts_to, led, steps,
         );
+        self.facts.lawful();
         refresh(&mut self.statements, &self.facts);
     }
 }

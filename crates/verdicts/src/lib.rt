@@ -6,6 +6,7 @@
 #![tactic(auto)]
 
 mod items;
+pub mod law;
 mod lead;
 mod refresh;
 mod results;

@@ -40,8 +40,10 @@ impl Verdicts {
     pub fn new(alloc: Global) -> Verdicts
         ensures { (names : Names) → HasVerdicts names result no_rows }
     {
+        let facts = Facts::new(alloc);
+        facts.lawful();
         Verdicts {
-            facts: Facts::new(alloc),
+            facts,
             statements: StatementRows::new(alloc),
         }
     }

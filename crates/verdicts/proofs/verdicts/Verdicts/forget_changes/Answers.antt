@@ -23,6 +23,7 @@ returns-clause-verdicts c names rows stood =
       numbered = subst (AllByRecursion (IsNumbered names)) (sym is) (forget_numbered names js h.numbered);
       facts = subst (HasFacts names v.facts rows) (sym (ap tickets_in is ∙ forget_map (λ (j : StatementRow). j.ticket) (λ j. refl) js)) h.facts;
       used = h.used;
+      sound = h.sound;
       judged = subst (λ (xs : List (CheckKey × Truth)). AllByRecursion (λ j. judge truth xs j ≡ j) c.forget_changes.new.self.rows) (sym kept)
           (subst (AllByRecursion (λ j. judge truth v.statements.checks j ≡ j)) (sym is) (forget_judged truth v.statements.checks js h.judged));
     }

@@ -8,12 +8,13 @@ use Rattle.verdicts.proofs.verdicts.Verdicts.new.Goals as goal
 
 pub returns : goal.returns
 returns c names =
-    let none = c.new-2.ensures.rows in
+    let none = c.new.ensures.rows in
     record {
       statements = ap (map (λ (j : StatementRow). j.statement)) none;
-      checks = c.new-2.ensures.checks;
+      checks = c.new.ensures.checks;
       numbered = subst (AllByRecursion (IsNumbered names)) (sym none) tt;
-      facts = subst (HasFacts names c.new.result no_rows) (sym (ap tickets_in none)) (c.new.ensures.facts names);
-      used = c.new.ensures.used;
-      judged = subst (AllByRecursion (λ (j : StatementRow). judge (truths_in c.new.result) c.new-2.result.checks j ≡ j)) (sym none) tt;
+      facts = subst (HasFacts names c.new-facts.result no_rows) (sym (ap tickets_in none)) (c.new-facts.ensures.facts names);
+      used = c.new-facts.ensures.used;
+      sound = c.lawful.ensures;
+      judged = subst (AllByRecursion (λ (j : StatementRow). judge (truths_in c.new-facts.result) c.new.result.checks j ≡ j)) (sym none) tt;
     }

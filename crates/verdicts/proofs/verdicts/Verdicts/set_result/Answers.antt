@@ -11,7 +11,7 @@ returns-clause-ok c names rows stood =
     let h = subst (λ (w : VerdictsNow). HasVerdicts names w rows) (sym c.self.view_is) stood in
     let e = c.set_result.ensures in
     on_ok c.set_result.result e.ok
-    (λ checks. with_results names v c.set_result.new.self (after rows (edit.SetCheck c.args.key c.args.truth)) h.numbered (facts_over names v.facts rows (with_check c.args.key c.args.truth rows.checks) (tickets_in v.statements.rows) h.facts) h.used h.statements e.same (checks ∙ ap (with_check c.args.key c.args.truth) h.checks) (e.judged h.judged))
+    (λ checks. with_results names v c.set_result.new.self (after rows (edit.SetCheck c.args.key c.args.truth)) h.numbered (facts_over names v.facts rows (with_check c.args.key c.args.truth rows.checks) (tickets_in v.statements.rows) h.facts) h.used h.sound h.statements e.same (checks ∙ ap (with_check c.args.key c.args.truth) h.checks) (e.judged h.judged))
 
 pub returns-clause-statements : goal.returns-clause-statements
 returns-clause-statements c = same_statements c.set_result.new.self.rows c.self.inside.statements.rows c.set_result.ensures.same ∙ ap statements_in c.self.view_is
