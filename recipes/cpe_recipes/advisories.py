@@ -32,6 +32,7 @@ from dataclasses import dataclass, field
 
 from . import cve5, latest, whole
 from .feeds import FormFault, Json, Page, Placed, member, members, record_text, text_at
+from .portions import MOST
 from .program import Candidate, Program, candidate_at, refusals
 from .said import Fatal, Output, Said, quoted, write_file
 from .scores import score_of
@@ -48,7 +49,7 @@ MOST_PARTS = 1_000
 # Of nodes in one another, so that the tests of a statement aren't more than cpe takes.
 MOST_NODES_DEEP = 20
 
-_BOUNDS = {
+BOUNDS = {
     "versionStartIncluding": "from",
     "versionStartExcluding": "behind",
     "versionEndIncluding": "to",
@@ -56,7 +57,7 @@ _BOUNDS = {
 }
 _BOUND = re.compile(r"[!-~]{1,256}")
 _PART = re.compile(r"#\d+$")
-_SCORES = ("cvssMetricV40", "cvssMetricV31", "cvssMetricV30", "cvssMetricV2")
+SCORES = ("cvssMetricV40", "cvssMetricV31", "cvssMetricV30", "cvssMetricV2")
 
 Test = dict[str, Json]
 
@@ -114,7 +115,7 @@ class Match:
 
     @staticmethod
     def of(match: Json) -> Match:
-        bounds = {word: text_at(match, name) for name, word in _BOUNDS.items()}
+        bounds = {word: text_at(match, name) for name, word in BOUNDS.items()}
         given = {word: bound for word, bound in bounds.items() if bound is not None}
         criteria, doubt = text_at(match, "criteria"), text_at(match, cve5.DOUBT) or ""
         return Match(text_at(match, "matchCriteriaId"), criteria, _flag(match, "vulnerable"), given, doubt)
@@ -505,7 +506,7 @@ def _score(cve: Json) -> dict[str, Json]:
 
 def _metrics(cve: Json) -> Iterator[tuple[bool, int, Json, Json]]:
     """Of each metric whether it is of another source than NVD, the place of its version of CVSS, its score and severity."""
-    for place, version in enumerate(_SCORES):
+    for place, version in enumerate(SCORES):
         for metric in _found(lambda: members(member(cve, "metrics") or {}, version)) or []:
             data = _found(lambda: member(metric, "cvssData"))
             if isinstance(data, dict) and "baseScore" in data:
@@ -526,7 +527,10 @@ def run(words: Sequence[str]) -> int:
     feed = whole.pages(read.files, said, KINDS, reading=whole.Reading.of(read))
     found = convert(feed, program, said, read.has("--ranges"))
     found.tell_empty_pages(said)
-    output.lines(program.accepted(found.candidates, said))
+    records = program.accepted_statements(found.candidates, said)
+    if len(records) > MOST.statements:
+        said.remark(f"{len(records):,} statements are more than cpe takes at once, {MOST.statements:,}; products.sh cuts them, scan.py asks in portions")
+    output.lines(records)
     ranges, details_to = read.one("--ranges"), read.one("--details")
     if ranges is not None:
         write_file(ranges, [record_text(one.record()) for one in found.ranges.values()])

@@ -12,18 +12,17 @@ import json
 from collections.abc import Iterable, Iterator, Mapping, Sequence
 from dataclasses import dataclass, field
 
-from . import names
+from . import names, verdicts
 from .advisories import Range
 from .asked import OF_DEVICES, PARTS, Negated, asked_of, range_of
 from .called import Called, Sure
 from .calling import Wanted
 from .decide import Decided, Leads, check_record, drop_record
 from .feeds import Json, record_text
+from .near_products import NearProducts, Product, key_of, keys_of
+from .portions import portions, size_of
 from .said import Fatal
 
-Product = tuple[str, str]
-# In place of the products of items that have a pattern there.
-_OPEN: Product = ("", "")
 # An item or several, and results of checks, over which a statement is asked.
 Items = tuple[str, ...]
 Results = tuple[tuple[str, bool], ...]
@@ -62,13 +61,18 @@ class Statement:
 @dataclass
 class Known:
     """What the feeds tell, and what is known of the names in them and of the items. `asked` are the statements as they are asked, and
-    `negated` is what is negated there."""
+    `negated` is what is negated there.
+
+    `elsewhere` are advisories that are FALSE on each machine without being asked for, since they name no product that is here, each with
+    whether all its names are of operating systems. Then `order` has the ids of all advisories, in the order of the feeds."""
 
     entries: list[str]
     records: list[str]
     ranges: Mapping[str, Range]
     details: dict[str, dict[str, Json]]
     stand_ins: Mapping[str, str]
+    elsewhere: Mapping[str, bool] = field(default_factory=dict)
+    order: Sequence[str] = ()
     statements: list[Statement] = field(init=False)
     asked: list[str] = field(init=False)
     negated: dict[str, Negated] = field(init=False)
@@ -80,6 +84,15 @@ class Known:
             self.statements.append(Statement.of(value, self.ranges))
             self.asked.append(record_text(value))
 
+    def verdicts(self) -> verdicts.Statements:
+        """All that machines have verdicts of, asked for or not."""
+        return verdicts.Statements([*(statement.id for statement in self.statements), *self.elsewhere])
+
+    def advisories(self) -> list[str]:
+        """The ids of the advisories that have verdicts, in the order of the feeds."""
+        found = self.verdicts().advisories
+        return list(dict.fromkeys([*(id for id in self.order if id in found), *found]))
+
     def facts(self) -> list[str]:
         """The names that statements and ranges ask for."""
         facts = [fact for statement in self.statements for fact in statement.facts]
@@ -90,19 +103,15 @@ class Index:
     """The statements by vendor and product of their facts, and by their ranges."""
 
     def __init__(self, known: Known, leads: Leads) -> None:
-        self._by_product: dict[Product, list[int]] = {}
+        self._near: NearProducts[int] = NearProducts()
         self._by_range: dict[str, list[int]] = {}
-        self._of_all_products: list[int] = []
         # (of each statement the products that its facts may fit, and whether these are all)
         self._products: list[tuple[set[Product], bool]] = []
         self._wanted: list[Wanted] = []
         for place, statement in enumerate(known.statements):
             facts = [leads.found[fact].name for fact in statement.facts]
             plain, is_all = _products(facts)
-            for product in plain:
-                self._by_product.setdefault(product, []).append(place)
-            if is_all:
-                self._of_all_products.append(place)
+            self._near.put(place, plain, is_all)
             negated = [known.negated[key] for key in statement.checks if key in known.negated]
             for key in (*statement.ranges, *(one.key for one in negated)):
                 self._by_range.setdefault(key, []).append(place)
@@ -113,9 +122,7 @@ class Index:
 
     def concerned(self, products: Iterable[Product], decided: Decided) -> list[int]:
         """The places of the statements that may have another verdict than without items of these products, in order."""
-        found = set(self._of_all_products)
-        for product in products:
-            found.update(range(len(self._products)) if product == _OPEN else self._by_product.get(product, ()))
+        found = self._near.near(products)
         for key in [*(key for key, is_inside in decided.truths.items() if is_inside), *decided.unsure]:
             found.update(self._by_range.get(key, ()))
         return sorted(found)
@@ -130,7 +137,8 @@ class Index:
         products, is_all = self._products[place]
         if is_all:
             return all_items
-        found = [by_product[product] for product in (*products, _OPEN) if product in by_product]
+        keys = dict.fromkeys(key for product in products for key in keys_of(product))
+        found = [by_product[key] for key in keys if key in by_product]
         # (mostly it is one product)
         return found[0] if len(found) == 1 else tuple(sorted({item for items in found for item in items}))
 
@@ -143,17 +151,11 @@ def _products(facts: Iterable[str]) -> tuple[set[Product], bool]:
 
 
 def _by_product(called: Iterable[Called]) -> dict[Product, Items]:
-    """Names by their products, in order."""
+    """Names by the keys of their products, in order."""
     found: dict[Product, set[str]] = {}
     for one in called:
-        found.setdefault(_product_of(one.name), set()).add(one.name)
+        found.setdefault(key_of(names.product_of(one.name)), set()).add(one.name)
     return {product: tuple(sorted(items)) for product, items in found.items()}
-
-
-def _product_of(end: str) -> Product:
-    """The vendor and product of an end."""
-    product = names.product_of(end)
-    return _OPEN if any(map(names.has_special, product)) else product
 
 
 class Cases:
@@ -192,22 +194,29 @@ def _unsaid(called: Iterable[Called]) -> dict[Product, frozenset[int]]:
     found: dict[Product, frozenset[int]] = {}
     for one in called:
         if one.sure is Sure.LESS:
-            product = _product_of(one.name)
+            product = names.product_of(one.name)
             found[product] = found.get(product, frozenset()) | one.lacks
     return found
 
 
-def lines_of(known: Known, cases: Iterable[tuple[Items, Results, int, int]]) -> Iterator[str]:
-    """All that is known, a question for each statement, and then the cases: the statement of each, over its items and results.
+def portions_of(known: Known) -> Iterator[range]:
+    """The places of the statements, in portions that cpe takes at once."""
+    negated = (sum(key in known.negated for key in statement.checks) for statement in known.statements)
+    return portions(size_of(line, checks) for line, checks in zip(known.asked, negated))
+
+
+def lines_of(known: Known, portion: range, cases: Iterable[tuple[Items, Results, int, int]]) -> Iterator[str]:
+    """The statements of a portion, a question for each, and then the cases of these: the statement of each, over its items and results.
 
     No entry is among it: in mode plain nothing is led on.
     """
-    yield from known.asked
-    asks = [record_text({"do": "verdict", "id": statement.id}) for statement in known.statements]
+    yield from (known.asked[place] for place in portion)
+    asks = {place: record_text({"do": "verdict", "id": known.statements[place].id}) for place in portion}
     # (where nothing is, nothing is there of what is negated, nor of any part)
-    nothing = [*known.negated, *PARTS.values(), *OF_DEVICES.values()]
+    negated = dict.fromkeys(key for place in portion for key in known.statements[place].checks if key in known.negated)
+    nothing = [*negated, *PARTS.values(), *OF_DEVICES.values()]
     yield from (check_record(key, False) for key in nothing)
-    yield from asks
+    yield from asks.values()
     yield from (drop_record(key) for key in nothing)
     here: Items = ()
     for items, results, place, _ in cases:

@@ -32,6 +32,7 @@ from .components import Component, Machine
 from .feeds import FeedFault, FormFault, name_of, read_feed, record_text, text_lines, values_of
 from .machines import read_machines
 from .naming import name_machines, read_names
+from .near_products import Product, key_of, keys_of
 from .program import Program
 from .readings import without_v
 from .said import Fatal, Output, Said
@@ -322,25 +323,20 @@ def items_met(program: Program, items: Iterable[str], facts: Iterable[str]) -> t
 
 
 class _Near:
-    """Ends by vendor and product. One whose vendor or product is a pattern is near to every fact."""
+    """Ends by vendor and product, of which an end may have a pattern."""
 
     def __init__(self, ends: Iterable[str]) -> None:
         self._all = list(ends)
-        self._patterns: list[str] = []
-        self._by_product: dict[tuple[str, str], list[str]] = {}
+        self._by_product: dict[Product, list[str]] = {}
         for end in self._all:
-            product = names.product_of(end)
-            if any(map(names.has_special, product)):
-                self._patterns.append(end)
-            else:
-                self._by_product.setdefault(product, []).append(end)
+            self._by_product.setdefault(key_of(names.product_of(end)), []).append(end)
 
     def ends(self, fact: str) -> list[str]:
         """Those that this name may cover; all where its vendor or product isn't plain."""
         product = names.product_of(fact)
         if not all(map(names.is_plain, product)):
             return self._all
-        return [*self._by_product.get(product, ()), *self._patterns]
+        return [end for key in keys_of(product) for end in self._by_product.get(key, ())]
 
 
 @dataclass(frozen=True)

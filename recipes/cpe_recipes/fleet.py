@@ -16,7 +16,7 @@ from .feeds import FeedFault, name_of, read_feed, record_text
 from .machines import read_machines
 from .naming import name_machines, read_names
 from .negations import Negations, has_hardware
-from .program import Program
+from .program import FULL, Program
 from .said import Fatal, Said
 from .session import Asked, Known
 from .versions import read_letters
@@ -77,6 +77,8 @@ def read_records(program: Program, path: str, said: Said) -> Records:
     for line in answers[:table]:
         if line.startswith("refused "):
             _, refused, reason = line.split(" ", 2)
+            if reason.startswith(FULL):
+                raise Fatal(f"{feed} line {refused}: cpe takes no more at once: {reason}; products.sh cuts advisories to those of the machines")
             said.left_out(f"{feed} line {refused}", reason)
     statements = [line.split(" ")[1] for line in answers[table + 1 :]]
     if not statements:

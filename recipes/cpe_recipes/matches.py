@@ -1,10 +1,14 @@
 """The match feed of NVD's API 2.0 (/rest/json/cpematch/2.0, matchStrings): of a match, which names of the dictionary it has."""
 from __future__ import annotations
 
+import contextlib
 from collections.abc import Collection, Iterable
 
+from . import names
 from .feeds import FormFault, Json, Page, member, members, text_at
 from .latest import time_of
+from .near_products import Product, key_of
+from .product_index import as_formatted
 from .said import Fatal, Said
 
 KINDS = ("matchStrings",)
@@ -29,21 +33,46 @@ def listed(feed: Iterable[Page], wanted: Collection[str], said: Said) -> dict[st
         raise Fatal(f"no matchStrings are in {', '.join(empty_pages)}")
     for name in empty_pages:
         said.remark(f"{name}: no matchStrings in it")
-    return {id: names for id, (_, names) in found.items()}
+    return {id: listed for id, (_, listed) in found.items()}
+
+
+def products_beside(feed: Iterable[Page], wanted: Collection[Product]) -> set[Product]:
+    """The products of the matches whose lists have a name of these products, as keys of near_products.py. An item that is listed for a
+    match has the name of the match too, which may be of another product."""
+    found: set[Product] = set()
+    for page in feed:
+        for record in page.records:
+            with contextlib.suppress(FormFault):
+                match_string = member(record, "matchString")
+                beside = _key(text_at(match_string, "criteria") or "")
+                if beside is not None and any(_is_of(name, wanted) for name in _names(match_string)):
+                    found.add(beside)
+    return found
+
+
+def _is_of(name: str, wanted: Collection[Product]) -> bool:
+    key = _key(name)
+    return key is None or key in wanted
+
+
+def _key(name: str) -> Product | None:
+    """The key of the product of a name as it is written; None if it is none."""
+    parts = names.components(as_formatted(name) or names.PREFIX)
+    return key_of((parts[names.VENDOR], parts[names.PRODUCT])) if len(parts) > names.PRODUCT else None
 
 
 def _put(found: dict[str, tuple[Json, list[str]]], id: str, match_string: Json) -> None:
     """Puts the names of a match. Of one that comes again the later list counts; those of the same time are joined."""
-    names = _names(match_string)
+    listed = _names(match_string)
     # (a list changes when the dictionary does, and its match needn't)
     modified = max((member(match_string, key) for key in ("lastModified", "cpeLastModified")), key=time_of)
     known = found.get(id)
     if known is None or time_of(modified) > time_of(known[0]):
-        found[id] = modified, names
+        found[id] = modified, listed
     elif time_of(modified) == time_of(known[0]):
-        known[1].extend(names)
+        known[1].extend(listed)
 
 
 def _names(match_string: object) -> list[str]:
-    names = [text_at(one, "cpeName") for one in members(match_string, "matches")]
-    return [name for name in names if name]
+    found = [text_at(one, "cpeName") for one in members(match_string, "matches")]
+    return [name for name in found if name]

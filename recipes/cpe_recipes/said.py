@@ -149,6 +149,13 @@ class Noting(Said):
         ]
 
 
+class Mute(Said):
+    """Says nothing, if what is read is said elsewhere."""
+
+    def _say(self, line: str, is_whole: bool = False) -> None:
+        pass
+
+
 class Output:
     """What goes to standard output. It is gathered, so that nothing stands written where the result comes to no end."""
 

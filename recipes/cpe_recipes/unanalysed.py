@@ -19,12 +19,10 @@ _NO_STATUS = "of no status"
 
 @dataclass
 class States:
-    """The advisories without verdicts, by their ids, and those that are FALSE without being asked for, since they name no product that is
-    here."""
+    """The advisories without verdicts, by their ids."""
 
     unanalysed: dict[str, str] = field(default_factory=dict)
     rejected: dict[str, None] = field(default_factory=dict)
-    elsewhere: dict[str, None] = field(default_factory=dict)
 
     def sort(self, pages: Iterable[Page]) -> list[Page]:
         """The pages with those alone that can have a verdict, or that can't be read. The others are noted."""
@@ -50,11 +48,6 @@ class States:
             return False
         return True
 
-    def put_elsewhere(self, pages: Iterable[Page], kept: Iterable[Page]) -> None:
-        """Notes those of the pages that aren't among the kept."""
-        here = {id for page in kept for id in _ids(page)}
-        self.elsewhere.update(dict.fromkeys(id for page in pages for id in _ids(page) if id not in here))
-
     def drop(self, ids: Iterable[str]) -> None:
         """Drops those that have a verdict all the same, since they come more than once."""
         for id in ids:
@@ -77,14 +70,17 @@ class States:
         by_status: dict[str, list[str]] = {}
         for id, status in self.unanalysed.items():
             by_status.setdefault(status, []).append(id)
-        return {"asked": [*asked, *self.elsewhere], "notAnalysed": by_status, "rejected": list(self.rejected)}
+        return {"asked": list(asked), "notAnalysed": by_status, "rejected": list(self.rejected)}
 
 
-def _ids(page: Page) -> Iterator[str]:
-    return (id for id in map(_id, page.records) if id is not None)
+def is_rejected(record: Json) -> bool:
+    """Whether a record is that of an advisory that was rejected."""
+    cve = record.get("cve") if isinstance(record, dict) else None
+    return isinstance(cve, dict) and cve.get("vulnStatus") == REJECTED
 
 
-def _id(record: Json) -> str | None:
+def id_of(record: Json) -> str | None:
+    """The id of an advisory, if it has one."""
     cve = record.get("cve") if isinstance(record, dict) else None
     id = cve.get("id") if isinstance(cve, dict) else None
     return id if isinstance(id, str) and id else None

@@ -59,6 +59,10 @@ class Reading:
     def of(words: Words) -> Reading:
         return Reading(words.has("--partial"), LARGE if words.has("--large") else TOLD_LIMITS)
 
+    def again(self) -> Reading:
+        """The same way to read, for a feed of which is told elsewhere what is missing."""
+        return Reading(self.is_partial, self.limits)
+
     def doubts(self) -> list[str]:
         """Why a verdict that is FALSE could be another one: names may lead elsewhere, and matches may list more. (An advisory that is
         missing has no verdict.)"""

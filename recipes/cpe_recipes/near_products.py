@@ -1,0 +1,73 @@
+"""Which items a fact may cover, by their vendors and products alone.
+
+A fact of a plain vendor and product may cover items of the same ones. Of an item that is known in part the vendor or the product may be
+a pattern, and then that may be any: so it may be covered by each fact of the same product, or of the same vendor, and of no other one.
+Only if both are patterns may every fact cover it.
+"""
+from __future__ import annotations
+
+from collections.abc import Iterable, Iterator
+from typing import Generic, TypeVar
+
+from . import names
+
+Product = tuple[str, str]
+# In place of a vendor or product that is a pattern.
+_OPEN = ""
+What = TypeVar("What")
+
+
+def key_of(product: Product) -> Product:
+    """The vendor and product of an item, each of them open if it is a pattern."""
+    vendor, name = product
+    return (_OPEN if names.has_special(vendor) else vendor, _OPEN if names.has_special(name) else name)
+
+
+def keys_of(product: Product) -> tuple[Product, ...]:
+    """The keys of the items that a fact of this plain vendor and product may cover."""
+    vendor, name = product
+    return product, (_OPEN, name), (vendor, _OPEN), (_OPEN, _OPEN)
+
+
+class NearProducts(Generic[What]):
+    """What has facts, such as statements, by the vendors and products of these."""
+
+    def __init__(self) -> None:
+        self._all: list[What] = []
+        self._of_any: list[What] = []
+        self._by_product: dict[Product, list[What]] = {}
+        # (mostly no item is a pattern, so these are made when one is)
+        self._by_vendor: dict[str, list[Product]] | None = None
+        self._by_name: dict[str, list[Product]] = {}
+
+    def put(self, what: What, products: Iterable[Product], is_of_any: bool) -> None:
+        """Puts something with facts of these plain products, and perhaps with a fact whose vendor or product isn't plain."""
+        self._all.append(what)
+        for product in products:
+            self._by_product.setdefault(product, []).append(what)
+        if is_of_any:
+            self._of_any.append(what)
+        self._by_vendor = None
+
+    def near(self, keys: Iterable[Product]) -> set[What]:
+        """What has a fact that may cover an item of these keys."""
+        found = set(self._of_any)
+        for key in keys:
+            if key == (_OPEN, _OPEN):
+                return set(self._all)
+            for product in self._products(key):
+                found.update(self._by_product.get(product, ()))
+        return found
+
+    def _products(self, key: Product) -> Iterator[Product]:
+        """The products whose facts may cover an item of this key."""
+        vendor, name = key
+        if vendor != _OPEN and name != _OPEN:
+            yield key
+            return
+        if self._by_vendor is None:
+            self._by_vendor, self._by_name = {}, {}
+            for product in self._by_product:
+                self._by_vendor.setdefault(product[0], []).append(product)
+                self._by_name.setdefault(product[1], []).append(product)
+        yield from self._by_name.get(name, ()) if vendor == _OPEN else self._by_vendor.get(vendor, ())
