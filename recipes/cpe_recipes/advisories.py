@@ -36,11 +36,13 @@ from .portions import MOST
 from .program import Candidate, Program, candidate_at, refusals
 from .said import Fatal, Output, Said, quoted, write_file
 from .scores import score_of
-from .unanalysed import States
+from .unanalysed import States, id_of
 from .words import ONE, read_words
 
 USAGE = "advisories.sh [--ranges FILE] [--details FILE] [--partial] [--large] [FILE..]"
 KINDS = ("vulnerabilities",)
+# What one that has no id is called, before its place.
+CALLED = "vulnerability"
 SYSTEM, MATCH, CONFIGURATION = "NVD", "cpeMatch", "configuration"
 MOST_BYTES = 65_536
 _ROOM_TO_ASK = 4_096
@@ -242,7 +244,7 @@ def convert(
     states = states or States()
     of_ids: dict[str, list[Placed]] = {}
     for page in states.sort(latest.advisories(found, said)):
-        for placed in page.each("vulnerability", lambda it: text_at(member(it, "cve"), "id")):
+        for placed in page.each(CALLED, lambda it: text_at(member(it, "cve"), "id")):
             of_ids.setdefault(placed.id, []).append(placed)
     states.drop(of_ids)
     states.tell(said)
@@ -251,6 +253,11 @@ def convert(
     for of_id in of_ids.values():
         converter.take(of_id)
     return converter.found
+
+
+def ids_in_order(pages: Iterable[Page]) -> list[str]:
+    """What the advisories of pages are called."""
+    return [placed.id for page in pages for placed in page.each(CALLED, id_of)]
 
 
 def _bad_names(vulnerabilities: Iterable[Json], program: Program) -> dict[str, str]:
@@ -276,6 +283,14 @@ def _all_matches(vulnerability: Json) -> Iterator[Json]:
                 waiting.extend(members(node, "children"))
     except FormFault:
         return
+
+
+def names_beside_negation(vulnerability: Json) -> Iterator[str]:
+    """The names of an advisory in which something is negated. FormFault if it isn't of the published form."""
+    for configuration in members(member(vulnerability, "cve"), "configurations"):
+        nodes = members(configuration, "nodes")
+        if member(configuration, "negate") or any(member(node, "negate") or member(node, "children") for node in nodes):
+            yield from (name for match in _all_matches(vulnerability) if (name := text_at(match, "criteria")) is not None)
 
 
 class _Converter:

@@ -20,12 +20,18 @@ from .scores import score_of
 _TEXT = r"(?:[a-z0-9._\-]|\\[!\"#$%&'()+,/:;<=>@\[\]^`{|}~])+"
 _PLAIN = rf"(?!-:){_TEXT}"
 _ANY = rf"(?:\*|{_TEXT})"
-_NAME = re.compile(rf"cpe:2\.3:([aho]):({_PLAIN}):({_PLAIN}):{_ANY}:{_ANY}:{_ANY}:[*-]:{_ANY}:{_ANY}:{_ANY}:{_ANY}")
+_NAME = re.compile(rf"cpe:2\.3:([aho]):({_PLAIN}):({_PLAIN}):{_ANY}:{_ANY}:{_ANY}:(?:[*-]|[a-z]{{2,3}}):{_ANY}:{_ANY}:{_ANY}:{_ANY}")
 # (a number behind # is that of a part of an advisory)
 _ID = re.compile(r"[!-\"$-~]{1,64}")
 _BOUNDS_OF_A_KIND = (("versionStartIncluding", "versionStartExcluding"), ("versionEndIncluding", "versionEndExcluding"))
 # From so many bytes on logic may have to be taken apart, so that its parts fit in lines.
 _MOST_BYTES, _BYTES_BESIDE = 40_000, 160
+
+
+def plain_name(name: str) -> tuple[str, Product] | None:
+    """The part and the product of a name that is spelled as cpe writes it, or in other letter case; None of any other name."""
+    found = _NAME.fullmatch(name.lower()) if name.isascii() else None
+    return (found[1], (found[2], found[3])) if found else None
 
 
 class _Odd(Exception):
@@ -98,18 +104,18 @@ class _Reading:
 
     def _match(self, match: Json) -> tuple[str, bool]:
         """The part of the name of a match, and whether it is vulnerable."""
-        criteria = match["criteria"]
-        found = _NAME.fullmatch(criteria.lower()) if criteria.isascii() else None
+        found = plain_name(match["criteria"])
         key, is_vulnerable = match.get("matchCriteriaId"), match.get("vulnerable", False)
-        _needs(found is not None and isinstance(is_vulnerable, bool) and cve5.DOUBT not in match)
+        if found is None or not isinstance(is_vulnerable, bool) or cve5.DOUBT in match:
+            raise _Odd
         _needs(key is None or isinstance(key, str))
         for one, other in _BOUNDS_OF_A_KIND:
             _needs(match.get(one) is None or match.get(other) is None)
         _needs(all(is_bound(match[name]) for name in BOUNDS if match.get(name) is not None))
-        part, vendor, product = found.groups()
-        self._bytes += 2 * len(found[0]) + len(key or "") + _BYTES_BESIDE
+        part, product = found
+        self._bytes += 2 * len(match["criteria"]) + len(key or "") + _BYTES_BESIDE
         if is_vulnerable:
-            self.products.add((vendor, product))
+            self.products.add(product)
         return part, is_vulnerable
 
 

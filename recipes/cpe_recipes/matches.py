@@ -44,28 +44,31 @@ def products_beside(feed: Iterable[Page], wanted: Collection[Product]) -> set[Pr
         for record in page.records:
             with contextlib.suppress(FormFault):
                 match_string = member(record, "matchString")
-                beside = _key(text_at(match_string, "criteria") or "")
-                if beside is not None and any(_is_of(name, wanted) for name in _names(match_string)):
+                beside = key_of_name(text_at(match_string, "criteria") or "")
+                if beside is not None and any(_is_of(name, wanted) for name in names_of(match_string)):
                     found.add(beside)
     return found
 
 
 def _is_of(name: str, wanted: Collection[Product]) -> bool:
-    key = _key(name)
+    key = key_of_name(name)
     return key is None or key in wanted
 
 
-def _key(name: str) -> Product | None:
+def key_of_name(name: str) -> Product | None:
     """The key of the product of a name as it is written; None if it is none."""
     parts = names.components(as_formatted(name) or names.PREFIX)
     return key_of((parts[names.VENDOR], parts[names.PRODUCT])) if len(parts) > names.PRODUCT else None
 
 
+def modified_of(match_string: Json) -> Json:
+    """When the list of a match was modified. (It changes when the dictionary does, and its match needn't.)"""
+    return max((member(match_string, key) for key in ("lastModified", "cpeLastModified")), key=time_of)
+
+
 def _put(found: dict[str, tuple[Json, list[str]]], id: str, match_string: Json) -> None:
     """Puts the names of a match. Of one that comes again the later list counts; those of the same time are joined."""
-    listed = _names(match_string)
-    # (a list changes when the dictionary does, and its match needn't)
-    modified = max((member(match_string, key) for key in ("lastModified", "cpeLastModified")), key=time_of)
+    listed, modified = names_of(match_string), modified_of(match_string)
     known = found.get(id)
     if known is None or time_of(modified) > time_of(known[0]):
         found[id] = modified, listed
@@ -73,6 +76,6 @@ def _put(found: dict[str, tuple[Json, list[str]]], id: str, match_string: Json) 
         known[1].extend(listed)
 
 
-def _names(match_string: object) -> list[str]:
+def names_of(match_string: object) -> list[str]:
     found = [text_at(one, "cpeName") for one in members(match_string, "matches")]
     return [name for name in found if name]

@@ -13,20 +13,20 @@ from . import names
 
 Product = tuple[str, str]
 # In place of a vendor or product that is a pattern.
-_OPEN = ""
+OPEN = ""
 What = TypeVar("What")
 
 
 def key_of(product: Product) -> Product:
     """The vendor and product of an item, each of them open if it is a pattern."""
     vendor, name = product
-    return (_OPEN if names.has_special(vendor) else vendor, _OPEN if names.has_special(name) else name)
+    return (OPEN if names.has_special(vendor) else vendor, OPEN if names.has_special(name) else name)
 
 
 def keys_of(product: Product) -> tuple[Product, ...]:
     """The keys of the items that a fact of this plain vendor and product may cover."""
     vendor, name = product
-    return product, (_OPEN, name), (vendor, _OPEN), (_OPEN, _OPEN)
+    return product, (OPEN, name), (vendor, OPEN), (OPEN, OPEN)
 
 
 class NearProducts(Generic[What]):
@@ -53,7 +53,7 @@ class NearProducts(Generic[What]):
         """What has a fact that may cover an item of these keys."""
         found = set(self._of_any)
         for key in keys:
-            if key == (_OPEN, _OPEN):
+            if key == (OPEN, OPEN):
                 return set(self._all)
             for product in self._products(key):
                 found.update(self._by_product.get(product, ()))
@@ -62,7 +62,7 @@ class NearProducts(Generic[What]):
     def _products(self, key: Product) -> Iterator[Product]:
         """The products whose facts may cover an item of this key."""
         vendor, name = key
-        if vendor != _OPEN and name != _OPEN:
+        if vendor != OPEN and name != OPEN:
             yield key
             return
         if self._by_vendor is None:
@@ -70,4 +70,4 @@ class NearProducts(Generic[What]):
             for product in self._by_product:
                 self._by_vendor.setdefault(product[0], []).append(product)
                 self._by_name.setdefault(product[1], []).append(product)
-        yield from self._by_name.get(name, ()) if vendor == _OPEN else self._by_vendor.get(vendor, ())
+        yield from self._by_name.get(name, ()) if vendor == OPEN else self._by_vendor.get(vendor, ())

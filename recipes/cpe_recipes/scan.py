@@ -1,6 +1,6 @@
 """The whole way, from feeds and what machines have to the advisories that concern each machine.
 
-    python3 scan.py --dictionary FILE.. | --records FILE.. --advisories FILE.. [--matches FILE..]
+    python3 scan.py --store FOLDER | --dictionary FILE.. --advisories FILE.. [--matches FILE..] | --records FILE.. --advisories FILE.. [..]
         --machines FILE | --lists FILE.. [--names FILE] [--suppress FILE] [--settled FILE] [--letters FILE] [--partial] [--large]
         [--strict] [--platform NAME] [--hardware none] [--all] [--json | --format FORMAT] [--time TIME] [--why] [--kev FILE] [--epss FILE]
         [--fail-on GATE].. [--since FILE]
@@ -10,6 +10,7 @@ What is read:
 - --dictionary, --advisories, --matches: pages of NVD's API 2.0, or its feeds, plain, packed or in archives. Advisories may be CVE records
   of format 5 too (cve5.py).
 - --records: in place of --dictionary, what dictionary.sh wrote of it before.
+- --store: in place of all of these, a folder in which store.py keeps them. Of it is read what concerns the machines, and nothing else.
 - --lists: software lists, each a machine (lists/ has the forms: CycloneDX, SPDX, Syft's, Trivy's and plain ones, package URLs, and what
   package managers write). --machines: in place of --lists, a line for each machine, as inventory.sh --machines writes it.
 - --partial: pages of a feed may be missing. What is missing is reported, and each FALSE that may be another verdict by it is marked.
@@ -76,18 +77,20 @@ from .progress import Progress
 from .reasons import Reasons
 from .said import Fatal, Mute, Noting, Output, Said
 from .settled import read_settled
+from .stored import Stored
 from .threats import Threats
-from .unanalysed import States, id_of
+from .unanalysed import States
 from .versions import Letters, read_letters
 from .words import FLAG, MANY, ONE, Words, read_words
 
 USAGE = (
-    "scan.py --dictionary FILE.. | --records FILE.. --advisories FILE.. [--matches FILE..] "
+    "scan.py --store FOLDER | --dictionary FILE.. | --records FILE.. --advisories FILE.. [--matches FILE..] "
     "--machines FILE | --lists FILE.. [--names FILE] [--suppress FILE] [--settled FILE] [--letters FILE] [--partial] [--large] "
     "[--strict] [--platform NAME] [--hardware none] [--all] [--json | --format FORMAT] [--time TIME] [--why] [--kev FILE] [--epss FILE] "
     "[--fail-on GATE].. [--since FILE]"
 )
 OPTIONS = {
+    "--store": ONE,
     "--dictionary": MANY,
     "--records": MANY,
     "--advisories": MANY,
@@ -269,13 +272,13 @@ def read_known(
     if _count(feed) > portions.MOST.statements and not read.has("--all"):
         feed = [page for page in states.sort(latest.advisories(feed, said)) if page.records]
         if _count(feed) > portions.MOST.statements:
-            order = [id for page in feed for record in page.records if (id := id_of(record)) is not None]
+            order = advisories.ids_in_order(feed)
             cut = _of_products(feed, read, asked, entries, program, said, reading)
             feed = cut.pages
     found = advisories.convert(feed, program, said, is_decided=True, states=states)
     found.tell_empty_pages(said)
     records = program.accepted_statements(found.candidates, said)
-    if not records:
+    if not records and not cut.elsewhere:
         none = f"; not analysed: {len(states.unanalysed):,}" if states.unanalysed else ""
         raise Fatal(f"no advisory that can have a verdict is in {', '.join(map(name_of, read.many('--advisories')))}{none}")
     return Known(entries, records, found.ranges, found.details, found.stand_ins, cut.elsewhere, order), states
@@ -293,8 +296,6 @@ def _of_products(
         # (what isn't right in it is said when it is read for the ranges)
         wanted |= matches.products_beside(whole.pages(matched, Mute(), matches.KINDS, strict=True, reading=reading.again()), wanted)
     before, found = _count(feed), products.Cut.of(feed, wanted)
-    if not found.pages:
-        raise Fatal(f"none of {before} advisories may concern a product of these machines")
     said.remark(f"{found.count()} of {before} advisories may concern a product of these machines; the others are FALSE there")
     return found
 
@@ -327,9 +328,10 @@ def read_asked(read: Words, said: Said) -> list[Machine]:
 
 def run(words: Sequence[str]) -> int:
     read = read_words(words, OPTIONS, USAGE)
-    one_of = [("--dictionary", "--records"), ("--advisories",), ("--machines", "--lists")]
+    one_of = [("--dictionary", "--records", "--store"), ("--advisories", "--store"), ("--machines", "--lists")]
     form = Form.of(read)
     is_odd = read.has("--machines") and read.has("--lists") or read.has("--why") and form.is_table()
+    is_odd = is_odd or read.has("--store") and any(map(read.has, ("--dictionary", "--records", "--advisories", "--matches")))
     if read.files or is_odd or not all(any(map(read.has, options)) for options in one_of):
         raise Fatal(f"usage: {USAGE}")
     program = Program()
@@ -372,14 +374,23 @@ def _result(read: Words, program: Program, said: Noting, progress: Progress, bes
     asked = read_asked(read, said)
     reading = whole.Reading.of(read)
     tables = read_names(read.many("--names"), asked)
-    progress.step("reading the dictionary")
-    entries = read_entries(read, program, said, reading)
-    unnamed = name_machines(asked, tables, entries)
-    known, states = read_known(read, entries, asked, program, said, progress, reading)
-    progress.step("reading the match feed")
-    matched = read.many("--matches")
-    feed = whole.pages(matched, said, matches.KINDS, strict=True, reading=reading) if matched else []
-    lists = Lists(program, matches.listed(feed, known.ranges.keys(), said))
+    if read.has("--store"):
+        progress.step("reading the store")
+        ids = {*settled.ids(), *accepted.ids()}
+        with Stored(str(read.only("--store")), program, said, reading).opened() as store:
+            taken = store.take(asked, tables, ids, is_all=read.has("--all"))
+            listed = store.listed(taken.known.ranges.keys())
+        known, states, unnamed = taken.known, taken.states, taken.unnamed
+    else:
+        progress.step("reading the dictionary")
+        entries = read_entries(read, program, said, reading)
+        unnamed = name_machines(asked, tables, entries)
+        known, states = read_known(read, entries, asked, program, said, progress, reading)
+        progress.step("reading the match feed")
+        matched = read.many("--matches")
+        feed = whole.pages(matched, said, matches.KINDS, strict=True, reading=reading) if matched else []
+        listed = matches.listed(feed, known.ranges.keys(), said)
+    lists = Lists(program, listed)
     scan = Scan(program, known, lists, letters, progress, read.has("--why"), read.has("--strict"), has_hardware(read))
     found = scan.machines(asked)
     hint = hints.unlisted(read)

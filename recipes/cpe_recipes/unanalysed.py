@@ -34,19 +34,17 @@ class States:
 
     def _note(self, record: Json) -> bool:
         """Notes an advisory that has no verdict."""
-        cve = record.get("cve") if isinstance(record, dict) else None
-        if not isinstance(cve, dict):
-            return False
-        id, status = cve.get("id"), cve.get("vulnStatus")
-        if not isinstance(id, str) or not id or not (status is None or isinstance(status, str)):
-            return False
-        if status == REJECTED:
+        state = state_of(record)
+        if state is not None:
+            self.put(record["cve"]["id"], state)
+        return state is not None
+
+    def put(self, id: str, state: str) -> None:
+        """Puts an advisory that has no verdict."""
+        if state == REJECTED:
             self.rejected[id] = None
-        elif cve.get("configurations") in (None, [], False):
-            self.unanalysed[id] = status or _NO_STATUS
         else:
-            return False
-        return True
+            self.unanalysed[id] = state
 
     def drop(self, ids: Iterable[str]) -> None:
         """Drops those that have a verdict all the same, since they come more than once."""
@@ -71,6 +69,19 @@ class States:
         for id, status in self.unanalysed.items():
             by_status.setdefault(status, []).append(id)
         return {"asked": list(asked), "notAnalysed": by_status, "rejected": list(self.rejected)}
+
+
+def state_of(record: Json) -> str | None:
+    """Why an advisory has no verdict: that it was rejected, or its status if it isn't analysed. None of any other."""
+    cve = record.get("cve") if isinstance(record, dict) else None
+    if not isinstance(cve, dict):
+        return None
+    id, status = cve.get("id"), cve.get("vulnStatus")
+    if not isinstance(id, str) or not id or not (status is None or isinstance(status, str)):
+        return None
+    if status == REJECTED:
+        return REJECTED
+    return (status or _NO_STATUS) if cve.get("configurations") in (None, [], False) else None
 
 
 def is_rejected(record: Json) -> bool:

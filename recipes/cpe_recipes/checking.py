@@ -1,0 +1,67 @@
+"""Reads all of a store again, and compares what stands beside each record with that record, as adding.py puts it."""
+from __future__ import annotations
+
+import json
+import zlib
+from collections.abc import Iterator
+
+from .adding import record_of, told_apart
+from .concern import concern_of, plain_name
+from .kept import Kept, page_and_number
+from .said import Said
+from .unanalysed import id_of, state_of
+
+
+def check(kept: Kept, said: Said) -> int:
+    """Says what is wrong, and returns how many records were read."""
+    for (text,) in kept.rows("PRAGMA integrity_check"):
+        if text != "ok":
+            said.left_out("the file", text)
+    numbers = {number: (vendor, product) for number, vendor, product in kept.rows("SELECT number, vendor, product FROM names")}
+    pages = dict(kept.rows("SELECT number, records FROM pages"))
+    count = 0
+    for place, wrong in (*_products(kept, numbers), *_advisories(kept, numbers), *_matches(kept)):
+        page, number = page_and_number(place)
+        count += 1
+        if page not in pages or number >= pages[page]:
+            said.left_out(f"record {number + 1} of page {page}", "no such page is in the store")
+        elif wrong:
+            said.left_out(f"record {number + 1} of page {page}", wrong)
+    for product, place in kept.rows("SELECT product, place FROM concerns WHERE place NOT IN (SELECT place FROM advisories)"):
+        said.left_out(f"product {product}", f"it has an advisory at {place}, which isn't there")
+    return count
+
+
+def _products(kept: Kept, numbers: dict[int, tuple[str, str]]) -> Iterator[tuple[int, str]]:
+    for place, product, name, odd, fault in kept.each("SELECT place, product, name, odd, fault FROM products"):
+        plain = plain_name(name) if name is not None and name.islower() else None
+        is_right = (plain[1] if plain else None) == numbers.get(product) and (odd is not None or fault is not None or plain is not None)
+        yield place, "" if is_right else "it stands beside another product"
+
+
+def _advisories(kept: Kept, numbers: dict[int, tuple[str, str]]) -> Iterator[tuple[int, str]]:
+    products: dict[int, set[tuple[str, str]]] = {}
+    for product, place in kept.each("SELECT product, place FROM concerns"):
+        products.setdefault(place, set()).add(numbers.get(product, ("", "")))
+    query = "SELECT place, id, modified, state, is_odd, is_of_systems, data FROM advisories"
+    for place, id, modified, state, is_odd, is_of_systems, data in kept.each(query):
+        try:
+            record = record_of(data)
+        except (ValueError, zlib.error):
+            yield place, "its record can't be read"
+            continue
+        concern = None if state_of(record) is not None else concern_of(record)
+        beside = (state_of(record), concern is None and state_of(record) is None, concern is not None and concern.is_of_systems())
+        is_right = (id, modified) == told_apart(record) and (state, bool(is_odd), bool(is_of_systems)) == beside
+        is_right = is_right and products.get(place, set()) == (concern.products if concern is not None else set())
+        yield place, "" if is_right else f"what stands beside {id_of(record) or 'it'} is of another record"
+
+
+def _matches(kept: Kept) -> Iterator[tuple[int, str]]:
+    for place, listed in kept.each("SELECT place, listed FROM matches"):
+        try:
+            json.loads(listed)
+        except ValueError:
+            yield place, "its list can't be read"
+            continue
+        yield place, ""
