@@ -80,9 +80,9 @@ class Known:
     def __post_init__(self) -> None:
         self.statements, self.asked, self.negated = [], [], {}
         for record in self.records:
-            value = asked_of(json.loads(record), self.negated)
+            value, line = asked_of(json.loads(record), self.negated)
             self.statements.append(Statement.of(value, self.ranges))
-            self.asked.append(record_text(value))
+            self.asked.append(line)
 
     def verdicts(self) -> verdicts.Statements:
         """All that machines have verdicts of, asked for or not."""
@@ -107,7 +107,9 @@ class Index:
         self._by_range: dict[str, list[int]] = {}
         # (of each statement the products that its facts may fit, and whether these are all)
         self._products: list[tuple[set[Product], bool]] = []
-        self._wanted: list[Wanted] = []
+        # (of what each asks for, which is looked at if an item says less; most are never asked so)
+        self._names: list[list[str]] = []
+        self._wanted: dict[int, Wanted] = {}
         for place, statement in enumerate(known.statements):
             facts = [leads.found[fact].name for fact in statement.facts]
             plain, is_all = _products(facts)
@@ -118,7 +120,7 @@ class Index:
             criteria = [leads.found[known.ranges[key].criteria].name for key in statement.ranges]
             ranged, is_all_ranged = _products(criteria)
             self._products.append((plain | ranged, is_all or is_all_ranged))
-            self._wanted.append(Wanted([*facts, *criteria, *(leads.found[one.fact].name for one in negated)]))
+            self._names.append([*facts, *criteria, *(leads.found[one.fact].name for one in negated)])
 
     def concerned(self, products: Iterable[Product], decided: Decided) -> list[int]:
         """The places of the statements that may have another verdict than without items of these products, in order."""
@@ -129,7 +131,9 @@ class Index:
 
     def asks_for_more(self, place: int, less: Mapping[Product, frozenset[int]]) -> bool:
         """Whether a fact of this statement says something of what names of these products don't."""
-        wanted = self._wanted[place]
+        wanted = self._wanted.get(place)
+        if wanted is None:
+            wanted = self._wanted[place] = Wanted(self._names[place])
         return wanted.are_any() and any(not unsaid.isdisjoint(wanted.places(product)) for product, unsaid in less.items())
 
     def items(self, place: int, by_product: Mapping[Product, Items], all_items: Items) -> Items:

@@ -105,7 +105,7 @@ def _asked_line(line: str, facts: dict[str, None], negated: dict[str, Negated]) 
     if not isinstance(record, dict) or record.get("do") != "statement":
         return line
     facts.update(dict.fromkeys(facts_of(record.get("test"))))
-    return record_text(asked_of(record, negated))
+    return asked_of(record, negated)[1]
 
 
 def _lines_of(text: str) -> Iterator[str]:
