@@ -17,9 +17,13 @@ from drawn_feeds import MEMBERS, Feeds
 from recipe_case import RECIPES, SAMPLES, RecipeCase, fs, needs_cpe
 from test_portions import advisory, match
 
-from cpe_recipes import scan, store
+from test_feeds import Heard
+
+from cpe_recipes import fleet, scan, store
 from cpe_recipes.kept import FILE, VERSION, Kept
+from cpe_recipes.program import Program
 from cpe_recipes.said import Fatal
+from cpe_recipes.session import Session
 
 # How many sequences of windows, lists and kills are drawn.
 SEQUENCES = int(os.environ.get("STORE_SEQUENCES", "50"))
@@ -379,6 +383,39 @@ class Stores(RecipeCase):
                 connection.close()
                 status, _, said = ran(store.run, ["check", "--store", self.store])
                 self.assertEqual((status, bool(said)), (1, True))
+
+    def of_fleet(self, *words):
+        """The verdicts that workers of a fleet write, by machine and statement, and what is said of them."""
+        said = Heard()
+        asked = fleet.read_fleet(Program(), fleet.read_fleet_words(words, fleet.OPTIONS, fleet.USAGE), said)
+        session = Session(Program().path, asked.known)
+        self.addCleanup(session.end)
+        lines = (line.split(" ") for machine in asked.machines for line in session.ask(machine).lines)
+        return {(machine, id): truth for machine, id, truth in lines}, said.told
+
+    def test_a_fleet_takes_a_store_too(self):
+        left = 0
+        for seed in range(4):
+            with self.subTest(seed), tempfile.TemporaryDirectory() as folder:
+                sequence = Sequence(seed, folder)
+                machines, ranges = sequence.feeds.machines(Path(folder) / "machines", 1, is_odd=False), f"{folder}/ranges"
+                records = self.recipe("dictionary", *sequence.added["products"])[1]
+                records += self.recipe("advisories", "--ranges", ranges, *sequence.added["vulnerabilities"])[1]
+                path = self.file("records", "".join(f"{line}\n" for line in records))
+                whole, _ = self.of_fleet(path, machines, "--ranges", ranges, "--matches", *sequence.added["matchStrings"])
+                some, said = self.of_fleet("--store", sequence.store, machines)
+                self.assertEqual({key: whole[key] for key in some}, some)
+                others = {truth for key, truth in whole.items() if key not in some}
+                self.assertLessEqual(others, {"FALSE"})
+                self.assertEqual(sum("name no product of these machines" in line for line in said), len(others))
+                left += len(whole) - len(some)
+        self.assertGreater(left, 0)
+
+    def test_a_fleet_takes_no_feeds_beside_a_store(self):
+        for words in ((self.machines, self.machines), (self.machines, "--ranges", self.machines), (self.machines, "--matches", self.machines), ()):
+            with self.subTest(words), self.assertRaises(Fatal) as caught:
+                self.of_fleet("--store", self.store, *words)
+            self.assertIn("usage: ", str(caught.exception))
 
     def test_the_samples(self):
         ranges = SAMPLES / "ranges"
