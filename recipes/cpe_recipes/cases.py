@@ -1,15 +1,16 @@
 """Which statements are asked of which machine, and over what, so that a run of cpe has no more to do than it must.
 
 Statements are asked in mode plain, over all names of the items (calling.py), so both as names stand and as they lead on. A machine is
-asked for those statements alone whose verdict may be another than that of a machine without items: those with a fact of the vendor
-and product of some name of the machine's items, or of no plain vendor or product. Of a range that is so only where it is TRUE or
-UNKNOWN there, since where all versions are outside it is FALSE as without items. A statement is asked over those names alone that may
-fit its facts, and once for all machines that have the same ones. A name whose vendor or product is a pattern may fit every fact.
+asked for those statements alone whose verdict may be another than that of a machine without items: those with a fact of the vendor,
+product and version of some name of the machine's items, or with one in which these aren't plain. Of a range that is so only where it is
+TRUE or UNKNOWN there, since where all versions are outside it is FALSE as without items. A statement is asked over those names alone
+that may fit its facts, and once for all machines that have the same ones. A name whose vendor or product is a pattern may fit every fact
+of the other one of the two.
 """
 from __future__ import annotations
 
 import json
-from collections.abc import Iterable, Iterator, Mapping, Sequence
+from collections.abc import Collection, Iterable, Iterator, Mapping, Sequence
 from dataclasses import dataclass, field
 
 from . import names, verdicts
@@ -19,7 +20,7 @@ from .called import Called, Sure
 from .calling import Wanted
 from .decide import Decided, Leads, check_record, drop_record
 from .feeds import Json, record_text
-from .near_products import NearProducts, Product, key_of, keys_of
+from .near_products import Item, NearProducts, Product, key_of, keys_of, version_key
 from .portions import portions, size_of
 from .said import Fatal
 
@@ -113,7 +114,7 @@ class Index:
         for place, statement in enumerate(known.statements):
             facts = [leads.found[fact].name for fact in statement.facts]
             plain, is_all = _products(facts)
-            self._near.put(place, plain, is_all)
+            self._near.put(place, _items(facts, plain), is_all)
             negated = [known.negated[key] for key in statement.checks if key in known.negated]
             for key in (*statement.ranges, *(one.key for one in negated)):
                 self._by_range.setdefault(key, []).append(place)
@@ -122,9 +123,9 @@ class Index:
             self._products.append((plain | ranged, is_all or is_all_ranged))
             self._names.append([*facts, *criteria, *(leads.found[one.fact].name for one in negated)])
 
-    def concerned(self, products: Iterable[Product], decided: Decided) -> list[int]:
-        """The places of the statements that may have another verdict than without items of these products, in order."""
-        found = self._near.near(products)
+    def concerned(self, items: Iterable[Item], decided: Decided) -> list[int]:
+        """The places of the statements that may have another verdict than without items of these products and versions, in order."""
+        found = self._near.near(items)
         for key in [*(key for key, is_inside in decided.truths.items() if is_inside), *decided.unsure]:
             found.update(self._by_range.get(key, ()))
         return sorted(found)
@@ -154,6 +155,21 @@ def _products(facts: Iterable[str]) -> tuple[set[Product], bool]:
     return plain, len(plain) < len(products)
 
 
+def _items(facts: Iterable[str], plain: Collection[Product]) -> Iterator[Item]:
+    """The plain products of these names, with their versions."""
+    for parts in map(names.components, facts):
+        if (product := (parts[names.VENDOR], parts[names.PRODUCT])) in plain:
+            yield product, version_key(parts[names.VERSION])
+
+
+def _keys(called: Iterable[Called]) -> set[Item]:
+    """The products and versions of names of items, as keys."""
+    found = set()
+    for parts in {one.name: names.components(one.name) for one in called}.values():
+        found.add((key_of((parts[names.VENDOR], parts[names.PRODUCT])), version_key(parts[names.VERSION])))
+    return found
+
+
 def _by_product(called: Iterable[Called]) -> dict[Product, Items]:
     """Names by the keys of their products, in order."""
     found: dict[Product, set[str]] = {}
@@ -175,7 +191,7 @@ class Cases:
         if self._is_all_asked:
             places = list(range(len(self._known.statements)))
         else:
-            places = self._index.concerned(by_product, decided)
+            places = self._index.concerned(_keys(called), decided)
         # (where an item says less, it is asked for beside the others, where a fact says more)
         less = _unsaid(called)
         if less and not self._is_all_asked:

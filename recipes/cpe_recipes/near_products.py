@@ -1,12 +1,12 @@
-"""Which items a fact may cover, by their vendors and products alone.
+"""Which items a fact may cover, by their vendors, products and versions alone.
 
 A fact of a plain vendor and product may cover items of the same ones. Of an item that is known in part the vendor or the product may be
 a pattern, and then that may be any: so it may be covered by each fact of the same product, or of the same vendor, and of no other one.
-Only if both are patterns may every fact cover it.
+Only if both are patterns may every fact cover it. A fact of one version covers an item of this version alone.
 """
 from __future__ import annotations
 
-from collections.abc import Iterable, Iterator
+from collections.abc import Iterable, Iterator, Mapping
 from typing import Generic, TypeVar
 
 from . import names
@@ -29,40 +29,60 @@ def keys_of(product: Product) -> tuple[Product, ...]:
     return product, (OPEN, name), (vendor, OPEN), (OPEN, OPEN)
 
 
+def version_key(version: str) -> str:
+    """The version of a fact or an item, as components are compared: in small letters, without quoting; open if it has a special."""
+    if version in (names.ANY, names.NA):
+        return version
+    text = names.body(version)
+    return OPEN if text is None else text.lower()
+
+
+# The product of an item, and its version, as keys.
+Item = tuple[Product, str]
+
+
 class NearProducts(Generic[What]):
-    """What has facts, such as statements, by the vendors and products of these."""
+    """What has facts, such as statements, by the vendors, products and versions of these."""
 
     def __init__(self) -> None:
         self._all: list[What] = []
         self._of_any: list[What] = []
-        self._by_product: dict[Product, list[What]] = {}
+        self._by_product: dict[Product, dict[str, list[What]]] = {}
         # (mostly no item is a pattern, so these are made when one is)
         self._by_vendor: dict[str, list[Product]] | None = None
         self._by_name: dict[str, list[Product]] = {}
 
-    def put(self, what: What, products: Iterable[Product], is_of_any: bool) -> None:
-        """Puts something with facts of these plain products, and perhaps with a fact whose vendor or product isn't plain."""
+    def put(self, what: What, products: Iterable[Item], is_of_any: bool) -> None:
+        """Puts something with facts of these plain products and versions, and perhaps with one whose vendor or product isn't plain."""
         self._all.append(what)
-        for product in products:
-            self._by_product.setdefault(product, []).append(what)
+        for product, version in products:
+            self._by_product.setdefault(product, {}).setdefault(version, []).append(what)
         if is_of_any:
             self._of_any.append(what)
         self._by_vendor = None
 
-    def near(self, keys: Iterable[Product]) -> set[What]:
+    def near(self, items: Iterable[Item]) -> set[What]:
         """What has a fact that may cover an item of these keys."""
         found = set(self._of_any)
-        for key in keys:
+        for key, version in items:
             if key == (OPEN, OPEN):
                 return set(self._all)
             for product in self._products(key):
-                found.update(self._by_product.get(product, ()))
+                found.update(*self._of_version(self._by_product.get(product, {}), version))
         return found
+
+    @staticmethod
+    def _of_version(by_version: Mapping[str, list[What]], version: str) -> Iterable[list[What]]:
+        """What has a fact of a product that may cover an item of this version."""
+        if version == OPEN:
+            return by_version.values()
+        # (a fact of any version, or of a pattern, may cover each; any other one covers its own version alone)
+        return (by_version.get(key, []) for key in dict.fromkeys((names.ANY, OPEN, version)))
 
     def _products(self, key: Product) -> Iterator[Product]:
         """The products whose facts may cover an item of this key."""
         vendor, name = key
-        if vendor != OPEN and name != OPEN:
+        if OPEN not in key:
             yield key
             return
         if self._by_vendor is None:

@@ -16,7 +16,7 @@ from test_scan import Drawn, scanned, truths
 from cpe_recipes import portions, scan
 from cpe_recipes.concern import concern_of
 from cpe_recipes.feeds import Page, record_text
-from cpe_recipes.near_products import NearProducts, key_of
+from cpe_recipes.near_products import NearProducts, key_of, version_key
 from cpe_recipes.outcome import Hanging
 from cpe_recipes.portions import Size, size_of
 from cpe_recipes.products import Cut
@@ -64,12 +64,32 @@ class Products(unittest.TestCase):
     def test_an_item_that_is_a_pattern_costs_its_own_candidates(self):
         near = NearProducts()
         for place, product in enumerate([("v", "p"), ("w", "p"), ("v", "q"), ("w", "q")]):
-            near.put(place, [product], False)
+            near.put(place, [(product, "1")], False)
         near.put(4, [], True)
         wanted = {("v", "p"): {0, 4}, ("v*", "p"): {0, 1, 4}, ("v", "?q"): {0, 2, 4}, ("v*", "*q"): {0, 1, 2, 3, 4}, ("*", "p"): {4}, ("x", "p"): {4}}
         for product, places in wanted.items():
             with self.subTest(product):
-                self.assertEqual(near.near([key_of(product)]), places)
+                self.assertEqual(near.near([(key_of(product), "1")]), places)
+
+    def test_a_fact_of_one_version_covers_that_version_alone(self):
+        versions = ["1", "2", "*", "-", "2.*", "1\\+B"]
+        near = NearProducts()
+        for place, version in enumerate(versions):
+            near.put(place, [(("v", "p"), version_key(version))], False)
+        wanted = {"1": {0, 2, 4}, "3": {2, 4}, "*": {2, 4}, "-": {2, 3, 4}, "3.*": {0, 1, 2, 3, 4, 5}, "1\\+b": {2, 4, 5}}
+        for version, places in wanted.items():
+            with self.subTest(version):
+                self.assertEqual(near.near([(("v", "p"), version_key(version))]), places)
+        if not (path := os.environ.get("CPE")):
+            self.skipTest("CPE names no program")
+        # (all that cpe says covers an item, or may, is among these)
+        for item in wanted:
+            records = [record_text({"do": "item", "name": fs("v", "p", item)})]
+            records += [record_text({"do": "items", "name": fs("v", "p", version)}) for version in versions]
+            lines = Program(path).run(["resolve"], records)
+            asked = [place for place, line in enumerate(lines) if line.startswith("items ")]
+            met = {place for place, (at, end) in enumerate(zip(asked, [*asked[1:], len(lines)])) if end > at + 1}
+            self.assertLessEqual(met, wanted[item], item)
 
     def test_a_plain_name_is_spelled_as_cpe_spells_it(self):
         spelled = ["1.0", "a_b-c", "c\\+\\+", "\\@x\\/y", "1\\:2", "-", "*", "a\\.b", "A", "a*", "a\\*", "\\-", "_", "a\\_b", "", "--"]
