@@ -22,6 +22,7 @@ from .dictionary import NO_FORM, Change, Product, product_id
 from .feeds import ADVISORIES, RECORDS, FormFault, Json, Page, Placed, member, record_text, text_at
 from .kept import Kept, place_of
 from .latest import time_of
+from .made import make, maker
 from .matches import key_of_name
 from .near_products import Product as Key
 from .product_index import squeezed
@@ -249,6 +250,10 @@ class _LatestAdvisories:
 
     def _insert(self, place: int, id: str | None, modified: str, record: Json) -> None:
         state, concern = state_of(record), concern_of(record)
+        made = make(record) if state is None and concern is not None else None
+        if made is None:
+            # (what would be reported is read by every scan)
+            concern = None
         has_names = id is not None and bool(record["cve"].get("configurations"))
         is_of_systems = concern is not None and concern.is_of_systems()
         data = zlib.compress(json.dumps(record, ensure_ascii=False, separators=(",", ":")).encode(errors="surrogatepass"), 1)
@@ -256,6 +261,7 @@ class _LatestAdvisories:
         self._kept.put("INSERT INTO advisories VALUES (?, ?, ?, ?, ?, ?, ?, ?, ?, ?, ?)", [row])
         if state is None and concern is not None:
             self._kept.put("INSERT INTO concerns VALUES (?, ?)", [(self._number_of(product), place) for product in concern.products])
+            self._kept.put("INSERT INTO made VALUES (?, ?)", [(place, made)])
         self._changed += 1
 
     def _delete(self, known: Iterable[tuple[int, str, bytes]]) -> None:
@@ -263,7 +269,8 @@ class _LatestAdvisories:
             concern = concern_of(record_of(data))
             products = concern.products if concern is not None else ()
             self._kept.put("DELETE FROM concerns WHERE product = ? AND place = ?", [(self._number_of(product), place) for product in products])
-            self._kept.put("DELETE FROM advisories WHERE place = ?", [(place,)])
+            for table in ("advisories", "made"):
+                self._kept.put(f"DELETE FROM {table} WHERE place = ?", [(place,)])
 
     def _mark(self, id: str) -> None:
         """Marks the records of an id that don't count beside those of the other feed, and those of which isn't known which is later."""
@@ -290,6 +297,17 @@ def told_apart(record: Json) -> tuple[str | None, str]:
         return None, "null"
     id = cve.get("id")
     return id if isinstance(id, str) else None, record_text(cve.get("lastModified"))
+
+
+def make_again(kept: Kept) -> None:
+    """Makes of advisories what they become, if other recipes made it."""
+    if kept.rows("SELECT digest FROM maker") == [(maker(),)]:
+        return
+    with kept.writing():
+        kept.put("DELETE FROM maker WHERE ?", [(True,)])
+        for place, data in kept.each("SELECT made.place, advisories.data FROM made, advisories WHERE made.place = advisories.place"):
+            kept.put("UPDATE made SET data = ? WHERE place = ?", [(make(record_of(data)), place)])
+        kept.put("INSERT INTO maker VALUES (?)", [(maker(),)])
 
 
 def record_of(data: bytes) -> Json:

@@ -31,10 +31,10 @@ from collections.abc import Callable, Iterable, Iterator, Mapping, Sequence
 from dataclasses import dataclass, field
 
 from . import cve5, latest, whole
-from .feeds import FormFault, Json, Page, Placed, member, members, record_text, text_at
+from .feeds import FormFault, Json, Page, Placed, Source, member, members, record_text, text_at
 from .portions import MOST
 from .program import Candidate, Program, candidate_at, refusals
-from .said import Fatal, Output, Said, quoted, write_file
+from .said import Fatal, Mute, Output, Said, quoted, write_file
 from .scores import score_of
 from .unanalysed import States, id_of
 from .words import ONE, read_words
@@ -232,11 +232,33 @@ class Advisories:
             said.remark(f"{page}: no vulnerabilities in it")
 
 
+class Differing(Exception):
+    """Two advisories have other ranges under the same id of a match."""
+
+
+@dataclass(frozen=True, slots=True)
+class Made:
+    """What an advisory became before: its id, the records of its statements, its ranges and its details. It may stand in place of its
+    record on a page."""
+
+    id: str
+    records: tuple[str, ...]
+    ranges: tuple[Range, ...]
+    details: dict[str, Json]
+
+
+def convert_one(record: Json) -> Advisories:
+    """What an advisory of which all names are names becomes. Nothing is said of it."""
+    converter = _Converter({}, Mute(), is_decided=True)
+    converter.take([Placed(str(record["cve"]["id"]), record, Source(CALLED, ""), 0)])
+    return converter.found
+
+
 def convert(
     feed: Iterable[Page], program: Program, said: Said, is_decided: bool, states: States | None = None
 ) -> Advisories:
     """The advisories of these pages, and beside these states those that have no verdict. Where ranges aren't decided after this, each
-    is remarked. Fatal where none is there."""
+    is remarked. Fatal where none is there. Differing where one that was made before has another range than another one."""
     found = list(feed)
     empty_pages = [page.name for page in found if not page.records]
     if len(empty_pages) == len(found) > 0:
@@ -285,14 +307,6 @@ def _all_matches(vulnerability: Json) -> Iterator[Json]:
         return
 
 
-def names_beside_negation(vulnerability: Json) -> Iterator[str]:
-    """The names of an advisory in which something is negated. FormFault if it isn't of the published form."""
-    for configuration in members(member(vulnerability, "cve"), "configurations"):
-        nodes = members(configuration, "nodes")
-        if member(configuration, "negate") or any(member(node, "negate") or member(node, "children") for node in nodes):
-            yield from (name for match in _all_matches(vulnerability) if (name := text_at(match, "criteria")) is not None)
-
-
 class _Converter:
     """Makes statements of vulnerabilities, one after the other."""
 
@@ -305,6 +319,9 @@ class _Converter:
     def take(self, of_id: Sequence[Placed]) -> None:
         """Takes an advisory, and those of the same id of which isn't known whether they are later."""
         first, *others = of_id
+        if isinstance(first.record, Made):
+            self._take_made(first, first.record)
+            return
         tests = self._tests(first)
         for other in others:
             self._at = other
@@ -321,6 +338,17 @@ class _Converter:
             self.found.details[first.id] = details(first.id, first.record["cve"])
             if any(score_of(score) is None for _, _, score, _ in _metrics(first.record["cve"])):
                 self._said.remark("a score that is none is left out", first.id)
+
+    def _take_made(self, placed: Placed, made: Made) -> None:
+        self.found.candidates.extend(candidate_at(placed, made.id, record) for record in made.records)
+        self.found.details[made.id] = made.details
+        for one in made.ranges:
+            self._put_range(one)
+
+    def _put_range(self, one: Range) -> None:
+        """Puts a range. (What was made of an advisory alone has the ids of its matches, whoever has these too.)"""
+        if self.found.ranges.setdefault(one.key, one) != one or one.key in self.found.stand_ins:
+            raise Differing
 
     def _leave_out(self, id: str, reason: str) -> None:
         # (among the candidates, so that it is said in its place between what cpe refuses)
@@ -360,6 +388,8 @@ class _Converter:
         return tests
 
     def _stand_in(self, id: str, what: str, key: str) -> None:
+        if key in self.found.ranges:
+            raise Differing
         self.found.stand_ins[key] = what
         self._leave_out(id, f"{what}: the check {quoted(key)} stands for it")
 
@@ -396,11 +426,13 @@ class _Converter:
         fault = match.fault()
         if match.doubt and not bad:
             # (it was read, and is UNKNOWN since it says so)
+            if key in self.found.ranges:
+                raise Differing
             self.found.stand_ins[key] = f"{quoted(match.criteria)}: {match.doubt}"
         elif bad or fault:
             self._stand_in(id, f"{bad or fault}: {quoted(match.text())}", key)
         else:
-            self.found.ranges[key] = match.range(key)
+            self._put_range(match.range(key))
             if not self._is_decided:
                 bounds = match.range(key).words()
                 what = f"versions of {quoted(match.criteria)} {quoted(bounds)}"

@@ -59,13 +59,23 @@ class Statement:
         return Statement(value["id"], tuple(facts), tuple(ranged), tuple(checks))
 
 
+@dataclass(frozen=True, slots=True)
+class Asked:
+    """A statement as it is asked, its line, and what is negated there."""
+
+    statement: Statement
+    line: str
+    negated: tuple[Negated, ...]
+
+
 @dataclass
 class Known:
     """What the feeds tell, and what is known of the names in them and of the items. `asked` are the statements as they are asked, and
     `negated` is what is negated there.
 
     `elsewhere` are advisories that are FALSE on each machine without being asked for, since they name no product that is here, each with
-    whether all its names are of operating systems. Then `order` has the ids of all advisories, in the order of the feeds."""
+    whether all its names are of operating systems. Then `order` has the ids of all advisories, in the order of the feeds. `made` has what
+    was made before of records."""
 
     entries: list[str]
     records: list[str]
@@ -74,6 +84,7 @@ class Known:
     stand_ins: Mapping[str, str]
     elsewhere: Mapping[str, bool] = field(default_factory=dict)
     order: Sequence[str] = ()
+    made: Mapping[str, Asked] = field(default_factory=dict)
     statements: list[Statement] = field(init=False)
     asked: list[str] = field(init=False)
     negated: dict[str, Negated] = field(init=False)
@@ -81,9 +92,15 @@ class Known:
     def __post_init__(self) -> None:
         self.statements, self.asked, self.negated = [], [], {}
         for record in self.records:
-            value, line = asked_of(json.loads(record), self.negated)
-            self.statements.append(Statement.of(value, self.ranges))
-            self.asked.append(line)
+            made = self.made.get(record) or self._asked_of(record)
+            self.statements.append(made.statement)
+            self.asked.append(made.line)
+            self.negated.update((one.key, one) for one in made.negated)
+
+    def _asked_of(self, record: str) -> Asked:
+        negated: dict[str, Negated] = {}
+        value, line = asked_of(json.loads(record), negated)
+        return Asked(Statement.of(value, self.ranges), line, tuple(negated.values()))
 
     def verdicts(self) -> verdicts.Statements:
         """All that machines have verdicts of, asked for or not."""

@@ -8,6 +8,7 @@ from collections.abc import Iterator
 from .adding import record_of, told_apart
 from .concern import concern_of, plain_name
 from .kept import Kept, page_and_number
+from .made import make, maker
 from .said import Said
 from .unanalysed import id_of, state_of
 
@@ -43,8 +44,9 @@ def _advisories(kept: Kept, numbers: dict[int, tuple[str, str]]) -> Iterator[tup
     products: dict[int, set[tuple[str, str]]] = {}
     for product, place in kept.each("SELECT product, place FROM concerns"):
         products.setdefault(place, set()).add(numbers.get(product, ("", "")))
-    query = "SELECT place, id, modified, state, is_odd, is_of_systems, data FROM advisories"
-    for place, id, modified, state, is_odd, is_of_systems, data in kept.each(query):
+    is_of_these = kept.rows("SELECT digest FROM maker") == [(maker(),)]
+    query = "SELECT a.place, a.id, modified, state, is_odd, is_of_systems, a.data, made.data FROM advisories a LEFT JOIN made USING (place)"
+    for place, id, modified, state, is_odd, is_of_systems, data, made in kept.each(query):
         try:
             record = record_of(data)
         except (ValueError, zlib.error):
@@ -54,6 +56,7 @@ def _advisories(kept: Kept, numbers: dict[int, tuple[str, str]]) -> Iterator[tup
         beside = (state_of(record), concern is None and state_of(record) is None, concern is not None and concern.is_of_systems())
         is_right = (id, modified) == told_apart(record) and (state, bool(is_odd), bool(is_of_systems)) == beside
         is_right = is_right and products.get(place, set()) == (concern.products if concern is not None else set())
+        is_right = is_right and (made is not None) == (concern is not None) and (not is_of_these or made is None or made == make(record))
         yield place, "" if is_right else f"what stands beside {id_of(record) or 'it'} is of another record"
 
 

@@ -10,7 +10,7 @@ import re
 from collections.abc import Collection, Iterator
 from dataclasses import dataclass
 
-from . import cve5
+from . import cve5, names
 from .advisories import BOUNDS, SCORES, is_bound
 from .feeds import Json
 from .near_products import Product, keys_of
@@ -21,6 +21,7 @@ _TEXT = r"(?:[a-z0-9._\-]|\\[!\"#$%&'()+,/:;<=>@\[\]^`{|}~])+"
 _PLAIN = rf"(?!-:){_TEXT}"
 _ANY = rf"(?:\*|{_TEXT})"
 _NAME = re.compile(rf"cpe:2\.3:([aho]):({_PLAIN}):({_PLAIN}):{_ANY}:{_ANY}:{_ANY}:(?:[*-]|[a-z]{{2,3}}):{_ANY}:{_ANY}:{_ANY}:{_ANY}")
+_FRONTS = tuple(f"{names.PREFIX}{part}:" for part in "aho")
 # (a number behind # is that of a part of an advisory)
 _ID = re.compile(r"[!-\"$-~]{1,64}")
 _BOUNDS_OF_A_KIND = (("versionStartIncluding", "versionStartExcluding"), ("versionEndIncluding", "versionEndExcluding"))
@@ -29,8 +30,9 @@ _MOST_BYTES, _BYTES_BESIDE = 40_000, 160
 
 
 def plain_name(name: str) -> tuple[str, Product] | None:
-    """The part and the product of a name that is spelled as cpe writes it, or in other letter case; None of any other name."""
-    found = _NAME.fullmatch(name.lower()) if name.isascii() else None
+    """The part and the product of a name that is spelled as cpe writes it, or in other letter case behind its part; None of any other."""
+    # (the front of a formatted string has small letters)
+    found = _NAME.fullmatch(name.lower()) if name.isascii() and name.startswith(_FRONTS) else None
     return (found[1], (found[2], found[3])) if found else None
 
 

@@ -48,6 +48,8 @@ CREATE TABLE advisories (
 );
 CREATE INDEX advisories_by_id ON advisories (id);
 CREATE INDEX advisories_in_order ON advisories (is_passed, state, place, id, is_of_systems, is_odd, is_doubled);
+CREATE TABLE made (place INTEGER PRIMARY KEY, data BLOB NOT NULL);
+CREATE TABLE maker (digest TEXT NOT NULL);
 CREATE TABLE concerns (product INTEGER NOT NULL, place INTEGER NOT NULL, PRIMARY KEY (product, place)) WITHOUT ROWID;
 CREATE TABLE matches (place INTEGER PRIMARY KEY, key TEXT NOT NULL, modified TEXT NOT NULL, listed TEXT NOT NULL);
 CREATE INDEX matches_by_key ON matches (key);

@@ -157,6 +157,28 @@ class Mute(Said):
         pass
 
 
+class Deferred(Said):
+    """What is said at last, or not at all, if it isn't known yet whether it is right."""
+
+    def __init__(self) -> None:
+        super().__init__()
+        self._calls: list[tuple[str, tuple[str, ...]]] = []
+
+    def left_out(self, id: str, reason: str, place: str = "") -> None:
+        self._calls.append(("left_out", (id, reason, place)))
+
+    def remark(self, text: str, id: str = "") -> None:
+        self._calls.append(("remark", (text, id)))
+
+    def hint(self, text: str, command: str) -> None:
+        self._calls.append(("hint", (text, command)))
+
+    def say(self, said: Said) -> None:
+        """Says it."""
+        for name, given in self._calls:
+            getattr(said, name)(*given)
+
+
 class Output:
     """What goes to standard output. It is gathered, so that nothing stands written where the result comes to no end."""
 

@@ -4,23 +4,24 @@ from __future__ import annotations
 
 import contextlib
 import json
-from collections.abc import Collection, Iterable, Iterator, Sequence
+from collections.abc import Collection, Iterable, Iterator, Mapping, Sequence
 from dataclasses import dataclass
 
 from . import advisories, names
 from .adding import NO_PRODUCT, record_of
-from .cases import Known
+from .cases import Asked, Known
 from .components import Machine
 from .decide import leads_of
-from .feeds import ADVISORIES, FormFault, Page, Source
+from .feeds import ADVISORIES, Page, Source
 from .kept import Kept, page_and_number
+from .made import MadeStatements, maker, read
 from .matches import key_of_name
 from .naming import Unnamed, name_machines, wanted_names
 from .names_table import Tables
 from .near_products import OPEN, Product, key_of
 from .product_index import squeezed
 from .program import Program
-from .said import Fatal, Mute, Said
+from .said import Deferred, Fatal, Mute, Said
 from .settling import candidates_of, rows_of_products, settle, told_of
 from .unanalysed import States
 from .whole import Missing, Reading
@@ -68,16 +69,35 @@ class Stored:
         unnamed, wanted = self._named(asked, tables)
         places = self._places(wanted, ids, is_all)
         self._tell(ADVISORIES)
-        pages = self._pages(places)
-        entries = self._entries(self._around(wanted | self._negated(pages)))
-        states = self._states()
-        found = advisories.convert(pages, self._program, self._said, is_decided=True, states=states)
+        found, made, states = self._converted(places)
         records = self._program.accepted_statements(found.candidates, self._said)
         order, elsewhere = self._in_order(places)
         if not records and not elsewhere:
             none = f"; not analysed: {len(states.unanalysed):,}" if states.unanalysed else ""
             raise Fatal(f"{self._kept.folder}: no advisory that can have a verdict is in the store{none}")
-        return Found(Known(entries, records, found.ranges, found.details, found.stand_ins, elsewhere, order), states, unnamed)
+        known = Known([], records, found.ranges, found.details, found.stand_ins, elsewhere, order, made)
+        # (of what is negated it counts where it leads)
+        keys = (key_of_name(one.fact) for one in known.negated.values())
+        known.entries += self._entries(self._around(wanted | self._numbers(key for key in keys if key is not None)))
+        return Found(known, states, unnamed)
+
+    def _converted(self, places: Sequence[int]) -> tuple[advisories.Advisories, dict[str, Asked], States]:
+        """What the advisories at these places become, and their statements as they are asked, if they were made before."""
+        made = {} if self._kept.rows("SELECT digest FROM maker") != [(maker(),)] else self._made(places)
+        for some in (made, {}):
+            states = self._states()
+            said = Deferred()
+            with contextlib.suppress(advisories.Differing):
+                found = advisories.convert(self._pages(places, some), self._program, said, is_decided=True, states=states)
+                said.say(self._said)
+                return found, {record: asked for one in some.values() for record, asked in one.asked.items()}, states
+        raise AssertionError("nothing was made before")
+
+    def _made(self, places: Iterable[int]) -> dict[int, MadeStatements]:
+        """What was made before of the advisories at these places."""
+        query = "SELECT place, data FROM made WHERE place IN {}"
+        doubled = {place for (place,) in self._kept.rows(f"SELECT place FROM advisories WHERE is_doubled = 1 AND {_COUNTS}")}
+        return {place: read(data) for place, data in self._kept.rows_of(query, places) if place not in doubled}
 
     def dictionary(self, asked: Sequence[Machine], tables: Tables) -> tuple[list[str], Unnamed]:
         """The entries that concern these machines."""
@@ -156,28 +176,20 @@ class Stored:
         passed = {place for (place,) in self._kept.each("SELECT place FROM advisories WHERE is_passed = 1")}
         return sorted(found | concerned - passed)
 
-    def _pages(self, places: Iterable[int]) -> list[Page]:
-        """The records at these places, on pages as they came."""
-        rows = sorted(self._kept.rows_of("SELECT place, data FROM advisories WHERE place IN {}", places))
-        pages = {number: (name, bool(is_of_records)) for number, name, is_of_records in self._kept.rows("SELECT number, name, is_of_records FROM pages")}
+    def _pages(self, places: Sequence[int], made: Mapping[int, MadeStatements]) -> list[Page]:
+        """The records at these places, or what was made of them, on pages as they came."""
+        raw = dict(self._kept.rows_of("SELECT place, data FROM advisories WHERE place IN {}", (one for one in places if one not in made)))
+        query = "SELECT number, name, is_of_records FROM pages"
+        named = {number: (name, bool(is_of_records)) for number, name, is_of_records in self._kept.rows(query)}
         found: dict[int, Page] = {}
-        for place, data in rows:
+        for place in places:
             page, number = page_and_number(place)
             if page not in found:
-                name, is_of_records = pages[page]
+                name, is_of_records = named[page]
                 found[page] = Page(name, ADVISORIES, [], numbers=[], is_of_records=is_of_records)
-            found[page].records.append(record_of(data))
+            found[page].records.append(made[place] if place in made else record_of(raw[place]))
             found[page].numbers.append(number + 1)  # type: ignore[union-attr]
         return list(found.values())
-
-    def _negated(self, pages: Iterable[Page]) -> set[int]:
-        """The products of the names in advisories in which something is negated: of such a name counts where it leads."""
-        found: dict[str, None] = {}
-        for page in pages:
-            for record in page.records:
-                with contextlib.suppress(FormFault):
-                    found.update(dict.fromkeys(advisories.names_beside_negation(record)))
-        return self._numbers({key for name in found if (key := key_of_name(name)) is not None})
 
     def _states(self) -> States:
         """The advisories that have no verdict."""

@@ -110,6 +110,7 @@ class Products(unittest.TestCase):
             good | {"versionEndIncluding": "1", "versionEndExcluding": "1"}, good | {"versionEndIncluding": "a b"}, good | {"criteria": 7},
             good | {"criteria": fs("*", "p")}, good | {"criteria": fs("v*", "p")}, good | {"vulnerable": False}, good | {"vulnerable": "yes"},
             good | {"matchCriteriaId": 7}, good | {"doubt": "?"}, good | {"criteria": "cpe:/a:v:p"},
+            good | {"criteria": fs("v", "p").upper()}, good | {"criteria": fs("v", "p").replace(":a:", ":A:")},
         ]
         for one in odd:
             with self.subTest(one):

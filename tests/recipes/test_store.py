@@ -19,7 +19,7 @@ from test_portions import advisory, match
 
 from test_feeds import Heard
 
-from cpe_recipes import fleet, scan, store
+from cpe_recipes import fleet, made, scan, store
 from cpe_recipes.kept import FILE, VERSION, Kept
 from cpe_recipes.program import Program
 from cpe_recipes.said import Fatal
@@ -197,10 +197,33 @@ class Stores(RecipeCase):
         verdicts, value = self.verdicts()
         self.assertEqual((verdicts, value["advisories"], value["asked"]), ({"1": "TRUE"}, 2, ["CVE-2024-0001", "CVE-2024-0002"]))
         self.assertEqual(value["notAnalysed"], {"Analyzed": ["CVE-2024-0003"]})
-        with mock.patch("cpe_recipes.stored.record_of", side_effect=AssertionError("read")) as read, self.assertRaises(AssertionError):
+        with mock.patch("cpe_recipes.stored.read", side_effect=made.read) as read, mock.patch("cpe_recipes.stored.record_of") as record_of:
             self.verdicts()
-        self.assertEqual(read.call_count, 1)
+        self.assertEqual((read.call_count, record_of.call_count), (1, 0))
         self.assertEqual(self.verdicts("--all")[0], {"1": "TRUE", "2": "FALSE"})
+
+    def test_what_other_recipes_made_is_made_again(self):
+        self.filled()
+        before = self.verdicts()
+        with sqlite3.connect(Path(self.store) / FILE) as connection:
+            connection.execute("UPDATE maker SET digest = 'other'")
+            connection.execute("UPDATE made SET data = x'00'")
+        connection.close()
+        with mock.patch("cpe_recipes.stored.read", side_effect=AssertionError("read")):
+            self.assertEqual(self.verdicts(), before)
+        self.add()
+        self.assertEqual((self.verdicts(), ran(store.run, ["check", "--store", self.store])[0]), (before, 0))
+
+    def test_two_ranges_under_one_id_of_a_match(self):
+        self.filled()
+        ranged = match(fs("v", "p"))
+        first, second = cve(6, ranged | {"versionEndIncluding": "0.5"}), cve(7, ranged | {"versionEndIncluding": "1.5"})
+        # (the list of the match is that of the first of them)
+        listed = {"matchString": {"matchCriteriaId": "K", "criteria": fs("v", "p"), "matches": [{"cpeName": fs("v", "p", "0.1")}]}}
+        self.add(page("vulnerabilities", first, second), page("matchStrings", listed))
+        self.assertEqual(self.verdicts()[0], {"1": "TRUE", "7": "TRUE"})
+        self.add(page("vulnerabilities", cve(8, ranged | {"versionEndIncluding": "1", "versionEndExcluding": "1"})))
+        self.assertEqual(self.verdicts(status=1)[0], {"1": "TRUE", "7": "TRUE", "8": "UNKNOWN"})
 
     def test_a_page_twice_changes_nothing(self):
         self.filled()
@@ -372,7 +395,7 @@ class Stores(RecipeCase):
             "its product": "UPDATE concerns SET product = product % 2 + 1", "none of its products": "DELETE FROM concerns",
             "its state": "UPDATE advisories SET state = 'Rejected'", "its record": "UPDATE advisories SET data = x'00' WHERE place % 2",
             "its name": "UPDATE products SET product = product % 2 + 1", "its page": "DELETE FROM pages WHERE kind = 'products'",
-            "its id": "UPDATE advisories SET id = 'CVE-2024-0009'", "an advisory that isn't there": "DELETE FROM advisories",
+            "what it becomes": "UPDATE made SET data = x'00'", "its id": "UPDATE advisories SET id = 'CVE-2024-0009'", "an advisory that isn't there": "DELETE FROM advisories",
         }
         for what, edit in edits.items():
             with self.subTest(what):
