@@ -116,7 +116,7 @@ class Adding:
         return NO_PRODUCT if key is None else self._number(key)
 
     def _put_products(self, page: Page, page_number: int) -> int:
-        latest = _LatestProducts(self._kept, page_number)
+        latest = _LatestProducts(self._kept, page_number, len(self._numbers))
         leads: dict[tuple[int, int], None] = {}
         for placed in page.each("product", product_id):
             place = place_of(page_number, placed.number - 1)
@@ -191,9 +191,10 @@ class Adding:
 class _LatestProducts:
     """The products of a page that count, in place of those that are older (as dictionary.Products has it)."""
 
-    def __init__(self, kept: Kept, page_number: int) -> None:
+    def __init__(self, kept: Kept, page_number: int, last_number: int) -> None:
         self._kept, self._first = kept, place_of(page_number, 0)
-        self._is_empty = kept.one("SELECT 1 FROM products LIMIT 1") is None
+        # (of a product with a later number nothing is there)
+        self._last_number = last_number
         # (by name, those that were there before, and those of this page)
         self._known: dict[str, list[tuple]] = {}
         self._dropped: list[tuple[int]] = []
@@ -206,7 +207,7 @@ class _LatestProducts:
             return
         known = self._known.get(name)
         if known is None:
-            known = self._known[name] = [] if self._is_empty else self._there(row[1], name)
+            known = self._known[name] = self._there(row[1], name)
         if known and known[0][3] != modified:
             if _time(modified) < _time(known[0][3]):
                 return
@@ -216,6 +217,8 @@ class _LatestProducts:
             known.append(row)
 
     def _there(self, product: int, name: str) -> list[tuple]:
+        if product > self._last_number:
+            return []
         return self._kept.rows("SELECT * FROM products WHERE product = ? AND name = ?", (product, name))
 
     def end(self) -> int:

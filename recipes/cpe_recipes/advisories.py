@@ -441,7 +441,12 @@ class _Converter:
     def _statements(self, id: str, tests: list[Test]) -> Iterator[Candidate]:
         """A statement, or several where it has more names than a line has room for."""
         made: list[str] = []
-        for test in parts({"op": "OR", "of": tests}, _room(id)):
+        whole = {"op": "OR", "of": tests}
+        record = record_text(_statement(id, whole))
+        # (nearly all are far shorter than a line, in which a letter has four bytes at most)
+        if len(record) * 8 < MOST_BYTES:
+            return iter((candidate_at(self._at, id, record),))
+        for test in parts(whole, _room(id)):
             if len(record_text(test).encode()) > _room(id):
                 key = f"{id} #{len(made) + 1}"
                 self._stand_in(id, "logic that is longer than a line, and can't be taken apart", key)
@@ -553,8 +558,11 @@ def _score(cve: Json) -> dict[str, Json]:
 
 def _metrics(cve: Json) -> Iterator[tuple[bool, int, Json, Json]]:
     """Of each metric whether it is of another source than NVD, the place of its version of CVSS, its score and severity."""
+    metrics = _found(lambda: member(cve, "metrics")) or {}
     for place, version in enumerate(SCORES):
-        for metric in _found(lambda: members(member(cve, "metrics") or {}, version)) or []:
+        if isinstance(metrics, dict) and version not in metrics:
+            continue
+        for metric in _found(lambda: members(metrics, version)) or []:
             data = _found(lambda: member(metric, "cvssData"))
             if isinstance(data, dict) and "baseScore" in data:
                 severity = data.get("baseSeverity") or metric.get("baseSeverity")

@@ -11,7 +11,7 @@ import hashlib
 import json
 import zlib
 from collections.abc import Mapping
-from dataclasses import astuple, dataclass
+from dataclasses import dataclass
 from pathlib import Path
 
 from .advisories import Made, Range, convert_one
@@ -38,9 +38,9 @@ def make(record: Json) -> bytes | None:
         value, line = asked_of(json.loads(one.record), negated)
         statement = Statement.of(value, found.ranges)
         told = [statement.id, statement.facts, statement.ranges, statement.checks]
-        statements.append([one.record, line, told, [astuple(it) for it in negated.values()]])
+        statements.append([one.record, line, told, [[it.key, it.fact, it.range] for it in negated.values()]])
     (details,) = found.details.values()
-    ranges = [astuple(one) for one in found.ranges.values()]
+    ranges = [[it.key, it.criteria, it.start, it.end, it.start_excluded, it.end_excluded] for it in found.ranges.values()]
     return zlib.compress(record_text([statements, ranges, details]).encode(errors="replace"), 1)
 
 
