@@ -1,8 +1,8 @@
 """Adds pages of feeds to a store (kept.py), each in one transaction.
 
 Of what comes more than once that counts which was modified last, as latest.py and dictionary.py have it: so a page of changes replaces
-what it has, and an older one changes nothing. Beside each record stand the products that it concerns, so that a scan finds it by these.
-What isn't plain (concern.py) stands apart, and is read by every scan.
+what it has, and an older one changes nothing. Beside each record stand the products that it concerns, so that a scan finds it by these,
+and what it becomes (made.py). What isn't plain (concern.py) stands apart, and is read by every scan.
 """
 from __future__ import annotations
 
@@ -12,12 +12,12 @@ import json
 import re
 import zlib
 from array import array
-from collections.abc import Iterable, Iterator, Sequence
+from collections.abc import Callable, Iterable, Iterator, Sequence
 from dataclasses import dataclass
 from datetime import date, datetime, timezone
 
 from . import cve5, matches, whole
-from .concern import concern_of, plain_name
+from .concern import Concern, concern_of, plain_name
 from .dictionary import NO_FORM, Change, Product, product_id
 from .feeds import ADVISORIES, RECORDS, FormFault, Json, Page, Placed, member, record_text, text_at
 from .kept import Kept, place_of
@@ -91,11 +91,37 @@ class Adding:
             self._kept.put("INSERT INTO pages VALUES (?, ?, ?, ?, ?, ?, ?, ?, ?, ?, ?)", [row])
             putting = {"products": self._put_products, ADVISORIES: self._put_advisories, "matchStrings": self._put_matches}
             changed = putting[kind](page, number)
-            names = [(number, *product, squeezed(product[1])) for product, number in self._new.items()]
-            self._kept.put("INSERT INTO names VALUES (?, ?, ?, ?)", names)
+            self._put_numbers()
             self._kept.put("INSERT OR IGNORE INTO unsettled VALUES (?)", [(kind,)])
         self._numbers.update(self._new)
         return Added(page.name, kind, changed, len(page.records))
+
+    def make_again(self) -> None:
+        """Derives all that stands beside the records of advisories, if other recipes derived it."""
+        if self._is_of_these_recipes():
+            return
+        with self._kept.writing():
+            # (another run may have been quicker)
+            if self._is_of_these_recipes():
+                return
+            self._read_numbers()
+            for table in ("maker", "concerns", "made"):
+                self._kept.put(f"DELETE FROM {table} WHERE ?", [(True,)])
+            for (place,) in self._kept.rows("SELECT place FROM advisories"):
+                (data,) = self._kept.rows("SELECT data FROM advisories WHERE place = ?", (place,))[0]
+                derived = Derived.of(record_of(data))
+                edit = "UPDATE advisories SET has_names = ?, state = ?, is_odd = ?, is_of_systems = ? WHERE place = ?"
+                self._kept.put(edit, [(*derived.columns(), place)])
+                derived.put(self._kept, place, self._number)
+            self._put_numbers()
+            self._kept.put("INSERT INTO maker VALUES (?)", [(maker(),)])
+
+    def _is_of_these_recipes(self) -> bool:
+        return self._kept.rows("SELECT digest FROM maker") == [(maker(),)]
+
+    def _put_numbers(self) -> None:
+        names = [(number, *product, squeezed(product[1])) for product, number in self._new.items()]
+        self._kept.put("INSERT INTO names VALUES (?, ?, ?, ?)", names)
 
     def _read_numbers(self) -> None:
         """Reads the numbers of products, if another run has added some."""
@@ -232,7 +258,7 @@ class _LatestProducts:
 class _LatestAdvisories:
     """The advisories of a page that count, in place of those that are older (as latest.py has it)."""
 
-    def __init__(self, kept: Kept, is_of_records: bool, number_of: object) -> None:
+    def __init__(self, kept: Kept, is_of_records: bool, number_of: Callable[[Key], int]) -> None:
         self._kept, self._is_of_records, self._number_of = kept, is_of_records, number_of
         self._changed = 0
 
@@ -252,19 +278,11 @@ class _LatestAdvisories:
         self._mark(id)
 
     def _insert(self, place: int, id: str | None, modified: str, record: Json) -> None:
-        state, concern = state_of(record), concern_of(record)
-        made = make(record) if state is None and concern is not None else None
-        if made is None:
-            # (what would be reported is read by every scan)
-            concern = None
-        has_names = id is not None and bool(record["cve"].get("configurations"))
-        is_of_systems = concern is not None and concern.is_of_systems()
         data = zlib.compress(json.dumps(record, ensure_ascii=False, separators=(",", ":")).encode(errors="surrogatepass"), 1)
-        row = (place, id, self._is_of_records, modified, has_names, state, state is None and concern is None, is_of_systems, False, False, data)
+        derived = Derived.of(record)
+        row = (place, id, self._is_of_records, modified, *derived.columns(), False, False, data)
         self._kept.put("INSERT INTO advisories VALUES (?, ?, ?, ?, ?, ?, ?, ?, ?, ?, ?)", [row])
-        if state is None and concern is not None:
-            self._kept.put("INSERT INTO concerns VALUES (?, ?)", [(self._number_of(product), place) for product in concern.products])
-            self._kept.put("INSERT INTO made VALUES (?, ?)", [(place, made)])
+        derived.put(self._kept, place, self._number_of)
         self._changed += 1
 
     def _delete(self, known: Iterable[tuple[int, str, bytes]]) -> None:
@@ -302,15 +320,36 @@ def told_apart(record: Json) -> tuple[str | None, str]:
     return id if isinstance(id, str) else None, record_text(cve.get("lastModified"))
 
 
-def make_again(kept: Kept) -> None:
-    """Makes of advisories what they become, if other recipes made it."""
-    if kept.rows("SELECT digest FROM maker") == [(maker(),)]:
-        return
-    with kept.writing():
-        kept.put("DELETE FROM maker WHERE ?", [(True,)])
-        for place, data in kept.each("SELECT made.place, advisories.data FROM made, advisories WHERE made.place = advisories.place"):
-            kept.put("UPDATE made SET data = ? WHERE place = ?", [(make(record_of(data)), place)])
-        kept.put("INSERT INTO maker VALUES (?)", [(maker(),)])
+@dataclass(frozen=True)
+class Derived:
+    """What stands beside the record of an advisory: whether it has configurations, why it has no verdict, which products it concerns and
+    what it becomes, if it is plain."""
+
+    has_names: bool
+    state: str | None
+    concern: Concern | None
+    made: bytes | None
+
+    @staticmethod
+    def of(record: Json) -> Derived:
+        cve = record.get("cve") if isinstance(record, dict) else None
+        has_names = isinstance(cve, dict) and bool(cve.get("configurations"))
+        state = state_of(record)
+        concern = concern_of(record) if state is None else None
+        made = make(record) if concern is not None else None
+        # (of what something would be reported, that is read by every scan)
+        return Derived(has_names, state, None if made is None else concern, made)
+
+    def columns(self) -> tuple[bool, str | None, bool, bool]:
+        """Whether it has configurations, its state, whether it isn't plain, and whether it asks for operating systems alone."""
+        is_odd = self.state is None and self.concern is None
+        return self.has_names, self.state, is_odd, self.concern is not None and self.concern.is_of_systems()
+
+    def put(self, kept: Kept, place: int, number_of: Callable[[Key], int]) -> None:
+        """Puts its products, and what it becomes."""
+        if self.concern is not None:
+            kept.put("INSERT INTO concerns VALUES (?, ?)", [(number_of(product), place) for product in self.concern.products])
+            kept.put("INSERT INTO made VALUES (?, ?)", [(place, self.made)])
 
 
 def record_of(data: bytes) -> Json:

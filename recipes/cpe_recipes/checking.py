@@ -5,12 +5,12 @@ import json
 import zlib
 from collections.abc import Iterator
 
-from .adding import record_of, told_apart
-from .concern import concern_of, plain_name
+from .adding import Derived, record_of, told_apart
+from .concern import plain_name
 from .kept import Kept, page_and_number
-from .made import make, maker
+from .made import maker
 from .said import Said
-from .unanalysed import id_of, state_of
+from .unanalysed import id_of
 
 
 def check(kept: Kept, said: Said) -> int:
@@ -45,18 +45,17 @@ def _advisories(kept: Kept, numbers: dict[int, tuple[str, str]]) -> Iterator[tup
     for product, place in kept.each("SELECT product, place FROM concerns"):
         products.setdefault(place, set()).add(numbers.get(product, ("", "")))
     is_of_these = kept.rows("SELECT digest FROM maker") == [(maker(),)]
-    query = "SELECT a.place, a.id, modified, state, is_odd, is_of_systems, a.data, made.data FROM advisories a LEFT JOIN made USING (place)"
-    for place, id, modified, state, is_odd, is_of_systems, data, made in kept.each(query):
+    columns_of = "place, id, modified, a.data, made.data, has_names, state, is_odd, is_of_systems"
+    for place, id, modified, data, made, *columns in kept.each(f"SELECT {columns_of} FROM advisories a LEFT JOIN made USING (place)"):
         try:
             record = record_of(data)
         except (ValueError, zlib.error):
             yield place, "its record can't be read"
             continue
-        concern = None if state_of(record) is not None else concern_of(record)
-        beside = (state_of(record), concern is None and state_of(record) is None, concern is not None and concern.is_of_systems())
-        is_right = (id, modified) == told_apart(record) and (state, bool(is_odd), bool(is_of_systems)) == beside
-        is_right = is_right and products.get(place, set()) == (concern.products if concern is not None else set())
-        is_right = is_right and (made is not None) == (concern is not None) and (not is_of_these or made is None or made == make(record))
+        derived = Derived.of(record)
+        concerned = derived.concern.products if derived.concern is not None else frozenset()
+        is_right = (id, modified) == told_apart(record) and tuple(columns) == derived.columns()
+        is_right = is_right and products.get(place, set()) == concerned and (made == derived.made or not is_of_these)
         yield place, "" if is_right else f"what stands beside {id_of(record) or 'it'} is of another record"
 
 

@@ -13,6 +13,7 @@ from pathlib import Path
 from .said import Fatal, why
 
 FILE = "feeds.sqlite"
+# (it changes with the tables, and with what stands beside products and matches; what stands beside advisories is made again)
 VERSION = 1
 # By this number SQLite's own header says whose file it is.
 _APPLICATION = 0x43504553

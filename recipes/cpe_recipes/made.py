@@ -1,8 +1,8 @@
 """What a plain advisory becomes, kept beside its record in a store, so that no scan has to make it again.
 
 It is made by the code that reads pages, of the record alone. That is right as long as no other advisory has another range under the same
-id of a match; where one has, advisories.py says so, and all are made of their records again. What other recipes made isn't used: the
-store has the checksum of those that made it.
+id of a match; where one has, advisories.py says so, and all are made of their records again. What other recipes made isn't used: a store
+has the checksum of those that made it, and if it is another, all is made again.
 """
 from __future__ import annotations
 

@@ -19,7 +19,7 @@ from __future__ import annotations
 from collections.abc import Callable, Iterator, Mapping, Sequence
 
 from . import checking, feeds
-from .adding import KINDS, Adding, make_again
+from .adding import KINDS, Adding
 from .kept import Kept
 from .program import Program
 from .progress import Progress
@@ -52,8 +52,8 @@ def _add(folder: str, read: Words, said: Said, output: Output) -> None:
     program = Program()
     with Progress() as progress:
         kept = Kept(folder, is_made=True)
-        make_again(kept)
         adding = Adding(kept, said)
+        adding.make_again()
         there = 0
 
         def is_there(data: bytes) -> bool:

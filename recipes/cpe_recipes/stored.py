@@ -8,13 +8,13 @@ from collections.abc import Collection, Iterable, Iterator, Mapping, Sequence
 from dataclasses import dataclass
 
 from . import advisories, names
-from .adding import NO_PRODUCT, record_of
+from .adding import NO_PRODUCT, Adding, record_of
 from .cases import Asked, Known
 from .components import Machine
 from .decide import leads_of
 from .feeds import ADVISORIES, Page, Source
 from .kept import Kept, page_and_number
-from .made import MadeStatements, maker, read
+from .made import MadeStatements, read
 from .matches import key_of_name
 from .naming import Unnamed, name_machines, wanted_names
 from .names_table import Tables
@@ -43,6 +43,7 @@ class Stored:
 
     def __init__(self, folder: str, program: Program, said: Said, reading: Reading) -> None:
         self._kept, self._program, self._said, self._reading = Kept(folder), program, said, reading
+        Adding(self._kept, said).make_again()
         settle(self._kept, program)
 
     @contextlib.contextmanager
@@ -83,8 +84,7 @@ class Stored:
 
     def _converted(self, places: Sequence[int]) -> tuple[advisories.Advisories, dict[str, Asked], States]:
         """What the advisories at these places become, and their statements as they are asked, if they were made before."""
-        made = {} if self._kept.rows("SELECT digest FROM maker") != [(maker(),)] else self._made(places)
-        for some in (made, {}):
+        for some in (self._made(places), {}):
             states = self._states()
             said = Deferred()
             with contextlib.suppress(advisories.Differing):

@@ -208,11 +208,11 @@ class Stores(RecipeCase):
         with sqlite3.connect(Path(self.store) / FILE) as connection:
             connection.execute("UPDATE maker SET digest = 'other'")
             connection.execute("UPDATE made SET data = x'00'")
+            connection.execute("UPDATE advisories SET is_odd = 0, is_of_systems = 1, state = NULL, has_names = 0")
+            connection.execute("DELETE FROM concerns")
         connection.close()
-        with mock.patch("cpe_recipes.stored.read", side_effect=AssertionError("read")):
-            self.assertEqual(self.verdicts(), before)
-        self.add()
-        self.assertEqual((self.verdicts(), ran(store.run, ["check", "--store", self.store])[0]), (before, 0))
+        self.assertEqual(self.verdicts(), before)
+        self.assertEqual(ran(store.run, ["check", "--store", self.store])[0], 0)
 
     def test_two_ranges_under_one_id_of_a_match(self):
         self.filled()
