@@ -38,16 +38,6 @@ _LONGEST = 10_000
 _DAY = re.compile(r"[0-9]{4}-[0-9]{2}-[0-9]{2}")
 
 
-@dataclass(frozen=True)
-class Added:
-    """What came of a page: how many of its records are new or later, and how many it has."""
-
-    name: str
-    kind: str
-    changed: int
-    records: int
-
-
 class Adding:
     """Adds pages one after the other."""
 
@@ -72,8 +62,8 @@ class Adding:
         self._end_part()
         self._part = ""
 
-    def put(self, page: Page) -> Added | None:
-        """Adds a page, whole or nothing of it; None if it is there."""
+    def put(self, page: Page) -> int | None:
+        """Adds a page, whole or nothing of it, and returns how many of its records are new or later; None if it is there."""
         key = f"{self._part}#{self._in_part}"
         self._in_part += 1
         kind = _KIND.get(page.kind, page.kind)
@@ -94,7 +84,7 @@ class Adding:
             self._put_numbers()
             self._kept.put("INSERT OR IGNORE INTO unsettled VALUES (?)", [(kind,)])
         self._numbers.update(self._new)
-        return Added(page.name, kind, changed, len(page.records))
+        return changed
 
     def make_again(self) -> None:
         """Derives all that stands beside the records of advisories, if other recipes derived it."""

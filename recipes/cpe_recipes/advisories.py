@@ -313,6 +313,8 @@ class _Converter:
     def __init__(self, bad_names: Mapping[str, str], said: Said, is_decided: bool) -> None:
         self._bad_names, self._said, self._is_decided = bad_names, said, is_decided
         self._matches: dict[str, Match] = {}
+        # (the ids of the matches of what was made before)
+        self._made: set[str] = set()
         self._at: Placed
         self.found = Advisories()
 
@@ -343,12 +345,20 @@ class _Converter:
         self.found.candidates.extend(candidate_at(placed, made.id, record) for record in made.records)
         self.found.details[made.id] = made.details
         for one in made.ranges:
-            self._put_range(one)
+            # (it has the ids of its own matches, whoever has these too)
+            if self.found.ranges.setdefault(one.key, one) != one or one.key in self.found.stand_ins:
+                raise Differing
+            self._made.add(one.key)
 
     def _put_range(self, one: Range) -> None:
-        """Puts a range. (What was made of an advisory alone has the ids of its matches, whoever has these too.)"""
-        if self.found.ranges.setdefault(one.key, one) != one or one.key in self.found.stand_ins:
+        if one.key in self._made and self.found.ranges[one.key] != one:
             raise Differing
+        self.found.ranges[one.key] = one
+
+    def _put_stand_in(self, key: str, what: str) -> None:
+        if key in self._made:
+            raise Differing
+        self.found.stand_ins[key] = what
 
     def _leave_out(self, id: str, reason: str) -> None:
         # (among the candidates, so that it is said in its place between what cpe refuses)
@@ -388,9 +398,7 @@ class _Converter:
         return tests
 
     def _stand_in(self, id: str, what: str, key: str) -> None:
-        if key in self.found.ranges:
-            raise Differing
-        self.found.stand_ins[key] = what
+        self._put_stand_in(key, what)
         self._leave_out(id, f"{what}: the check {quoted(key)} stands for it")
 
     def _configuration(self, id: str, configuration: Configuration) -> Test:
@@ -426,9 +434,7 @@ class _Converter:
         fault = match.fault()
         if match.doubt and not bad:
             # (it was read, and is UNKNOWN since it says so)
-            if key in self.found.ranges:
-                raise Differing
-            self.found.stand_ins[key] = f"{quoted(match.criteria)}: {match.doubt}"
+            self._put_stand_in(key, f"{quoted(match.criteria)}: {match.doubt}")
         elif bad or fault:
             self._stand_in(id, f"{bad or fault}: {quoted(match.text())}", key)
         else:

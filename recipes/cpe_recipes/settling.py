@@ -33,7 +33,7 @@ class _Noted(Noting):
 
 def settle(kept: Kept, program: Program) -> None:
     """Works out what isn't yet, after pages were added."""
-    if kept.one("SELECT 1 FROM unsettled") is None:
+    if is_settled(kept):
         return
     with kept.writing():
         for (kind,) in kept.rows("SELECT kind FROM unsettled"):
@@ -43,6 +43,11 @@ def settle(kept: Kept, program: Program) -> None:
             kept.put("DELETE FROM told WHERE kind = ?", [(kind,)])
             kept.put("INSERT INTO told VALUES (?, ?, ?)", ((kind, number, json.dumps(one)) for number, one in enumerate(told)))
         kept.put("DELETE FROM unsettled WHERE ?", [(True,)])
+
+
+def is_settled(kept: Kept) -> bool:
+    """Whether nothing was added since then."""
+    return kept.one("SELECT 1 FROM unsettled") is None
 
 
 def told_of(kept: Kept, kind: str) -> Iterator[dict[str, Json]]:

@@ -70,7 +70,7 @@ def _add(folder: str, read: Words, said: Said, output: Output) -> None:
             if added is None:
                 there += 1
                 continue
-            count, changed = count + 1, changed + added.changed
+            count, changed = count + 1, changed + added
             progress.step(f"adding pages, {count} so far")
         adding.end()
         progress.step("reading what the pages say together")

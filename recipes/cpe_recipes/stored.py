@@ -22,11 +22,12 @@ from .near_products import OPEN, Product, key_of
 from .product_index import squeezed
 from .program import Program
 from .said import Deferred, Fatal, Mute, Said
-from .settling import candidates_of, rows_of_products, settle, told_of
+from .settling import candidates_of, is_settled, rows_of_products, settle, told_of
 from .unanalysed import States
 from .whole import Missing, Reading
 
 _COUNTS = "is_passed = 0 AND state IS NULL"
+_TRIES = 10
 
 
 @dataclass(frozen=True)
@@ -43,15 +44,20 @@ class Stored:
 
     def __init__(self, folder: str, program: Program, said: Said, reading: Reading) -> None:
         self._kept, self._program, self._said, self._reading = Kept(folder), program, said, reading
-        Adding(self._kept, said).make_again()
-        settle(self._kept, program)
 
     @contextlib.contextmanager
     def opened(self) -> Iterator[Stored]:
-        """All that is taken within is of one time."""
+        """All that is taken within is of one time, and worked out."""
         try:
-            with self._kept.reading():
-                yield self
+            for _ in range(_TRIES):
+                Adding(self._kept, self._said).make_again()
+                settle(self._kept, self._program)
+                with self._kept.reading():
+                    # (another run may have added a page since then)
+                    if is_settled(self._kept):
+                        yield self
+                        return
+            raise Fatal(f"{self._kept.folder}: another run adds pages to the store; scan when that is done")
         finally:
             self._kept.close()
 

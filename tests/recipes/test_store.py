@@ -19,7 +19,7 @@ from test_portions import advisory, match
 
 from test_feeds import Heard
 
-from cpe_recipes import fleet, made, scan, store
+from cpe_recipes import adding, feeds, fleet, made, scan, settling, store
 from cpe_recipes.kept import FILE, VERSION, Kept
 from cpe_recipes.program import Program
 from cpe_recipes.said import Fatal
@@ -367,6 +367,23 @@ class Stores(RecipeCase):
         connection.execute("ROLLBACK")
         self.add(page("vulnerabilities", cve(9, match(HERE))))
         self.assertEqual(self.verdicts()[0], {"1": "TRUE", "9": "TRUE"})
+
+    def test_a_page_that_another_run_adds_meanwhile(self):
+        self.filled()
+        late = self.file("late.json", page("vulnerabilities", cve(9, match(HERE)), start=1, total=2))
+        runs = []
+
+        def settle(*given):
+            settling.settle(*given)
+            runs.append(given)
+            if len(runs) == 1:
+                kept = Kept(self.store)
+                adding.Adding(kept, Heard()).put(next(feeds.pages([late], Heard(), adding.KINDS)))
+                kept.close()
+
+        with mock.patch("cpe_recipes.stored.settle", settle):
+            self.assertIn("the feed has 2 advisories, 1 were given", self.scan_is_fatal())
+        self.assertEqual(len(runs), 2)
 
     def test_two_runs_that_add_at_once(self):
         pages = [self.file(f"two-{k}.json", page("vulnerabilities", *(cve(10 * k + n, match(fs("v", f"p{k}{n}"))) for n in range(9)))) for k in range(12)]
