@@ -20,7 +20,7 @@ from .called import Called, Sure
 from .calling import Wanted
 from .decide import Decided, Leads, check_record, drop_record
 from .feeds import Json, record_text
-from .near_products import Item, NearProducts, Product, key_of, keys_of, version_key
+from .near_products import Item, NearProducts, Product, item_of, keys_of, version_key
 from .portions import portions, size_of
 from .said import Fatal
 
@@ -179,19 +179,11 @@ def _items(facts: Iterable[str], plain: Collection[Product]) -> Iterator[Item]:
             yield product, version_key(parts[names.VERSION])
 
 
-def _keys(called: Iterable[Called]) -> set[Item]:
-    """The products and versions of names of items, as keys."""
-    found = set()
-    for parts in {one.name: names.components(one.name) for one in called}.values():
-        found.add((key_of((parts[names.VENDOR], parts[names.PRODUCT])), version_key(parts[names.VERSION])))
-    return found
-
-
 def _by_product(called: Iterable[Called]) -> dict[Product, Items]:
     """Names by the keys of their products, in order."""
     found: dict[Product, set[str]] = {}
     for one in called:
-        found.setdefault(key_of(names.product_of(one.name)), set()).add(one.name)
+        found.setdefault(item_of(one.name)[0], set()).add(one.name)
     return {product: tuple(sorted(items)) for product, items in found.items()}
 
 
@@ -208,7 +200,7 @@ class Cases:
         if self._is_all_asked:
             places = list(range(len(self._known.statements)))
         else:
-            places = self._index.concerned(_keys(called), decided)
+            places = self._index.concerned({item_of(one.name) for one in called}, decided)
         # (where an item says less, it is asked for beside the others, where a fact says more)
         less = _unsaid(called)
         if less and not self._is_all_asked:

@@ -2,6 +2,7 @@
 cpe alone says."""
 from __future__ import annotations
 
+import functools
 import re
 from collections.abc import Iterable
 
@@ -87,6 +88,7 @@ def part_of(name: str) -> str:
     return components(text)[0] if text.startswith(PREFIX) else ""
 
 
+@functools.lru_cache(maxsize=1 << 17)
 def product_of(name: str) -> tuple[str, str]:
     """The vendor and the product of a name, as components."""
     parts = components(name)

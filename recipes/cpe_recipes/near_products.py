@@ -6,6 +6,7 @@ Only if both are patterns may every fact cover it. A fact of one version covers 
 """
 from __future__ import annotations
 
+import functools
 from collections.abc import Iterable, Iterator, Mapping
 from typing import Generic, TypeVar
 
@@ -39,6 +40,13 @@ def version_key(version: str) -> str:
 
 # The product of an item, and its version, as keys.
 Item = tuple[Product, str]
+
+
+@functools.lru_cache(maxsize=1 << 17)
+def item_of(name: str) -> Item:
+    """The keys of the name of an item. (Many machines have the same ones.)"""
+    parts = names.components(name)
+    return key_of((parts[names.VENDOR], parts[names.PRODUCT])), version_key(parts[names.VERSION])
 
 
 class NearProducts(Generic[What]):
