@@ -23,7 +23,7 @@ from .feeds import ADVISORIES, RECORDS, FormFault, Json, Page, Placed, member, r
 from .kept import Kept, place_of
 from .latest import time_of
 from .made import make, maker
-from .matches import key_of_name
+from .matches import Naming, key_of_name
 from .near_products import Product as Key
 from .product_index import squeezed
 from .said import Said
@@ -95,7 +95,7 @@ class Adding:
             if self._is_of_these_recipes():
                 return
             self._read_numbers()
-            for table in ("maker", "concerns", "made"):
+            for table in ("maker", "concerns", "ranged", "made"):
                 self._kept.put(f"DELETE FROM {table} WHERE ?", [(True,)])
             for (place,) in self._kept.rows("SELECT place FROM advisories"):
                 (data,) = self._kept.rows("SELECT data FROM advisories WHERE place = ?", (place,))[0]
@@ -128,7 +128,9 @@ class Adding:
         return found
 
     def _number_of(self, name: Json) -> int:
-        key = key_of_name(name) if isinstance(name, str) else None
+        return self._number_of_key(key_of_name(name) if isinstance(name, str) else None)
+
+    def _number_of_key(self, key: Key | None) -> int:
         return NO_PRODUCT if key is None else self._number(key)
 
     def _put_products(self, page: Page, page_number: int) -> int:
@@ -175,20 +177,20 @@ class Adding:
 
     def _put_matches(self, page: Page, page_number: int) -> int:
         changed = 0
-        beside: dict[tuple[int, int], None] = {}
+        found: dict[tuple[int, int, str], None] = {}
         for placed in page.each("match string", lambda it: text_at(member(it, "matchString"), "matchCriteriaId")):
             try:
                 match_string = member(placed.record, "matchString")
                 listed, modified = matches.names_of(match_string), record_text(matches.modified_of(match_string))
-                other = key_of_name(text_at(match_string, "criteria") or "")
+                naming = Naming.of(match_string)
             except FormFault:
                 self._said.left_out(placed.id, NO_FORM, placed.source.place(placed.number))
                 continue
-            if other is not None:
-                products = {self._number_of(name) for name in listed}
-                beside.update(dict.fromkeys((product, self._number(other)) for product in products if product != self._number(other)))
+            if naming is not None:
+                other = self._number_of_key(naming.product)
+                found.update(dict.fromkeys((self._number_of_key(one), other, placed.id) for one in naming.listed))
             changed += self._put_match(place_of(page_number, placed.number - 1), placed.id, modified, record_text(listed))
-        self._kept.put("INSERT OR IGNORE INTO beside VALUES (?, ?)", beside)
+        self._kept.put("INSERT OR IGNORE INTO naming VALUES (?, ?, ?)", found)
         return changed
 
     def _put_match(self, place: int, key: str, modified: str, listed: str) -> bool:
@@ -278,8 +280,10 @@ class _LatestAdvisories:
     def _delete(self, known: Iterable[tuple[int, str, bytes]]) -> None:
         for place, _, data in known:
             concern = concern_of(record_of(data))
-            products = concern.products if concern is not None else ()
-            self._kept.put("DELETE FROM concerns WHERE product = ? AND place = ?", [(self._number_of(product), place) for product in products])
+            if concern is not None:
+                products = [(self._number_of(product), place) for product in concern.products]
+                self._kept.put("DELETE FROM concerns WHERE product = ? AND place = ?", products)
+                self._kept.put("DELETE FROM ranged WHERE key = ? AND place = ?", [(key, place) for key in concern.ranges])
             for table in ("advisories", "made"):
                 self._kept.put(f"DELETE FROM {table} WHERE place = ?", [(place,)])
 
@@ -336,9 +340,10 @@ class Derived:
         return self.has_names, self.state, is_odd, self.concern is not None and self.concern.is_of_systems()
 
     def put(self, kept: Kept, place: int, number_of: Callable[[Key], int]) -> None:
-        """Puts its products, and what it becomes."""
+        """Puts its products and ranges, and what it becomes."""
         if self.concern is not None:
             kept.put("INSERT INTO concerns VALUES (?, ?)", [(number_of(product), place) for product in self.concern.products])
+            kept.put("INSERT INTO ranged VALUES (?, ?)", [(key, place) for key in self.concern.ranges])
             kept.put("INSERT INTO made VALUES (?, ?)", [(place, self.made)])
 
 

@@ -290,6 +290,8 @@ def _bad_names(vulnerabilities: Iterable[Json], program: Program) -> dict[str, s
             if isinstance(match, dict) and isinstance(match.get("criteria"), str):
                 names[match["criteria"]] = None
     all_names = list(names)
+    if not all_names:
+        return {}
     asked = (record_text({"do": "lookup", "name": name}) for name in all_names)
     return {all_names[number - 1]: reason for number, reason in refusals(program.lines(["resolve"], asked)).items()}
 

@@ -6,7 +6,7 @@ import zlib
 from collections.abc import Iterator
 
 from .adding import Derived, record_of, told_apart
-from .concern import plain_name
+from .concern import Concern, plain_name
 from .kept import Kept, page_and_number
 from .made import maker
 from .said import Said
@@ -44,6 +44,9 @@ def _advisories(kept: Kept, numbers: dict[int, tuple[str, str]]) -> Iterator[tup
     products: dict[int, set[tuple[str, str]]] = {}
     for product, place in kept.each("SELECT product, place FROM concerns"):
         products.setdefault(place, set()).add(numbers.get(product, ("", "")))
+    ranges: dict[int, set[str]] = {}
+    for key, place in kept.each("SELECT key, place FROM ranged"):
+        ranges.setdefault(place, set()).add(key)
     is_of_these = kept.rows("SELECT digest FROM maker") == [(maker(),)]
     columns_of = "place, id, modified, a.data, made.data, has_names, state, is_odd, is_of_systems"
     for place, id, modified, data, made, *columns in kept.each(f"SELECT {columns_of} FROM advisories a LEFT JOIN made USING (place)"):
@@ -53,9 +56,10 @@ def _advisories(kept: Kept, numbers: dict[int, tuple[str, str]]) -> Iterator[tup
             yield place, "its record can't be read"
             continue
         derived = Derived.of(record)
-        concerned = derived.concern.products if derived.concern is not None else frozenset()
+        concern = derived.concern or Concern(frozenset(), frozenset(), frozenset())
         is_right = (id, modified) == told_apart(record) and tuple(columns) == derived.columns()
-        is_right = is_right and products.get(place, set()) == concerned and (made == derived.made or not is_of_these)
+        is_right = is_right and products.get(place, set()) == concern.products and ranges.get(place, set()) == concern.ranges
+        is_right = is_right and (made == derived.made or not is_of_these)
         yield place, "" if is_right else f"what stands beside {id_of(record) or 'it'} is of another record"
 
 

@@ -43,14 +43,15 @@ class _Odd(Exception):
 @dataclass(frozen=True, slots=True)
 class Concern:
     """What a plain advisory concerns: the products of its vulnerable matches. `parts` are the parts of the names for which its statement
-    asks, such as `o` for operating systems."""
+    asks, such as `o` for operating systems, and `ranges` are the ids of its matches that have bounds."""
 
     products: frozenset[Product]
     parts: frozenset[str]
+    ranges: frozenset[str]
 
-    def meets(self, wanted: Collection[Product]) -> bool:
-        """Whether it may concern items of these products (keys of near_products.py)."""
-        return any(key in wanted for product in self.products for key in keys_of(product))
+    def meets(self, wanted: Collection[Product], naming: Collection[str] = ()) -> bool:
+        """Whether it may concern items of these products (keys of near_products.py), or has one of the matches that give items names."""
+        return any(key in wanted for product in self.products for key in keys_of(product)) or not self.ranges.isdisjoint(naming)
 
     def is_of_systems(self) -> bool:
         """Whether all names for which it asks are of operating systems."""
@@ -68,7 +69,7 @@ def concern_of(record: Json) -> Concern | None:
         _needs(all(score_of(score) is not None for score in _scores(cve)))
     except (_Odd, KeyError, TypeError, AttributeError):
         return None
-    return Concern(frozenset(reading.products), frozenset(reading.parts))
+    return Concern(frozenset(reading.products), frozenset(reading.parts), frozenset(reading.ranges))
 
 
 class _Reading:
@@ -77,6 +78,7 @@ class _Reading:
     def __init__(self) -> None:
         self.products: set[Product] = set()
         self.parts: set[str] = set()
+        self.ranges: set[str] = set()
         self._bytes = 0
 
     def read(self, configurations: Json) -> None:
@@ -113,7 +115,10 @@ class _Reading:
         _needs(key is None or isinstance(key, str))
         for one, other in _BOUNDS_OF_A_KIND:
             _needs(match.get(one) is None or match.get(other) is None)
-        _needs(all(is_bound(match[name]) for name in BOUNDS if match.get(name) is not None))
+        bounds = [match[name] for name in BOUNDS if match.get(name) is not None]
+        _needs(all(map(is_bound, bounds)))
+        if bounds and key:
+            self.ranges.add(key)
         part, product = found
         self._bytes += 2 * len(match["criteria"]) + len(key or "") + _BYTES_BESIDE
         if is_vulnerable:

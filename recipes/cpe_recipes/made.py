@@ -17,7 +17,7 @@ from pathlib import Path
 from .advisories import Made, Range, convert_one
 from .asked import Negated, asked_of
 from .cases import Asked, Statement
-from .feeds import Json, record_text
+from .feeds import Json
 
 
 @dataclass(frozen=True, slots=True)
@@ -41,7 +41,8 @@ def make(record: Json) -> bytes | None:
         statements.append([one.record, line, told, [[it.key, it.fact, it.range] for it in negated.values()]])
     (details,) = found.details.values()
     ranges = [[it.key, it.criteria, it.start, it.end, it.start_excluded, it.end_excluded] for it in found.ranges.values()]
-    return zlib.compress(record_text([statements, ranges, details]).encode(errors="replace"), 1)
+    # (in ASCII, in which JSON has half a character too)
+    return zlib.compress(json.dumps([statements, ranges, details], separators=(",", ":")).encode(), 1)
 
 
 def read(data: bytes) -> MadeStatements:

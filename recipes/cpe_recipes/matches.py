@@ -3,6 +3,7 @@ from __future__ import annotations
 
 import contextlib
 from collections.abc import Collection, Iterable
+from dataclasses import dataclass
 
 from . import names
 from .feeds import FormFault, Json, Page, member, members, text_at
@@ -36,23 +37,44 @@ def listed(feed: Iterable[Page], wanted: Collection[str], said: Said) -> dict[st
     return {id: listed for id, (_, listed) in found.items()}
 
 
-def products_beside(feed: Iterable[Page], wanted: Collection[Product]) -> set[Product]:
-    """The products of the matches whose lists have a name of these products, as keys of near_products.py. An item that is listed for a
-    match has the name of the match too, which may be of another product."""
-    found: set[Product] = set()
+@dataclass(frozen=True, slots=True)
+class Naming:
+    """A match that gives other names to items that it lists: the product of its own name, None if that isn't known, and the products of
+    these items, as keys of near_products.py. One of which the product isn't known is None."""
+
+    key: str
+    product: Product | None
+    listed: frozenset[Product | None]
+
+    @staticmethod
+    def of(match_string: Json) -> Naming | None:
+        """The naming of a match; None if each item that it lists has its name anyhow."""
+        key, criteria = text_at(match_string, "matchCriteriaId"), text_at(match_string, "criteria") or ""
+        listed = frozenset(key_of_name(name) for name in names_of(match_string) if not _has_name(name, criteria))
+        return Naming(key or "", key_of_name(criteria), listed) if listed else None
+
+
+def _has_name(name: str, criteria: str) -> bool:
+    """Whether a name says all that the name of a match says."""
+    here, there = as_formatted(name), as_formatted(criteria)
+    if not here or not there or not name.startswith(names.PREFIX) or not criteria.startswith(names.PREFIX):
+        return False
+    return all(want in (names.ANY, have) for want, have in zip(names.components(there), names.components(here)))
+
+
+def namings(feed: Iterable[Page], wanted: Collection[Product]) -> tuple[set[Product], set[str]]:
+    """The products of the matches that give other names to items of these products, and the ids of these matches. An item that is listed
+    for a match has the name of the match too."""
+    products: set[Product] = set()
+    keys: set[str] = set()
     for page in feed:
         for record in page.records:
             with contextlib.suppress(FormFault):
-                match_string = member(record, "matchString")
-                beside = key_of_name(text_at(match_string, "criteria") or "")
-                if beside is not None and any(_is_of(name, wanted) for name in names_of(match_string)):
-                    found.add(beside)
-    return found
-
-
-def _is_of(name: str, wanted: Collection[Product]) -> bool:
-    key = key_of_name(name)
-    return key is None or key in wanted
+                naming = Naming.of(member(record, "matchString"))
+                if naming is not None and any(one is None or one in wanted for one in naming.listed):
+                    products.update(() if naming.product is None else (naming.product,))
+                    keys.add(naming.key)
+    return products, keys
 
 
 def key_of_name(name: str) -> Product | None:

@@ -107,8 +107,8 @@ class Cut:
     elsewhere: dict[str, bool]
 
     @staticmethod
-    def of(pages: Sequence[Page], wanted: Collection[Product]) -> Cut:
-        """Cuts pages of which each advisory counts."""
+    def of(pages: Sequence[Page], wanted: Collection[Product], naming: Collection[str] = ()) -> Cut:
+        """Cuts pages of which each advisory counts. `naming` are the ids of matches that give items names."""
         ids = Counter(id for page in pages for record in page.records if (id := id_of(record)) is not None)
         kept, elsewhere = [], {}
         for page in pages:
@@ -116,7 +116,7 @@ class Cut:
             for place, record in enumerate(page.records):
                 concern, id = concern_of(record), id_of(record)
                 # (of one that comes more than once it isn't known which counts, which will be reported)
-                if concern is None or id is None or ids[id] > 1 or concern.meets(wanted):
+                if concern is None or id is None or ids[id] > 1 or concern.meets(wanted, naming):
                     places.append(place)
                 else:
                     elsewhere[id] = concern.is_of_systems()

@@ -44,6 +44,8 @@ class Stored:
 
     def __init__(self, folder: str, program: Program, said: Said, reading: Reading) -> None:
         self._kept, self._program, self._said, self._reading = Kept(folder), program, said, reading
+        # (the ids of the matches that give items other names)
+        self._naming: set[str] = set()
 
     @contextlib.contextmanager
     def opened(self) -> Iterator[Stored]:
@@ -153,11 +155,12 @@ class Stored:
 
     def _near(self, products: Collection[Product]) -> set[int]:
         """The numbers of the products that names of these may have: to which deprecations lead, and from which they lead to one of
-        these, and those of which a match lists one of these."""
+        these, and those of which a match lists one of these. The ids of such matches are noted."""
         there = self._led(self._numbers(products), "successor", "product")
         found = self._led(there, "product", "successor")
-        beside = self._kept.rows_of("SELECT other FROM beside WHERE product IN {}", [NO_PRODUCT, *found])
-        keys = self._kept.rows_of("SELECT vendor, product FROM names WHERE number IN {}", {number for (number,) in beside})
+        beside = self._kept.rows_of("SELECT other, key FROM naming WHERE product IN {}", [NO_PRODUCT, *found])
+        keys = self._kept.rows_of("SELECT vendor, product FROM names WHERE number IN {}", {number for number, _ in beside})
+        self._naming = {key for _, key in beside}
         return found | self._numbers(keys)
 
     def _around(self, numbers: Collection[int]) -> set[int]:
@@ -179,6 +182,7 @@ class Stored:
         found = {place for (place,) in self._kept.rows(f"SELECT place FROM advisories WHERE (is_odd OR is_doubled) AND {_COUNTS}")}
         found.update(place for (place,) in self._kept.rows_of(f"SELECT place FROM advisories WHERE id IN {{}} AND {_COUNTS}", ids))
         concerned = {place for (place,) in self._kept.rows_of("SELECT place FROM concerns WHERE product IN {}", wanted)}
+        concerned.update(place for (place,) in self._kept.rows_of("SELECT place FROM ranged WHERE key IN {}", self._naming))
         passed = {place for (place,) in self._kept.each("SELECT place FROM advisories WHERE is_passed = 1")}
         return sorted(found | concerned - passed)
 

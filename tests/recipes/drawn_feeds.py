@@ -82,6 +82,8 @@ class Feeds:
         status = self.draw.choice(["Analyzed"] * 6 + ["Modified", "Rejected", "Awaiting Analysis", "Undergoing Analysis"])
         cve = {"id": f"CVE-2024-{10_000 + number}", "lastModified": self.now(), "vulnStatus": status}
         cve["descriptions"] = [{"lang": "en", "value": f"Advisory {number} of day {self.day}."}]
+        if self.is_one_of(20):
+            cve["descriptions"][0]["value"] += " \ud800 \x07 \u2028 ü"
         score = 11 if self.is_one_of(20) else self.draw.randint(10, 100) / 10
         cve["metrics"] = {"cvssMetricV31": [{"type": "Primary", "cvssData": {"baseScore": score, "baseSeverity": "HIGH"}}]}
         if status in ("Analyzed", "Modified"):

@@ -13,7 +13,7 @@ from drawn_feeds import Feeds
 from recipe_case import ROOT, RecipeCase, fs, needs_cpe
 from test_scan import Drawn, scanned, truths
 
-from cpe_recipes import portions, scan
+from cpe_recipes import portions, scan, store
 from cpe_recipes.concern import concern_of
 from cpe_recipes.feeds import Page, record_text
 from cpe_recipes.near_products import NearProducts, key_of, version_key
@@ -202,6 +202,33 @@ class Asked(unittest.TestCase):
             with limited(SMALL):
                 _, written, _ = ran([*words, "--machines", f"{folder}/machines"])
         self.assertIn("1 machine: 1 TRUE, 0 ERROR, 0 UNKNOWN, 5 FALSE", written)
+
+
+    def test_a_match_that_gives_an_item_a_name_is_read_wherever_it_is(self):
+        listed = {"matchCriteriaId": "K", "criteria": fs("v", "p"), "matches": [{"cpeName": fs("w", "q", "1.0")}]}
+        beside = {"vulnerable": False, "criteria": fs("v", "p"), "matchCriteriaId": "K", "versionEndExcluding": "3"}
+        nodes = [{"operator": "OR", "cpeMatch": [match(fs("x", "y"))]}, {"operator": "OR", "cpeMatch": [beside]}]
+        elsewhere = {"cve": advisory()["cve"] | {"id": "CVE-2024-0009", "configurations": [{"operator": "AND", "nodes": nodes}]}}
+        others = [advisory(match(fs("x", "y")), id=f"CVE-2024-1{k:03}") for k in range(5)]
+        with tempfile.TemporaryDirectory() as folder:
+            pages = {
+                "dictionary": {"products": [{"cpe": {"cpeName": fs("w", "q", "1.0"), "cpeNameId": "1"}}]},
+                "advisories": {"vulnerabilities": [advisory(match(fs("v", "p", "1.0"))), elsewhere, *others]},
+                "matches": {"matchStrings": [{"matchString": listed}]},
+            }
+            paths = {name: Path(folder) / f"{name}.json" for name in pages}
+            for name, path in paths.items():
+                path.write_text(json.dumps(pages[name]))
+            (Path(folder) / "machines").write_text(f"m {fs('w', 'q', '1.0')}\n")
+            words = [word for name, path in paths.items() for word in (f"--{name}", str(path))]
+            whole = ran([*words, "--machines", f"{folder}/machines"])[1]
+            with limited(SMALL):
+                some = ran([*words, "--machines", f"{folder}/machines"])[1]
+            with mock.patch("cpe_recipes.said.os.write"):
+                store.run(["add", "--store", f"{folder}/store", *map(str, paths.values())])
+            stored = ran(["--store", f"{folder}/store", "--machines", f"{folder}/machines"])[1]
+        self.assertIn("1 machine: 1 TRUE, 0 ERROR, 0 UNKNOWN, 6 FALSE", whole)
+        self.assertEqual((some, stored), (whole, whole))
 
 
 @needs_cpe
