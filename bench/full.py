@@ -5,7 +5,7 @@
 
 It makes a share of 1,436,460 products and 300,000 advisories (a tenth if left out), in the form of NVD's API 2.0, the same at every run,
 below build/bench/full: few products have many names and advisories, and most have few; a tenth of the names is deprecated, and three in
-ten advisories aren't analysed. Machines have items of so many products, each machine other ones. A day later 1,000 advisories changed,
+ten advisories aren't analysed. Machines have items of a number of products, each machine other ones. A day later 1,000 advisories changed,
 and three machines. Of each run it prints the processor time of Python and of cpe together, by phases, and the most memory that one
 process held; --whole adds a scan without a store. Python 3 (standard library alone) and Linux.
 """

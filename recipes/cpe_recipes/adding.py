@@ -1,8 +1,8 @@
 """Adds pages of feeds to a store (kept.py), each in one transaction.
 
-Of what comes more than once that counts which was modified last, as latest.py and dictionary.py have it: so a page of changes replaces
-what it has, and an older one changes nothing. Beside each record stand the products that it concerns, so that a scan finds it by these,
-and what it becomes (made.py). What isn't plain (concern.py) stands apart, and is read by every scan.
+If a record is there more than once, the one that was modified last counts, as in latest.py and dictionary.py. So a page of changes
+replaces what it has, and an older one changes nothing. Beside each record the products are kept that it concerns, so that a scan finds
+it by these, and what it becomes (made.py). What isn't plain (concern.py) is read by every scan.
 """
 from __future__ import annotations
 
@@ -87,7 +87,7 @@ class Adding:
         return changed
 
     def make_again(self) -> None:
-        """Derives all that stands beside the records of advisories, if other recipes derived it."""
+        """Derives all that is kept beside the records of advisories, if other recipes derived it."""
         if self._is_of_these_recipes():
             return
         with self._kept.writing():
@@ -316,7 +316,7 @@ def told_apart(record: Json) -> tuple[str | None, str]:
 
 @dataclass(frozen=True)
 class Derived:
-    """What stands beside the record of an advisory: whether it has configurations, why it has no verdict, which products it concerns and
+    """What is kept beside the record of an advisory: whether it has configurations, why it has no verdict, which products it concerns and
     what it becomes, if it is plain."""
 
     has_names: bool
@@ -353,7 +353,7 @@ def record_of(data: bytes) -> Json:
 
 
 def change_of(text: str, placed: Placed) -> Change:
-    """What a product tells of deprecations, as it is kept."""
+    """What a product says of deprecations, as it is kept."""
     name, is_old, date, by, of = json.loads(text)
     return Change(placed, name, is_old, date, tuple(by), tuple(of))
 
@@ -378,7 +378,7 @@ def _time(modified: str) -> datetime:
 
 
 def _numbers_of(ids: Sequence[Json]) -> bytes:
-    """Numbers that stand for ids, as bytes; 0 for what has none."""
+    """Numbers in place of ids, as bytes; 0 for a record without one."""
     return array("Q", (_id_number(id) for id in ids)).tobytes()
 
 
@@ -389,7 +389,7 @@ def _id_number(id: Json) -> int:
 
 
 def ids_of(data: bytes) -> Iterator[int | None]:
-    """What stands for the ids of the records of a page."""
+    """The numbers in place of the ids of the records of a page."""
     numbers = array("Q")
     numbers.frombytes(data)
     return (number or None for number in numbers)

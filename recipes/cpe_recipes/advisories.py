@@ -238,8 +238,8 @@ class Differing(Exception):
 
 @dataclass(frozen=True, slots=True)
 class Made:
-    """What an advisory became before: its id, the records of its statements, its ranges and its details. It may stand in place of its
-    record on a page."""
+    """What an advisory became before: its id, the records of its statements, its ranges and its details. It may be on a page in place of
+    its record."""
 
     id: str
     records: tuple[str, ...]

@@ -1,4 +1,4 @@
-"""Reads all of a store again, and compares what stands beside each record with that record, as adding.py puts it."""
+"""Reads all of a store again, and compares what is kept beside each record with that record, as adding.py puts it."""
 from __future__ import annotations
 
 import json
@@ -37,7 +37,7 @@ def _products(kept: Kept, numbers: dict[int, tuple[str, str]]) -> Iterator[tuple
     for place, product, name, odd, fault in kept.each("SELECT place, product, name, odd, fault FROM products"):
         plain = plain_name(name) if name is not None and name.islower() else None
         is_right = (plain[1] if plain else None) == numbers.get(product) and (odd is not None or fault is not None or plain is not None)
-        yield place, "" if is_right else "it stands beside another product"
+        yield place, "" if is_right else "it is kept with another product"
 
 
 def _advisories(kept: Kept, numbers: dict[int, tuple[str, str]]) -> Iterator[tuple[int, str]]:
@@ -60,7 +60,7 @@ def _advisories(kept: Kept, numbers: dict[int, tuple[str, str]]) -> Iterator[tup
         is_right = (id, modified) == told_apart(record) and tuple(columns) == derived.columns()
         is_right = is_right and products.get(place, set()) == concern.products and ranges.get(place, set()) == concern.ranges
         is_right = is_right and (made == derived.made or not is_of_these)
-        yield place, "" if is_right else f"what stands beside {id_of(record) or 'it'} is of another record"
+        yield place, "" if is_right else f"what is kept beside {id_of(record) or 'it'} is of another record"
 
 
 def _matches(kept: Kept) -> Iterator[tuple[int, str]]:

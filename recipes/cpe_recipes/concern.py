@@ -1,8 +1,8 @@
 """Which products an advisory concerns, read from its record alone, without `cpe` and without a statement.
 
-That is told only if all in the advisory is plain: its names are spelled as `cpe` writes them, in any letter case, with a plain vendor and product, its
-bounds are ranges, and nothing of it will be reported. Then it is FALSE on each machine that has none of these products. Of any other advisory
-nothing is told here, so it is one that may concern every machine.
+That is known only if all in the advisory is plain: its names are spelled as `cpe` writes them, in any letter case behind their parts,
+with a plain vendor and product; its bounds are ranges; and nothing of it will be reported. Then it is FALSE on each machine that has
+none of these products. Any other advisory is one that may concern every machine.
 """
 from __future__ import annotations
 
@@ -25,7 +25,7 @@ _FRONTS = tuple(f"{names.PREFIX}{part}:" for part in "aho")
 # (a number behind # is that of a part of an advisory)
 _ID = re.compile(r"[!-\"$-~]{1,64}")
 _BOUNDS_OF_A_KIND = (("versionStartIncluding", "versionStartExcluding"), ("versionEndIncluding", "versionEndExcluding"))
-# From so many bytes on logic may have to be taken apart, so that its parts fit in lines.
+# Longer logic may have to be taken apart, so that its parts fit in lines.
 _MOST_BYTES, _BYTES_BESIDE = 40_000, 160
 
 
@@ -87,8 +87,8 @@ class _Reading:
         _needs(self._bytes <= _MOST_BYTES)
 
     def _configuration(self, configuration: Json) -> None:
-        """Reads a configuration. What is negated in it becomes a check, so only the other names stand in its statement; if its logic
-        could hold without a vulnerable product, these stand beside it."""
+        """Reads a configuration. What is negated in it becomes a check, so only the other names are facts of its statement. If its
+        logic could hold without a vulnerable product, the vulnerable ones are facts beside it."""
         is_and, is_negated = _logic(configuration)
         needed: list[bool] = []
         vulnerable: set[str] = set()

@@ -13,12 +13,12 @@ from pathlib import Path
 from .said import Fatal, why
 
 FILE = "feeds.sqlite"
-# (it changes with the tables, and with what stands beside products and matches; what stands beside advisories is made again)
+# (change it with the tables, and with what is kept beside products and matches; what is kept beside advisories is made again)
 VERSION = 1
 # By this number SQLite's own header says whose file it is.
 _APPLICATION = 0x43504553
 _SECONDS_TO_WAIT = 10
-# Of a query over many numbers, so many at a time.
+# A query over many numbers is asked for a part of them at a time.
 _AT_ONCE = 500
 # The place of a record: the number of its page, and behind that its number in the page, from 0.
 _BITS = 24
@@ -163,7 +163,7 @@ class Kept:
             yield from self._connection.execute(query, values)
 
     def rows_of(self, query: str, values: Iterable[object]) -> list[tuple]:
-        """The rows of a query for each of these values, which stand in it as `{}`."""
+        """The rows of a query for each of these values, in place of `{}`."""
         found, all_values = [], list(values)
         for first in range(0, len(all_values), _AT_ONCE):
             some = all_values[first : first + _AT_ONCE]

@@ -1,4 +1,4 @@
-"""What is worked out of a store once its pages are added, and told by each scan: which pages of a feed are missing, and what of the
+"""What is worked out of a store once its pages are added, and reported by each scan: which pages of a feed are missing, and what of the
 dictionary `cpe` refuses. Only the deprecations, and what they name, are tried again: any other entry that is plain is accepted."""
 from __future__ import annotations
 
@@ -79,7 +79,7 @@ def _told_of_dictionary(kept: Kept, program: Program) -> list[dict[str, Json]]:
 
 
 def _rows_of_deprecations(kept: Kept) -> list[tuple]:
-    """The products that tell of deprecations or aren't plain, and those that deprecations name."""
+    """The products that say something of deprecations or aren't plain, and those that deprecations name."""
     rows = {row[0]: row for row in kept.rows(f"SELECT {_COLUMNS} FROM products WHERE change IS NOT NULL")}
     rows |= {row[0]: row for row in odd_rows(kept)}
     for name in _named(row[5] for row in rows.values() if row[5] is not None):

@@ -5,11 +5,11 @@
     python3 store.py check --store FOLDER
 
 - add: adds pages of NVD's API 2.0 or its feeds, of products, advisories and matches, and CVE records of format 5, plain, packed or in
-  archives. A folder that isn't there is made. Of what comes more than once that counts which was modified last: so pages of changes replace
-  what they have, older ones change nothing, and a page that is there already is passed over. Each page is added whole or not at all. So
-  where it was stopped, killed, or the disk was full, the same command goes on. Without pages it works out what a stopped one had not.
+  archives. A folder that isn't there is made. If a record is there more than once, the one that was modified last counts. So pages of
+  changes replace what they have, older ones change nothing, and a page that is there already is passed over. Each page is added whole or
+  not at all. If a run was stopped or killed, or the disk was full, run it again. Without pages it works out what a stopped one had not.
 - status: how much is in the store, when it was last added to, and which pages of a feed are missing.
-- check: reads all of it again, and compares what stands beside each record with that record.
+- check: reads all of it again, and compares what is kept beside each record with that record.
 
 `scan.py --store FOLDER` scans from it (kept.py, adding.py and stored.py say how). The status is 0 if all was added, or nothing is missing or
 wrong; 1 if something was left out, is missing or wrong, which is reported; 2 if there is no store, or it can't be read or written.
@@ -96,7 +96,7 @@ def _lines(kept: Kept, said: Said) -> Iterator[str]:
     rejected, unanalysed = kept.rows("SELECT sum(state = 'Rejected'), sum(state != 'Rejected') FROM advisories WHERE is_passed = 0 AND state IS NOT NULL")[0]
     yield f"of these rejected: {rejected or 0:,}, not analysed: {unanalysed or 0:,}"
     for (kind,) in kept.rows("SELECT kind FROM unsettled"):
-        said.left_out(CALLED[kind], "pages were added by a run that was stopped; store.py add goes on")
+        said.left_out(CALLED[kind], "pages were added by a run that was stopped; run store.py add again")
     for kind in KINDS:
         for one in told_of(kept, kind):
             if "missing" in one:

@@ -94,7 +94,7 @@ class Sequence:
         ran(store.run, words)
 
     def day(self):
-        """A day later: a window of changes, perhaps with a page that is there or an older one; sometimes all pages anew."""
+        """A day later: a window of changes, perhaps with a page that is there or an older one; sometimes all pages again."""
         what = self.draw.randrange(6)
         self.add(self.feeds.whole(self.folder) if what == 0 else self.feeds.changed(self.folder))
         if what == 1:
@@ -283,7 +283,7 @@ class Stores(RecipeCase):
         with mock.patch("cpe_recipes.store.settle", side_effect=KeyboardInterrupt), self.assertRaises(KeyboardInterrupt):
             self.filled()
         status, _, said = ran(store.run, ["status", "--store", self.store])
-        self.assertEqual((status, len([line for line in said if "store.py add goes on" in line])), (1, 2))
+        self.assertEqual((status, len([line for line in said if "run store.py add again" in line])), (1, 2))
         self.assertEqual(self.verdicts()[0], {"1": "TRUE"})
         self.assertEqual(ran(store.run, ["status", "--store", self.store])[0], 0)
 
