@@ -44,7 +44,7 @@ measure() {
 
 failed=
 head_of_results 2>&1 | tee "$part"
-for name in run index convert explain advise cover scan near snapshot openscap; do
+for name in run index convert explain advise cover scan full near snapshot openscap; do
     measure "$name" | tee -a "$part"
     [ "$(cat "$status")" = 0 ] || failed="$failed $name"
 done

@@ -31,15 +31,18 @@ from collections.abc import Callable, Iterable, Iterator, Mapping, Sequence
 from dataclasses import dataclass, field
 
 from . import cve5, latest, whole
-from .feeds import FormFault, Json, Page, Placed, member, members, record_text, text_at
+from .feeds import FormFault, Json, Page, Placed, Source, member, members, record_text, text_at
+from .portions import MOST
 from .program import Candidate, Program, candidate_at, refusals
-from .said import Fatal, Output, Said, quoted, write_file
+from .said import Fatal, Mute, Output, Said, quoted, write_file
 from .scores import score_of
-from .unanalysed import States
+from .unanalysed import States, id_of
 from .words import ONE, read_words
 
 USAGE = "advisories.sh [--ranges FILE] [--details FILE] [--partial] [--large] [FILE..]"
 KINDS = ("vulnerabilities",)
+# What one that has no id is called, before its place.
+CALLED = "vulnerability"
 SYSTEM, MATCH, CONFIGURATION = "NVD", "cpeMatch", "configuration"
 MOST_BYTES = 65_536
 _ROOM_TO_ASK = 4_096
@@ -48,7 +51,7 @@ MOST_PARTS = 1_000
 # Of nodes in one another, so that the tests of a statement aren't more than cpe takes.
 MOST_NODES_DEEP = 20
 
-_BOUNDS = {
+BOUNDS = {
     "versionStartIncluding": "from",
     "versionStartExcluding": "behind",
     "versionEndIncluding": "to",
@@ -56,7 +59,7 @@ _BOUNDS = {
 }
 _BOUND = re.compile(r"[!-~]{1,256}")
 _PART = re.compile(r"#\d+$")
-_SCORES = ("cvssMetricV40", "cvssMetricV31", "cvssMetricV30", "cvssMetricV2")
+SCORES = ("cvssMetricV40", "cvssMetricV31", "cvssMetricV30", "cvssMetricV2")
 
 Test = dict[str, Json]
 
@@ -114,7 +117,7 @@ class Match:
 
     @staticmethod
     def of(match: Json) -> Match:
-        bounds = {word: text_at(match, name) for name, word in _BOUNDS.items()}
+        bounds = {word: text_at(match, name) for name, word in BOUNDS.items()}
         given = {word: bound for word, bound in bounds.items() if bound is not None}
         criteria, doubt = text_at(match, "criteria"), text_at(match, cve5.DOUBT) or ""
         return Match(text_at(match, "matchCriteriaId"), criteria, _flag(match, "vulnerable"), given, doubt)
@@ -229,11 +232,33 @@ class Advisories:
             said.remark(f"{page}: no vulnerabilities in it")
 
 
+class Differing(Exception):
+    """Two advisories have other ranges under the same id of a match."""
+
+
+@dataclass(frozen=True, slots=True)
+class Made:
+    """What an advisory became before: its id, the records of its statements, its ranges and its details. It may be on a page in place of
+    its record."""
+
+    id: str
+    records: tuple[str, ...]
+    ranges: tuple[Range, ...]
+    details: dict[str, Json]
+
+
+def convert_one(record: Json) -> Advisories:
+    """What an advisory of which all names are names becomes. Nothing is said of it."""
+    converter = _Converter({}, Mute(), is_decided=True)
+    converter.take([Placed(str(record["cve"]["id"]), record, Source(CALLED, ""), 0)])
+    return converter.found
+
+
 def convert(
     feed: Iterable[Page], program: Program, said: Said, is_decided: bool, states: States | None = None
 ) -> Advisories:
     """The advisories of these pages, and beside these states those that have no verdict. Where ranges aren't decided after this, each
-    is remarked. Fatal where none is there."""
+    is remarked. Fatal where none is there. Differing where one that was made before has another range than another one."""
     found = list(feed)
     empty_pages = [page.name for page in found if not page.records]
     if len(empty_pages) == len(found) > 0:
@@ -241,7 +266,7 @@ def convert(
     states = states or States()
     of_ids: dict[str, list[Placed]] = {}
     for page in states.sort(latest.advisories(found, said)):
-        for placed in page.each("vulnerability", lambda it: text_at(member(it, "cve"), "id")):
+        for placed in page.each(CALLED, lambda it: text_at(member(it, "cve"), "id")):
             of_ids.setdefault(placed.id, []).append(placed)
     states.drop(of_ids)
     states.tell(said)
@@ -252,6 +277,11 @@ def convert(
     return converter.found
 
 
+def ids_in_order(pages: Iterable[Page]) -> list[str]:
+    """What the advisories of pages are called."""
+    return [placed.id for page in pages for placed in page.each(CALLED, id_of)]
+
+
 def _bad_names(vulnerabilities: Iterable[Json], program: Program) -> dict[str, str]:
     """Of the criteria those that are no names, with the reasons of cpe."""
     names: dict[str, None] = {}
@@ -260,6 +290,8 @@ def _bad_names(vulnerabilities: Iterable[Json], program: Program) -> dict[str, s
             if isinstance(match, dict) and isinstance(match.get("criteria"), str):
                 names[match["criteria"]] = None
     all_names = list(names)
+    if not all_names:
+        return {}
     asked = (record_text({"do": "lookup", "name": name}) for name in all_names)
     return {all_names[number - 1]: reason for number, reason in refusals(program.lines(["resolve"], asked)).items()}
 
@@ -283,12 +315,17 @@ class _Converter:
     def __init__(self, bad_names: Mapping[str, str], said: Said, is_decided: bool) -> None:
         self._bad_names, self._said, self._is_decided = bad_names, said, is_decided
         self._matches: dict[str, Match] = {}
+        # (the ids of the matches of what was made before)
+        self._made: set[str] = set()
         self._at: Placed
         self.found = Advisories()
 
     def take(self, of_id: Sequence[Placed]) -> None:
         """Takes an advisory, and those of the same id of which isn't known whether they are later."""
         first, *others = of_id
+        if isinstance(first.record, Made):
+            self._take_made(first, first.record)
+            return
         tests = self._tests(first)
         for other in others:
             self._at = other
@@ -305,6 +342,25 @@ class _Converter:
             self.found.details[first.id] = details(first.id, first.record["cve"])
             if any(score_of(score) is None for _, _, score, _ in _metrics(first.record["cve"])):
                 self._said.remark("a score that is none is left out", first.id)
+
+    def _take_made(self, placed: Placed, made: Made) -> None:
+        self.found.candidates.extend(candidate_at(placed, made.id, record) for record in made.records)
+        self.found.details[made.id] = made.details
+        for one in made.ranges:
+            # (it has the ids of its own matches, whoever has these too)
+            if self.found.ranges.setdefault(one.key, one) != one or one.key in self.found.stand_ins:
+                raise Differing
+            self._made.add(one.key)
+
+    def _put_range(self, one: Range) -> None:
+        if one.key in self._made and self.found.ranges[one.key] != one:
+            raise Differing
+        self.found.ranges[one.key] = one
+
+    def _put_stand_in(self, key: str, what: str) -> None:
+        if key in self._made:
+            raise Differing
+        self.found.stand_ins[key] = what
 
     def _leave_out(self, id: str, reason: str) -> None:
         # (among the candidates, so that it is said in its place between what cpe refuses)
@@ -344,7 +400,7 @@ class _Converter:
         return tests
 
     def _stand_in(self, id: str, what: str, key: str) -> None:
-        self.found.stand_ins[key] = what
+        self._put_stand_in(key, what)
         self._leave_out(id, f"{what}: the check {quoted(key)} stands for it")
 
     def _configuration(self, id: str, configuration: Configuration) -> Test:
@@ -380,11 +436,11 @@ class _Converter:
         fault = match.fault()
         if match.doubt and not bad:
             # (it was read, and is UNKNOWN since it says so)
-            self.found.stand_ins[key] = f"{quoted(match.criteria)}: {match.doubt}"
+            self._put_stand_in(key, f"{quoted(match.criteria)}: {match.doubt}")
         elif bad or fault:
             self._stand_in(id, f"{bad or fault}: {quoted(match.text())}", key)
         else:
-            self.found.ranges[key] = match.range(key)
+            self._put_range(match.range(key))
             if not self._is_decided:
                 bounds = match.range(key).words()
                 what = f"versions of {quoted(match.criteria)} {quoted(bounds)}"
@@ -393,7 +449,12 @@ class _Converter:
     def _statements(self, id: str, tests: list[Test]) -> Iterator[Candidate]:
         """A statement, or several where it has more names than a line has room for."""
         made: list[str] = []
-        for test in parts({"op": "OR", "of": tests}, _room(id)):
+        whole = {"op": "OR", "of": tests}
+        record = record_text(_statement(id, whole))
+        # (nearly all are far shorter than a line, in which a letter has four bytes at most)
+        if len(record) * 8 < MOST_BYTES:
+            return iter((candidate_at(self._at, id, record),))
+        for test in parts(whole, _room(id)):
             if len(record_text(test).encode()) > _room(id):
                 key = f"{id} #{len(made) + 1}"
                 self._stand_in(id, "logic that is longer than a line, and can't be taken apart", key)
@@ -505,8 +566,11 @@ def _score(cve: Json) -> dict[str, Json]:
 
 def _metrics(cve: Json) -> Iterator[tuple[bool, int, Json, Json]]:
     """Of each metric whether it is of another source than NVD, the place of its version of CVSS, its score and severity."""
-    for place, version in enumerate(_SCORES):
-        for metric in _found(lambda: members(member(cve, "metrics") or {}, version)) or []:
+    metrics = _found(lambda: member(cve, "metrics")) or {}
+    for place, version in enumerate(SCORES):
+        if isinstance(metrics, dict) and version not in metrics:
+            continue
+        for metric in _found(lambda: members(metrics, version)) or []:
             data = _found(lambda: member(metric, "cvssData"))
             if isinstance(data, dict) and "baseScore" in data:
                 severity = data.get("baseSeverity") or metric.get("baseSeverity")
@@ -526,7 +590,10 @@ def run(words: Sequence[str]) -> int:
     feed = whole.pages(read.files, said, KINDS, reading=whole.Reading.of(read))
     found = convert(feed, program, said, read.has("--ranges"))
     found.tell_empty_pages(said)
-    output.lines(program.accepted(found.candidates, said))
+    records = program.accepted_statements(found.candidates, said)
+    if len(records) > MOST.statements:
+        said.remark(f"{len(records):,} statements are more than cpe takes at once, {MOST.statements:,}; products.sh cuts them, scan.py asks in portions")
+    output.lines(records)
     ranges, details_to = read.one("--ranges"), read.one("--details")
     if ranges is not None:
         write_file(ranges, [record_text(one.record()) for one in found.ranges.values()])

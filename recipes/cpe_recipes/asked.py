@@ -36,17 +36,19 @@ class Negated:
     range: str | None
 
 
-def asked_of(statement: Json, negated: dict[str, Negated]) -> Json:
-    """The statement as it is asked; what is negated there is added. What is no statement stays as it is, and cpe refuses it."""
+def asked_of(statement: Json, negated: dict[str, Negated]) -> tuple[Json, str]:
+    """The statement as it is asked, and its line; what is negated there is added. What is no statement stays as it is, and cpe refuses it."""
     if statement.get("mode", "plain") not in ("plain", "follow"):
-        return statement
+        return statement, record_text(statement)
     test = _with_parts(statement.get("test"))
     if is_negated(test):
         test = _without_negated(test, False, negated)
     asked = {**statement, "mode": "plain", "test": test}
-    if len(record_text(asked).encode(errors="replace")) > MOST_BYTES:
+    line = record_text(asked)
+    if len(line) * 4 > MOST_BYTES and len(line.encode(errors="replace")) > MOST_BYTES:
         asked["test"] = {"op": "OR", "of": [_check(LONG)]}
-    return asked
+        line = record_text(asked)
+    return asked, line
 
 
 def _with_parts(test: Json) -> Json:

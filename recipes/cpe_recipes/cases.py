@@ -1,29 +1,29 @@
 """Which statements are asked of which machine, and over what, so that a run of cpe has no more to do than it must.
 
 Statements are asked in mode plain, over all names of the items (calling.py), so both as names stand and as they lead on. A machine is
-asked for those statements alone whose verdict may be another than that of a machine without items: those with a fact of the vendor
-and product of some name of the machine's items, or of no plain vendor or product. Of a range that is so only where it is TRUE or
-UNKNOWN there, since where all versions are outside it is FALSE as without items. A statement is asked over those names alone that may
-fit its facts, and once for all machines that have the same ones. A name whose vendor or product is a pattern may fit every fact.
+asked for those statements alone whose verdict may be another than that of a machine without items: those with a fact of the vendor,
+product and version of some name of the machine's items, or with one in which these aren't plain. Of a range that is so only where it is
+TRUE or UNKNOWN there, since where all versions are outside it is FALSE as without items. A statement is asked over those names alone
+that may fit its facts, and once for all machines that have the same ones. A name whose vendor or product is a pattern may fit every fact
+of the other one of the two.
 """
 from __future__ import annotations
 
 import json
-from collections.abc import Iterable, Iterator, Mapping, Sequence
+from collections.abc import Collection, Iterable, Iterator, Mapping, Sequence
 from dataclasses import dataclass, field
 
-from . import names
+from . import names, verdicts
 from .advisories import Range
 from .asked import OF_DEVICES, PARTS, Negated, asked_of, range_of
 from .called import Called, Sure
 from .calling import Wanted
 from .decide import Decided, Leads, check_record, drop_record
 from .feeds import Json, record_text
+from .near_products import Item, NearProducts, Product, item_of, keys_of, version_key
+from .portions import portions, size_of
 from .said import Fatal
 
-Product = tuple[str, str]
-# In place of the products of items that have a pattern there.
-_OPEN: Product = ("", "")
 # An item or several, and results of checks, over which a statement is asked.
 Items = tuple[str, ...]
 Results = tuple[tuple[str, bool], ...]
@@ -59,16 +59,32 @@ class Statement:
         return Statement(value["id"], tuple(facts), tuple(ranged), tuple(checks))
 
 
+@dataclass(frozen=True, slots=True)
+class Asked:
+    """A statement as it is asked, its line, and what is negated there."""
+
+    statement: Statement
+    line: str
+    negated: tuple[Negated, ...]
+
+
 @dataclass
 class Known:
     """What the feeds tell, and what is known of the names in them and of the items. `asked` are the statements as they are asked, and
-    `negated` is what is negated there."""
+    `negated` is what is negated there.
+
+    `elsewhere` are advisories that are FALSE on each machine without being asked for, since they name no product that is here, each with
+    whether all its names are of operating systems. Then `order` has the ids of all advisories, in the order of the feeds. `made` has what
+    was made before of records."""
 
     entries: list[str]
     records: list[str]
     ranges: Mapping[str, Range]
     details: dict[str, dict[str, Json]]
     stand_ins: Mapping[str, str]
+    elsewhere: Mapping[str, bool] = field(default_factory=dict)
+    order: Sequence[str] = ()
+    made: Mapping[str, Asked] = field(default_factory=dict)
     statements: list[Statement] = field(init=False)
     asked: list[str] = field(init=False)
     negated: dict[str, Negated] = field(init=False)
@@ -76,9 +92,24 @@ class Known:
     def __post_init__(self) -> None:
         self.statements, self.asked, self.negated = [], [], {}
         for record in self.records:
-            value = asked_of(json.loads(record), self.negated)
-            self.statements.append(Statement.of(value, self.ranges))
-            self.asked.append(record_text(value))
+            made = self.made.get(record) or self._asked_of(record)
+            self.statements.append(made.statement)
+            self.asked.append(made.line)
+            self.negated.update((one.key, one) for one in made.negated)
+
+    def _asked_of(self, record: str) -> Asked:
+        negated: dict[str, Negated] = {}
+        value, line = asked_of(json.loads(record), negated)
+        return Asked(Statement.of(value, self.ranges), line, tuple(negated.values()))
+
+    def verdicts(self) -> verdicts.Statements:
+        """All that machines have verdicts of, asked for or not."""
+        return verdicts.Statements([*(statement.id for statement in self.statements), *self.elsewhere])
+
+    def advisories(self) -> list[str]:
+        """The ids of the advisories that have verdicts, in the order of the feeds."""
+        found = self.verdicts().advisories
+        return list(dict.fromkeys([*(id for id in self.order if id in found), *found]))
 
     def facts(self) -> list[str]:
         """The names that statements and ranges ask for."""
@@ -90,39 +121,37 @@ class Index:
     """The statements by vendor and product of their facts, and by their ranges."""
 
     def __init__(self, known: Known, leads: Leads) -> None:
-        self._by_product: dict[Product, list[int]] = {}
+        self._near: NearProducts[int] = NearProducts()
         self._by_range: dict[str, list[int]] = {}
-        self._of_all_products: list[int] = []
         # (of each statement the products that its facts may fit, and whether these are all)
         self._products: list[tuple[set[Product], bool]] = []
-        self._wanted: list[Wanted] = []
+        # (of what each asks for, which is looked at if an item says less; most are never asked so)
+        self._names: list[list[str]] = []
+        self._wanted: dict[int, Wanted] = {}
         for place, statement in enumerate(known.statements):
             facts = [leads.found[fact].name for fact in statement.facts]
             plain, is_all = _products(facts)
-            for product in plain:
-                self._by_product.setdefault(product, []).append(place)
-            if is_all:
-                self._of_all_products.append(place)
+            self._near.put(place, _items(facts, plain), is_all)
             negated = [known.negated[key] for key in statement.checks if key in known.negated]
             for key in (*statement.ranges, *(one.key for one in negated)):
                 self._by_range.setdefault(key, []).append(place)
             criteria = [leads.found[known.ranges[key].criteria].name for key in statement.ranges]
             ranged, is_all_ranged = _products(criteria)
             self._products.append((plain | ranged, is_all or is_all_ranged))
-            self._wanted.append(Wanted([*facts, *criteria, *(leads.found[one.fact].name for one in negated)]))
+            self._names.append([*facts, *criteria, *(leads.found[one.fact].name for one in negated)])
 
-    def concerned(self, products: Iterable[Product], decided: Decided) -> list[int]:
-        """The places of the statements that may have another verdict than without items of these products, in order."""
-        found = set(self._of_all_products)
-        for product in products:
-            found.update(range(len(self._products)) if product == _OPEN else self._by_product.get(product, ()))
+    def concerned(self, items: Iterable[Item], decided: Decided) -> list[int]:
+        """The places of the statements that may have another verdict than without items of these products and versions, in order."""
+        found = self._near.near(items)
         for key in [*(key for key, is_inside in decided.truths.items() if is_inside), *decided.unsure]:
             found.update(self._by_range.get(key, ()))
         return sorted(found)
 
     def asks_for_more(self, place: int, less: Mapping[Product, frozenset[int]]) -> bool:
         """Whether a fact of this statement says something of what names of these products don't."""
-        wanted = self._wanted[place]
+        wanted = self._wanted.get(place)
+        if wanted is None:
+            wanted = self._wanted[place] = Wanted(self._names[place])
         return wanted.are_any() and any(not unsaid.isdisjoint(wanted.places(product)) for product, unsaid in less.items())
 
     def items(self, place: int, by_product: Mapping[Product, Items], all_items: Items) -> Items:
@@ -130,7 +159,8 @@ class Index:
         products, is_all = self._products[place]
         if is_all:
             return all_items
-        found = [by_product[product] for product in (*products, _OPEN) if product in by_product]
+        keys = dict.fromkeys(key for product in products for key in keys_of(product))
+        found = [by_product[key] for key in keys if key in by_product]
         # (mostly it is one product)
         return found[0] if len(found) == 1 else tuple(sorted({item for items in found for item in items}))
 
@@ -142,18 +172,19 @@ def _products(facts: Iterable[str]) -> tuple[set[Product], bool]:
     return plain, len(plain) < len(products)
 
 
+def _items(facts: Iterable[str], plain: Collection[Product]) -> Iterator[Item]:
+    """The plain products of these names, with their versions."""
+    for parts in map(names.components, facts):
+        if (product := (parts[names.VENDOR], parts[names.PRODUCT])) in plain:
+            yield product, version_key(parts[names.VERSION])
+
+
 def _by_product(called: Iterable[Called]) -> dict[Product, Items]:
-    """Names by their products, in order."""
+    """Names by the keys of their products, in order."""
     found: dict[Product, set[str]] = {}
     for one in called:
-        found.setdefault(_product_of(one.name), set()).add(one.name)
+        found.setdefault(item_of(one.name)[0], set()).add(one.name)
     return {product: tuple(sorted(items)) for product, items in found.items()}
-
-
-def _product_of(end: str) -> Product:
-    """The vendor and product of an end."""
-    product = names.product_of(end)
-    return _OPEN if any(map(names.has_special, product)) else product
 
 
 class Cases:
@@ -169,7 +200,7 @@ class Cases:
         if self._is_all_asked:
             places = list(range(len(self._known.statements)))
         else:
-            places = self._index.concerned(by_product, decided)
+            places = self._index.concerned({item_of(one.name) for one in called}, decided)
         # (where an item says less, it is asked for beside the others, where a fact says more)
         less = _unsaid(called)
         if less and not self._is_all_asked:
@@ -192,22 +223,29 @@ def _unsaid(called: Iterable[Called]) -> dict[Product, frozenset[int]]:
     found: dict[Product, frozenset[int]] = {}
     for one in called:
         if one.sure is Sure.LESS:
-            product = _product_of(one.name)
+            product = names.product_of(one.name)
             found[product] = found.get(product, frozenset()) | one.lacks
     return found
 
 
-def lines_of(known: Known, cases: Iterable[tuple[Items, Results, int, int]]) -> Iterator[str]:
-    """All that is known, a question for each statement, and then the cases: the statement of each, over its items and results.
+def portions_of(known: Known) -> Iterator[range]:
+    """The places of the statements, in portions that cpe takes at once."""
+    negated = (sum(key in known.negated for key in statement.checks) for statement in known.statements)
+    return portions(size_of(line, checks) for line, checks in zip(known.asked, negated))
+
+
+def lines_of(known: Known, portion: range, cases: Iterable[tuple[Items, Results, int, int]]) -> Iterator[str]:
+    """The statements of a portion, a question for each, and then the cases of these: the statement of each, over its items and results.
 
     No entry is among it: in mode plain nothing is led on.
     """
-    yield from known.asked
-    asks = [record_text({"do": "verdict", "id": statement.id}) for statement in known.statements]
+    yield from (known.asked[place] for place in portion)
+    asks = {place: record_text({"do": "verdict", "id": known.statements[place].id}) for place in portion}
     # (where nothing is, nothing is there of what is negated, nor of any part)
-    nothing = [*known.negated, *PARTS.values(), *OF_DEVICES.values()]
+    negated = dict.fromkeys(key for place in portion for key in known.statements[place].checks if key in known.negated)
+    nothing = [*negated, *PARTS.values(), *OF_DEVICES.values()]
     yield from (check_record(key, False) for key in nothing)
-    yield from asks
+    yield from asks.values()
     yield from (drop_record(key) for key in nothing)
     here: Items = ()
     for items, results, place, _ in cases:

@@ -20,6 +20,7 @@ tabs between them.
 """
 from __future__ import annotations
 
+import functools
 import itertools
 from collections.abc import Collection, Iterable, Iterator, Mapping, Sequence
 from dataclasses import dataclass, field, replace
@@ -32,6 +33,7 @@ from .components import Component, Machine
 from .feeds import FeedFault, FormFault, name_of, read_feed, record_text, text_lines, values_of
 from .machines import read_machines
 from .naming import name_machines, read_names
+from .near_products import Product, key_of, keys_of
 from .program import Program
 from .readings import without_v
 from .said import Fatal, Output, Said
@@ -41,6 +43,8 @@ from .words import MANY, ONE, read_words
 USAGE = "decide.py --ranges FILE.. --records FILE.. --machines FILE [--names FILE] [--matches FILE..] [--letters FILE]"
 LETTERS = str(Path(__file__).resolve().parents[1] / "letters.txt")
 
+# A check is told of many machines.
+_CACHED = 1 << 17
 # The edits by which names lead on. (Where such a word stands in a text, its quotes have a backslash.)
 _LEADING = ('"entry"', '"deprecate"', '"amend"', '"restore"')
 
@@ -246,11 +250,17 @@ class Decider:
         for name in ends:
             end = _End.of(name, self._letters)
             asked.setdefault(end.asked, []).append(end)
-        answers = _answers(self._program.lines(["advise"], _advise(asked, ranges)))
-        for one, (covered, inside) in zip(ranges, _pairs(answers, len(ranges))):
-            for item in covered:
-                for end in asked[item]:
-                    self._covering.setdefault(end.name, (end, []))[1].append((one, item in inside))
+        criteria = list(dict.fromkeys(one.criteria for one in ranges))
+        answers = _answers(self._program.lines(["advise"], _advise(asked, criteria, ranges)))
+        # (by name, since mostly many ranges have the same one)
+        covered = {name: [end for item in items for end in asked[item]] for name, items in zip(criteria, answers)}
+        count = 0
+        for one, items in zip(ranges, answers):
+            inside, count = set(items), count + 1
+            for end in covered[one.criteria]:
+                self._covering.setdefault(end.name, (end, []))[1].append((one, end.asked in inside))
+        if count != len(ranges) or next(answers, None) is not None:
+            raise Fatal(f"cpe advise answered {count} of {len(ranges)} ranges")
 
     def _stand(self, end: _End, kind: str, one: Range, is_inside: bool) -> Stand:
         if end.version is None:
@@ -322,25 +332,20 @@ def items_met(program: Program, items: Iterable[str], facts: Iterable[str]) -> t
 
 
 class _Near:
-    """Ends by vendor and product. One whose vendor or product is a pattern is near to every fact."""
+    """Ends by vendor and product, of which an end may have a pattern."""
 
     def __init__(self, ends: Iterable[str]) -> None:
         self._all = list(ends)
-        self._patterns: list[str] = []
-        self._by_product: dict[tuple[str, str], list[str]] = {}
+        self._by_product: dict[Product, list[str]] = {}
         for end in self._all:
-            product = names.product_of(end)
-            if any(map(names.has_special, product)):
-                self._patterns.append(end)
-            else:
-                self._by_product.setdefault(product, []).append(end)
+            self._by_product.setdefault(key_of(names.product_of(end)), []).append(end)
 
     def ends(self, fact: str) -> list[str]:
         """Those that this name may cover; all where its vendor or product isn't plain."""
         product = names.product_of(fact)
         if not all(map(names.is_plain, product)):
             return self._all
-        return [*self._by_product.get(product, ()), *self._patterns]
+        return [end for key in keys_of(product) for end in self._by_product.get(key, ())]
 
 
 @dataclass(frozen=True)
@@ -392,16 +397,15 @@ def _oddness(asked: Range) -> str:
     return ""
 
 
-def _advise(items: Iterable[str], ranges: Iterable[Range]) -> Iterator[str]:
-    """The items, and for each range which of them its name covers, and which are in it."""
+def _advise(items: Iterable[str], criteria: Iterable[str], ranges: Iterable[Range]) -> Iterator[str]:
+    """The items; for each name which of them it covers, and for each range which are in it."""
     for item in items:
         yield record_text({"do": "item", "name": item})
-    for one in ranges:
-        for asked in (Range("r", one.criteria), replace(one, key="r")):
-            yield record_text(asked.record())
-            yield '{"do":"affected","id":"r"}'
-            # (dropped again, so that there is never more than one)
-            yield '{"do":"drop-advisory","id":"r"}'
+    for asked in itertools.chain((Range("r", name) for name in criteria), (replace(one, key="r") for one in ranges)):
+        yield record_text(asked.record())
+        yield '{"do":"affected","id":"r"}'
+        # (dropped again, so that there is never more than one)
+        yield '{"do":"drop-advisory","id":"r"}'
 
 
 def _answers(lines: Iterable[str]) -> Iterator[list[str]]:
@@ -419,17 +423,6 @@ def _answers(lines: Iterable[str]) -> Iterator[list[str]]:
             raise Fatal(f"cpe advise wrote {line}")
     if items is not None:
         yield items
-
-
-def _pairs(answers: Iterator[list[str]], count: int) -> Iterator[tuple[list[str], set[str]]]:
-    found = 0
-    for covered in answers:
-        inside = next(answers, None)
-        if inside is not None:
-            found += 1
-            yield covered, set(inside)
-    if found != count:
-        raise Fatal(f"cpe advise answered {found} of {count} ranges")
 
 
 class Lists:
@@ -522,11 +515,13 @@ def leads_in(leads: Leads, component: Component) -> list[Lead]:
     return [*sure, *(lead for lead in perhaps.values() if lead.name not in found)]
 
 
+@functools.lru_cache(maxsize=_CACHED)
 def check_record(key: str, is_true: bool) -> str:
     """The record that tells the check of a range."""
     return record_text({"do": "check", "system": SYSTEM, "href": MATCH, "id": key, "result": "TRUE" if is_true else "FALSE"})
 
 
+@functools.lru_cache(maxsize=_CACHED)
 def drop_record(key: str) -> str:
     return record_text({"do": "drop-check", "system": SYSTEM, "href": MATCH, "id": key})
 

@@ -15,6 +15,7 @@ from .called import Called
 from .cases import Known
 from .decide import Decided, check_record
 from .feeds import Json, record_text
+from .portions import portions, size_of
 from .program import Program
 from .said import Fatal
 
@@ -30,15 +31,21 @@ class Deciding:
         if not places:
             return {}
         items = {one.name: one.item for one in reversed(called)}
-        lines = self._program.lines(["explain"], self._lines(items, decided, places))
         found: dict[int, list[str]] = {}
+        sizes = (size_of(self._known.asked[place], len(self._known.statements[place].checks)) for place in places)
+        for portion in portions(sizes):
+            self._put(found, items, decided, places[portion.start : portion.stop])
+        return found
+
+    def _put(self, found: dict[int, list[str]], items: Mapping[str, str], decided: Decided, places: Sequence[int]) -> None:
+        """Puts in words why these statements are TRUE, of which cpe takes as many at once."""
+        lines = self._program.lines(["explain"], self._lines(items, decided, places))
         for place, line in zip(places, lines):
             test, proof = json.loads(self._known.asked[place])["test"], _proof(line)
             told = Told(self._known.ranges, decided, items).of(test, proof)
             found[place] = list(dict.fromkeys(told))
-        if len(found) != len(places) or next(lines, None) is not None:
+        if any(place not in found for place in places) or next(lines, None) is not None:
             raise Fatal("cpe explained more or less than was asked")
-        return found
 
     def _lines(self, items: Iterable[str], decided: Decided, places: Sequence[int]) -> Iterator[str]:
         yield from (self._known.asked[place] for place in places)

@@ -16,17 +16,18 @@ missing, as they say themselves; --partial lets it pass, and what is missing is 
 """
 from __future__ import annotations
 
-from collections.abc import Iterator, Sequence
+from collections.abc import Iterable, Iterator, Sequence
 from dataclasses import dataclass, field
 
 from . import whole
-from .feeds import FormFault, Json, Page, Placed, member, members, record_text, text_at
+from .feeds import FormFault, Json, Page, Placed, member, members, printable, quoted_text, record_text, text_at
 from .latest import time_of, told
 from .program import Candidate, Program, candidate_at
 from .said import Fatal, Output, Said, quoted
 from .words import read_words
 
 USAGE = "dictionary.sh [--partial] [--large] [FILE..]"
+NO_FORM = "not of the published form"
 KINDS = ("products", "matchStrings")
 
 
@@ -108,16 +109,20 @@ class Products:
 
     def deprecations(self) -> Deprecations:
         """What they tell together."""
-        found = Deprecations()
-        for place in sorted(self._changes):
-            change = self._changes[place]
-            if change.is_old:
-                found.put(change.placed, change.name, change.date)
-            for successor in change.by:
-                found.put_successor(change.placed, change.name, successor)
-            for old in change.of:
-                found.put_successor(change.placed, old, change.name)
-        return found
+        return deprecations_of(self._changes[place] for place in sorted(self._changes))
+
+
+def deprecations_of(changes: Iterable[Change]) -> Deprecations:
+    """What these changes tell together, which are in the order of their products."""
+    found = Deprecations()
+    for change in changes:
+        if change.is_old:
+            found.put(change.placed, change.name, change.date)
+        for successor in change.by:
+            found.put_successor(change.placed, change.name, successor)
+        for old in change.of:
+            found.put_successor(change.placed, old, change.name)
+    return found
 
 
 @dataclass
@@ -173,38 +178,59 @@ def _deprecation(name: Json, old: Old) -> Json:
 
 def _products(page: Page, products: Products) -> Iterator[Candidate]:
     """Puts the products of a page; those that can't be read come out."""
-    for placed in page.each("product", _product_id):
+    for placed in page.each("product", product_id):
         try:
-            product = member(placed.record, "cpe")
-            entry = _entry(product)
-            by = tuple(member(one, "cpeName") for one in members(product, "deprecatedBy"))
-            of = tuple(member(one, "cpeName") for one in members(product, "deprecates"))
+            product = Product.of(placed)
         except FormFault:
-            yield candidate_at(placed, placed.id, reason="not of the published form")
+            yield candidate_at(placed, placed.id, reason=NO_FORM)
             continue
-        name, modified, is_old = entry["name"], product.get("lastModified"), bool(product.get("deprecated"))
-        date = _day(modified or product.get("created")) if is_old else None
-        # (its place alone is kept of it)
-        change = Change(placed._replace(record=None), name, is_old, date, by, of) if is_old or by or of else None
-        products.put(name, modified, candidate_at(placed, placed.id, record_text(entry)), change)
+        entry = candidate_at(placed, placed.id, product.entry())
+        products.put(product.name, product.modified, entry, product.change)
 
 
-def _product_id(record: Json) -> Json:
+def product_id(record: Json) -> Json:
     product = member(record, "cpe")
     return member(product, "cpeNameId") or member(product, "cpeName")
 
 
-def _entry(product: Json) -> Json:
-    entry = {"do": "entry", "name": member(product, "cpeName")}
-    titles = members(product, "titles")
-    english = [title for title in titles if member(title, "lang") == "en"]
-    for title in (english or titles)[:1]:
-        if member(title, "title"):
-            entry["title"] = title["title"]
-    created = product.get("created")
-    if created:
-        entry["provenance"] = {"changes": [{"kind": "ORIGINAL_RECORD", "date": _day(created)}]}
-    return entry
+@dataclass(frozen=True, slots=True)
+class Product:
+    """A product of a feed: its name, when it was modified, its title and the day on which it was created, if it has them, and what it
+    tells of deprecations."""
+
+    name: Json
+    modified: Json
+    title: Json
+    day: Json
+    change: Change | None = None
+
+    @staticmethod
+    def of(placed: Placed) -> Product:
+        """The product of a record. FormFault if it isn't of the published form."""
+        product = member(placed.record, "cpe")
+        name, modified, created = member(product, "cpeName"), product.get("lastModified"), product.get("created")
+        titles = members(product, "titles")
+        english = [title for title in titles if member(title, "lang") == "en"]
+        title = next((member(one, "title") for one in (english or titles)[:1]), None) or None
+        by = tuple(member(one, "cpeName") for one in members(product, "deprecatedBy"))
+        of = tuple(member(one, "cpeName") for one in members(product, "deprecates"))
+        is_old = bool(product.get("deprecated"))
+        date = _day(modified or created) if is_old else None
+        # (its place alone is kept of it)
+        change = Change(placed._replace(record=None), name, is_old, date, by, of) if is_old or by or of else None
+        return Product(name, modified, title, _day(created) if created else None, change)
+
+    def entry(self) -> str:
+        """The record of its entry."""
+        texts = self.name, self.title, self.day
+        if not all(one is None or type(one) is str for one in texts) or self.name is None:
+            provenance = {"provenance": {"changes": [{"kind": "ORIGINAL_RECORD", "date": self.day}]}} if self.day else {}
+            title = {} if self.title is None else {"title": self.title}
+            return record_text({"do": "entry", "name": self.name, **title, **provenance})
+        # (nearly all of a million are so, and of these the form is known)
+        title = "" if self.title is None else f',"title":{quoted_text(self.title)}'
+        date = f',"provenance":{{"changes":[{{"kind":"ORIGINAL_RECORD","date":{quoted_text(self.day)}}}]}}' if self.day else ""
+        return printable(f'{{"do":"entry","name":{quoted_text(self.name)}{title}{date}}}')
 
 
 def _day(date: Json) -> Json:
@@ -216,7 +242,7 @@ def _match_strings(page: Page) -> Iterator[Candidate]:
         try:
             names = [member(match, "cpeName") for match in members(member(placed.record, "matchString"), "matches")]
         except FormFault:
-            yield candidate_at(placed, placed.id, reason="not of the published form")
+            yield candidate_at(placed, placed.id, reason=NO_FORM)
             continue
         for name in names:
             yield candidate_at(placed, placed.id, record_text({"do": "entry", "name": name}))

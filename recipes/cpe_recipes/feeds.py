@@ -16,6 +16,8 @@ Json = Any
 _SPACE = re.compile(r"\s*")
 _SURROGATE = re.compile("[\ud800-\udfff]")
 _COMPACT = json.JSONEncoder(ensure_ascii=False, separators=(",", ":")).encode
+# A text as JSON has it.
+quoted_text = json.encoder.encode_basestring
 # What pages of NVD's API 2.0 say that they are, and what each tells of its place in its feed.
 _FORMATS = {"products": "NVD_CPE", "vulnerabilities": "NVD_CVE", "matchStrings": "NVD_CPEMatchString"}
 _VERSION = re.compile(r"2\.0(\.\d+)?")
@@ -142,18 +144,24 @@ def _no_constant(word: str) -> None:
 
 
 def pages(
-    paths: Sequence[str], said: Said, kinds: Sequence[str], strict: bool = False, limits: Limits = LIMITS
+    paths: Sequence[str],
+    said: Said,
+    kinds: Sequence[str],
+    strict: bool = False,
+    limits: Limits = LIMITS,
+    is_passed: Callable[[bytes], bool] | None = None,
 ) -> Iterator[Page]:
     """The pages at these paths, of standard input where there is none.
 
     A page is an object in which one of `kinds` is a list, in a file or a member of an archive. Where a page is none, or can't be read,
-    the others still come out, and that is said; where there is no page at all, or `strict` is asked for, it is Fatal.
+    the others still come out, and that is said; where there is no page at all, or `strict` is asked for, it is Fatal. `is_passed` says
+    of the bytes of a file or member that they needn't be read.
     """
     good, faults = 0, []
     feeds: Sequence[str | None] = list(paths) or [None]
     for path in feeds:
         name = name_of(path)
-        for one in _pages_of(path, said, kinds, limits):
+        for one in _pages_of(path, said, kinds, limits, is_passed):
             if isinstance(one, Page):
                 good += 1
                 yield one
@@ -162,11 +170,13 @@ def pages(
             else:
                 faults.append(one[0])
                 said.left_out(*one)
-    if not good:
+    if not good and faults:
         raise Fatal(f"none of these can be read: {', '.join(faults)}")
 
 
-def _pages_of(path: str | None, said: Said, kinds: Sequence[str], limits: Limits) -> Iterator[Page | tuple[str, str]]:
+def _pages_of(
+    path: str | None, said: Said, kinds: Sequence[str], limits: Limits, is_passed: Callable[[bytes], bool] | None
+) -> Iterator[Page | tuple[str, str]]:
     """The pages of a file; of what is none its name and the reason."""
     name, unpacked = name_of(path), Unpacked(limits)
     parts = unpacked.parts(path)
@@ -177,6 +187,8 @@ def _pages_of(path: str | None, said: Said, kinds: Sequence[str], limits: Limits
             if part is None:
                 break
             place = f"{name}/{part[0]}" if part[0] else name
+            if is_passed is not None and is_passed(part[1]):
+                continue
             for value in values_of(part[1]):
                 yield _page(place, value, kinds)
         except FeedFault as fault:
@@ -258,7 +270,11 @@ def text_at(value: Json, key: str) -> str | None:
 
 def record_text(record: Json) -> str:
     """A record as the compact JSON of its line."""
-    text = _COMPACT(record)
+    return printable(_COMPACT(record))
+
+
+def printable(text: str) -> str:
+    """A line of JSON in which all can be printed."""
     return text if text.isprintable() else json_shown(text)
 
 

@@ -16,14 +16,20 @@ from .feeds import FeedFault, name_of, read_feed, record_text
 from .machines import read_machines
 from .naming import name_machines, read_names
 from .negations import Negations, has_hardware
-from .program import Program
+from .program import FULL, Program
 from .said import Fatal, Said
 from .session import Asked, Known
+from .stored import Stored
 from .versions import read_letters
 from .words import FLAG, MANY, ONE, Words, read_words
 
-OPTIONS = {"--ranges": ONE, "--matches": MANY, "--letters": ONE, "--decided": ONE, "--names": ONE, "--strict": FLAG, "--hardware": ONE}
-USAGE = "RECORDS MACHINES [--names FILE] [--strict] [--hardware none] [--ranges FILE [--letters FILE] [--matches FILE..] | --decided FILE]"
+OPTIONS = {"--store": ONE, "--ranges": ONE, "--matches": MANY, "--letters": ONE, "--decided": ONE, "--names": ONE, "--strict": FLAG, "--hardware": ONE}
+USAGE = (
+    "RECORDS MACHINES [--names FILE] [--strict] [--hardware none] [--ranges FILE [--letters FILE] [--matches FILE..] | --decided FILE], "
+    "or --store FOLDER MACHINES [--names FILE] [--strict] [--hardware none] [--letters FILE]"
+)
+# What a store has itself.
+_STORED = ("--ranges", "--matches", "--decided")
 MACHINES_MISSING = 5
 # What other recipes do with the truths that a fleet writes.
 _OVER_IT = "affected.sh and report.py take it for what a fleet wrote"
@@ -41,7 +47,8 @@ def read_fleet_words(words: Sequence[str], options: Mapping[str, int], usage: st
     if found is not None:
         raise Fatal(f"{found} is no option of a fleet, which writes truths alone: {_ELSEWHERE[found]}")
     read = read_words(words, options, usage)
-    if len(read.files) != 2:
+    is_right = len(read.files) == 1 and not any(map(read.has, _STORED)) if read.has("--store") else len(read.files) == 2
+    if not is_right:
         raise Fatal(f"usage: {usage}")
     return read
 
@@ -69,7 +76,11 @@ class Records:
 def read_records(program: Program, path: str, said: Said) -> Records:
     """The records at this path, and what cpe says to them. What it refuses is said. Fatal where there is no statement, and
     where there are items, since those of machines come and go."""
-    feed, text = name_of(path), read_text(path)
+    return records_of(program, name_of(path), read_text(path), said)
+
+
+def records_of(program: Program, feed: str, text: str, said: Said) -> Records:
+    """The same of the records in a text."""
     answers = program.run(["evaluate"], _lines_of(text))
     table = next((place for place, line in enumerate(answers) if line.startswith("verdicts ")), None)
     if table is None:
@@ -77,6 +88,8 @@ def read_records(program: Program, path: str, said: Said) -> Records:
     for line in answers[:table]:
         if line.startswith("refused "):
             _, refused, reason = line.split(" ", 2)
+            if reason.startswith(FULL):
+                raise Fatal(f"{feed} line {refused}: cpe takes no more at once: {reason}; products.sh cuts advisories to those of the machines")
             said.left_out(f"{feed} line {refused}", reason)
     statements = [line.split(" ")[1] for line in answers[table + 1 :]]
     if not statements:
@@ -103,7 +116,7 @@ def _asked_line(line: str, facts: dict[str, None], negated: dict[str, Negated]) 
     if not isinstance(record, dict) or record.get("do") != "statement":
         return line
     facts.update(dict.fromkeys(facts_of(record.get("test"))))
-    return record_text(asked_of(record, negated))
+    return asked_of(record, negated)[1]
 
 
 def _lines_of(text: str) -> Iterator[str]:
@@ -159,24 +172,63 @@ class Fleet:
         return [self.machines[first : first + most] for first in range(0, len(self.machines), most)]
 
 
+@dataclass(frozen=True)
+class _Given:
+    """What a fleet is given: its records, and the entries among them, the ranges of versions, what the match feed lists for these, and
+    the machines."""
+
+    records: Records
+    entries: list[str]
+    ranges: dict[str, Range]
+    listed: dict[str, list[str]]
+    machines: list[Machine]
+
+
 def read_fleet(program: Program, words: Words, said: Said) -> Fleet:
     """What the words of a fleet name."""
+    given = _of_store(program, words, said) if words.has("--store") else _of_files(program, words, said)
+    before = _decided_before(words, given.machines, said)
+    names = _Names(program, words, given)
+    asked = []
+    for machine in given.machines:
+        called = names.called(machine)
+        decided = names.decided(machine, called, before)
+        _say_unsure(machine, decided, given.ranges, said)
+        names.say(machine, said)
+        own = {lead.name for lead in names.items(machine).values()}
+        others = list(dict.fromkeys(one.name for one in called if one.name not in own))
+        asked.append(Asked(machine.name, names.put(machine), _without(given.records.results, _results(decided)), others))
+    return Fleet(given.records.known, asked)
+
+
+def _of_files(program: Program, words: Words, said: Said) -> _Given:
     records_path, machines_path = words.files
     records = read_records(program, records_path, said)
     machines = read_machines(machines_path, said)
     ranges = decide.read_ranges(words.many("--ranges"), said)
-    before = _decided_before(words, machines, said)
-    names = _Names(program, words, records, ranges, machines, said)
-    asked = []
-    for machine in machines:
-        called = names.called(machine)
-        decided = names.decided(machine, called, before)
-        _say_unsure(machine, decided, ranges, said)
-        names.say(machine, said)
-        own = {lead.name for lead in names.items(machine).values()}
-        others = list(dict.fromkeys(one.name for one in called if one.name not in own))
-        asked.append(Asked(machine.name, names.put(machine), _without(records.results, _results(decided)), others))
-    return Fleet(records.known, asked)
+    entries = decide.read_entries([records_path])
+    hint = hints.command("unlisted.sh", [*words.files, *hints.table_words(words)])
+    name_machines(machines, read_names(words.many("--names"), machines), entries).tell(said, hint)
+    feed = whole.pages(words.many("--matches"), said, matches.KINDS, strict=True) if words.has("--matches") else []
+    return _Given(records, entries, ranges, matches.listed(feed, ranges.keys(), said), machines)
+
+
+def _of_store(program: Program, words: Words, said: Said) -> _Given:
+    """What concerns the machines. (Workers read no store: they are given what was read of it.)"""
+    folder, path = str(words.only("--store")), words.files[0]
+    machines = read_machines(path, said)
+    tables = read_names(words.many("--names"), machines)
+    with Stored(folder, program, said, whole.Reading()).opened() as store:
+        taken = store.take(machines, tables, (), is_all=False)
+        listed = store.listed(taken.known.ranges.keys())
+    known = taken.known
+    taken.unnamed.tell(said, hints.command("unlisted.sh", ["--store", folder, "--machines", path, *hints.table_words(words)]))
+    text = "".join(f"{line}\n" for line in (*known.entries, *known.records))
+    records = records_of(program, folder, text, said)
+    if known.elsewhere:
+        count = len(known.elsewhere)
+        said.remark(f"{count:,} of {count + len(known.records):,} advisories name no product of these machines: they are FALSE there, and not written")
+    return _Given(records, known.entries, dict(known.ranges), listed, machines)
 
 
 def _decided_before(words: Words, machines: list[Machine], said: Said) -> Decided | None:
@@ -200,18 +252,13 @@ def _without(results: set[str], decided: list[tuple[str, str]]) -> list[tuple[st
 class _Names:
     """Where the names of items lead, which names the items have, and what is decided of ranges by them."""
 
-    def __init__(
-        self, program: Program, words: Words, records: Records, ranges: dict[str, Range], machines: list[Machine], said: Said
-    ) -> None:
-        entries = decide.read_entries([words.files[0]])
-        hint = hints.command("unlisted.sh", [*words.files, *hints.table_words(words)])
-        name_machines(machines, read_names(words.many("--names"), machines), entries).tell(said, hint)
+    def __init__(self, program: Program, words: Words, given: _Given) -> None:
+        records, entries, ranges, machines = given.records, given.entries, given.ranges, given.machines
         items = dict.fromkeys(name for machine in machines for name in machine.asked_names())
         facts = dict.fromkeys([*records.facts, *(one.criteria for one in ranges.values())])
         self.leads = decide.leads_of(program, entries, items, dict.fromkeys([*facts, *unlisted.deprecated_names(entries)]))
         self._successors = unlisted.successors(entries, self.leads)
-        feed = whole.pages(words.many("--matches"), said, matches.KINDS, strict=True) if words.has("--matches") else []
-        self._lists = decide.Lists(program, matches.listed(feed, ranges.keys(), said))
+        self._lists = decide.Lists(program, given.listed)
         named = [self.leads.found[fact].name for fact in facts if fact in self.leads.found]
         own = {lead.name: lead for item in items if (lead := self.leads.found.get(item))}
         by_feed = listed_by_name(self._lists, ranges, self.leads)

@@ -10,7 +10,7 @@ from .words import Words
 
 _RECIPES = Path(__file__).resolve().parents[1]
 # The options by which unlisted.sh is given what scan.py was given.
-_SHARED = ("--dictionary", "--records", "--machines", "--lists")
+_SHARED = ("--store", "--dictionary", "--records", "--machines", "--lists")
 _FLAGS = ("--partial", "--large")
 
 

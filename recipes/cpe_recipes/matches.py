@@ -1,10 +1,15 @@
 """The match feed of NVD's API 2.0 (/rest/json/cpematch/2.0, matchStrings): of a match, which names of the dictionary it has."""
 from __future__ import annotations
 
+import contextlib
 from collections.abc import Collection, Iterable
+from dataclasses import dataclass
 
+from . import names
 from .feeds import FormFault, Json, Page, member, members, text_at
 from .latest import time_of
+from .near_products import Product, key_of
+from .product_index import as_formatted
 from .said import Fatal, Said
 
 KINDS = ("matchStrings",)
@@ -29,21 +34,70 @@ def listed(feed: Iterable[Page], wanted: Collection[str], said: Said) -> dict[st
         raise Fatal(f"no matchStrings are in {', '.join(empty_pages)}")
     for name in empty_pages:
         said.remark(f"{name}: no matchStrings in it")
-    return {id: names for id, (_, names) in found.items()}
+    return {id: listed for id, (_, listed) in found.items()}
+
+
+@dataclass(frozen=True, slots=True)
+class Naming:
+    """A match that gives other names to items that it lists: the product of its own name, None if that isn't known, and the products of
+    these items, as keys of near_products.py. One of which the product isn't known is None."""
+
+    key: str
+    product: Product | None
+    listed: frozenset[Product | None]
+
+    @staticmethod
+    def of(match_string: Json) -> Naming | None:
+        """The naming of a match; None if each item that it lists has its name anyhow."""
+        key, criteria = text_at(match_string, "matchCriteriaId"), text_at(match_string, "criteria") or ""
+        listed = frozenset(key_of_name(name) for name in names_of(match_string) if not _has_name(name, criteria))
+        return Naming(key or "", key_of_name(criteria), listed) if listed else None
+
+
+def _has_name(name: str, criteria: str) -> bool:
+    """Whether a name says all that the name of a match says."""
+    here, there = as_formatted(name), as_formatted(criteria)
+    if not here or not there or not name.startswith(names.PREFIX) or not criteria.startswith(names.PREFIX):
+        return False
+    return all(want in (names.ANY, have) for want, have in zip(names.components(there), names.components(here)))
+
+
+def namings(feed: Iterable[Page], wanted: Collection[Product]) -> tuple[set[Product], set[str]]:
+    """The products of the matches that give other names to items of these products, and the ids of these matches. An item that is listed
+    for a match has the name of the match too."""
+    products: set[Product] = set()
+    keys: set[str] = set()
+    for page in feed:
+        for record in page.records:
+            with contextlib.suppress(FormFault):
+                naming = Naming.of(member(record, "matchString"))
+                if naming is not None and any(one is None or one in wanted for one in naming.listed):
+                    products.update(() if naming.product is None else (naming.product,))
+                    keys.add(naming.key)
+    return products, keys
+
+
+def key_of_name(name: str) -> Product | None:
+    """The key of the product of a name as it is written; None if it is none."""
+    parts = names.components(as_formatted(name) or names.PREFIX)
+    return key_of((parts[names.VENDOR], parts[names.PRODUCT])) if len(parts) > names.PRODUCT else None
+
+
+def modified_of(match_string: Json) -> Json:
+    """When the list of a match was modified. (It changes when the dictionary does, and its match needn't.)"""
+    return max((member(match_string, key) for key in ("lastModified", "cpeLastModified")), key=time_of)
 
 
 def _put(found: dict[str, tuple[Json, list[str]]], id: str, match_string: Json) -> None:
     """Puts the names of a match. Of one that comes again the later list counts; those of the same time are joined."""
-    names = _names(match_string)
-    # (a list changes when the dictionary does, and its match needn't)
-    modified = max((member(match_string, key) for key in ("lastModified", "cpeLastModified")), key=time_of)
+    listed, modified = names_of(match_string), modified_of(match_string)
     known = found.get(id)
     if known is None or time_of(modified) > time_of(known[0]):
-        found[id] = modified, names
+        found[id] = modified, listed
     elif time_of(modified) == time_of(known[0]):
-        known[1].extend(names)
+        known[1].extend(listed)
 
 
-def _names(match_string: object) -> list[str]:
-    names = [text_at(one, "cpeName") for one in members(match_string, "matches")]
-    return [name for name in names if name]
+def names_of(match_string: object) -> list[str]:
+    found = [text_at(one, "cpeName") for one in members(match_string, "matches")]
+    return [name for name in found if name]

@@ -2,6 +2,7 @@
 cpe alone says."""
 from __future__ import annotations
 
+import functools
 import re
 from collections.abc import Iterable
 
@@ -35,7 +36,12 @@ def joined(parts: list[str]) -> str:
 
 def is_plain(component: str) -> bool:
     """Whether a component is a text without specials: neither ANY nor NA, nor with a `*` or `?` that isn't quoted."""
-    return component != NA and not _SPECIAL.match(component)
+    return component != NA and not _has_special(component)
+
+
+def _has_special(component: str) -> bool:
+    # (nearly none has such a letter at all)
+    return ("*" in component or "?" in component) and _SPECIAL.match(component) is not None
 
 
 def body(component: str) -> str | None:
@@ -47,7 +53,7 @@ def body(component: str) -> str | None:
 
 def has_special(component: str) -> bool:
     """Whether a component is a pattern: a text with a `*` or `?` that isn't quoted."""
-    return component != ANY and _SPECIAL.match(component) is not None
+    return component != ANY and _has_special(component)
 
 
 def is_known_in_part(name: str) -> bool:
@@ -82,6 +88,7 @@ def part_of(name: str) -> str:
     return components(text)[0] if text.startswith(PREFIX) else ""
 
 
+@functools.lru_cache(maxsize=1 << 17)
 def product_of(name: str) -> tuple[str, str]:
     """The vendor and the product of a name, as components."""
     parts = components(name)

@@ -48,8 +48,7 @@ class Naming:
     def __init__(self, tables: Tables, machines: Iterable[Machine] = (), records: Iterable[str] = ()) -> None:
         self._tables = tables
         self._named: dict[tuple[str, bool], Named] = {}
-        components = dict.fromkeys(one for machine in machines for one in machine.components if one.purl)
-        self._index = ProductIndex(records, set(_wanted(components, tables)))
+        self._index = ProductIndex(records, wanted_names(machines, tables))
 
     def named(self, component: Component) -> Named:
         """What is known of a component that has a package URL."""
@@ -138,6 +137,12 @@ def _wanted(components: Iterable[Component], tables: Tables) -> Iterator[str]:
             yield from (product.name for product in settled.line.products())
         if settled is None or settled.line.choices:
             yield from forms_of(purl).all()
+
+
+def wanted_names(machines: Iterable[Machine], tables: Tables) -> set[str]:
+    """The names of products that are looked for in a dictionary, so that packages of machines get names."""
+    components = dict.fromkeys(one for machine in machines for one in machine.components if one.purl)
+    return set(_wanted(components, tables))
 
 
 @dataclass

@@ -125,7 +125,7 @@ def _parts(known: Known) -> dict[str, list[int]]:
 
 def machines_with_verdicts(known: Known, bare: Sequence[str], found: Iterable[Found]) -> list[verdicts.Machine]:
     """The machines with what isn't FALSE there, the parts of an advisory joined by OR."""
-    statements = verdicts.Statements([statement.id for statement in known.statements])
+    statements = known.verdicts()
     without_items = {place: truth for place, truth in enumerate(bare) if truth != "FALSE"}
     machines = []
     for one in found:
@@ -178,8 +178,7 @@ def json_of(
     of_machines = [_machine_json(one, machine, about, parts) for one, machine in zip(found, machines)]
     for row in of_machines if unnamed is not None else ():
         row |= unnamed.json(row["name"])
-    advisories_of = verdicts.Statements([statement.id for statement in known.statements]).advisories
-    return {"advisories": len(advisories_of), "machines": of_machines}
+    return {"advisories": len(known.verdicts().advisories), "machines": of_machines}
 
 
 def _machine_json(

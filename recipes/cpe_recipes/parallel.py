@@ -2,6 +2,10 @@
 
     sh parallel.sh RECORDS MACHINES [--strict] [--hardware none] [--ranges FILE [--letters FILE] [--matches FILE..] | --decided FILE]
 
+    sh parallel.sh --store FOLDER MACHINES [--strict] [--hardware none] [--letters FILE]
+
+- --store: in place of RECORDS, ranges and matches, a folder in which store.py keeps feeds. Advisories that name no product of the machines
+  are FALSE on each of them, and aren't written; a remark counts them.
 - RECORDS: entries, deprecations, statements and results of checks, as the recipes write them.
 - MACHINES: a line a machine: its name, and after it the names of its items.
 - --ranges: the ranges of versions that `advisories.sh --ranges` wrote. Each is decided for each machine, as `decide.py` does,

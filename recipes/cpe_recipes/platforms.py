@@ -39,7 +39,7 @@ def remark_silent(machines: Sequence[Machine], known: Known, said: Said) -> None
 
 def _alone(known: Known) -> int:
     """How many advisories have facts on operating systems and no others."""
-    ids = set()
+    ids = {id for id, is_of_systems in known.elsewhere.items() if is_of_systems}
     for statement in known.statements:
         facts = [*statement.facts, *(known.ranges[key].criteria for key in statement.ranges)]
         if facts and all(names.part_of(fact) == _SYSTEM for fact in facts):

@@ -7,7 +7,8 @@ advisories that could be other than FALSE on some machine, as one page of the sa
 advisory goes on where a vulnerable match of it
 
 - has a vendor and product that an item of a machine has, or leads to by the dictionary of --records, or may go on as there; or
-- has a vendor or product that isn't plain, or a name that is none, or where an item has a pattern in its vendor or product;
+- has a vendor or product that isn't plain, or a name that is none; or, if an item has a pattern in its vendor, the product of that, and
+  if it has one in its product, the vendor of that;
 
 and where there is something in it that `advisories.sh` has to tell, such as that it isn't analysed. The others name products that
 aren't here: they are FALSE on every machine, and how many they are is remarked. A feed of which pages are missing, as they say
@@ -15,22 +16,26 @@ themselves, is refused; --partial lets it pass, and what is missing is said.
 """
 from __future__ import annotations
 
-from collections.abc import Iterable, Iterator, Sequence
+from collections import Counter
+from collections.abc import Collection, Iterable, Sequence
+from dataclasses import dataclass
 
 from . import hints, latest, names, whole
-from .advisories import KINDS, Configuration
+from .advisories import KINDS
+from .concern import concern_of
 from .decide import Leads, leads_of, read_entries
-from .feeds import FormFault, Json, Page, member, members, record_text, text_at
+from .feeds import Page, record_text
 from .machines import read_machines
 from .naming import name_machines, read_names
+from .near_products import Product, key_of
+from .portions import MOST
 from .program import Program
 from .said import Fatal, Output, Said
-from .unanalysed import REJECTED, States
-from .unlisted import Product, deprecated_names, say_items, successors
+from .unanalysed import States, id_of, is_rejected
+from .unlisted import deprecated_names, say_items, successors
 from .words import ONE, read_words
 
 USAGE = "products.sh --machines FILE [--records FILE] [--names FILE] [--partial] [--large] [FILE..]"
-MOST_STATEMENTS = 100_000
 
 
 def run(words: Sequence[str]) -> int:
@@ -53,14 +58,14 @@ def run(words: Sequence[str]) -> int:
     if not wanted:
         raise Fatal("no machine has an item")
     feed = latest.advisories(whole.pages(read.files, said, KINDS, reading=whole.Reading.of(read)), said)
-    kept = [page.records[place] for page in feed for place in cut(program, page, wanted)]
+    kept = [record for page in Cut.of(feed, wanted).pages for record in page.records if not is_rejected(record)]
     # (what isn't analysed stays in the page, so that who reads it tells that)
     states = States()
     states.sort([Page("", KINDS[0], kept)])
     count = len(kept) - len(states.unanalysed)
     said.remark(f"{count} of {sum(len(page.records) for page in feed)} advisories may concern a product of these machines")
-    if count > MOST_STATEMENTS:
-        said.remark(f"these are more than cpe takes, {MOST_STATEMENTS}; give it some of the machines at a time")
+    if count > MOST.statements:
+        said.remark(f"these are more than cpe takes at once, {MOST.statements:,}; scan.py asks them in portions")
     states.tell(said)
     output.lines(page_of([record_text(record) for record in kept]))
     output.end()
@@ -79,7 +84,8 @@ def with_commas(records: Sequence[str]) -> list[str]:
 
 
 def products_of(leads: Leads, items: Iterable[str], records: Sequence[str]) -> set[Product]:
-    """The products of these items, of what they lead to or may go on as, and those of the old names that lead to the same."""
+    """The products of these items, of what they lead to or may go on as, and those of the old names that lead to the same. They are
+    keys: a vendor or product that is a pattern is open."""
     found: set[Product] = set()
     goes_on = successors(records, leads)
     for item in items:
@@ -88,43 +94,34 @@ def products_of(leads: Leads, items: Iterable[str], records: Sequence[str]) -> s
             others = () if lead.is_entry else goes_on.get(names.product_of(lead.name), ())
             found.update([*map(names.product_of, (lead.name, *lead.ends)), *others])
     before = (leads.found[name] for name in deprecated_names(records) if name in leads.found)
-    return found | {names.product_of(lead.name) for lead in before if any(names.product_of(end) in found for end in lead.ends)}
+    found |= {names.product_of(lead.name) for lead in before if any(names.product_of(end) in found for end in lead.ends)}
+    return set(map(key_of, found))
 
 
-def cut(program: Program, page: Page, wanted: set[Product]) -> list[int]:
-    """The places in the list of a page of those advisories that go on."""
-    if any(names.has_special(part) for product in wanted for part in product):
-        return list(range(len(page.records)))
-    named = [_vulnerable(record) for record in page.records]
-    asked = list(dict.fromkeys(name for found in named if found is not None for name in found))
-    lookups = (record_text({"do": "lookup", "name": name}) for name in asked)
-    answers = program.answers(["resolve"], lookups) if asked else []
-    # (one that is refused is no name)
-    goes_on = {name for name, line in zip(asked, answers) if _concerns(line, wanted)}
-    return [place for place, found in enumerate(named) if found is None or not goes_on.isdisjoint(found)]
+@dataclass(frozen=True)
+class Cut:
+    """The pages with the advisories that go on alone; and the ids of the others, each with whether all names for which it asks are of
+    operating systems."""
 
+    pages: list[Page]
+    elsewhere: dict[str, bool]
 
-def _concerns(answer: str, wanted: set[Product]) -> bool:
-    """Whether the name of this answer is of one of these products, or can't be told to be of another."""
-    if not answer.startswith("lookup "):
-        return True
-    product = names.product_of(answer.split(" ")[1])
-    return product in wanted or not all(map(names.is_plain, product))
+    @staticmethod
+    def of(pages: Sequence[Page], wanted: Collection[Product], naming: Collection[str] = ()) -> Cut:
+        """Cuts pages of which each advisory counts. `naming` are the ids of matches that give items names."""
+        ids = Counter(id for page in pages for record in page.records if (id := id_of(record)) is not None)
+        kept, elsewhere = [], {}
+        for page in pages:
+            places = []
+            for place, record in enumerate(page.records):
+                concern, id = concern_of(record), id_of(record)
+                # (of one that comes more than once it isn't known which counts, which will be reported)
+                if concern is None or id is None or ids[id] > 1 or concern.meets(wanted, naming):
+                    places.append(place)
+                else:
+                    elsewhere[id] = concern.is_of_systems()
+            kept.append(page.only(places))
+        return Cut([page for page in kept if page.records], elsewhere)
 
-
-def _vulnerable(record: Json) -> list[str] | None:
-    """The names of the vulnerable matches of an advisory; None where there is anything else to tell of it."""
-    try:
-        cve = member(record, "cve")
-        if text_at(cve, "vulnStatus") == REJECTED:
-            return []
-        found = [
-            match.criteria
-            for configuration in members(cve, "configurations")
-            for match in Configuration.of(configuration).matches()
-            if match.is_vulnerable
-        ]
-    except FormFault:
-        return None
-    named = [name for name in found if name is not None]
-    return named if named and len(named) == len(found) else None
+    def count(self) -> int:
+        return sum(len(page.records) for page in self.pages)

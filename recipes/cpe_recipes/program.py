@@ -4,15 +4,17 @@ from __future__ import annotations
 import contextlib
 import itertools
 import os
+import re
 import shutil
 import subprocess
 import threading
 import uuid
-from collections.abc import Iterable, Iterator, Sequence
-from dataclasses import dataclass
+from collections.abc import Collection, Iterable, Iterator, Sequence
+from dataclasses import dataclass, replace
 from typing import IO
 
 from .feeds import Placed, Source
+from .portions import portions, size_of
 from .said import Fatal, Said, quoted, why
 from .table import counted
 
@@ -26,6 +28,9 @@ _SECONDS, _MOST_ANSWER = 60, 4096
 # other words each line has one answer.
 _BARRIERS = {"resolve": "verdict", "advise": "affected"}
 _BY_LINES = ("compare", "unbind", "bind", "convert")
+# What the reason begins with if a limit of cpe is met.
+FULL = "full "
+_ID = re.compile(r'\{"do":"statement","id":("(?:[^"\\]|\\.)*")')
 
 
 @dataclass(frozen=True, slots=True)
@@ -175,9 +180,34 @@ class Program:
                 said.left_out(one.id, one.reason, one.place())
             elif number not in reasons:
                 records.append(one.record)
+            elif reasons[number].startswith(FULL):
+                raise Fatal(f"{self.path} takes no more: {reasons[number]} at record {number:,} of {len(kept):,}, {prefix_of(one.record)}")
             elif reasons[number] != unsaid:
                 said.left_out(one.id, f"{reasons[number]}: {prefix_of(one.record)}", one.place())
         return records
+
+    def accepted_statements(self, candidates: Iterable[Candidate], said: Said) -> list[str]:
+        """The same of statements, of which there may be more than cpe takes at once. So they are tried in portions."""
+        kept, records, ids = list(candidates), [], set[str]()
+        for portion in portions(size_of(one.record) for one in kept):
+            some = [_unless_there(kept[place], ids) for place in portion]
+            accepted = self.accepted(some, said)
+            ids.update(map(_id_of, accepted))
+            records += accepted
+        return records
+
+
+def _unless_there(one: Candidate, ids: Collection[str]) -> Candidate:
+    """A statement, or the reason of cpe if one before it has its id."""
+    if not one.record or _id_of(one.record) not in ids:
+        return one
+    return replace(one, record="", reason=f"exists: {prefix_of(one.record)}")
+
+
+def _id_of(statement: str) -> str:
+    """The id of a statement as its record has it, in JSON; the record itself if it begins otherwise."""
+    found = _ID.match(statement)
+    return statement if found is None else found[1]
 
 
 class _Counted:

@@ -6,6 +6,7 @@ is lost. The status is 1 where something was left out, and 2 where there is no r
 from __future__ import annotations
 
 import contextlib
+import gc
 import os
 import re
 import signal
@@ -149,6 +150,35 @@ class Noting(Said):
         ]
 
 
+class Mute(Said):
+    """Says nothing, if what is read is said elsewhere."""
+
+    def _say(self, line: str, is_whole: bool = False) -> None:
+        pass
+
+
+class Deferred(Said):
+    """What is said at last, or not at all, if it isn't known yet whether it is right."""
+
+    def __init__(self) -> None:
+        super().__init__()
+        self._calls: list[tuple[str, tuple[str, ...]]] = []
+
+    def left_out(self, id: str, reason: str, place: str = "") -> None:
+        self._calls.append(("left_out", (id, reason, place)))
+
+    def remark(self, text: str, id: str = "") -> None:
+        self._calls.append(("remark", (text, id)))
+
+    def hint(self, text: str, command: str) -> None:
+        self._calls.append(("hint", (text, command)))
+
+    def say(self, said: Said) -> None:
+        """Says it."""
+        for name, given in self._calls:
+            getattr(said, name)(*given)
+
+
 class Output:
     """What goes to standard output. It is gathered, so that nothing stands written where the result comes to no end."""
 
@@ -235,6 +265,8 @@ def main(run: Callable[[list[str]], int], name: str, words: list[str]) -> NoRetu
         if signal.getsignal(number) is not signal.SIG_IGN:
             signal.signal(number, _stop)
     sys.argv[0] = name
+    # (a recipe keeps what it reads to its end, and makes no circles of it, so looking for these takes a fifth of its time for nothing)
+    gc.disable()
     try:
         status = _help(run) if words in (["--help"], ["-h"]) else run(words)
     except Fatal as fault:

@@ -1,6 +1,6 @@
 """The whole way, from feeds and what machines have to the advisories that concern each machine.
 
-    python3 scan.py --dictionary FILE.. | --records FILE.. --advisories FILE.. [--matches FILE..]
+    python3 scan.py --store FOLDER | --dictionary FILE.. --advisories FILE.. [--matches FILE..] | --records FILE.. --advisories FILE.. [..]
         --machines FILE | --lists FILE.. [--names FILE] [--suppress FILE] [--settled FILE] [--letters FILE] [--partial] [--large]
         [--strict] [--platform NAME] [--hardware none] [--all] [--json | --format FORMAT] [--time TIME] [--why] [--kev FILE] [--epss FILE]
         [--fail-on GATE].. [--since FILE]
@@ -10,6 +10,7 @@ What is read:
 - --dictionary, --advisories, --matches: pages of NVD's API 2.0, or its feeds, plain, packed or in archives. Advisories may be CVE records
   of format 5 too (cve5.py).
 - --records: in place of --dictionary, what dictionary.sh wrote of it before.
+- --store: in place of all of these, a folder in which store.py keeps them. Of it is read what concerns the machines, and nothing else.
 - --lists: software lists, each a machine (lists/ has the forms: CycloneDX, SPDX, Syft's, Trivy's and plain ones, package URLs, and what
   package managers write). --machines: in place of --lists, a line for each machine, as inventory.sh --machines writes it.
 - --partial: pages of a feed may be missing. What is missing is reported, and each FALSE that may be another verdict by it is marked.
@@ -55,11 +56,11 @@ from __future__ import annotations
 from collections.abc import Collection, Iterable, Iterator, Mapping, Sequence
 from dataclasses import dataclass, field
 
-from . import advisories, affected, dictionary, formats, gating, hints, latest, matches, platforms, products, suppressed, threats, unlisted
-from . import verdicts, whole
+from . import advisories, affected, dictionary, formats, gating, hints, latest, matches, platforms, portions, products, suppressed, threats
+from . import unlisted, verdicts, whole
 from .called import Called, Sure
 from .calling import Calling, Wanted, listed_by_name
-from .cases import Cases, Index, Items, Known, Product, Results, lines_of, verdicts_of
+from .cases import Cases, Index, Items, Known, Results, lines_of, portions_of, verdicts_of
 from .components import Machine
 from .decide import LETTERS, Decider, Leads, Lists, decide, leads_in, leads_of
 from .deciding import Deciding
@@ -68,25 +69,28 @@ from .formats import Form
 from .gating import Gates
 from .machines import read_lists, read_machines
 from .naming import Unnamed, name_machines, read_names
+from .near_products import Product
 from .negations import Negations, has_hardware
 from .outcome import MOST_ALIKE, Found, Hanging, json_of, machines_with_verdicts, tell_items
 from .program import Candidate, Program
 from .progress import Progress
 from .reasons import Reasons
-from .said import Fatal, Noting, Output, Said
+from .said import Fatal, Mute, Noting, Output, Said
 from .settled import read_settled
+from .stored import Stored
 from .threats import Threats
 from .unanalysed import States
 from .versions import Letters, read_letters
 from .words import FLAG, MANY, ONE, Words, read_words
 
 USAGE = (
-    "scan.py --dictionary FILE.. | --records FILE.. --advisories FILE.. [--matches FILE..] "
+    "scan.py --store FOLDER | --dictionary FILE.. | --records FILE.. --advisories FILE.. [--matches FILE..] "
     "--machines FILE | --lists FILE.. [--names FILE] [--suppress FILE] [--settled FILE] [--letters FILE] [--partial] [--large] "
     "[--strict] [--platform NAME] [--hardware none] [--all] [--json | --format FORMAT] [--time TIME] [--why] [--kev FILE] [--epss FILE] "
     "[--fail-on GATE].. [--since FILE]"
 )
 OPTIONS = {
+    "--store": ONE,
     "--dictionary": MANY,
     "--records": MANY,
     "--advisories": MANY,
@@ -202,14 +206,17 @@ class Scan:
     def _ask(self, cases: Sequence[tuple[Items, Results, int, int]]) -> dict[int, str]:
         """The truths of the cases, by their numbers."""
         self._progress.step("asking for verdicts")
-        answers = verdicts_of(self._program.lines(["resolve"], lines_of(self._known, cases)))
-        self.bare = [_next(answers) for _ in self._known.statements]
         truths: dict[int, str] = {}
-        for _, _, _, number in cases:
-            truths[number] = _next(answers)
-            self._progress.count("asking for verdicts", len(truths), len(cases))
-        for answer in answers:
-            raise Fatal(f"cpe answered more than was asked: {answer}")
+        self.bare = []
+        for portion in portions_of(self._known):
+            of_portion = [case for case in cases if case[2] in portion]
+            answers = verdicts_of(self._program.lines(["resolve"], lines_of(self._known, portion, of_portion)))
+            self.bare += [_next(answers) for _ in portion]
+            for _, _, _, number in of_portion:
+                truths[number] = _next(answers)
+                self._progress.count("asking for verdicts", len(truths), len(cases))
+            for answer in answers:
+                raise Fatal(f"cpe answered more than was asked: {answer}")
         return truths
 
     def _put(self, one: Found, asked: _Asked, truths: Mapping[int, str]) -> None:
@@ -260,32 +267,42 @@ def read_known(
     progress.step("reading advisories")
     states = States()
     feed = list(whole.pages(read.many("--advisories"), said, advisories.KINDS, strict=True, reading=reading))
-    if sum(len(page.records) for page in feed) > products.MOST_STATEMENTS:
-        feed = states.sort(latest.advisories(feed, said))
-        feed = _of_products(feed, asked, entries, program, said, states)
+    cut, order = products.Cut([], {}), list[str]()
+    # (if all is to be listed, all is asked)
+    if _count(feed) > portions.MOST.statements and not read.has("--all"):
+        feed = [page for page in states.sort(latest.advisories(feed, said)) if page.records]
+        if _count(feed) > portions.MOST.statements:
+            order = advisories.ids_in_order(feed)
+            cut = _of_products(feed, read, asked, entries, program, said, reading)
+            feed = cut.pages
     found = advisories.convert(feed, program, said, is_decided=True, states=states)
     found.tell_empty_pages(said)
-    records = program.accepted(found.candidates, said)
-    if not records:
+    records = program.accepted_statements(found.candidates, said)
+    if not records and not cut.elsewhere:
         none = f"; not analysed: {len(states.unanalysed):,}" if states.unanalysed else ""
         raise Fatal(f"no advisory that can have a verdict is in {', '.join(map(name_of, read.many('--advisories')))}{none}")
-    return Known(entries, records, found.ranges, found.details, found.stand_ins), states
+    return Known(entries, records, found.ranges, found.details, found.stand_ins, cut.elsewhere, order), states
 
 
 def _of_products(
-    feed: Sequence[Page], asked: Iterable[Machine], entries: Sequence[str], program: Program, said: Said, states: States
-) -> list[Page]:
-    """Of more advisories than cpe takes those that may concern a product of the machines; the others are FALSE on each."""
+    feed: Sequence[Page], read: Words, asked: Iterable[Machine], entries: Sequence[str], program: Program, said: Said, reading: whole.Reading
+) -> products.Cut:
+    """Of more advisories than cpe takes at once those that may concern a product of the machines; the others are FALSE on each."""
     items = dict.fromkeys(name for machine in asked for name in machine.asked_names())
     leads = leads_of(program, entries, items, unlisted.deprecated_names(entries))
     wanted = products.products_of(leads, items, entries)
-    kept = [page.only(products.cut(program, page, wanted)) for page in feed]
-    before, behind = (sum(len(page.records) for page in some) for some in (feed, kept))
-    if not behind:
-        raise Fatal(f"none of {before} advisories may concern a product of these machines")
-    said.remark(f"{behind} of {before} advisories may concern a product of these machines; the others are FALSE there")
-    states.put_elsewhere(feed, kept)
-    return [page for page in kept if page.records]
+    matched, naming = read.many("--matches"), set[str]()
+    if matched:
+        # (what isn't right in it is said when it is read for the ranges)
+        beside, naming = matches.namings(whole.pages(matched, Mute(), matches.KINDS, strict=True, reading=reading.again()), wanted)
+        wanted |= beside
+    before, found = _count(feed), products.Cut.of(feed, wanted, naming)
+    said.remark(f"{found.count()} of {before} advisories may concern a product of these machines; the others are FALSE there")
+    return found
+
+
+def _count(feed: Iterable[Page]) -> int:
+    return sum(len(page.records) for page in feed)
 
 
 def _records(paths: Sequence[str]) -> list[Candidate]:
@@ -312,9 +329,10 @@ def read_asked(read: Words, said: Said) -> list[Machine]:
 
 def run(words: Sequence[str]) -> int:
     read = read_words(words, OPTIONS, USAGE)
-    one_of = [("--dictionary", "--records"), ("--advisories",), ("--machines", "--lists")]
+    one_of = [("--dictionary", "--records", "--store"), ("--advisories", "--store"), ("--machines", "--lists")]
     form = Form.of(read)
     is_odd = read.has("--machines") and read.has("--lists") or read.has("--why") and form.is_table()
+    is_odd = is_odd or read.has("--store") and any(map(read.has, ("--dictionary", "--records", "--advisories", "--matches")))
     if read.files or is_odd or not all(any(map(read.has, options)) for options in one_of):
         raise Fatal(f"usage: {USAGE}")
     program = Program()
@@ -346,7 +364,7 @@ class _Result:
 
     def asked(self) -> Collection[str]:
         """The ids of the advisories that have verdicts."""
-        return verdicts.Statements([statement.id for statement in self.known.statements]).advisories
+        return self.known.advisories()
 
 
 def _result(read: Words, program: Program, said: Noting, progress: Progress, beside: Threats) -> _Result:
@@ -357,14 +375,23 @@ def _result(read: Words, program: Program, said: Noting, progress: Progress, bes
     asked = read_asked(read, said)
     reading = whole.Reading.of(read)
     tables = read_names(read.many("--names"), asked)
-    progress.step("reading the dictionary")
-    entries = read_entries(read, program, said, reading)
-    unnamed = name_machines(asked, tables, entries)
-    known, states = read_known(read, entries, asked, program, said, progress, reading)
-    progress.step("reading the match feed")
-    matched = read.many("--matches")
-    feed = whole.pages(matched, said, matches.KINDS, strict=True, reading=reading) if matched else []
-    lists = Lists(program, matches.listed(feed, known.ranges.keys(), said))
+    if read.has("--store"):
+        progress.step("reading the store")
+        ids = {*settled.ids(), *accepted.ids()}
+        with Stored(str(read.only("--store")), program, said, reading).opened() as store:
+            taken = store.take(asked, tables, ids, is_all=read.has("--all"))
+            listed = store.listed(taken.known.ranges.keys())
+        known, states, unnamed = taken.known, taken.states, taken.unnamed
+    else:
+        progress.step("reading the dictionary")
+        entries = read_entries(read, program, said, reading)
+        unnamed = name_machines(asked, tables, entries)
+        known, states = read_known(read, entries, asked, program, said, progress, reading)
+        progress.step("reading the match feed")
+        matched = read.many("--matches")
+        feed = whole.pages(matched, said, matches.KINDS, strict=True, reading=reading) if matched else []
+        listed = matches.listed(feed, known.ranges.keys(), said)
+    lists = Lists(program, listed)
     scan = Scan(program, known, lists, letters, progress, read.has("--why"), read.has("--strict"), has_hardware(read))
     found = scan.machines(asked)
     hint = hints.unlisted(read)
@@ -384,7 +411,7 @@ def _lines(form: Form, result: _Result, said: Noting) -> list[str]:
     """The lines of the result, when all that it tells is said."""
     states, reading, about = result.states, result.reading, result.about
     left_out = (id for id, _, _ in said.noted)
-    about.threats.tell({*result.asked(), *states.elsewhere}, {*states.unanalysed, *states.rejected, *left_out}, said)
+    about.threats.tell(set(result.asked()), {*states.unanalysed, *states.rejected, *left_out}, said)
     if form.is_table():
         lines = list(affected.table_of(verdicts.Verdicts(result.machines), about))
         lines += [*reading.lines(), *(states.lines() if form.is_all else ())]

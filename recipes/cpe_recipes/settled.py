@@ -55,6 +55,10 @@ class Settled:
         for line in self._lines.values():
             self._of_machines.setdefault(line.machine, []).append(line)
 
+    def ids(self) -> set[str]:
+        """The advisories of which something is settled."""
+        return {id for _, id in self._lines}
+
     def settle(self, machines: Iterable[Machine], said: Said) -> None:
         """Settles verdicts of machines; what is decided otherwise is remarked, and so is what settles nothing."""
         for machine in machines:

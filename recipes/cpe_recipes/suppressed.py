@@ -33,6 +33,10 @@ class Suppressed:
         for line in lines:
             self._found.setdefault((line.id, line.machine), line)
 
+    def ids(self) -> set[str]:
+        """The advisories that are accepted."""
+        return {line.id for line in self._lines}
+
     def reason(self, id: str, machine: str | None) -> str | None:
         """Why this verdict is accepted, None where it isn't."""
         line = self._found.get((id, machine or "")) or self._found.get((id, EVERY))

@@ -19,12 +19,10 @@ _NO_STATUS = "of no status"
 
 @dataclass
 class States:
-    """The advisories without verdicts, by their ids, and those that are FALSE without being asked for, since they name no product that is
-    here."""
+    """The advisories without verdicts, by their ids."""
 
     unanalysed: dict[str, str] = field(default_factory=dict)
     rejected: dict[str, None] = field(default_factory=dict)
-    elsewhere: dict[str, None] = field(default_factory=dict)
 
     def sort(self, pages: Iterable[Page]) -> list[Page]:
         """The pages with those alone that can have a verdict, or that can't be read. The others are noted."""
@@ -36,24 +34,17 @@ class States:
 
     def _note(self, record: Json) -> bool:
         """Notes an advisory that has no verdict."""
-        cve = record.get("cve") if isinstance(record, dict) else None
-        if not isinstance(cve, dict):
-            return False
-        id, status = cve.get("id"), cve.get("vulnStatus")
-        if not isinstance(id, str) or not id or not (status is None or isinstance(status, str)):
-            return False
-        if status == REJECTED:
-            self.rejected[id] = None
-        elif cve.get("configurations") in (None, [], False):
-            self.unanalysed[id] = status or _NO_STATUS
-        else:
-            return False
-        return True
+        state = state_of(record)
+        if state is not None:
+            self.put(record["cve"]["id"], state)
+        return state is not None
 
-    def put_elsewhere(self, pages: Iterable[Page], kept: Iterable[Page]) -> None:
-        """Notes those of the pages that aren't among the kept."""
-        here = {id for page in kept for id in _ids(page)}
-        self.elsewhere.update(dict.fromkeys(id for page in pages for id in _ids(page) if id not in here))
+    def put(self, id: str, state: str) -> None:
+        """Puts an advisory that has no verdict."""
+        if state == REJECTED:
+            self.rejected[id] = None
+        else:
+            self.unanalysed[id] = state
 
     def drop(self, ids: Iterable[str]) -> None:
         """Drops those that have a verdict all the same, since they come more than once."""
@@ -77,14 +68,30 @@ class States:
         by_status: dict[str, list[str]] = {}
         for id, status in self.unanalysed.items():
             by_status.setdefault(status, []).append(id)
-        return {"asked": [*asked, *self.elsewhere], "notAnalysed": by_status, "rejected": list(self.rejected)}
+        return {"asked": list(asked), "notAnalysed": by_status, "rejected": list(self.rejected)}
 
 
-def _ids(page: Page) -> Iterator[str]:
-    return (id for id in map(_id, page.records) if id is not None)
+def state_of(record: Json) -> str | None:
+    """Why an advisory has no verdict: that it was rejected, or its status if it isn't analysed. None of any other."""
+    cve = record.get("cve") if isinstance(record, dict) else None
+    if not isinstance(cve, dict):
+        return None
+    id, status = cve.get("id"), cve.get("vulnStatus")
+    if not isinstance(id, str) or not id or not (status is None or isinstance(status, str)):
+        return None
+    if status == REJECTED:
+        return REJECTED
+    return (status or _NO_STATUS) if cve.get("configurations") in (None, [], False) else None
 
 
-def _id(record: Json) -> str | None:
+def is_rejected(record: Json) -> bool:
+    """Whether a record is that of an advisory that was rejected."""
+    cve = record.get("cve") if isinstance(record, dict) else None
+    return isinstance(cve, dict) and cve.get("vulnStatus") == REJECTED
+
+
+def id_of(record: Json) -> str | None:
+    """The id of an advisory, if it has one."""
     cve = record.get("cve") if isinstance(record, dict) else None
     id = cve.get("id") if isinstance(cve, dict) else None
     return id if isinstance(id, str) and id else None

@@ -1,7 +1,7 @@
 """Which items no entry of the dictionary has, and which packages have no name, or only perhaps have one.
 
     sh unlisted.sh RECORDS MACHINES [--names FILE]
-    sh unlisted.sh --dictionary FILE.. | --records FILE.. --machines FILE | --lists FILE.. [--names FILE] [--partial] [--large]
+    sh unlisted.sh --store FOLDER | --dictionary FILE.. | --records FILE.. --machines FILE | --lists FILE.. [--names FILE] [--partial] [--large]
 
 RECORDS are those of a dictionary, and MACHINES a line a machine: its name, and after it the names of its items. The options are those
 of scan.py. It writes
@@ -32,24 +32,33 @@ from .said import Fatal, Output, Said, shown
 from .words import MANY, ONE, Words, read_words
 
 USAGE = (
-    "unlisted.sh RECORDS MACHINES [--names FILE], or unlisted.sh --dictionary FILE.. | --records FILE.. "
+    "unlisted.sh RECORDS MACHINES [--names FILE], or unlisted.sh --store FOLDER | --dictionary FILE.. | --records FILE.. "
     "--machines FILE | --lists FILE.. [--names FILE] [--partial] [--large]"
 )
-OPTIONS = {"--dictionary": MANY, "--records": MANY, "--machines": ONE, "--lists": MANY, "--names": ONE, **whole.OPTIONS}
+OPTIONS = {"--store": ONE, "--dictionary": MANY, "--records": MANY, "--machines": ONE, "--lists": MANY, "--names": ONE, **whole.OPTIONS}
 Product = tuple[str, str]
 
 
 def run(words: Sequence[str]) -> int:
     read = read_words(words, OPTIONS, USAGE)
-    is_short = len(read.files) == 2 and not any(map(read.has, ("--dictionary", "--records", "--machines", "--lists")))
-    is_long = not read.files and (read.has("--dictionary") or read.has("--records")) and read.has("--machines") != read.has("--lists")
+    is_short = len(read.files) == 2 and not any(map(read.has, ("--store", "--dictionary", "--records", "--machines", "--lists")))
+    feeds = read.has("--dictionary") or read.has("--records")
+    is_long = not read.files and feeds != read.has("--store") and read.has("--machines") != read.has("--lists")
     if not is_short and not is_long:
         raise Fatal(f"usage: {USAGE}")
     said, output, program = Said(), Output(), Program()
-    records = _records(read, program, said) if is_long else read_entries(read.files[:1])
     path = read.one("--machines") if is_long else read.files[1]
     machines = read_lists(read.many("--lists"), said) if path is None else read_machines(path, said)
-    unnamed = name_machines(machines, read_names(read.many("--names"), machines), records)
+    tables = read_names(read.many("--names"), machines)
+    if read.has("--store"):
+        # (what reads a store for a scan needs this module itself)
+        from .stored import Stored
+
+        with Stored(str(read.only("--store")), program, said, whole.Reading.of(read)).opened() as store:
+            records, unnamed = store.dictionary(machines, tables)
+    else:
+        records = _records(read, program, said) if is_long else read_entries(read.files[:1])
+        unnamed = name_machines(machines, tables, records)
     items = dict.fromkeys(item for machine in machines for item in machine.asked_names())
     leads = leads_of(program, records, items, ())
     say_items(machines, leads, said)

@@ -8,7 +8,7 @@ pages tell a higher total, and no record may be there twice in place of another.
 from __future__ import annotations
 
 from collections.abc import Iterable, Iterator, Sequence
-from dataclasses import dataclass, field
+from dataclasses import dataclass, field, replace
 
 from . import feeds
 from .feeds import Json, Page
@@ -59,6 +59,18 @@ class Reading:
     def of(words: Words) -> Reading:
         return Reading(words.has("--partial"), LARGE if words.has("--large") else TOLD_LIMITS)
 
+    def again(self) -> Reading:
+        """The same way to read, for a feed of which is told elsewhere what is missing."""
+        return Reading(self.is_partial, self.limits)
+
+    def judge(self, missing: Iterable[Missing], said: Said, hint: str = "") -> None:
+        """Notes what is missing, and says it. Fatal if nothing may be missing."""
+        for one in missing:
+            if not self.is_partial:
+                raise Fatal(f"{one.files}: {one.words()}; {one.where}{hint}")
+            self.missing.append(one)
+            said.left_out(one.files, f"{one.words()}; {one.where}")
+
     def doubts(self) -> list[str]:
         """Why a verdict that is FALSE could be another one: names may lead elsewhere, and matches may list more. (An advisory that is
         missing has no verdict.)"""
@@ -81,15 +93,16 @@ class Reading:
 
 
 @dataclass(frozen=True)
-class _Span:
-    """A page as a part of its feed: the index of its first record, how many it has and says that it has, and of how many."""
+class Span:
+    """A page as a part of its feed: the index of its first record, how many it has and says that it has, and of how many. If it hasn't
+    all of its feed, it has the ids of its records too, or numbers that stand for these."""
 
     name: str
     start: int
     count: int
     said: int
     total: int
-    ids: list[Json]
+    ids: Sequence[Json]
 
     def end(self) -> int:
         return self.start + self.count
@@ -104,38 +117,41 @@ def pages(
     """The pages at these paths, as feeds.pages has them. When the last has come, it is Fatal where something is missing, or said
     where it may be."""
     how = reading or Reading()
-    spans: dict[str, list[_Span]] = {}
+    spans: dict[str, list[Span]] = {}
     unsaid: list[str] = []
     for page in feeds.pages(paths, said, kinds, strict, how.limits):
-        if page.kind in _IDS:
+        if page.kind in CALLED:
             if "totalResults" in page.counts:
-                spans.setdefault(page.kind, []).append(_span(page))
+                spans.setdefault(page.kind, []).append(span_of(page))
             else:
                 unsaid.append(page.name)
         yield page
-    if unsaid:
-        said.remark(f"{_some(unsaid)}: no totalResults, so it isn't known whether this is all of the feed")
+    tell_uncounted(unsaid, said)
     for kind, of_kind in spans.items():
-        for one in [*_odd(kind, of_kind), *_missing(kind, of_kind, said)]:
-            if not how.is_partial:
-                # (a recipe without the option gives no way to read)
-                hint = " (--partial lets it pass)" if reading is not None else ""
-                raise Fatal(f"{one.files}: {one.words()}; {one.where}{hint}")
-            how.missing.append(one)
-            said.left_out(one.files, f"{one.words()}; {one.where}")
+        # (a recipe without the option gives no way to read)
+        how.judge(missing_of(kind, of_kind, said), said, " (--partial lets it pass)" if reading is not None else "")
 
 
-def _span(page: Page) -> _Span:
+def tell_uncounted(names: Sequence[str], said: Said) -> None:
+    """Remarks the pages that don't tell how many records their feed has."""
+    if names:
+        said.remark(f"{_some(names)}: no totalResults, so it isn't known whether this is all of the feed")
+
+
+def missing_of(kind: str, spans: Sequence[Span], said: Said) -> list[Missing]:
+    """What is missing of the feeds that have these pages. What is there twice is remarked."""
+    return [*_odd(kind, spans), *_missing(kind, spans, said)]
+
+
+def span_of(page: Page) -> Span:
     count, total = len(page.records), page.counts["totalResults"]
     if "startIndex" not in page.counts and count != total:
         raise Fatal(f"{page.name}: it has {count:,} of {total:,} {CALLED[page.kind]}, and no startIndex that says which")
     start, said = page.counts.get("startIndex", 0), page.counts.get("resultsPerPage", count)
     # (the last page may tell how many it has room for)
     said = min(said, max(total - start, 0))
-    span = _Span(page.name, start, count, said, total, [])
-    if not span.is_alone():
-        span.ids.extend(_id(record, page.kind) for record in page.records)
-    return span
+    span = Span(page.name, start, count, said, total, ())
+    return span if span.is_alone() else replace(span, ids=[_id(record, page.kind) for record in page.records])
 
 
 def _id(record: Json, kind: str) -> Json:
@@ -145,7 +161,7 @@ def _id(record: Json, kind: str) -> Json:
     return id if isinstance(id, str) else None
 
 
-def _odd(kind: str, spans: Iterable[_Span]) -> Iterator[Missing]:
+def _odd(kind: str, spans: Iterable[Span]) -> Iterator[Missing]:
     """Pages that have another number of records than they tell, or that end behind their feed."""
     for span in spans:
         if span.count and span.end() > span.total:
@@ -154,13 +170,13 @@ def _odd(kind: str, spans: Iterable[_Span]) -> Iterator[Missing]:
             yield Missing(kind, span.name, span.total, span.count, f"it says that it has {span.said:,} of them")
 
 
-def _missing(kind: str, spans: Sequence[_Span], said: Said) -> Iterator[Missing]:
+def _missing(kind: str, spans: Sequence[Span], said: Said) -> Iterator[Missing]:
     """The feeds that aren't whole. What is there twice is remarked."""
-    groups: dict[int, list[_Span]] = {}
+    groups: dict[int, list[Span]] = {}
     for span in spans:
         if not span.is_alone() and span.end() <= span.total:
             groups.setdefault(span.total, []).append(span)
-    grown: list[_Span] = []
+    grown: list[Span] = []
     for total, group in sorted(groups.items()):
         if not _gaps(group, total):
             yield from _judged(kind, group, said)
@@ -173,14 +189,14 @@ def _missing(kind: str, spans: Sequence[_Span], said: Said) -> Iterator[Missing]
         yield from _judged(kind, grown, said)
 
 
-def _is_growing(spans: Sequence[_Span]) -> bool:
+def _is_growing(spans: Sequence[Span]) -> bool:
     """Whether these may be pages of one feed that grew while it was fetched. (Of two feeds there are more records than one has.)"""
     totals = [span.total for span in sorted(spans, key=lambda span: (span.start, span.total))]
     grew = totals[-1] - totals[0]
     return totals == sorted(totals) and grew * _GROWTH <= max(totals[-1], _GROWTH) and _distinct(spans) <= totals[-1]
 
 
-def _judged(kind: str, spans: Sequence[_Span], said: Said) -> Iterator[Missing]:
+def _judged(kind: str, spans: Sequence[Span], said: Said) -> Iterator[Missing]:
     """What is missing of one feed."""
     total, least = max(span.total for span in spans), min(span.total for span in spans)
     files = _some([span.name for span in spans])
@@ -202,7 +218,7 @@ def _judged(kind: str, spans: Sequence[_Span], said: Said) -> Iterator[Missing]:
         said.remark(f"{files}: pages overlap, {twice:,} {CALLED[kind]} come twice")
 
 
-def _gaps(spans: Iterable[_Span], total: int) -> list[tuple[int, int]]:
+def _gaps(spans: Iterable[Span], total: int) -> list[tuple[int, int]]:
     """The indexes that no page has, as begins and ends."""
     found, reached = [], 0
     for span in sorted(spans, key=lambda span: span.start):
@@ -212,7 +228,7 @@ def _gaps(spans: Iterable[_Span], total: int) -> list[tuple[int, int]]:
     return [*found, (reached, total)] if reached < total else found
 
 
-def _distinct(spans: Iterable[_Span]) -> int:
+def _distinct(spans: Iterable[Span]) -> int:
     """How many records there are, each once; one without an id is one of its own."""
     ids = [id for span in spans for id in span.ids]
     return len(set(ids) - {None}) + ids.count(None)

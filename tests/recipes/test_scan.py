@@ -9,11 +9,12 @@ import tempfile
 import unittest
 from pathlib import Path
 from unittest import mock
+from dataclasses import replace
 
 sys.path.insert(0, str(Path(__file__).resolve().parent))
 
 from stand_in import Heard  # noqa: E402 (it knows where the recipes are)
-from cpe_recipes import affected, fleet, scan, verdicts  # noqa: E402
+from cpe_recipes import affected, fleet, portions, scan, verdicts  # noqa: E402
 from cpe_recipes.advisories import Range  # noqa: E402
 from cpe_recipes.cases import Known  # noqa: E402
 from cpe_recipes.components import Component, Machine  # noqa: E402
@@ -477,8 +478,11 @@ class Verdicts(unittest.TestCase):
         ]
         made, found = scanned(known, machines)
         self.assertEqual([list(truths(known, made, one).values()) for one in found], [
-            ["UNKNOWN", "FALSE"], ["TRUE", "FALSE"], ["FALSE", "FALSE"], ["FALSE", "TRUE"], ["FALSE", "UNKNOWN"],
+            ["UNKNOWN", "FALSE"], ["TRUE", "FALSE"], ["FALSE", "FALSE"], ["UNKNOWN", "TRUE"], ["FALSE", "UNKNOWN"],
         ])
+        # (the one of which the product is a pattern and no version is said is UNKNOWN as well, where all statements are asked)
+        asked, found_of_all = scanned(known, machines, is_all_asked=True)
+        self.assertEqual([truths(known, asked, it) for it in found_of_all], [truths(known, made, it) for it in found])
         hanging = Hanging(known, found)
         self.assertEqual(hanging.on("CVE-1", "a"), [f"{part} is known in part, and may be {whole}"])
         may_be = [f"{name('v', '?q', '1.0')} is known in part, and may be {name('v', product)}" for product in "qr"]
@@ -570,12 +574,10 @@ class Words(unittest.TestCase):
         lists = (str(SAMPLES / "app-1.txt"), str(SAMPLES / "desk-1.txt"))
         status, whole, said = self.scanned("--json", lists=lists)
         self.assertNotIn("may concern", said)
-        with mock.patch("cpe_recipes.products.MOST_STATEMENTS", 20):
+        with mock.patch("cpe_recipes.portions.MOST", replace(portions.MOST, statements=20)):
             status_of_some, some, said = self.scanned("--json", lists=lists)
-        self.assertIn("of 21 advisories may concern a product of these machines", said)
-        self.assertEqual((status, status_of_some), (0, 0))
-        self.assertLess(json.loads(some)["advisories"], json.loads(whole)["advisories"])
-        self.assertEqual(json.loads(some)["machines"], json.loads(whole)["machines"])
+        self.assertIn("remark 12 of 21 advisories may concern a product of these machines; the others are FALSE there", said)
+        self.assertEqual((status, status_of_some, some), (0, 0, whole))
 
     def test_all_has_what_is_false_too(self):
         status, whole, _ = self.scanned("--json", "--all")

@@ -1,0 +1,395 @@
+"""Adds pages of feeds to a store (kept.py), each in one transaction.
+
+If a record is there more than once, the one that was modified last counts, as in latest.py and dictionary.py. So a page of changes
+replaces what it has, and an older one changes nothing. Beside each record the products are kept that it concerns, so that a scan finds
+it by these, and what it becomes (made.py). What isn't plain (concern.py) is read by every scan.
+"""
+from __future__ import annotations
+
+import functools
+import hashlib
+import json
+import re
+import zlib
+from array import array
+from collections.abc import Callable, Iterable, Iterator, Sequence
+from dataclasses import dataclass
+from datetime import date, datetime, timezone
+
+from . import cve5, matches, whole
+from .concern import Concern, concern_of, plain_name
+from .dictionary import NO_FORM, Change, Product, product_id
+from .feeds import ADVISORIES, RECORDS, FormFault, Json, Page, Placed, member, record_text, text_at
+from .kept import Kept, place_of
+from .latest import time_of
+from .made import make, maker
+from .matches import Naming, key_of_name
+from .near_products import Product as Key
+from .product_index import squeezed
+from .said import Said
+from .unanalysed import state_of
+
+KINDS = ("products", "vulnerabilities", "matchStrings")
+# What a page of another kind than NVD's counts as.
+_KIND = {RECORDS: ADVISORIES}
+# The number of the product of what has none that is known.
+NO_PRODUCT = 0
+_LONGEST = 10_000
+_DAY = re.compile(r"[0-9]{4}-[0-9]{2}-[0-9]{2}")
+
+
+class Adding:
+    """Adds pages one after the other."""
+
+    def __init__(self, kept: Kept, said: Said) -> None:
+        self._kept, self._said = kept, said
+        self._numbers: dict[Key, int] = {}
+        self._new: dict[Key, int] = {}
+        self._part, self._in_part = "", 0
+
+    def is_there(self, data: bytes) -> bool:
+        """Whether a file or member of these bytes was added before, whole."""
+        self._end_part()
+        self._part, self._in_part = hashlib.sha256(data).hexdigest(), 0
+        return self._kept.one("SELECT 1 FROM parts WHERE digest = ?", (self._part,)) is not None
+
+    def _end_part(self) -> None:
+        if self._part and self._in_part:
+            self._kept.put("INSERT OR IGNORE INTO parts VALUES (?)", [(self._part,)])
+
+    def end(self) -> None:
+        """Notes that the last file is whole."""
+        self._end_part()
+        self._part = ""
+
+    def put(self, page: Page) -> int | None:
+        """Adds a page, whole or nothing of it, and returns how many of its records are new or later; None if it is there."""
+        key = f"{self._part}#{self._in_part}"
+        self._in_part += 1
+        kind = _KIND.get(page.kind, page.kind)
+        span = whole.span_of(page) if "totalResults" in page.counts else None
+        with self._kept.writing():
+            if self._kept.one("SELECT 1 FROM pages WHERE key = ?", (key,)) is not None:
+                return None
+            self._read_numbers()
+            now = datetime.now(timezone.utc).isoformat(timespec="seconds")
+            ids = None if span is None or span.is_alone() else _numbers_of(span.ids)
+            counts = (span.start, span.said, span.total) if span else (None, None, None)
+            number = (self._kept.one("SELECT max(number) FROM pages") or (None,))[0]
+            number = 1 if number is None else number + 1
+            row = (number, key, page.name, kind, page.kind == RECORDS, now, len(page.records), *counts, ids)
+            self._kept.put("INSERT INTO pages VALUES (?, ?, ?, ?, ?, ?, ?, ?, ?, ?, ?)", [row])
+            putting = {"products": self._put_products, ADVISORIES: self._put_advisories, "matchStrings": self._put_matches}
+            changed = putting[kind](page, number)
+            self._put_numbers()
+            self._kept.put("INSERT OR IGNORE INTO unsettled VALUES (?)", [(kind,)])
+        self._numbers.update(self._new)
+        return changed
+
+    def make_again(self) -> None:
+        """Derives all that is kept beside the records of advisories, if other recipes derived it."""
+        if self._is_of_these_recipes():
+            return
+        with self._kept.writing():
+            # (another run may have been quicker)
+            if self._is_of_these_recipes():
+                return
+            self._read_numbers()
+            for table in ("maker", "concerns", "ranged", "made"):
+                self._kept.put(f"DELETE FROM {table} WHERE ?", [(True,)])
+            for (place,) in self._kept.rows("SELECT place FROM advisories"):
+                (data,) = self._kept.rows("SELECT data FROM advisories WHERE place = ?", (place,))[0]
+                derived = Derived.of(record_of(data))
+                edit = "UPDATE advisories SET has_names = ?, state = ?, is_odd = ?, is_of_systems = ? WHERE place = ?"
+                self._kept.put(edit, [(*derived.columns(), place)])
+                derived.put(self._kept, place, self._number)
+            self._put_numbers()
+            self._kept.put("INSERT INTO maker VALUES (?)", [(maker(),)])
+
+    def _is_of_these_recipes(self) -> bool:
+        return self._kept.rows("SELECT digest FROM maker") == [(maker(),)]
+
+    def _put_numbers(self) -> None:
+        names = [(number, *product, squeezed(product[1])) for product, number in self._new.items()]
+        self._kept.put("INSERT INTO names VALUES (?, ?, ?, ?)", names)
+
+    def _read_numbers(self) -> None:
+        """Reads the numbers of products, if another run has added some."""
+        self._new.clear()
+        if (self._kept.one("SELECT count(*) FROM names") or (0,))[0] != len(self._numbers):
+            rows = self._kept.each("SELECT number, vendor, product FROM names")
+            self._numbers = {(vendor, product): number for number, vendor, product in rows}
+
+    def _number(self, product: Key) -> int:
+        """The number of a product, which is a new one if it has none yet."""
+        found = self._numbers.get(product) or self._new.get(product)
+        if found is None:
+            found = self._new[product] = len(self._numbers) + len(self._new) + 1
+        return found
+
+    def _number_of(self, name: Json) -> int:
+        return self._number_of_key(key_of_name(name) if isinstance(name, str) else None)
+
+    def _number_of_key(self, key: Key | None) -> int:
+        return NO_PRODUCT if key is None else self._number(key)
+
+    def _put_products(self, page: Page, page_number: int) -> int:
+        latest = _LatestProducts(self._kept, page_number, len(self._numbers))
+        leads: dict[tuple[int, int], None] = {}
+        for placed in page.each("product", product_id):
+            place = place_of(page_number, placed.number - 1)
+            try:
+                row = self._product_row(place, placed, Product.of(placed), leads)
+            except FormFault:
+                row = (place, NO_PRODUCT, None, "null", None, None, placed.id, None, None, NO_FORM)
+            latest.put(row)
+        self._kept.put("INSERT OR IGNORE INTO leads VALUES (?, ?)", leads)
+        return latest.end()
+
+    def _product_row(self, place: int, placed: Placed, product: Product, leads: dict[tuple[int, int], None]) -> tuple:
+        plain = plain_name(product.name) if isinstance(product.name, str) and product.name.islower() else None
+        is_plain = plain is not None and _is_plain(product)
+        number = NO_PRODUCT if plain is None else self._number(plain[1])
+        change = product.change
+        if change is not None:
+            own = self._number_of(product.name)
+            leads.update(dict.fromkeys((own, self._number_of(name)) for name in change.by))
+            leads.update(dict.fromkeys((self._number_of(name), own) for name in change.of))
+        return (
+            place,
+            number,
+            product.name if isinstance(product.name, str) else None,
+            record_text(product.modified),
+            product.title if is_plain else None,
+            product.day if is_plain else None,
+            placed.id if change is not None or not is_plain else None,
+            None if change is None else record_text([change.name, change.is_old, change.date, change.by, change.of]),
+            None if is_plain else product.entry(),
+            None,
+        )
+
+    def _put_advisories(self, page: Page, page_number: int) -> int:
+        records = [cve5.vulnerability(record) for record in page.records] if page.kind == RECORDS else page.records
+        latest = _LatestAdvisories(self._kept, page.kind == RECORDS, self._number)
+        for number, record in enumerate(records):
+            latest.put(place_of(page_number, number), record)
+        return latest.end()
+
+    def _put_matches(self, page: Page, page_number: int) -> int:
+        changed = 0
+        found: dict[tuple[int, int, str], None] = {}
+        for placed in page.each("match string", lambda it: text_at(member(it, "matchString"), "matchCriteriaId")):
+            try:
+                match_string = member(placed.record, "matchString")
+                listed, modified = matches.names_of(match_string), record_text(matches.modified_of(match_string))
+                naming = Naming.of(match_string)
+            except FormFault:
+                self._said.left_out(placed.id, NO_FORM, placed.source.place(placed.number))
+                continue
+            if naming is not None:
+                other = self._number_of_key(naming.product)
+                found.update(dict.fromkeys((self._number_of_key(one), other, placed.id) for one in naming.listed))
+            changed += self._put_match(place_of(page_number, placed.number - 1), placed.id, modified, record_text(listed))
+        self._kept.put("INSERT OR IGNORE INTO naming VALUES (?, ?, ?)", found)
+        return changed
+
+    def _put_match(self, place: int, key: str, modified: str, listed: str) -> bool:
+        """Puts the list of a match, unless a later one or the same is there."""
+        known = self._kept.rows("SELECT place, modified, listed FROM matches WHERE key = ?", (key,))
+        if known:
+            now, before = _time(modified), _time(known[0][1])
+            if now < before or now == before and any(one[2] == listed for one in known):
+                return False
+            if now > before:
+                self._kept.put("DELETE FROM matches WHERE place = ?", [one[:1] for one in known])
+        self._kept.put("INSERT INTO matches VALUES (?, ?, ?, ?)", [(place, key, modified, listed)])
+        return True
+
+
+class _LatestProducts:
+    """The products of a page that count, in place of those that are older (as dictionary.Products has it)."""
+
+    def __init__(self, kept: Kept, page_number: int, last_number: int) -> None:
+        self._kept, self._first = kept, place_of(page_number, 0)
+        # (of a product with a later number nothing is there)
+        self._last_number = last_number
+        # (by name, those that were there before, and those of this page)
+        self._known: dict[str, list[tuple]] = {}
+        self._dropped: list[tuple[int]] = []
+        self._nameless: list[tuple] = []
+
+    def put(self, row: tuple) -> None:
+        name, modified = row[2], row[3]
+        if name is None:
+            self._nameless.append(row)
+            return
+        known = self._known.get(name)
+        if known is None:
+            known = self._known[name] = self._there(row[1], name)
+        if known and known[0][3] != modified:
+            if _time(modified) < _time(known[0][3]):
+                return
+            self._dropped += [one[:1] for one in known if one[0] < self._first]
+            known.clear()
+        if not any(one[7] == row[7] for one in known):
+            known.append(row)
+
+    def _there(self, product: int, name: str) -> list[tuple]:
+        if product > self._last_number:
+            return []
+        return self._kept.rows("SELECT * FROM products WHERE product = ? AND name = ?", (product, name))
+
+    def end(self) -> int:
+        """Writes them, and returns how many are new."""
+        new = [*self._nameless, *(one for of_name in self._known.values() for one in of_name if one[0] >= self._first)]
+        self._kept.put("DELETE FROM products WHERE place = ?", self._dropped)
+        self._kept.put("INSERT INTO products VALUES (?, ?, ?, ?, ?, ?, ?, ?, ?, ?)", new)
+        return len(new)
+
+
+class _LatestAdvisories:
+    """The advisories of a page that count, in place of those that are older (as latest.py has it)."""
+
+    def __init__(self, kept: Kept, is_of_records: bool, number_of: Callable[[Key], int]) -> None:
+        self._kept, self._is_of_records, self._number_of = kept, is_of_records, number_of
+        self._changed = 0
+
+    def put(self, place: int, record: Json) -> None:
+        id, modified = told_apart(record)
+        if id is None:
+            self._insert(place, None, modified, record)
+            return
+        known = self._kept.rows("SELECT place, modified, data FROM advisories WHERE id = ? AND is_of_records = ?", (id, self._is_of_records))
+        if known:
+            now, before = _time(modified), _time(known[0][1])
+            if now < before or now == before and any(record_of(data) == record for _, _, data in known):
+                return
+            if now > before:
+                self._delete(known)
+        self._insert(place, id, modified, record)
+        self._mark(id)
+
+    def _insert(self, place: int, id: str | None, modified: str, record: Json) -> None:
+        data = zlib.compress(json.dumps(record, ensure_ascii=False, separators=(",", ":")).encode(errors="surrogatepass"), 1)
+        derived = Derived.of(record)
+        row = (place, id, self._is_of_records, modified, *derived.columns(), False, False, data)
+        self._kept.put("INSERT INTO advisories VALUES (?, ?, ?, ?, ?, ?, ?, ?, ?, ?, ?)", [row])
+        derived.put(self._kept, place, self._number_of)
+        self._changed += 1
+
+    def _delete(self, known: Iterable[tuple[int, str, bytes]]) -> None:
+        for place, _, data in known:
+            concern = concern_of(record_of(data))
+            if concern is not None:
+                products = [(self._number_of(product), place) for product in concern.products]
+                self._kept.put("DELETE FROM concerns WHERE product = ? AND place = ?", products)
+                self._kept.put("DELETE FROM ranged WHERE key = ? AND place = ?", [(key, place) for key in concern.ranges])
+            for table in ("advisories", "made"):
+                self._kept.put(f"DELETE FROM {table} WHERE place = ?", [(place,)])
+
+    def _mark(self, id: str) -> None:
+        """Marks the records of an id that don't count beside those of the other feed, and those of which isn't known which is later."""
+        rows = self._kept.rows("SELECT place, is_of_records, has_names FROM advisories WHERE id = ?", (id,))
+        if len(rows) == 1:
+            return
+        nvd, records = ([row for row in rows if bool(row[1]) == is_of_records] for is_of_records in (False, True))
+        passed = []
+        if nvd and records:
+            is_analysed, has_names = any(row[2] for row in nvd), any(row[2] for row in records)
+            passed = records if is_analysed or not has_names else nvd
+        is_doubled = len(rows) - len(passed) > 1
+        edits = [(row in passed, is_doubled, row[0]) for row in rows]
+        self._kept.put("UPDATE advisories SET is_passed = ?, is_doubled = ? WHERE place = ?", edits)
+
+    def end(self) -> int:
+        return self._changed
+
+
+def told_apart(record: Json) -> tuple[str | None, str]:
+    """The id of an advisory, if it has one, and when it was modified, as JSON."""
+    cve = record.get("cve") if isinstance(record, dict) else None
+    if not isinstance(cve, dict):
+        return None, "null"
+    id = cve.get("id")
+    return id if isinstance(id, str) else None, record_text(cve.get("lastModified"))
+
+
+@dataclass(frozen=True)
+class Derived:
+    """What is kept beside the record of an advisory: whether it has configurations, why it has no verdict, which products it concerns and
+    what it becomes, if it is plain."""
+
+    has_names: bool
+    state: str | None
+    concern: Concern | None
+    made: bytes | None
+
+    @staticmethod
+    def of(record: Json) -> Derived:
+        cve = record.get("cve") if isinstance(record, dict) else None
+        has_names = isinstance(cve, dict) and bool(cve.get("configurations"))
+        state = state_of(record)
+        concern = concern_of(record) if state is None else None
+        made = make(record) if concern is not None else None
+        # (of what something would be reported, that is read by every scan)
+        return Derived(has_names, state, None if made is None else concern, made)
+
+    def columns(self) -> tuple[bool, str | None, bool, bool]:
+        """Whether it has configurations, its state, whether it isn't plain, and whether it asks for operating systems alone."""
+        is_odd = self.state is None and self.concern is None
+        return self.has_names, self.state, is_odd, self.concern is not None and self.concern.is_of_systems()
+
+    def put(self, kept: Kept, place: int, number_of: Callable[[Key], int]) -> None:
+        """Puts its products and ranges, and what it becomes."""
+        if self.concern is not None:
+            kept.put("INSERT INTO concerns VALUES (?, ?)", [(number_of(product), place) for product in self.concern.products])
+            kept.put("INSERT INTO ranged VALUES (?, ?)", [(key, place) for key in self.concern.ranges])
+            kept.put("INSERT INTO made VALUES (?, ?)", [(place, self.made)])
+
+
+def record_of(data: bytes) -> Json:
+    """The record of an advisory as it is kept."""
+    return json.loads(zlib.decompress(data).decode(errors="surrogatepass"))
+
+
+def change_of(text: str, placed: Placed) -> Change:
+    """What a product says of deprecations, as it is kept."""
+    name, is_old, date, by, of = json.loads(text)
+    return Change(placed, name, is_old, date, tuple(by), tuple(of))
+
+
+def _is_plain(product: Product) -> bool:
+    """Whether cpe surely accepts the entry of a product with a plain name."""
+    if product.title is not None and (not isinstance(product.title, str) or len(product.title) > _LONGEST):
+        return False
+    return len(product.name) < _LONGEST and (product.day is None or _is_day(product.day))
+
+
+@functools.lru_cache(maxsize=1 << 14)
+def _is_day(text: Json) -> bool:
+    try:
+        return isinstance(text, str) and _DAY.fullmatch(text) is not None and date.fromisoformat(text).year > 1900
+    except ValueError:
+        return False
+
+
+def _time(modified: str) -> datetime:
+    return time_of(json.loads(modified))
+
+
+def _numbers_of(ids: Sequence[Json]) -> bytes:
+    """Numbers in place of ids, as bytes; 0 for a record without one."""
+    return array("Q", (_id_number(id) for id in ids)).tobytes()
+
+
+def _id_number(id: Json) -> int:
+    if not isinstance(id, str):
+        return 0
+    return int.from_bytes(hashlib.blake2b(id.encode(errors="surrogatepass"), digest_size=8).digest(), "little") or 1
+
+
+def ids_of(data: bytes) -> Iterator[int | None]:
+    """The numbers in place of the ids of the records of a page."""
+    numbers = array("Q")
+    numbers.frombytes(data)
+    return (number or None for number in numbers)

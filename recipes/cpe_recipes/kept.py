@@ -1,0 +1,203 @@
+"""The file of a store, by SQLite of Python's standard library: its tables, its version, its transactions, and its faults in words.
+
+Readers see what was whole when they began, while another run adds to the store (a write-ahead log). What a run that was killed had not
+ended isn't there.
+"""
+from __future__ import annotations
+
+import contextlib
+import sqlite3
+from collections.abc import Iterable, Iterator, Sequence
+from pathlib import Path
+
+from .said import Fatal, why
+
+FILE = "feeds.sqlite"
+# (change it with the tables, and with what is kept beside products and matches; what is kept beside advisories is made again)
+VERSION = 1
+# By this number SQLite's own header says whose file it is.
+_APPLICATION = 0x43504553
+_SECONDS_TO_WAIT = 10
+# A query over many numbers is asked for a part of them at a time.
+_AT_ONCE = 500
+# The place of a record: the number of its page, and behind that its number in the page, from 0.
+_BITS = 24
+
+_TABLES = """
+CREATE TABLE pages (
+    number INTEGER PRIMARY KEY, key TEXT NOT NULL UNIQUE, name TEXT NOT NULL, kind TEXT NOT NULL, is_of_records INTEGER NOT NULL,
+    added TEXT NOT NULL, records INTEGER NOT NULL, start INTEGER, said INTEGER, total INTEGER, ids BLOB
+);
+CREATE TABLE parts (digest TEXT PRIMARY KEY) WITHOUT ROWID;
+CREATE TABLE names (
+    number INTEGER PRIMARY KEY, vendor TEXT NOT NULL, product TEXT NOT NULL, squeezed TEXT NOT NULL, UNIQUE (vendor, product)
+);
+CREATE INDEX names_by_product ON names (product);
+CREATE INDEX names_by_squeezed ON names (squeezed);
+CREATE TABLE products (
+    place INTEGER PRIMARY KEY, product INTEGER NOT NULL, name TEXT, modified TEXT NOT NULL, title TEXT, day TEXT, id TEXT, change TEXT,
+    odd TEXT, fault TEXT
+);
+CREATE INDEX products_by_name ON products (product, name);
+CREATE INDEX products_with_change ON products (place) WHERE change IS NOT NULL;
+CREATE INDEX odd_products ON products (place) WHERE odd IS NOT NULL OR fault IS NOT NULL;
+CREATE TABLE leads (product INTEGER NOT NULL, successor INTEGER NOT NULL, PRIMARY KEY (product, successor)) WITHOUT ROWID;
+CREATE INDEX leads_back ON leads (successor, product);
+CREATE TABLE advisories (
+    place INTEGER PRIMARY KEY, id TEXT, is_of_records INTEGER NOT NULL, modified TEXT NOT NULL, has_names INTEGER NOT NULL, state TEXT,
+    is_odd INTEGER NOT NULL, is_of_systems INTEGER NOT NULL, is_passed INTEGER NOT NULL, is_doubled INTEGER NOT NULL, data BLOB NOT NULL
+);
+CREATE INDEX advisories_by_id ON advisories (id);
+CREATE INDEX advisories_in_order ON advisories (is_passed, state, place, id, is_of_systems, is_odd, is_doubled);
+CREATE TABLE made (place INTEGER PRIMARY KEY, data BLOB NOT NULL);
+CREATE TABLE maker (digest TEXT NOT NULL);
+CREATE TABLE concerns (product INTEGER NOT NULL, place INTEGER NOT NULL, PRIMARY KEY (product, place)) WITHOUT ROWID;
+CREATE TABLE matches (place INTEGER PRIMARY KEY, key TEXT NOT NULL, modified TEXT NOT NULL, listed TEXT NOT NULL);
+CREATE INDEX matches_by_key ON matches (key);
+CREATE TABLE ranged (key TEXT NOT NULL, place INTEGER NOT NULL, PRIMARY KEY (key, place)) WITHOUT ROWID;
+CREATE TABLE naming (product INTEGER NOT NULL, other INTEGER NOT NULL, key TEXT NOT NULL, PRIMARY KEY (product, other, key)) WITHOUT ROWID;
+CREATE TABLE unsettled (kind TEXT PRIMARY KEY) WITHOUT ROWID;
+CREATE TABLE told (kind TEXT NOT NULL, number INTEGER NOT NULL, text TEXT NOT NULL, PRIMARY KEY (kind, number)) WITHOUT ROWID;
+"""
+
+
+def place_of(page: int, number: int) -> int:
+    """The place of a record of a page, which is behind those of all pages before it."""
+    return page << _BITS | number
+
+
+def page_and_number(place: int) -> tuple[int, int]:
+    return place >> _BITS, place & (1 << _BITS) - 1
+
+
+class Kept:
+    """The file of a store, in a folder. Fatal if it can't be read or written, or if it is none or of another version."""
+
+    def __init__(self, folder: str, is_made: bool = False) -> None:
+        self.folder = folder
+        self._path = Path(folder) / FILE
+        if not is_made and not self._path.is_file():
+            raise Fatal(f"{folder}: no store is there; store.py add makes one")
+        if is_made:
+            try:
+                Path(folder).mkdir(parents=True, exist_ok=True)
+            except OSError as fault:
+                raise Fatal(f"{folder}: no store can be made there: {why(fault)}") from fault
+        with self._telling():
+            self._connection = sqlite3.connect(self._path, timeout=_SECONDS_TO_WAIT, isolation_level=None)
+            try:
+                self._open(is_made)
+            except BaseException:
+                self._connection.close()
+                raise
+
+    def _open(self, is_made: bool) -> None:
+        pragma = {name: self._connection.execute(f"PRAGMA {name}").fetchone()[0] for name in ("application_id", "user_version")}
+        if self._is_empty() and is_made and pragma["application_id"] in (0, _APPLICATION):
+            self._connection.execute("PRAGMA journal_mode = WAL")
+            self._make()
+        elif self._is_empty():
+            raise Fatal(f"{self.folder}: the store has no page yet; store.py add adds them")
+        elif pragma["application_id"] != _APPLICATION:
+            raise Fatal(f"{self._path}: it is no store of these recipes")
+        elif pragma["user_version"] != VERSION:
+            version = pragma["user_version"]
+            raise Fatal(f"{self.folder}: a store of version {version}, and {VERSION} is what is read: remove it, and add the pages again")
+        # (a commit that the system hasn't written yet may be lost if the machine loses its power; the file stays whole)
+        self._connection.execute("PRAGMA synchronous = NORMAL")
+        self._connection.execute("PRAGMA cache_size = -65536")
+
+    def _make(self) -> None:
+        """Makes the tables, all or none of them."""
+        with self.writing():
+            # (another run may have been quicker)
+            if self._is_empty():
+                for statement in filter(str.strip, _TABLES.split(";")):
+                    self._connection.execute(statement)
+                self._connection.execute(f"PRAGMA application_id = {_APPLICATION}")
+                self._connection.execute(f"PRAGMA user_version = {VERSION}")
+
+    def _is_empty(self) -> bool:
+        return not self._connection.execute("SELECT count(*) FROM sqlite_master").fetchone()[0]
+
+    def close(self) -> None:
+        with self._telling():
+            self._connection.close()
+
+    @contextlib.contextmanager
+    def reading(self) -> Iterator[None]:
+        """All that is read within is of one time."""
+        with self._telling():
+            self._connection.execute("BEGIN")
+            try:
+                yield
+            finally:
+                self._connection.execute("ROLLBACK")
+
+    @contextlib.contextmanager
+    def writing(self) -> Iterator[None]:
+        """All that is written within is there at the end, or nothing of it."""
+        with self._telling():
+            self._connection.execute("BEGIN IMMEDIATE")
+            try:
+                yield
+                self._connection.execute("COMMIT")
+            except BaseException:
+                # (SQLite may have ended it by itself)
+                with contextlib.suppress(sqlite3.Error):
+                    self._connection.execute("ROLLBACK")
+                raise
+
+    def rows(self, query: str, values: Sequence[object] = ()) -> list[tuple]:
+        """All rows of a query."""
+        with self._telling():
+            return self._connection.execute(query, values).fetchall()
+
+    def one(self, query: str, values: Sequence[object] = ()) -> tuple | None:
+        with self._telling():
+            return self._connection.execute(query, values).fetchone()
+
+    def each(self, query: str, values: Sequence[object] = ()) -> Iterator[tuple]:
+        """The rows of a query as they come."""
+        with self._telling():
+            yield from self._connection.execute(query, values)
+
+    def rows_of(self, query: str, values: Iterable[object]) -> list[tuple]:
+        """The rows of a query for each of these values, in place of `{}`."""
+        found, all_values = [], list(values)
+        for first in range(0, len(all_values), _AT_ONCE):
+            some = all_values[first : first + _AT_ONCE]
+            found += self.rows(query.replace("{}", f"({','.join('?' * len(some))})"), some)
+        return found
+
+    def put(self, query: str, rows: Iterable[Sequence[object]]) -> None:
+        """Runs an edit for each of these rows."""
+        with self._telling():
+            self._connection.executemany(query, rows)
+
+    @contextlib.contextmanager
+    def _telling(self) -> Iterator[None]:
+        """Faults of SQLite in words."""
+        try:
+            yield
+        except sqlite3.Error as fault:
+            raise Fatal(f"{self._path}: {_words(fault)}") from fault
+
+
+# By SQLite's codes.
+_WORDS = {
+    sqlite3.SQLITE_BUSY: "another run is writing to the store; nothing was changed, try it again when that is done",
+    sqlite3.SQLITE_LOCKED: "another run is writing to the store; nothing was changed, try it again when that is done",
+    sqlite3.SQLITE_FULL: "the disk is full; the pages that were added before are kept",
+    sqlite3.SQLITE_CORRUPT: "the store is torn: remove it, and add the pages again",
+    sqlite3.SQLITE_NOTADB: "it is no store of these recipes, or torn: remove it, and add the pages again",
+    sqlite3.SQLITE_IOERR: "it can not be read or written, such as where a disk is full or broken; the pages that were added before are kept",
+    sqlite3.SQLITE_READONLY: "the store can not be written",
+    sqlite3.SQLITE_CANTOPEN: "the store can not be opened, or not written",
+}
+
+
+def _words(fault: sqlite3.Error) -> str:
+    code = getattr(fault, "sqlite_errorcode", None)
+    told = _WORDS.get(code & 0xFF, "") if isinstance(code, int) else ""
+    return f"{told} ({fault})" if told else f"the store can not be used: {fault}"

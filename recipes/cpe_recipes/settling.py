@@ -1,0 +1,125 @@
+"""What is worked out of a store once its pages are added, and reported by each scan: which pages of a feed are missing, and what of the
+dictionary `cpe` refuses. Only the deprecations, and what they name, are tried again: any other entry that is plain is accepted."""
+from __future__ import annotations
+
+import json
+from collections.abc import Iterable, Iterator
+
+from . import whole
+from .adding import KINDS, change_of, ids_of
+from .concern import plain_name
+from .dictionary import Product, deprecations_of
+from .feeds import Json, Placed, Source
+from .kept import Kept, page_and_number
+from .program import Candidate, Program, candidate_at
+from .said import Noting
+
+_COLUMNS = "place, name, title, day, id, change, odd, fault"
+
+
+class _Noted(Noting):
+    """What is said, kept and not written."""
+
+    def __init__(self) -> None:
+        super().__init__()
+        self.remarks_noted: list[str] = []
+
+    def remark(self, text: str, id: str = "") -> None:
+        self.remarks_noted.append(text)
+
+    def _say(self, line: str, is_whole: bool = False) -> None:
+        pass
+
+
+def settle(kept: Kept, program: Program) -> None:
+    """Works out what isn't yet, after pages were added."""
+    if is_settled(kept):
+        return
+    with kept.writing():
+        for (kind,) in kept.rows("SELECT kind FROM unsettled"):
+            told = list(_told_of_pages(kept, kind))
+            if kind == "products":
+                told += _told_of_dictionary(kept, program)
+            kept.put("DELETE FROM told WHERE kind = ?", [(kind,)])
+            kept.put("INSERT INTO told VALUES (?, ?, ?)", ((kind, number, json.dumps(one)) for number, one in enumerate(told)))
+        kept.put("DELETE FROM unsettled WHERE ?", [(True,)])
+
+
+def is_settled(kept: Kept) -> bool:
+    """Whether nothing was added since then."""
+    return kept.one("SELECT 1 FROM unsettled") is None
+
+
+def told_of(kept: Kept, kind: str) -> Iterator[dict[str, Json]]:
+    """What was worked out of the feeds of a kind: pages that are missing, remarks, and what was left out."""
+    return (json.loads(text) for (text,) in kept.rows("SELECT text FROM told WHERE kind = ? ORDER BY number", (kind,)))
+
+
+def _told_of_pages(kept: Kept, kind: str) -> Iterator[dict[str, Json]]:
+    noted = _Noted()
+    spans, uncounted = [], []
+    for name, is_of_records, count, start, said, total, ids in kept.rows(
+        "SELECT name, is_of_records, records, start, said, total, ids FROM pages WHERE kind = ? ORDER BY number", (kind,)
+    ):
+        if total is not None:
+            spans.append(whole.Span(name, start, count, said, total, [] if ids is None else list(ids_of(ids))))
+        elif not is_of_records:
+            uncounted.append(name)
+    whole.tell_uncounted(uncounted, noted)
+    for one in whole.missing_of(kind, spans, noted):
+        yield {"missing": [one.kind, one.files, one.total, one.given, one.where]}
+    yield from ({"remark": text} for text in noted.remarks_noted)
+
+
+def _told_of_dictionary(kept: Kept, program: Program) -> list[dict[str, Json]]:
+    """What cpe refuses of the dictionary, and what can't be read of it."""
+    noted = _Noted()
+    program.accepted(candidates_of(kept, _rows_of_deprecations(kept)), noted, unsaid="exists")
+    return [{"left": list(one)} for one in noted.noted]
+
+
+def _rows_of_deprecations(kept: Kept) -> list[tuple]:
+    """The products that say something of deprecations or aren't plain, and those that deprecations name."""
+    rows = {row[0]: row for row in kept.rows(f"SELECT {_COLUMNS} FROM products WHERE change IS NOT NULL")}
+    rows |= {row[0]: row for row in odd_rows(kept)}
+    for name in _named(row[5] for row in rows.values() if row[5] is not None):
+        plain = plain_name(name)
+        query = f"SELECT {_COLUMNS} FROM products WHERE product = (SELECT number FROM names WHERE vendor = ? AND product = ?) AND name = ?"
+        if plain is not None:
+            rows |= {row[0]: row for row in kept.rows(query, (*plain[1], name.lower()))}
+    return [rows[place] for place in sorted(rows)]
+
+
+def _named(changes: Iterable[str]) -> list[str]:
+    """The names in these deprecations."""
+    found: dict[str, None] = {}
+    for text in changes:
+        name, _, _, by, of = json.loads(text)
+        found.update(dict.fromkeys(one for one in (name, *by, *of) if isinstance(one, str)))
+    return list(found)
+
+
+def odd_rows(kept: Kept) -> list[tuple]:
+    return kept.rows(f"SELECT {_COLUMNS} FROM products WHERE odd IS NOT NULL OR fault IS NOT NULL")
+
+
+def rows_of_products(kept: Kept, numbers: Iterable[int]) -> list[tuple]:
+    """The products of the dictionary of which these are the numbers, and those that aren't plain, in their order."""
+    found = kept.rows_of(f"SELECT {_COLUMNS} FROM products WHERE product IN {{}}", numbers)
+    return sorted({row[0]: row for row in [*found, *odd_rows(kept)]}.values())
+
+
+def candidates_of(kept: Kept, rows: Iterable[tuple]) -> Iterator[Candidate]:
+    """The records of these products: first the entries, and then the deprecations."""
+    sources = {number: Source("product", name) for number, name in kept.rows("SELECT number, name FROM pages WHERE kind = ?", KINDS[:1])}
+    changes = []
+    for place, name, title, day, id, change, odd, fault in rows:
+        page, number = page_and_number(place)
+        placed = Placed(id or "", None, sources[page], number + 1)
+        if fault is not None:
+            yield candidate_at(placed, placed.id, reason=fault)
+            continue
+        yield candidate_at(placed, placed.id, odd if odd is not None else Product(name, None, title, day).entry())
+        if change is not None:
+            changes.append(change_of(change, placed))
+    yield from deprecations_of(changes).candidates()

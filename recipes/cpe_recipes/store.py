@@ -1,0 +1,114 @@
+"""A store of feeds: pages are read into it once, and a scan takes from it what concerns its machines.
+
+    python3 store.py add --store FOLDER [--large] [PAGES..]
+    python3 store.py status --store FOLDER
+    python3 store.py check --store FOLDER
+
+- add: adds pages of NVD's API 2.0 or its feeds, of products, advisories and matches, and CVE records of format 5, plain, packed or in
+  archives. A folder that isn't there is made. If a record is there more than once, the one that was modified last counts. So pages of
+  changes replace what they have, older ones change nothing, and a page that is there already is passed over. Each page is added whole or
+  not at all. If a run was stopped or killed, or the disk was full, run it again. Without pages it works out what a stopped one had not.
+- status: how much is in the store, when it was last added to, and which pages of a feed are missing.
+- check: reads all of it again, and compares what is kept beside each record with that record.
+
+`scan.py --store FOLDER` scans from it (kept.py, adding.py and stored.py say how). The status is 0 if all was added, or nothing is missing or
+wrong; 1 if something was left out, is missing or wrong, which is reported; 2 if there is no store, or it can't be read or written.
+"""
+from __future__ import annotations
+
+from collections.abc import Callable, Iterator, Mapping, Sequence
+
+from . import checking, feeds
+from .adding import KINDS, Adding
+from .kept import Kept
+from .program import Program
+from .progress import Progress
+from .said import Fatal, Output, Said
+from .settling import settle, told_of
+from .table import counted
+from .unpack import LARGE, TOLD_LIMITS
+from .whole import CALLED, Missing
+from .words import FLAG, ONE, Words, read_words
+
+USAGE = "store.py add --store FOLDER [--large] [PAGES..] | store.py status --store FOLDER | store.py check --store FOLDER"
+OPTIONS = {"--store": ONE, "--large": FLAG}
+
+
+def run(words: Sequence[str]) -> int:
+    verbs: Mapping[str, Callable[[str, Words, Said, Output], None]] = {"add": _add, "status": _status, "check": _check}
+    if not words or words[0] not in verbs:
+        raise Fatal(f"usage: {USAGE}")
+    read = read_words(words[1:], OPTIONS, USAGE)
+    folder = read.only("--store")
+    if folder is None or words[0] != "add" and (read.files or read.has("--large")):
+        raise Fatal(f"usage: {USAGE}")
+    said, output = Said(), Output()
+    verbs[words[0]](folder, read, said, output)
+    output.end()
+    return said.status()
+
+
+def _add(folder: str, read: Words, said: Said, output: Output) -> None:
+    program = Program()
+    with Progress() as progress:
+        kept = Kept(folder, is_made=True)
+        adding = Adding(kept, said)
+        adding.make_again()
+        there = 0
+
+        def is_there(data: bytes) -> bool:
+            nonlocal there
+            found = adding.is_there(data)
+            there += found
+            return found
+
+        limits = LARGE if read.has("--large") else TOLD_LIMITS
+        count = changed = 0
+        progress.step("adding pages")
+        for page in feeds.pages(read.files, said, KINDS, limits=limits, is_passed=is_there) if read.files else ():
+            added = adding.put(page)
+            if added is None:
+                there += 1
+                continue
+            count, changed = count + 1, changed + added
+            progress.step(f"adding pages, {count} so far")
+        adding.end()
+        progress.step("reading what the pages say together")
+        settle(kept, program)
+        kept.close()
+    output.line(f"added {counted(count, 'page')}: {counted(changed, 'record')} new or later" + (f"; {there} were there" if there else ""))
+
+
+def _status(folder: str, read: Words, said: Said, output: Output) -> None:
+    kept = Kept(folder)
+    with kept.reading():
+        output.lines(list(_lines(kept, said)))
+    kept.close()
+
+
+def _lines(kept: Kept, said: Said) -> Iterator[str]:
+    (pages, last) = kept.rows("SELECT count(*), max(added) FROM pages")[0]
+    yield f"{counted(pages, 'page')}, the last one added {last}" if pages else "no page"
+    for kind, table, more in (("products", "products", ""), ("vulnerabilities", "advisories", " AND is_passed = 0"), ("matchStrings", "matches", "")):
+        count, modified = kept.rows(f"SELECT count(*), max(modified) FROM {table} WHERE 1{more}")[0]
+        when = f", the last modified {modified.strip(chr(34))}" if count else ""
+        yield f"{CALLED[kind]}: {count:,}{when}"
+    rejected, unanalysed = kept.rows("SELECT sum(state = 'Rejected'), sum(state != 'Rejected') FROM advisories WHERE is_passed = 0 AND state IS NOT NULL")[0]
+    yield f"of these rejected: {rejected or 0:,}, not analysed: {unanalysed or 0:,}"
+    for (kind,) in kept.rows("SELECT kind FROM unsettled"):
+        said.left_out(CALLED[kind], "pages were added by a run that was stopped; run store.py add again")
+    for kind in KINDS:
+        for one in told_of(kept, kind):
+            if "missing" in one:
+                missing = Missing(*one["missing"])
+                said.left_out(missing.files, f"{missing.words()}; {missing.where}")
+            elif "remark" in one:
+                said.remark(one["remark"])
+
+
+def _check(folder: str, read: Words, said: Said, output: Output) -> None:
+    kept = Kept(folder)
+    with kept.reading():
+        count = checking.check(kept, said)
+    kept.close()
+    output.line(f"{counted(count, 'record')} read again, {said.left} wrong")

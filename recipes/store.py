@@ -1,0 +1,12 @@
+#!/usr/bin/env python3
+"""A store of feeds, from which scan.py takes what concerns its machines: cpe_recipes/store.py says how.
+
+    python3 store.py add --store FOLDER PAGES.. | status --store FOLDER | check --store FOLDER
+"""
+import sys
+
+sys.dont_write_bytecode = True  # (run.py says why)
+from cpe_recipes import said, store
+
+if __name__ == "__main__":
+    said.main(store.run, "store.py", sys.argv[1:])

@@ -1,0 +1,470 @@
+"""A store of feeds: a scan from it writes what a scan of all pages writes, whatever was added, killed, old or twice; and bad stores."""
+import io
+import json
+import os
+import shutil
+import signal
+import sqlite3
+import subprocess
+import sys
+import tempfile
+import unittest
+from contextlib import contextmanager
+from pathlib import Path
+from unittest import mock
+
+from drawn_feeds import MEMBERS, Feeds
+from recipe_case import RECIPES, SAMPLES, RecipeCase, fs, needs_cpe
+from test_portions import advisory, match
+
+from test_feeds import Heard
+
+from cpe_recipes import adding, feeds, fleet, made, scan, settling, store
+from cpe_recipes.kept import FILE, VERSION, Kept
+from cpe_recipes.program import Program
+from cpe_recipes.said import Fatal
+from cpe_recipes.session import Session
+
+# How many sequences of windows, lists and kills are drawn.
+SEQUENCES = int(os.environ.get("STORE_SEQUENCES", "50"))
+OPTIONS = {"products": "--dictionary", "vulnerabilities": "--advisories", "matchStrings": "--matches"}
+FORMS = ([], ["--json"], ["--json", "--all"], ["--json", "--why"], ["--json", "--strict", "--hardware", "none"])
+
+
+def ran(run, words):
+    """The status of a recipe, what it writes, and the lines that it says."""
+    streams = {1: io.BytesIO(), 2: io.BytesIO()}
+    with mock.patch("cpe_recipes.said.os.write", side_effect=lambda to, data: streams[to].write(data)):
+        status = run(words)
+    return status, streams[1].getvalue().decode(), streams[2].getvalue().decode().splitlines()
+
+
+def killed(words, moment):
+    """Runs store.py in a process that is killed when it has asked the store so often; whether it was killed before its end."""
+    process = os.fork()
+    if process == 0:
+        asked = 0
+
+        def ask(self, *given):
+            nonlocal asked
+            asked += 1
+            if asked == moment:
+                os.kill(os.getpid(), signal.SIGKILL)
+            return put(self, *given)
+
+        put = Kept.put
+        try:
+            with mock.patch.object(Kept, "put", ask):
+                ran(store.run, words)
+        finally:
+            os._exit(0)
+    return os.WIFSIGNALED(os.waitpid(process, 0)[1])
+
+
+class Sequence:
+    """A store that was filled in a drawn way, and the pages in the order in which they were added."""
+
+    def __init__(self, seed, folder):
+        self.folder, self.feeds = Path(folder), Feeds(seed)
+        self.draw = self.feeds.draw
+        self.store = str(self.folder / "store")
+        self.added = {kind: [] for kind in OPTIONS}
+        self.bytes = set()
+        self.kills = 0
+        self.add(self.feeds.whole(self.folder))
+
+    def add(self, pages):
+        """Adds pages in drawn portions, in runs of which some are killed and begun again."""
+        paths = [(kind, path) for kind, of_kind in pages.items() for path in of_kind]
+        while paths:
+            count = self.draw.randint(1, 9)
+            for kind, path in paths[:count]:
+                data = Path(path).read_bytes()
+                # (one of the same bytes is the same page)
+                if data not in self.bytes:
+                    self.bytes.add(data)
+                    self.added[kind].append(path)
+            self._run([path for _, path in paths[:count]])
+            paths = paths[count:]
+
+    def _run(self, paths):
+        words = ["add", "--store", self.store, *paths]
+        while self.draw.randrange(2) == 0 and killed(words, self.draw.randint(1, 60)):
+            self.kills += 1
+        ran(store.run, words)
+
+    def day(self):
+        """A day later: a window of changes, perhaps with a page that is there or an older one; sometimes all pages again."""
+        what = self.draw.randrange(6)
+        self.add(self.feeds.whole(self.folder) if what == 0 else self.feeds.changed(self.folder))
+        if what == 1:
+            self._run([self.draw.choice(of_kind) for of_kind in self.added.values()])
+        elif what == 2:
+            self.add({kind: [self._spelled_otherwise(self.draw.choice(of_kind))] for kind, of_kind in self.added.items()})
+
+    def _spelled_otherwise(self, path):
+        """A page that was added before, in other bytes."""
+        self.feeds.pages += 1
+        other = self.folder / f"page-{self.feeds.pages}.json"
+        other.write_text(json.dumps(json.loads(Path(path).read_text()), indent=1))
+        return str(other)
+
+    def scanned(self, *words):
+        """What a scan from the store writes, and what one of all pages does."""
+        pages = [word for kind, paths in self.added.items() for word in (OPTIONS[kind], *paths)]
+        return ran(scan.run, ["--store", self.store, *words]), ran(scan.run, [*pages, *words])
+
+
+def of_verdicts(said):
+    """What is said, except of pages: that something comes more than once; and without the commands to copy."""
+    lines = (line.split("; to list them: ")[0] for line in said)
+    return sorted(line for line in lines if " more than once" not in line and "page-" not in line)
+
+
+@needs_cpe
+class Sequences(unittest.TestCase):
+    def test_a_scan_from_a_store_writes_what_a_scan_of_all_pages_does(self):
+        kills = 0
+        for seed in range(SEQUENCES):
+            with tempfile.TemporaryDirectory() as folder, self.subTest(seed):
+                sequence = Sequence(seed, folder)
+                for day in range(sequence.draw.randint(1, 3)):
+                    sequence.day()
+                    machines = sequence.feeds.machines(Path(folder) / "machines", is_odd=sequence.draw.randrange(2) == 0)
+                    form = FORMS[(seed + day) % len(FORMS)]
+                    (status, written, said), whole = sequence.scanned("--machines", machines, *form)
+                    self.assertEqual((status, written), whole[:2])
+                    self.assertEqual(of_verdicts(said), of_verdicts(whole[2]))
+                kills += sequence.kills
+                self.assertEqual(ran(store.run, ("check", "--store", sequence.store))[0], 0)
+        self.assertGreater(kills, SEQUENCES // 4)
+
+
+def cve(number, *matches, status="Analyzed", modified="2024-01-01T00:00:00.000"):
+    record = advisory(*matches, id=f"CVE-2024-{number:04}")
+    record["cve"] |= {"vulnStatus": status, "lastModified": modified}
+    if not matches:
+        del record["cve"]["configurations"]
+    return record
+
+
+def product(name, modified="2024-01-01T00:00:00.000", **more):
+    return {"cpe": {"cpeName": name, "cpeNameId": name, "lastModified": modified, **more}}
+
+
+def page(kind, *records, start=0, total=None):
+    counts = {"resultsPerPage": len(records), "startIndex": start, "totalResults": len(records) if total is None else total}
+    return {**counts, "format": MEMBERS[kind], "version": "2.0", kind: list(records)}
+
+
+HERE, ELSEWHERE = fs("v", "p", "1.0"), fs("w", "q", "1.0")
+
+
+@needs_cpe
+class Stores(RecipeCase):
+    def setUp(self):
+        super().setUp()
+        self.store = str(self.folder / "store")
+        self.machines = self.file("machines", f"m {HERE}\n")
+
+    def add(self, *pages, status=0):
+        paths = [one if isinstance(one, str) else self.file(f"page-{len(os.listdir(self.folder))}.json", one) for one in pages]
+        found, written, said = ran(store.run, ["add", "--store", self.store, *paths])
+        self.assertEqual(found, status, said)
+        return written.strip(), said
+
+    def filled(self):
+        dictionary = page("products", product(HERE), product(ELSEWHERE))
+        return self.add(dictionary, page("vulnerabilities", cve(1, match(HERE)), cve(2, match(ELSEWHERE)), cve(3)))
+
+    def verdicts(self, *words, status=0):
+        """The verdicts of the machine by advisory, and the value of the scan."""
+        found, written, said = ran(scan.run, ["--json", "--store", self.store, "--machines", self.machines, *words])
+        self.assertEqual(found, status, said)
+        value = json.loads(written)
+        return {one["id"][-1]: one["verdict"] for one in value["machines"][0]["verdicts"]}, value
+
+    def fatal(self, *words, run=store.run):
+        with self.assertRaises(Fatal) as caught:
+            ran(run, list(words))
+        return str(caught.exception)
+
+    def scan_is_fatal(self, *words):
+        return self.fatal("--store", self.store, "--machines", self.machines, *words, run=scan.run)
+
+    def test_what_is_elsewhere_is_counted_and_not_read(self):
+        self.assertEqual(self.filled()[0], "added 2 pages: 5 records new or later")
+        verdicts, value = self.verdicts()
+        self.assertEqual((verdicts, value["advisories"], value["asked"]), ({"1": "TRUE"}, 2, ["CVE-2024-0001", "CVE-2024-0002"]))
+        self.assertEqual(value["notAnalysed"], {"Analyzed": ["CVE-2024-0003"]})
+        with mock.patch("cpe_recipes.stored.read", side_effect=made.read) as read, mock.patch("cpe_recipes.stored.record_of") as record_of:
+            self.verdicts()
+        self.assertEqual((read.call_count, record_of.call_count), (1, 0))
+        self.assertEqual(self.verdicts("--all")[0], {"1": "TRUE", "2": "FALSE"})
+
+    def test_what_other_recipes_made_is_made_again(self):
+        self.filled()
+        before = self.verdicts()
+        with sqlite3.connect(Path(self.store) / FILE) as connection:
+            connection.execute("UPDATE maker SET digest = 'other'")
+            connection.execute("UPDATE made SET data = x'00'")
+            connection.execute("UPDATE advisories SET is_odd = 0, is_of_systems = 1, state = NULL, has_names = 0")
+            connection.execute("DELETE FROM concerns")
+        connection.close()
+        self.assertEqual(self.verdicts(), before)
+        self.assertEqual(ran(store.run, ["check", "--store", self.store])[0], 0)
+
+    def test_two_ranges_under_one_id_of_a_match(self):
+        self.filled()
+        ranged = match(fs("v", "p"))
+        first, second = cve(6, ranged | {"versionEndIncluding": "0.5"}), cve(7, ranged | {"versionEndIncluding": "1.5"})
+        # (the list of the match is that of the first of them)
+        listed = {"matchString": {"matchCriteriaId": "K", "criteria": fs("v", "p"), "matches": [{"cpeName": fs("v", "p", "0.1")}]}}
+        self.add(page("vulnerabilities", first, second), page("matchStrings", listed))
+        self.assertEqual(self.verdicts()[0], {"1": "TRUE", "7": "TRUE"})
+        self.add(page("vulnerabilities", cve(8, ranged | {"versionEndIncluding": "1", "versionEndExcluding": "1"})))
+        self.assertEqual(self.verdicts(status=1)[0], {"1": "TRUE", "7": "TRUE", "8": "UNKNOWN"})
+
+    def test_a_page_twice_changes_nothing(self):
+        self.filled()
+        before = self.verdicts()
+        again = page("vulnerabilities", cve(1, match(HERE)), cve(2, match(ELSEWHERE)), cve(3))
+        written, _ = self.add(again, again)
+        self.assertEqual((written, self.verdicts()), ("added 0 pages: 0 records new or later; 2 were there", before))
+
+    def test_the_record_that_was_modified_last_counts(self):
+        self.filled()
+        later, older = "2024-02-01T00:00:00.000", "2023-02-01T00:00:00.000"
+        self.add(page("vulnerabilities", cve(1, match(ELSEWHERE), modified=older), cve(2, match(HERE), modified=older)))
+        self.assertEqual(self.verdicts()[0], {"1": "TRUE"})
+        self.add(page("vulnerabilities", cve(1, match(ELSEWHERE), modified=later), cve(2, match(HERE), modified=later)))
+        self.assertEqual(self.verdicts()[0], {"2": "TRUE"})
+        self.assertEqual(ran(store.run, ["check", "--store", self.store])[0], 0)
+        # (and of two of the same time isn't known which)
+        _, said = self.add(page("vulnerabilities", cve(2, match(ELSEWHERE), modified=later)))
+        self.assertEqual(self.verdicts(status=1)[0], {"2": "TRUE"})
+        self.assertIn("neither tells to be later", str(self.verdicts(status=1)[1]["leftOut"]))
+
+    def test_an_id_that_goes(self):
+        self.filled()
+        before = self.file("before.json", ran(scan.run, ["--json", "--store", self.store, "--machines", self.machines])[1])
+        for day, status in enumerate(("Rejected", "Undergoing Analysis"), 2):
+            self.add(page("vulnerabilities", cve(1, *[match(HERE)] * (day == 2), status=status, modified=f"2024-0{day}-01T00:00:00.000")))
+            verdicts, value = self.verdicts()
+            self.assertEqual((verdicts, value["asked"]), ({}, ["CVE-2024-0002"]))
+            after = self.file("after.json", json.dumps(value))
+            why = "rejected" if status == "Rejected" else f"not analysed: {status}"
+            self.assertEqual(self.recipe("changes", before, after)[1], [f"gone m CVE-2024-0001 TRUE none {why}"])
+
+    def test_a_deprecation_that_comes_later(self):
+        self.filled()
+        later = "2024-02-01T00:00:00.000"
+        self.add(page("vulnerabilities", cve(4, match(fs("x", "new", "1.0")))))
+        self.assertEqual(self.verdicts()[0], {"1": "TRUE"})
+        self.add(page("products", product(HERE, later, deprecated=True, deprecatedBy=[{"cpeName": fs("x", "new", "1.0")}])), status=0)
+        # (what it leads to isn't there yet)
+        self.assertEqual(self.verdicts(status=1)[0], {"1": "TRUE"})
+        self.add(page("products", product(fs("x", "new", "1.0"), later)))
+        self.assertEqual(self.verdicts()[0], {"1": "TRUE", "4": "TRUE"})
+
+    def test_pages_that_are_missing(self):
+        self.filled()
+        self.add(page("vulnerabilities", cve(5, match(HERE)), cve(6, match(HERE)), start=0, total=3))
+        gap = "the feed has 3 advisories, 2 were given; those of startIndex 2 to 2 are missing"
+        self.assertIn(f"{gap} (--partial lets it pass)", self.scan_is_fatal())
+        status, _, said = ran(store.run, ["status", "--store", self.store])
+        self.assertEqual((status, said[0].endswith(gap)), (1, True))
+        verdicts, value = self.verdicts("--partial", status=1)
+        self.assertEqual((verdicts, value["missing"][0]["given"]), ({"1": "TRUE", "5": "TRUE", "6": "TRUE"}, 2))
+        self.add(page("vulnerabilities", cve(7, match(HERE)), start=2, total=3))
+        self.assertEqual(self.verdicts()[0], {"1": "TRUE", "5": "TRUE", "6": "TRUE", "7": "TRUE"})
+
+    def test_what_a_stopped_run_had_not_worked_out(self):
+        with mock.patch("cpe_recipes.store.settle", side_effect=KeyboardInterrupt), self.assertRaises(KeyboardInterrupt):
+            self.filled()
+        status, _, said = ran(store.run, ["status", "--store", self.store])
+        self.assertEqual((status, len([line for line in said if "run store.py add again" in line])), (1, 2))
+        self.assertEqual(self.verdicts()[0], {"1": "TRUE"})
+        self.assertEqual(ran(store.run, ["status", "--store", self.store])[0], 0)
+
+    def test_status(self):
+        self.filled()
+        status, written, said = ran(store.run, ["status", "--store", self.store])
+        lines = written.splitlines()
+        self.assertEqual((status, said, lines[0][:26]), (0, [], "2 pages, the last one adde"))
+        self.assertEqual(lines[1:], [
+            "products: 2, the last modified 2024-01-01T00:00:00.000", "advisories: 3, the last modified 2024-01-01T00:00:00.000",
+            "match strings: 0", "of these rejected: 0, not analysed: 1",
+        ])
+
+    def test_pages_that_can_not_be_read(self):
+        bad = self.file("bad.json", '{"products":')
+        with self.assertRaises(Fatal):
+            self.add(bad)
+        written, said = self.add(page("products", product(HERE)), bad, status=1)
+        self.assertEqual((written, said[0][:22]), ("added 1 page: 1 record new or later", "left out bad.json: no "))
+        self.assertIn("no advisory that can have a verdict is in the store", self.scan_is_fatal())
+
+    def test_words(self):
+        self.filled()
+        for words in ([], ["more"], ["add"], ["status"], ["status", "--store", self.store, self.machines], ["check", "--store", self.store, "--large"]):
+            with self.subTest(words):
+                self.assertIn("usage: store.py add", self.fatal(*words))
+        for words in (["--dictionary", self.machines], ["--matches", self.machines], ["--advisories", self.machines]):
+            self.assertIn("usage: scan.py", self.scan_is_fatal(*words))
+        self.assertIn("no store is there", self.fatal("status", "--store", str(self.folder / "none")))
+        self.store = str(self.folder)
+        self.assertIn("no store is there", self.scan_is_fatal())
+
+    def test_what_has_no_entry_is_listed_from_the_store(self):
+        self.filled()
+        self.machines = self.file("machines", f"m {fs('v', 'p', '7')} {HERE}\n")
+        _, _, said = ran(scan.run, ["--store", self.store, "--machines", self.machines])
+        command = next(line for line in said if "to list them: " in line).split("to list them: ")[1]
+        run = subprocess.run(["sh", "-c", command], capture_output=True, text=True, check=True)
+        self.assertEqual(run.stdout, f"not in the dictionary m {fs('v', 'p', '7')}\n")
+
+    def test_what_is_no_store(self):
+        self.filled()
+        path = Path(self.store) / FILE
+        whole = path.read_bytes()
+        for data in (b"no database at all, and long enough to be looked at", whole[: len(whole) // 2], whole[:4096] + b"\xff" * (len(whole) - 4096), whole[:100]):
+            for beside in ("-wal", "-shm"):
+                Path(f"{path}{beside}").unlink(missing_ok=True)
+            path.write_bytes(data)
+            with self.subTest(len(data)):
+                self.assertIn(FILE, self.scan_is_fatal())
+                with self.assertRaises(Fatal):
+                    self.filled()
+
+    def test_a_store_of_another_version(self):
+        self.filled()
+        with sqlite3.connect(Path(self.store) / FILE) as connection:
+            connection.execute(f"PRAGMA user_version = {VERSION + 1}")
+        told = f"a store of version {VERSION + 1}, and {VERSION} is what is read: remove it, and add the pages again"
+        for words in (("status",), ("check",), ("add",)):
+            self.assertIn(told, self.fatal(*words, "--store", self.store))
+        self.assertIn(told, self.scan_is_fatal())
+
+    def test_another_program_has_the_file(self):
+        os.mkdir(self.store)
+        with sqlite3.connect(Path(self.store) / FILE) as connection:
+            connection.execute("CREATE TABLE other (a)")
+        self.assertIn("it is no store of these recipes", self.fatal("add", "--store", self.store, self.machines))
+
+    def test_a_store_in_which_another_run_writes(self):
+        self.filled()
+        before = self.verdicts()
+        connection = sqlite3.connect(Path(self.store) / FILE, isolation_level=None)
+        self.addCleanup(connection.close)
+        connection.execute("BEGIN IMMEDIATE")
+        connection.execute("DELETE FROM advisories")
+        with mock.patch("cpe_recipes.kept._SECONDS_TO_WAIT", 0.1), self.assertRaises(Fatal) as caught:
+            self.add(page("vulnerabilities", cve(9, match(HERE))))
+        self.assertIn("another run is writing to the store", str(caught.exception))
+        # (who reads sees what was there before)
+        self.assertEqual(self.verdicts(), before)
+        connection.execute("ROLLBACK")
+        self.add(page("vulnerabilities", cve(9, match(HERE))))
+        self.assertEqual(self.verdicts()[0], {"1": "TRUE", "9": "TRUE"})
+
+    def test_a_page_that_another_run_adds_meanwhile(self):
+        self.filled()
+        late = self.file("late.json", page("vulnerabilities", cve(9, match(HERE)), start=1, total=2))
+        runs = []
+
+        def settle(*given):
+            settling.settle(*given)
+            runs.append(given)
+            if len(runs) == 1:
+                kept = Kept(self.store)
+                adding.Adding(kept, Heard()).put(next(feeds.pages([late], Heard(), adding.KINDS)))
+                kept.close()
+
+        with mock.patch("cpe_recipes.stored.settle", settle):
+            self.assertIn("the feed has 2 advisories, 1 were given", self.scan_is_fatal())
+        self.assertEqual(len(runs), 2)
+
+    def test_two_runs_that_add_at_once(self):
+        pages = [self.file(f"two-{k}.json", page("vulnerabilities", *(cve(10 * k + n, match(fs("v", f"p{k}{n}"))) for n in range(9)))) for k in range(12)]
+        self.add(page("products", product(HERE)))
+        words = [sys.executable, str(RECIPES / "store.py"), "add", "--store", self.store]
+        runs = [subprocess.Popen([*words, *some], stdout=subprocess.PIPE, stderr=subprocess.PIPE) for some in (pages[:8], pages[4:][::-1])]
+        for run in runs:
+            with run:
+                self.assertEqual(run.stderr.read(), b"")
+        self.assertEqual(ran(store.run, ["check", "--store", self.store])[:2], (0, "109 records read again, 0 wrong\n"))
+
+    def test_a_full_disk(self):
+        self.filled()
+        before = self.verdicts()
+        big = self.file("big.json", page("vulnerabilities", *(cve(n, match(fs("v", f"p{n}"))) for n in range(10, 3000))))
+        words = f'ulimit -f 600; exec "{sys.executable}" "{RECIPES}/store.py" add --store "{self.store}" "{big}"'
+        run = subprocess.run(["sh", "-c", words], capture_output=True, text=True)
+        self.assertEqual((run.returncode, run.stdout), (2, ""))
+        self.assertRegex(run.stderr, "^store.py: .*(the disk is full|can not be read or written)")
+        self.assertEqual(self.verdicts(), before)
+        self.assertEqual(ran(store.run, ["check", "--store", self.store])[:2], (0, "5 records read again, 0 wrong\n"))
+        self.assertEqual(self.add(big)[0], "added 1 page: 2990 records new or later")
+
+    def test_what_stands_beside_another_record(self):
+        edits = {
+            "its product": "UPDATE concerns SET product = product % 2 + 1", "none of its products": "DELETE FROM concerns",
+            "its ranges": "INSERT INTO ranged SELECT 'K', min(place) FROM advisories",
+            "its state": "UPDATE advisories SET state = 'Rejected'", "its record": "UPDATE advisories SET data = x'00' WHERE place % 2",
+            "its name": "UPDATE products SET product = product % 2 + 1", "its page": "DELETE FROM pages WHERE kind = 'products'",
+            "what it becomes": "UPDATE made SET data = x'00'", "its id": "UPDATE advisories SET id = 'CVE-2024-0009'", "an advisory that isn't there": "DELETE FROM advisories",
+        }
+        for what, edit in edits.items():
+            with self.subTest(what):
+                shutil.rmtree(self.store, ignore_errors=True)
+                self.filled()
+                with sqlite3.connect(Path(self.store) / FILE) as connection:
+                    connection.execute(edit)
+                connection.close()
+                status, _, said = ran(store.run, ["check", "--store", self.store])
+                self.assertEqual((status, bool(said)), (1, True))
+
+    def of_fleet(self, *words):
+        """The verdicts that workers of a fleet write, by machine and statement, and what is said of them."""
+        said = Heard()
+        asked = fleet.read_fleet(Program(), fleet.read_fleet_words(words, fleet.OPTIONS, fleet.USAGE), said)
+        session = Session(Program().path, asked.known)
+        self.addCleanup(session.end)
+        lines = (line.split(" ") for machine in asked.machines for line in session.ask(machine).lines)
+        return {(machine, id): truth for machine, id, truth in lines}, said.told
+
+    def test_a_fleet_takes_a_store_too(self):
+        left = 0
+        for seed in range(4):
+            with self.subTest(seed), tempfile.TemporaryDirectory() as folder:
+                sequence = Sequence(seed, folder)
+                machines, ranges = sequence.feeds.machines(Path(folder) / "machines", 1, is_odd=False), f"{folder}/ranges"
+                records = self.recipe("dictionary", *sequence.added["products"])[1]
+                records += self.recipe("advisories", "--ranges", ranges, *sequence.added["vulnerabilities"])[1]
+                path = self.file("records", "".join(f"{line}\n" for line in records))
+                whole, _ = self.of_fleet(path, machines, "--ranges", ranges, "--matches", *sequence.added["matchStrings"])
+                some, said = self.of_fleet("--store", sequence.store, machines)
+                self.assertEqual({key: whole[key] for key in some}, some)
+                others = {truth for key, truth in whole.items() if key not in some}
+                self.assertLessEqual(others, {"FALSE"})
+                self.assertEqual(sum("name no product of these machines" in line for line in said), len(others))
+                left += len(whole) - len(some)
+        self.assertGreater(left, 0)
+
+    def test_a_fleet_takes_no_feeds_beside_a_store(self):
+        for words in ((self.machines, self.machines), (self.machines, "--ranges", self.machines), (self.machines, "--matches", self.machines), ()):
+            with self.subTest(words), self.assertRaises(Fatal) as caught:
+                self.of_fleet("--store", self.store, *words)
+            self.assertIn("usage: ", str(caught.exception))
+
+    def test_the_samples(self):
+        ranges = SAMPLES / "ranges"
+        self.add(*(str(ranges / f"{name}.json") for name in ("dictionary", "advisories", "matches")))
+        words = ["--lists", *map(str, sorted(ranges.glob("*.cdx.json")))]
+        pages = [word for name in ("dictionary", "advisories", "matches") for word in (f"--{name}", str(ranges / f"{name}.json"))]
+        self.assertEqual(ran(scan.run, ["--store", self.store, *words])[:2], ran(scan.run, [*pages, *words])[:2])
+
+
+if __name__ == "__main__":
+    unittest.main()
