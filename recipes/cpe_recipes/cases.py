@@ -198,17 +198,29 @@ def _unsaid(called: Iterable[Called]) -> dict[Product, frozenset[int]]:
 
 
 def lines_of(known: Known, cases: Iterable[tuple[Items, Results, int, int]]) -> Iterator[str]:
-    """All that is known, a question for each statement, and then the cases: the statement of each, over its items and results.
+    """All that is known, a question for each statement, and then the cases."""
+    asks = questions_of(known)
+    yield from lines_of_known(known, asks)
+    yield from lines_of_cases(cases, asks)
 
-    No entry is among it: in mode plain nothing is led on.
-    """
+
+def questions_of(known: Known) -> list[str]:
+    """The question for each statement."""
+    return [record_text({"do": "verdict", "id": statement.id}) for statement in known.statements]
+
+
+def lines_of_known(known: Known, asks: Iterable[str]) -> Iterator[str]:
+    """The statements, and a question for each where there is no item. No entry is among it: in mode plain nothing is led on."""
     yield from known.asked
-    asks = [record_text({"do": "verdict", "id": statement.id}) for statement in known.statements]
     # (where nothing is, nothing is there of what is negated, nor of any part)
     nothing = [*known.negated, *PARTS.values(), *OF_DEVICES.values()]
     yield from (check_record(key, False) for key in nothing)
     yield from asks
     yield from (drop_record(key) for key in nothing)
+
+
+def lines_of_cases(cases: Iterable[tuple[Items, Results, int, int]], asks: Sequence[str]) -> Iterator[str]:
+    """The statement of each case, over its items and results. After them the rows are as before."""
     here: Items = ()
     for items, results, place, _ in cases:
         if items != here:

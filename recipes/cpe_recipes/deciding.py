@@ -30,7 +30,7 @@ class Deciding:
         if not places:
             return {}
         items = {one.name: one.item for one in reversed(called)}
-        lines = self._program.lines(["explain"], self._lines(items, decided, places))
+        lines = self._program.lines(["explain"], self.lines(items, decided, places))
         found: dict[int, list[str]] = {}
         for place, line in zip(places, lines):
             test, proof = json.loads(self._known.asked[place])["test"], _proof(line)
@@ -40,7 +40,8 @@ class Deciding:
             raise Fatal("cpe explained more or less than was asked")
         return found
 
-    def _lines(self, items: Iterable[str], decided: Decided, places: Sequence[int]) -> Iterator[str]:
+    def lines(self, items: Iterable[str], decided: Decided, places: Sequence[int]) -> Iterator[str]:
+        """The statements at these places, and over what they are asked."""
         yield from (self._known.asked[place] for place in places)
         yield from (record_text({"do": "item", "name": item}) for item in items)
         keys = dict.fromkeys(key for place in places for key in self._known.statements[place].checks)

@@ -16,7 +16,7 @@ missing, as they say themselves; --partial lets it pass, and what is missing is 
 """
 from __future__ import annotations
 
-from collections.abc import Iterator, Sequence
+from collections.abc import Iterable, Iterator, Sequence
 from dataclasses import dataclass, field
 
 from . import whole
@@ -43,9 +43,14 @@ def candidates_of(
     paths: Sequence[str], said: Said, strict: bool = False, reading: whole.Reading | None = None
 ) -> Iterator[Candidate]:
     """What the records of these feeds become: first the entries, and then the deprecations."""
+    yield from candidates_in(whole.pages(paths, said, KINDS, strict, reading), said)
+
+
+def candidates_in(pages: Iterable[Page], said: Said) -> Iterator[Candidate]:
+    """The same of pages."""
     products = Products()
     empty, is_empty = [], True
-    for page in whole.pages(paths, said, KINDS, strict, reading):
+    for page in pages:
         if not page.records:
             empty.append(f"{page.name}: no {page.kind} in it")
             continue

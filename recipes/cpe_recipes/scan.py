@@ -124,7 +124,7 @@ class Scan:
         has_hardware: bool = True,
     ) -> None:
         self._program, self._known, self._lists, self._letters, self._progress = program, known, lists, letters, progress
-        self._deciding = Deciding(program, known) if has_why else None
+        self.deciding = Deciding(program, known) if has_why else None
         self._is_strict, self._has_hardware = is_strict, has_hardware
         self.bare: list[str] = []
         self.successors: dict[Product, list[Product]] = {}
@@ -161,15 +161,15 @@ class Scan:
         feed = listed_by_name(self._lists, self._known.ranges, self._leads)
         wanted = Wanted(self._leads.found[fact].name for fact in dict.fromkeys(facts))
         own = {lead.name: lead for item in items if (lead := self._leads.found.get(item))}
-        return Calling(self._program, entries, self._leads, own.values(), feed, wanted, self._letters)
+        old = [self._leads.found[name] for name in unlisted.deprecated_names(entries) if name in self._leads.found]
+        return Calling(self._program, entries, self._leads, old, own.values(), feed, wanted, self._letters)
 
     def _decide(self, found: Sequence[Found], is_all_asked: bool) -> None:
         """Puts what is decided of the ranges, and the verdicts."""
         self._progress.step("deciding ranges of versions")
-        index = Index(self._known, self._leads)
-        cases = Cases(self._known, index, is_all_asked)
+        cases = Cases(self._known, self._index(), is_all_asked)
         called = list({it.name: it for one in found for it in one.called}.values())
-        decider = Decider(self._program, self._known.ranges.values(), self._leads, _ends(called), self._letters)
+        decider = self._decider(_ends(called))
         negated = list(self._known.negated.values())
         negations = Negations(self._program, negated, self._leads, called, decider, self._lists, self._has_hardware)
         asked = [self._asked(one, decider, negations, cases) for one in found]
@@ -178,9 +178,9 @@ class Scan:
             self._put(one, of_machine, truths)
         Reasons(self._program, self._known, self._leads).put(found)
         for done, one in enumerate(found):
-            if self._deciding is not None:
+            if self.deciding is not None:
                 self._progress.count("asking which items decide", done, len(found))
-                one.deciding = self._deciding.reasons(one.asked, one.decided, one.places_of("TRUE"))
+                one.deciding = self.deciding.reasons(one.asked, one.decided, one.places_of("TRUE"))
             one.note_backported(self._known.statements, lambda fact: self._leads.found[fact].name)
             # (what is decided is in the verdicts, and would be much beside them)
             one.decided.clear()
@@ -202,8 +202,7 @@ class Scan:
     def _ask(self, cases: Sequence[tuple[Items, Results, int, int]]) -> dict[int, str]:
         """The truths of the cases, by their numbers."""
         self._progress.step("asking for verdicts")
-        answers = verdicts_of(self._program.lines(["resolve"], lines_of(self._known, cases)))
-        self.bare = [_next(answers) for _ in self._known.statements]
+        answers = self._answers(cases)
         truths: dict[int, str] = {}
         for _, _, _, number in cases:
             truths[number] = _next(answers)
@@ -211,6 +210,22 @@ class Scan:
         for answer in answers:
             raise Fatal(f"cpe answered more than was asked: {answer}")
         return truths
+
+    # What a run that goes on from machine to machine keeps, it puts in place of these three.
+
+    def _index(self) -> Index:
+        """The statements by what they ask for."""
+        return Index(self._known, self._leads)
+
+    def _decider(self, ends: Iterable[str]) -> Decider:
+        """How these names stand to the ranges."""
+        return Decider(self._program, self._known.ranges.values(), self._leads, ends, self._letters)
+
+    def _answers(self, cases: Sequence[tuple[Items, Results, int, int]]) -> Iterator[str]:
+        """The truths of the cases. Those of the statements without items are put into `bare` before."""
+        answers = verdicts_of(self._program.lines(["resolve"], lines_of(self._known, cases)))
+        self.bare = [_next(answers) for _ in self._known.statements]
+        return answers
 
     def _put(self, one: Found, asked: _Asked, truths: Mapping[int, str]) -> None:
         """Puts verdicts of a machine. One that is another where items are what they say too little of is UNKNOWN."""
@@ -262,7 +277,7 @@ def read_known(
     feed = list(whole.pages(read.many("--advisories"), said, advisories.KINDS, strict=True, reading=reading))
     if sum(len(page.records) for page in feed) > products.MOST_STATEMENTS:
         feed = states.sort(latest.advisories(feed, said))
-        feed = _of_products(feed, asked, entries, program, said, states)
+        feed = of_products(feed, asked, entries, program, said, states)
     found = advisories.convert(feed, program, said, is_decided=True, states=states)
     found.tell_empty_pages(said)
     records = program.accepted(found.candidates, said)
@@ -272,7 +287,7 @@ def read_known(
     return Known(entries, records, found.ranges, found.details, found.stand_ins), states
 
 
-def _of_products(
+def of_products(
     feed: Sequence[Page], asked: Iterable[Machine], entries: Sequence[str], program: Program, said: Said, states: States
 ) -> list[Page]:
     """Of more advisories than cpe takes those that may concern a product of the machines; the others are FALSE on each."""

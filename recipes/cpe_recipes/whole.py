@@ -81,7 +81,7 @@ class Reading:
 
 
 @dataclass(frozen=True)
-class _Span:
+class Span:
     """A page as a part of its feed: the index of its first record, how many it has and says that it has, and of how many."""
 
     name: str
@@ -104,19 +104,19 @@ def pages(
     """The pages at these paths, as feeds.pages has them. When the last has come, it is Fatal where something is missing, or said
     where it may be."""
     how = reading or Reading()
-    spans: dict[str, list[_Span]] = {}
+    spans: dict[str, list[Span]] = {}
     unsaid: list[str] = []
     for page in feeds.pages(paths, said, kinds, strict, how.limits):
         if page.kind in _IDS:
             if "totalResults" in page.counts:
-                spans.setdefault(page.kind, []).append(_span(page))
+                spans.setdefault(page.kind, []).append(span_of(page))
             else:
                 unsaid.append(page.name)
         yield page
     if unsaid:
         said.remark(f"{_some(unsaid)}: no totalResults, so it isn't known whether this is all of the feed")
     for kind, of_kind in spans.items():
-        for one in [*_odd(kind, of_kind), *_missing(kind, of_kind, said)]:
+        for one in missing_of(kind, of_kind, said):
             if not how.is_partial:
                 # (a recipe without the option gives no way to read)
                 hint = " (--partial lets it pass)" if reading is not None else ""
@@ -125,14 +125,15 @@ def pages(
             said.left_out(one.files, f"{one.words()}; {one.where}")
 
 
-def _span(page: Page) -> _Span:
+def span_of(page: Page) -> Span:
+    """A page of which its feed's total is known, as a part of that feed. Fatal if it doesn't say which part."""
     count, total = len(page.records), page.counts["totalResults"]
     if "startIndex" not in page.counts and count != total:
         raise Fatal(f"{page.name}: it has {count:,} of {total:,} {CALLED[page.kind]}, and no startIndex that says which")
     start, said = page.counts.get("startIndex", 0), page.counts.get("resultsPerPage", count)
     # (the last page may tell how many it has room for)
     said = min(said, max(total - start, 0))
-    span = _Span(page.name, start, count, said, total, [])
+    span = Span(page.name, start, count, said, total, [])
     if not span.is_alone():
         span.ids.extend(_id(record, page.kind) for record in page.records)
     return span
@@ -145,7 +146,7 @@ def _id(record: Json, kind: str) -> Json:
     return id if isinstance(id, str) else None
 
 
-def _odd(kind: str, spans: Iterable[_Span]) -> Iterator[Missing]:
+def odd_of(kind: str, spans: Iterable[Span]) -> Iterator[Missing]:
     """Pages that have another number of records than they tell, or that end behind their feed."""
     for span in spans:
         if span.count and span.end() > span.total:
@@ -154,13 +155,18 @@ def _odd(kind: str, spans: Iterable[_Span]) -> Iterator[Missing]:
             yield Missing(kind, span.name, span.total, span.count, f"it says that it has {span.said:,} of them")
 
 
-def _missing(kind: str, spans: Sequence[_Span], said: Said) -> Iterator[Missing]:
+def missing_of(kind: str, spans: Sequence[Span], said: Said) -> list[Missing]:
+    """What is odd or missing of the feeds of these pages. What is there twice is remarked."""
+    return [*odd_of(kind, spans), *_missing(kind, spans, said)]
+
+
+def _missing(kind: str, spans: Sequence[Span], said: Said) -> Iterator[Missing]:
     """The feeds that aren't whole. What is there twice is remarked."""
-    groups: dict[int, list[_Span]] = {}
+    groups: dict[int, list[Span]] = {}
     for span in spans:
         if not span.is_alone() and span.end() <= span.total:
             groups.setdefault(span.total, []).append(span)
-    grown: list[_Span] = []
+    grown: list[Span] = []
     for total, group in sorted(groups.items()):
         if not _gaps(group, total):
             yield from _judged(kind, group, said)
@@ -173,14 +179,14 @@ def _missing(kind: str, spans: Sequence[_Span], said: Said) -> Iterator[Missing]
         yield from _judged(kind, grown, said)
 
 
-def _is_growing(spans: Sequence[_Span]) -> bool:
+def _is_growing(spans: Sequence[Span]) -> bool:
     """Whether these may be pages of one feed that grew while it was fetched. (Of two feeds there are more records than one has.)"""
     totals = [span.total for span in sorted(spans, key=lambda span: (span.start, span.total))]
     grew = totals[-1] - totals[0]
     return totals == sorted(totals) and grew * _GROWTH <= max(totals[-1], _GROWTH) and _distinct(spans) <= totals[-1]
 
 
-def _judged(kind: str, spans: Sequence[_Span], said: Said) -> Iterator[Missing]:
+def _judged(kind: str, spans: Sequence[Span], said: Said) -> Iterator[Missing]:
     """What is missing of one feed."""
     total, least = max(span.total for span in spans), min(span.total for span in spans)
     files = _some([span.name for span in spans])
@@ -202,7 +208,7 @@ def _judged(kind: str, spans: Sequence[_Span], said: Said) -> Iterator[Missing]:
         said.remark(f"{files}: pages overlap, {twice:,} {CALLED[kind]} come twice")
 
 
-def _gaps(spans: Iterable[_Span], total: int) -> list[tuple[int, int]]:
+def _gaps(spans: Iterable[Span], total: int) -> list[tuple[int, int]]:
     """The indexes that no page has, as begins and ends."""
     found, reached = [], 0
     for span in sorted(spans, key=lambda span: span.start):
@@ -212,7 +218,7 @@ def _gaps(spans: Iterable[_Span], total: int) -> list[tuple[int, int]]:
     return [*found, (reached, total)] if reached < total else found
 
 
-def _distinct(spans: Iterable[_Span]) -> int:
+def _distinct(spans: Iterable[Span]) -> int:
     """How many records there are, each once; one without an id is one of its own."""
     ids = [id for span in spans for id in span.ids]
     return len(set(ids) - {None}) + ids.count(None)
