@@ -217,7 +217,7 @@ class Service:
         """Keeps a list, and waits for its verdicts for some time."""
         found = await self._keep(self._lists, request, self.settings.most_list, {"do": "put", "name": machine, "client": client.name})
         await self._wait(machine, found["edit"])
-        value = await self.ask(queries.machine, machine)
+        value = await self.ask(queries.machine, machine, "", "", 0, 0)
         if value is None:
             raise Problem(409, f"{machine} was removed meanwhile")
         value = {key: value[key] for key in ("name", "state", "counts", "edit", "judged", "fault", "leftOut", "remarks") if key in value}
@@ -264,11 +264,9 @@ class Service:
         return _paged(request, {"machines": found, "total": total}, int(limit), int(offset))
 
     async def machine(self, request: Request, _client: Client, machine: str, q: str, kind: str, limit: str, offset: str) -> Json:
-        value = await self.ask(queries.machine, machine)
+        value = await self.ask(queries.machine, machine, q, kind, int(limit), int(offset))
         if value is None:
             raise Problem(404, f"there is no machine {machine}")
-        rows = [one for one in value["verdicts"] if _fits(one, q.lower(), kind)]
-        value |= {"verdicts": rows[int(offset) : int(offset) + int(limit)], "total": len(rows)}
         return _paged(request, value, int(limit), int(offset))
 
     async def advisories(self, request: Request, _client: Client, q: str, kind: str, limit: str, offset: str) -> Json:
@@ -370,11 +368,6 @@ def _shard(database: Any, name: str) -> int | None:
 def _table(database: Any, name: str) -> str | None:
     row = database.execute("SELECT text FROM tables WHERE name = ?", (name,)).fetchone()
     return None if row is None else row[0]
-
-
-def _fits(verdict: Mapping[str, Json], q: str, kind: str) -> bool:
-    found = "accepted" if "accepted" in verdict else "perhaps" if verdict.get("perhaps") else verdict["verdict"]
-    return (not kind or found == kind) and (not q or q in f"{verdict['id']} {verdict.get('title', '')}".lower())
 
 
 def _paged(request: Request, value: dict[str, Json], limit: int, offset: int) -> dict[str, Json]:

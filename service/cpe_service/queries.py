@@ -55,24 +55,40 @@ def _state(row: sqlite3.Row, ground: int) -> str:
     return "fault" if row["fault"] else "judged"
 
 
-def machine(database: sqlite3.Connection, name: str) -> dict[str, Json] | None:
-    """A machine with all its verdicts, each with what it hangs on; None if there is none of this name."""
+def result_text(row: dict[str, Json]) -> str:
+    """The result of a machine as the database keeps it: a line of all but its verdicts, and a line for each of these."""
+    head = {key: value for key, value in row.items() if key != "verdicts"}
+    return "\n".join(json.dumps(one, ensure_ascii=False) for one in (head, *row.get("verdicts", ())))
+
+
+def machine(database: sqlite3.Connection, name: str, q: str, kind: str, limit: int, offset: int) -> dict[str, Json] | None:
+    """A machine with some of its verdicts, each with what it hangs on, and how many there are; None if there is none of this name."""
     with reading(database):
         row = database.execute("SELECT * FROM machines WHERE name = ?", (name,)).fetchone()
         if row is None:
             return None
         ground, put_at = ground_of(database), database.execute("SELECT at FROM edits WHERE id = ?", (row["put"],)).fetchone()
-        since = dict(database.execute("SELECT advisory, since FROM verdicts WHERE machine = ?", (row["id"],)).fetchall())
-    found = _machine(row, ground) | {"put": time_text(put_at["at"])}
-    said = json.loads(row["said"])
-    if row["result"] is None:
-        return found | said | {"verdicts": []}
-    result = json.loads(unpacked(row["result"]))
-    more = result.pop("said")
-    found |= {key: value for key, value in result.items() if key not in ("name", "verdicts")}
+        found, said = _machine(row, ground) | {"put": time_text(put_at["at"])}, json.loads(row["said"])
+        if row["result"] is None:
+            return found | said | {"verdicts": [], "total": 0}
+        first, *lines = unpacked(row["result"]).decode().split("\n")
+        head = json.loads(first)
+        if q or kind:
+            rows = [one for one in map(json.loads, lines) if _fits(one, q.lower(), kind)]
+        total = len(rows) if q or kind else len(lines)
+        shown = rows[offset : offset + limit] if q or kind else list(map(json.loads, lines[offset : offset + limit]))
+        for one in shown:
+            since = database.execute("SELECT since FROM verdicts WHERE machine = ? AND advisory = ?", (row["id"], one["id"])).fetchone()
+            one["since"] = time_text(since["since"] if since else None)
+    more = head.pop("said")
+    found |= {key: value for key, value in head.items() if key != "name"}
     found |= {key: [*said[key], *more[key]] for key in said}
-    found["verdicts"] = [one | {"since": time_text(since.get(one["id"]))} for one in result.get("verdicts", ())]
-    return found
+    return found | {"verdicts": shown, "total": total}
+
+
+def _fits(verdict: dict[str, Json], q: str, kind: str) -> bool:
+    found = "accepted" if "accepted" in verdict else "perhaps" if verdict.get("perhaps") else verdict["verdict"]
+    return (not kind or found == kind) and (not q or q in f"{verdict['id']} {verdict.get('title', '')}".lower())
 
 
 def is_settled(database: sqlite3.Connection, name: str, edit: int) -> bool:

@@ -5,6 +5,7 @@ the next one finds what is left. Machines with new lists come before those that 
 """
 from __future__ import annotations
 
+import gc
 import json
 import os
 import queue
@@ -22,7 +23,7 @@ from cpe_recipes.program import Program
 from cpe_recipes.said import Fatal
 from cpe_recipes.verdicts import Statements
 
-from . import certificates, entries, frames
+from . import certificates, entries, frames, queries
 from .database import connected, ground_of, note, noted, packed, reading, writing
 from .frames import Message
 from .ground import Ground, read_ground
@@ -30,7 +31,7 @@ from .judge import Judge, Judged
 from .waiting import Waiting
 
 # How many machines are judged together: of new lists, on whose answers clients wait, and of others.
-_NEW, _OTHERS = 8, 16
+_NEW, _OTHERS = 4, 16
 # How often the same machines are tried if cpe dies, and how long a worker waits before it looks again.
 _TRIES, _SECONDS = 3, 30
 
@@ -93,6 +94,10 @@ class Worker:
             ground = read_ground(self._database, self._program, self._machines)
             self._note(ground)
             self._judge = Judge(self._program, ground)
+            # (the ground is large and stays, so Python needn't look through it for garbage again and again)
+            gc.unfreeze()
+            gc.collect()
+            gc.freeze()
             self._send({"done": 0})
         return self._judge
 
@@ -152,7 +157,7 @@ class Worker:
             return
         at = time.time()
         self._write_changes(one, judged, row, at)
-        result = packed(json.dumps(judged.row | {"said": judged.said}, ensure_ascii=False).encode(errors="replace"))
+        result = packed(queries.result_text(judged.row | {"said": judged.said}).encode(errors="replace"))
         counts = json.dumps(Counter(judged.kinds.values()) if judged.has_items else {"no items": 1})
         columns = "judged_put = ?, judged_ground = ?, judged_at = ?, fault = '', counts = ?, result = ?"
         edits = one.put, judged.judge.ground.edit
