@@ -30,8 +30,8 @@ help:
 	@echo 'make release  makes release/ from what make test built, in a tree without changes'
 	@echo 'make limits   fills the program up to its limits, refuses each allocation of short sessions, and measures the stack that'
 	@echo '              each word needs: minutes, and 6 GB of memory; not in the gate'
-	@echo 'make install  puts the program into PREFIX/bin, and its manual page, its completions for bash and zsh and the recipes'
-	@echo '              into PREFIX/share (PREFIX=$(PREFIX))'
+	@echo 'make install  puts the program into PREFIX/bin, and its manual page, its completions for bash and zsh, the recipes and the'
+	@echo '              service into PREFIX/share (PREFIX=$(PREFIX))'
 	@echo 'make install-library  builds the library, and puts it into PREFIX/lib, and cpe.h into PREFIX/include'
 	@echo 'make deb      puts a package for Debian into PACKAGES, of what make install puts, and of the library where it is built'
 	@echo '              (PACKAGES=$(PACKAGES))'
@@ -109,7 +109,7 @@ install: program
 	mkdir -p '$(DESTDIR)$(PREFIX)/share/bash-completion/completions' '$(DESTDIR)$(ZSH_COMPLETIONS)'
 	install -m 644 completions/cpe.bash '$(DESTDIR)$(PREFIX)/share/bash-completion/completions/cpe'
 	install -m 644 completions/_cpe '$(DESTDIR)$(ZSH_COMPLETIONS)/_cpe'
-	find recipes -name __pycache__ -prune -o -type f -exec install -D -m 644 {} '$(DESTDIR)$(PREFIX)/share/cpe/{}' \;
+	find recipes service -name __pycache__ -prune -o -type f -exec install -D -m 644 {} '$(DESTDIR)$(PREFIX)/share/cpe/{}' \;
 
 install-library: library
 	mkdir -p '$(DESTDIR)$(PREFIX)/include' '$(DESTDIR)$(PREFIX)/lib/pkgconfig'

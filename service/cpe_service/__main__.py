@@ -121,7 +121,9 @@ def _run(given: argparse.Namespace) -> None:
     if not _is_local(given.host) and not service.tokens.are_any():
         sys.exit(f"{given.host} is no address of this machine alone, and {given.data / tokens.NAME} has no tokens: add one by token NAME")
     most = resource.getrlimit(resource.RLIMIT_NOFILE)[1]
-    resource.setrlimit(resource.RLIMIT_NOFILE, (most if most != resource.RLIM_INFINITY else 65_536, most))
+    # (where that isn't allowed, the limit stays as it was given)
+    with contextlib.suppress(OSError, ValueError):
+        resource.setrlimit(resource.RLIMIT_NOFILE, (most if most != resource.RLIM_INFINITY else 65_536, most))
     config = uvicorn.Config(
         app, given.host, given.port, loop="asyncio", http=Patient, ws="none", lifespan="on", limit_concurrency=_MOST_CONNECTIONS, log_level="warning",
         access_log=False, server_header=False, timeout_keep_alive=_SECONDS_IDLE,

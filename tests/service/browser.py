@@ -1,6 +1,7 @@
 """A headless Chromium that is driven through its DevTools protocol over a pipe, with the standard library alone."""
 import json
 import os
+import shutil
 import subprocess
 import tempfile
 import time
@@ -12,11 +13,11 @@ class Browser:
     """A browser with one page. Keys that are pressed, and what is asked of the page, are those of a user."""
 
     def __init__(self, program):
-        self._folder = tempfile.TemporaryDirectory()
+        self._folder = tempfile.mkdtemp()
         to_browser, self._to = os.pipe()
         self._from, from_browser = os.pipe()
         words = [program, "--headless=new", "--disable-gpu", "--no-first-run", "--disable-background-networking", "--disable-component-update"]
-        words += [f"--user-data-dir={self._folder.name}", "--remote-debugging-pipe", "--window-size=1200,900", "about:blank"]
+        words += [f"--user-data-dir={self._folder}", "--remote-debugging-pipe", "--window-size=1200,900", "about:blank"]
         if os.geteuid() == 0:
             words.insert(1, "--no-sandbox")
 
@@ -118,4 +119,5 @@ class Browser:
         self._run.wait()
         os.close(self._to)
         os.close(self._from)
-        self._folder.cleanup()
+        # (some of its processes may still write there)
+        shutil.rmtree(self._folder, ignore_errors=True)
