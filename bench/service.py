@@ -156,7 +156,7 @@ def main():
     options = parser.parse_args()
     words = scan.made(options)
     lists = {option: words[words.index(option) + 1 :] for option in ("--dictionary", "--advisories", "--matches", "--machines")}
-    paths = {option: [path for path in found if path.endswith((".json", ".txt")) and option[2:] in pathlib.Path(path).name] for option, found in lists.items()}
+    paths = {option: [path for path in found if option[2:] in pathlib.Path(path).name] for option, found in lists.items()}
     machines = [(line.split()[0], line.split()[1:]) for line in pathlib.Path(paths["--machines"][0]).read_text().splitlines()]
     print(f"{len(machines):,} machines of {options.items} items, {options.advisories:,} advisories, {options.workers} workers, load {os.getloadavg()[0]:.1f}")
     server = Server(str(pathlib.Path(options.program).resolve()), options.workers)

@@ -25,7 +25,7 @@ from starlette.responses import JSONResponse, RedirectResponse, Response, Stream
 from starlette.routing import Route as Address
 
 from . import entries, naming, pages, queries, samples
-from .asking import Problem, Rates, read_body, read_path, read_query
+from .asking import Problem, Rates, Room, body_of, read_path, read_query
 from .database import connected, writing
 from .processes import Gone, Keeper, Worker
 from .queries import time_text
@@ -53,7 +53,7 @@ class Settings:
     folder: Path
     workers: int = 2
     most_list: int = 32 << 20
-    most_feed: int = 256 << 20
+    most_feed: int = 128 << 20
     seconds: float = 60
     wait: float = 20
     rate: float = 100
@@ -100,7 +100,7 @@ class Service:
         self._workers = [Worker(settings.folder, shard, settings.workers, self._tell) for shard in range(settings.workers)]
         self._rates = Rates(settings.rate, 2 * settings.rate)
         self._changed = asyncio.Event()
-        self._bodies = asyncio.Semaphore(8)
+        self._room = Room(4 * settings.most_feed)
         self._listeners = 0
         self._is_ending = False
         self._readers: list[Any] = []
@@ -187,8 +187,9 @@ class Service:
 
     def _check_origin(self, request: Request) -> None:
         """Whether the request is meant for this server, and not sent by a page of another one."""
-        host = request.headers.get("host", "")
-        if self.settings.hosts and host.rpartition(":")[0 if ":" in host and not host.endswith("]") else 2] not in self.settings.hosts:
+        host = request.headers.get("host", "").lower()
+        name = host if host.endswith("]") or ":" not in host else host.rpartition(":")[0]
+        if self.settings.hosts and name not in self.settings.hosts:
             raise Problem(421, "this server isn't called so; --host-name gives its names")
         origin = request.headers.get("origin")
         if request.method not in ("GET", "HEAD") and origin not in (None, f"http://{host}", f"https://{host}"):
@@ -197,8 +198,7 @@ class Service:
     # What changes something.
 
     async def _keep(self, keeper: Keeper, request: Request, most: int, message: Mapping[str, Json]) -> dict[str, Json]:
-        async with self._bodies:
-            body = await read_body(request, most, self.settings.seconds)
+        async with body_of(request, most, self.settings.seconds, self._room) as body:
             if not body:
                 raise Problem(422, "the body is empty")
             return await self._answer(keeper, message, body)
@@ -254,8 +254,8 @@ class Service:
         return Response(text, media_type="text/plain")
 
     async def put_table(self, request: Request, client: Client, table: str) -> Response:
-        body = await read_body(request, self.settings.most_list, self.settings.seconds)
-        return JSONResponse(await self._answer(self._lists, {"do": "table", "name": table, "client": client.name}, body))
+        async with body_of(request, self.settings.most_list, self.settings.seconds, self._room) as body:
+            return JSONResponse(await self._answer(self._lists, {"do": "table", "name": table, "client": client.name}, body))
 
     # What is asked for.
 
@@ -319,7 +319,8 @@ class Service:
 
     async def metrics(self, _request: Request, _client: Client) -> Response:
         lines, seen = [], set()
-        own = [("cpe_queue", "Requests that wait to be kept.", {"queue": name}, one.waiting) for name, one in (("lists", self._lists), ("feeds", self._feeds))]
+        queues = (("lists", self._lists), ("feeds", self._feeds))
+        own = [("cpe_queue", "Requests that wait to be kept.", {"queue": name}, one.waiting) for name, one in queues]
         own += [("cpe_process_restarts", "Processes that were started again.", {}, sum(max(one.restarts, 0) for one in self._workers))]
         own += [("cpe_listeners", "Clients that listen to events.", {}, self._listeners)]
         for name, what, labels, value in [*await self.ask(queries.metrics), *own]:

@@ -2,9 +2,10 @@
 from __future__ import annotations
 
 import asyncio
+import contextlib
 import re
 import urllib.parse
-from collections.abc import Mapping, Sequence
+from collections.abc import AsyncIterator, Mapping, Sequence
 from dataclasses import dataclass
 
 from starlette.requests import ClientDisconnect, Request
@@ -78,15 +79,39 @@ def read_path(request: Request, parameters: Sequence[Parameter]) -> dict[str, st
     return {one.name: one.read(request.path_params[one.name]) for one in parameters if one.in_path}
 
 
-async def read_body(request: Request, most: int, seconds: float) -> bytes:
-    """The body. Problem if it is larger, or slower, than it may be."""
+class Room:
+    """How many bytes of bodies are held at once."""
+
+    def __init__(self, most: int) -> None:
+        self.left = most
+
+    def take(self, count: int) -> None:
+        """Problem if there is no room for so many bytes more."""
+        if count > self.left:
+            raise Problem(503, "too many bodies arrive at once", {"Connection": "close", "Retry-After": "10"})
+        self.left -= count
+
+
+@contextlib.asynccontextmanager
+async def body_of(request: Request, most: int, seconds: float, room: Room) -> AsyncIterator[bytes]:
+    """The body, for which there is room as long as it is used."""
+    chunks: list[bytes] = []
+    try:
+        await _read(request, most, seconds, room, chunks)
+        yield b"".join(chunks)
+    finally:
+        room.left += sum(map(len, chunks))
+
+
+async def _read(request: Request, most: int, seconds: float, room: Room, chunks: list[bytes]) -> None:
+    """Reads the body. Problem if it is larger, or slower, than it may be."""
     # (what is left of it isn't read, so the connection can't be used again)
     close = {"Connection": "close"}
     too_large = Problem(413, f"the body has more than {most:,} bytes", close)
     length = request.headers.get("content-length", "")
     if length.isdecimal() and int(length) > most:
         raise too_large
-    chunks, size = [], 0
+    size = 0
     try:
         stream = request.stream()
         deadline = asyncio.get_running_loop().time() + seconds
@@ -98,12 +123,12 @@ async def read_body(request: Request, most: int, seconds: float) -> bytes:
             size += len(chunk)
             if size > most:
                 raise too_large
+            room.take(len(chunk))
             chunks.append(chunk)
     except asyncio.TimeoutError as fault:
         raise Problem(408, f"the body took longer than {seconds:g} seconds", close) from fault
     except ClientDisconnect as fault:
         raise Problem(400, "the body was cut off", close) from fault
-    return b"".join(chunks)
 
 
 class Rates:

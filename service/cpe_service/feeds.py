@@ -19,6 +19,7 @@ from cpe_recipes.feeds import RECORDS, Json, Page
 from cpe_recipes.feeds import pages as read_pages
 from cpe_recipes.latest import Latest, time_of
 from cpe_recipes.said import Fatal
+from cpe_recipes.unpack import Limits
 from cpe_recipes.whole import Span
 
 from .database import new_edit, packed, reading, unpacked, writing
@@ -29,6 +30,8 @@ CALLED = {"products": "dictionary", "vulnerabilities": "advisories", RECORDS: "a
 KINDS = tuple(dict.fromkeys((*dictionary.KINDS, *advisories.KINDS, *matches.KINDS)))
 WAITING, COUNTS = "waiting", "counts"
 _CHUNK = 2_000
+# To how many bytes a page may unpack.
+_LIMITS = Limits(most=1 << 30)
 
 
 @dataclass(frozen=True)
@@ -44,12 +47,12 @@ class Feeds:
     """Takes pages of feeds."""
 
     def __init__(self, database: sqlite3.Connection) -> None:
-        self._database = database
+        self._database, self.said = database, Quiet()
 
     def take(self, data: bytes, offer: Offer) -> dict[str, Json]:
         """Takes the pages of a file. Fatal if one can't be read; then nothing of it is kept."""
-        said = Quiet()
-        found = list(_pages_in(data, said))
+        self.said = Quiet()
+        found = list(_pages_in(data, self.said))
         kinds = {CALLED[page.kind] for page in found}
         if len(kinds) > 1:
             raise Fatal(f"pages of {' and of '.join(sorted(kinds))} are in it, and a feed has one kind")
@@ -57,13 +60,13 @@ class Feeds:
         sum = hashlib.sha256(data).hexdigest()
         with writing(self._database):
             answer = self._put(called, found, sum, offer)
-        return answer | {"remarks": said.lines}
+        return answer | {"remarks": self.said.lines}
 
     def _put(self, called: str, found: list[Page], sum: str, offer: Offer) -> dict[str, Json]:
         spans = [whole.span_of(page) for page in found if "totalResults" in page.counts]
         for one in whole.odd_of(found[0].kind, spans):
             raise Fatal(f"{one.words()}; {one.where}")
-        feed = self._feed(called, offer, spans)
+        feed = self._feed(called, offer, spans, sum)
         known = self._database.execute("SELECT 1 FROM pages WHERE feed = ? AND sum = ?", (feed, sum)).fetchone()
         if known is None:
             text = json.dumps([asdict(span) for span in spans])
@@ -86,7 +89,7 @@ class Feeds:
     def _records(self, feed: int) -> int:
         return self._database.execute("SELECT count(*) FROM records WHERE feed = ?", (feed,)).fetchone()[0]
 
-    def _feed(self, called: str, offer: Offer, spans: list[Span]) -> int:
+    def _feed(self, called: str, offer: Offer, spans: list[Span], sum: str) -> int:
         """The number of the feed to which pages belong: the one that waits under this name, or a new one."""
         name = offer.name
         if not name and spans and not all(map(Span.is_alone, spans)):
@@ -96,13 +99,24 @@ class Feeds:
         row = self._database.execute(
             "SELECT id FROM feeds WHERE kind = ? AND name = ? AND is_whole = ? AND state = ?", given
         ).fetchone() if name else None
-        if row is not None:
+        if row is not None and not self._is_fetched_anew(row["id"], spans, sum):
             return row["id"]
         number = self._database.execute(
             "INSERT INTO feeds (kind, name, is_whole, state, at) VALUES (?, ?, ?, ?, ?)", (*given, time.time())
         ).lastrowid
         assert number is not None
         return number
+
+    def _is_fetched_anew(self, feed: int, spans: list[Span], sum: str) -> bool:
+        """Whether a page of a feed that waits arrives with other records. Then what waited of it is given up, and said."""
+        rows = self._database.execute("SELECT span FROM pages WHERE feed = ? AND sum <> ?", (feed, sum)).fetchall()
+        starts = {one["start"] for row in rows for one in json.loads(row["span"])}
+        if starts.isdisjoint(span.start for span in spans):
+            return False
+        self.said.remark(f"feed {feed}, of which pages are missing, is given up, since a page of it arrives with other records")
+        for table, column in (("pages", "feed"), ("records", "feed"), ("feeds", "id")):
+            self._database.execute(f"DELETE FROM {table} WHERE {column} = ?", (feed,))
+        return True
 
     def _missing(self, feed: int, kind: str) -> list[str]:
         """In words, what is missing of a feed."""
@@ -151,7 +165,7 @@ def _pages_in(data: bytes, said: Quiet) -> Iterator[Page]:
         path = Path(folder, "page")
         path.write_bytes(data)
         try:
-            yield from read_pages([str(path)], said, KINDS, strict=True)
+            yield from read_pages([str(path)], said, KINDS, strict=True, limits=_LIMITS)
         except Fatal as fault:
             raise Fatal(str(fault).removeprefix(f"{path.name}: ")) from fault
 

@@ -19,7 +19,7 @@ from cpe_recipes.names_table import read_tables
 from cpe_recipes.said import Fatal
 from cpe_recipes.settled import read_settled
 from cpe_recipes.suppressed import read_suppressed
-from cpe_recipes.unpack import read_feed
+from cpe_recipes.unpack import Limits, read_feed
 from cpe_recipes.versions import read_letters
 
 from . import frames
@@ -29,6 +29,8 @@ from .frames import Message
 from .ground import TABLES, table_files
 from .quiet import Quiet
 
+# To how many bytes a list may unpack.
+_LIMITS = Limits(most=256 << 20)
 # In how many parts the machines may be shared out among workers, at most.
 SHARDS = 256
 
@@ -119,7 +121,7 @@ def _unpacked(body: bytes) -> bytes:
     with tempfile.TemporaryDirectory(prefix="cpe-service-") as folder:
         path = Path(folder, "list")
         path.write_bytes(body)
-        return read_feed(str(path))
+        return read_feed(str(path), _LIMITS)
 
 
 def main() -> None:

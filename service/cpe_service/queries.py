@@ -179,6 +179,7 @@ def health(database: sqlite3.Connection) -> dict[str, Json]:
             "feeds": [_feed(row) for row in database.execute(
                 "SELECT kind, max(at) at FROM feeds WHERE state = 'counts' GROUP BY kind ORDER BY kind")],
         }
+        found["trouble"] = [row["text"] for row in database.execute("SELECT text FROM notes WHERE name LIKE 'trouble %' ORDER BY name")]
         is_read, about = int(noted(database, "noted", "-1")) == ground, json.loads(noted(database, "ground", "{}"))
     found["feedsWaiting"] = [{**one, "at": time_text(one["at"])} for one in waiting(database)]
     return found | {"groundIsRead": is_read, **about}

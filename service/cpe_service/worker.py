@@ -5,6 +5,7 @@ the next one finds what is left. Machines with new lists come before those that 
 """
 from __future__ import annotations
 
+import contextlib
 import gc
 import json
 import os
@@ -34,6 +35,8 @@ from .waiting import Waiting
 _NEW, _OTHERS = 4, 16
 # How often the same machines are tried if cpe dies, and how long a worker waits before it looks again.
 _TRIES, _SECONDS = 3, 30
+# How long it waits after what it couldn't do.
+_PAUSE = 5
 
 
 class Worker:
@@ -49,13 +52,24 @@ class Worker:
         """Judges, and answers questions, until the server is gone."""
         threading.Thread(target=self._listen, daemon=True).start()
         while True:
-            is_idle = not self._step()
+            seconds = self._tried_step()
             try:
-                message = self._inbox.get(timeout=_SECONDS) if is_idle else self._inbox.get_nowait()
+                message = self._inbox.get(timeout=seconds) if seconds else self._inbox.get_nowait()
             except queue.Empty:
                 continue
             if message["do"] == "certificate":
                 self._send({"answer": message["number"], **self._certificate(message)})
+
+    def _tried_step(self) -> float:
+        """Judges some of the machines that wait; how long there is nothing to do. What can't be done is noted, and tried again."""
+        try:
+            return 0 if self._step() else _SECONDS
+        except (Fatal, sqlite3.Error, OSError) as fault:
+            self._end()
+            print(f"worker {self._shard}: {fault}", file=sys.stderr, flush=True)
+            with contextlib.suppress(sqlite3.Error), writing(self._database):
+                note(self._database, f"trouble {self._shard}", str(fault))
+            return _PAUSE
 
     def _listen(self) -> None:
         while (found := frames.read(sys.stdin.buffer)) is not None:
@@ -79,6 +93,7 @@ class Worker:
             self._end()
         judged, faults = self._tried(waiting)
         with writing(self._database):
+            self._database.execute("DELETE FROM notes WHERE name = ?", (f"trouble {self._shard}",))
             for one in waiting:
                 if one.name in judged:
                     self._write(one, judged[one.name])

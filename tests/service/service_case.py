@@ -74,7 +74,8 @@ class Server:
         try:
             if isinstance(body, (dict, list)):
                 body = json.dumps(body)
-            connection.request(method, path, body.encode() if isinstance(body, str) else body, {key.replace("_", "-"): value for key, value in headers.items()})
+            data = body.encode() if isinstance(body, str) else body
+            connection.request(method, path, data, {key.replace("_", "-"): value for key, value in headers.items()})
             answer = connection.getresponse()
             return answer.status, answer.read(), answer.headers.get("Content-Type", "")
         finally:
@@ -107,6 +108,8 @@ def _command(pid):
 @unittest.skipUnless(CPE, "there is no cpe")
 class ServiceCase(unittest.TestCase):
     """A test with a folder of its own."""
+
+    maxDiff = 5_000
 
     def setUp(self):
         folder = tempfile.TemporaryDirectory()

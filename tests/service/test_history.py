@@ -79,7 +79,8 @@ class HistoryTest(ServiceCase):
         server.put("m", NAME % "2")
         server.ask("DELETE", "/machines/m")
         last = server.ask("GET", "/changes")[1]["changes"][-1]
-        self.assertEqual((last["advisory"], last["after"], last["cause"], last["reason"]), ("CVE-2024-2", "none", "delete", "it is no machine any more"))
+        found = last["advisory"], last["after"], last["cause"], last["reason"]
+        self.assertEqual(found, ("CVE-2024-2", "none", "delete", "it is no machine any more"))
 
     def test_since_when(self):
         server = self.begin()
@@ -92,7 +93,8 @@ class HistoryTest(ServiceCase):
         self.assertEqual(server.ask("GET", "/advisories/CVE-2024-2")[1]["machines"][0]["since"], found["CVE-2024-2"])
         self.assertEqual([one[1] for one in self.changes(server, since=f"{middle:.6f}")], ["CVE-2024-2"])
         self.assertEqual([one[1] for one in self.changes(server, until=f"{middle:.6f}")], ["CVE-2024-1"])
-        self.assertEqual([one[1] for one in self.changes(server, since=found["CVE-2024-2"].replace("+", "%2B")[:19] + "Z", advisory="CVE-2024-2")], ["CVE-2024-2"])
+        second = f"{found['CVE-2024-2'][:19]}Z"
+        self.assertEqual([one[1] for one in self.changes(server, since=second, advisory="CVE-2024-2")], ["CVE-2024-2"])
         server.kill()
         again = self.server()
         self.assertEqual({one["id"]: one["since"] for one in again.ask("GET", "/machines/m")[1]["verdicts"]}, found)
@@ -126,6 +128,20 @@ class HistoryTest(ServiceCase):
         self.assertEqual((status, value["state"], value["records"]), (202, "counts", 3))
         self.assertEqual([one[1] for one in self.changes(server)], ["CVE-2024-1", "CVE-2024-5", "CVE-2024-7"])
         self.assertEqual(server.ask("GET", "/health")[1]["feedsWaiting"], [])
+
+    def test_a_feed_that_is_fetched_anew(self):
+        server = self.begin()
+        page = lambda start, *records: {"startIndex": start, "resultsPerPage": len(records), "totalResults": 3, "vulnerabilities": list(records)}
+        server.feed(page(0, advisory("CVE-2024-5", "1"), advisory("CVE-2024-6", "1")))
+        status, value = server.feed(page(0, advisory("CVE-2024-7", "1"), advisory("CVE-2024-8", "1")))
+        self.assertEqual((status, value["state"], value["records"]), (202, "waiting", 2))
+        self.assertIn("is given up", value["remarks"][0])
+        self.assertEqual(server.feed(page(2, advisory("CVE-2024-9", "1")))[1]["state"], "counts")
+        self.assertEqual([one[1] for one in self.changes(server)], ["CVE-2024-1", "CVE-2024-7", "CVE-2024-8", "CVE-2024-9"])
+        # (pages of feeds that have names don't meet)
+        server.feed(page(0, advisory("CVE-2025-1", "1"), advisory("CVE-2025-2", "1")), feed="one")
+        server.feed(page(2, advisory("CVE-2025-3", "1")), feed="two")
+        self.assertEqual(len(server.ask("GET", "/health")[1]["feedsWaiting"]), 2)
 
     def test_what_is_known_already_changes_nothing(self):
         server = self.begin()
@@ -240,7 +256,8 @@ class ManyTest(ServiceCase):
                 self.assertIn("edit", keeps.answer({"do": "put", "name": machine, "client": "x"}, data))
                 while judges._step():
                     pass
-                rows = judges._database.execute("SELECT advisory, kind FROM verdicts JOIN machines ON machines.id = machine WHERE name = ?", (machine,))
+                question = "SELECT advisory, kind FROM verdicts JOIN machines ON machines.id = machine WHERE name = ?"
+                rows = judges._database.execute(question, (machine,))
                 found[machine] = sorted(map(tuple, rows))
             judges._end()
         return found

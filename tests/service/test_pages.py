@@ -61,7 +61,8 @@ class PagesTest(ServiceCase):
 
     def test_the_samples_are_those_of_scan(self):
         server = self.samples()
-        lists = {path.name.split(".")[0]: path.read_bytes() for path in sorted(RANGES.iterdir()) if path.name.endswith((".cdx.json", ".spdx.json", "-1.txt", "-2.txt"))}
+        paths = [path for path in sorted(RANGES.iterdir()) if path.name.endswith((".cdx.json", ".spdx.json", "-1.txt", "-2.txt"))]
+        lists = {path.name.split(".")[0]: path.read_bytes() for path in paths}
         wanted, _ = self.scanned(lists, [RANGES / "dictionary.json"], [RANGES / "advisories.json"], [RANGES / "matches.json"])
         self.assertEqual({one["name"] for one in server.ask("GET", "/machines?limit=1000")[1]["machines"]}, set(wanted))
         for name, row in wanted.items():
@@ -167,7 +168,7 @@ class BrowserTest(ServiceCase):
         web.open(f"{self.address}/machines/legacy-1")
         for scheme in ("light", "dark"):
             web.scheme(scheme)
-            found[scheme] = web.value("[document.body, document.querySelector('.kind.TRUE')].map((one) => [getComputedStyle(one).color, getComputedStyle(one).backgroundColor])")
+            found[scheme] = web.value("[document.body, document.querySelector('.kind.TRUE')].map((one) => getComputedStyle(one).color)")
             for front, back in self.pairs():
                 self.assertGreaterEqual(contrast(front, back), 4.5, (scheme, front, back))
         self.assertNotEqual(found["light"], found["dark"])
@@ -190,13 +191,15 @@ class BrowserTest(ServiceCase):
 
     def test_nothing_of_the_data_runs(self):
         web = self.web
-        name, title = "cpe:2.3:a:acme:agent:5.1:*:*:*:*:*:*:*", "<img src=x onerror=\"document.title='broken'\"><script>document.title='broken'</script>"
+        name = "cpe:2.3:a:acme:agent:5.1:*:*:*:*:*:*:*"
+        title = "<img src=x onerror=\"document.title='broken'\"><script>document.title='broken'</script>"
         match = {"vulnerable": True, "criteria": name, "matchCriteriaId": "1"}
         cve = {"id": "CVE-<script>document.title=1</script>", "descriptions": [{"lang": "en", "value": title}]}
         cve["configurations"] = [{"nodes": [{"operator": "OR", "cpeMatch": [match]}]}]
         self.assertEqual(self.site.feed({"vulnerabilities": [{"cve": cve}]})[0], 202)
         self.site.settled()
-        for path in ("/machines/legacy-1?limit=1000", "/advisories?limit=1000", "/changes?limit=1000", "/machines?q=%3Cscript%3Edocument.title%3D1%3C/script%3E"):
+        hostile = "%3Cscript%3Edocument.title%3D1%3C/script%3E"
+        for path in ("/machines/legacy-1?limit=1000", "/advisories?limit=1000", "/changes?limit=1000", f"/machines?q={hostile}"):
             web.open(f"{self.address}{path}")
             self.assertNotIn("broken", web.value("document.title"))
             self.assertEqual(web.value("document.querySelectorAll('main script, main img').length"), 0, path)

@@ -162,7 +162,8 @@ class RefusedTest(ServiceCase):
         hostile = "CVE-<img/src=x/onerror=alert(1)>"
         name = "cpe:2.3:a:acme:agent:1.0:*:*:*:*:*:*:*"
         match = {"vulnerable": True, "criteria": name, "matchCriteriaId": "1"}
-        cve = {"id": hostile, "descriptions": [{"lang": "en", "value": HOSTILE}], "configurations": [{"nodes": [{"operator": "OR", "cpeMatch": [match]}]}]}
+        cve = {"id": hostile, "descriptions": [{"lang": "en", "value": HOSTILE}]}
+        cve["configurations"] = [{"nodes": [{"operator": "OR", "cpeMatch": [match]}]}]
         self.assertEqual(server.feed(feed("products", {"cpe": {"cpeName": name, "titles": [{"lang": "en", "title": HOSTILE}]}}))[0], 202)
         self.assertEqual(server.feed(feed("vulnerabilities", {"cve": cve}))[0], 202)
         self.assertEqual(server.put("m", name)[1]["counts"], {"TRUE": 1})
