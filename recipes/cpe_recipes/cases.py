@@ -8,18 +8,20 @@ fit its facts, and once for all machines that have the same ones. A name whose v
 """
 from __future__ import annotations
 
+import functools
 import json
 from collections.abc import Iterable, Iterator, Mapping, Sequence
 from dataclasses import dataclass, field
 
 from . import names
-from .advisories import Range
+from .advisories import Range, base_id
 from .asked import OF_DEVICES, PARTS, Negated, asked_of, range_of
 from .called import Called, Sure
 from .calling import Wanted
 from .decide import Decided, Leads, check_record, drop_record
 from .feeds import Json, record_text
 from .said import Fatal
+from .verdicts import Statements
 
 Product = tuple[str, str]
 # In place of the products of items that have a pattern there.
@@ -79,6 +81,20 @@ class Known:
             value = asked_of(json.loads(record), self.negated)
             self.statements.append(Statement.of(value, self.ranges))
             self.asked.append(record_text(value))
+
+    @functools.cached_property
+    def parts(self) -> dict[str, list[int]]:
+        """The places of the statements of each advisory, by its id and by those of its parts."""
+        parts: dict[str, list[int]] = {}
+        for place, statement in enumerate(self.statements):
+            for id in {statement.id, base_id(statement.id)}:
+                parts.setdefault(id, []).append(place)
+        return parts
+
+    @functools.cached_property
+    def ids(self) -> Statements:
+        """The ids of the statements."""
+        return Statements([statement.id for statement in self.statements])
 
     def facts(self) -> list[str]:
         """The names that statements and ranges ask for."""

@@ -361,7 +361,7 @@ class _Result:
 
     def asked(self) -> Collection[str]:
         """The ids of the advisories that have verdicts."""
-        return verdicts.Statements([statement.id for statement in self.known.statements]).advisories
+        return self.known.ids.advisories
 
 
 def _result(read: Words, program: Program, said: Noting, progress: Progress, beside: Threats) -> _Result:

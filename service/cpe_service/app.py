@@ -449,13 +449,11 @@ async def _front(_request: Request) -> Response:
 def made(settings: Settings) -> tuple[Starlette, Service]:
     """The application, and the service behind it."""
     service = Service(settings)
-    by_path: dict[str, list[Route]] = {}
-    for route in ROUTES:
-        by_path.setdefault(route.path, []).append(route)
     addresses = [Address("/", _front), *(Address(f"/assets/{name}", _asset_of(name)) for name in pages.ASSETS)]
-    for routes in by_path.values():
+    for route in ROUTES:
         # (an id is what feeds have, a slash too)
-        addresses += [Address(route.path.replace("{advisory}", "{advisory:path}"), _endpoint(service, route), methods=[route.method]) for route in routes]
+        path = route.path.replace("{advisory}", "{advisory:path}")
+        addresses.append(Address(path, _endpoint(service, route), methods=[route.method]))
     handlers = {HTTPException: _http_fault}
     app = Starlette(routes=addresses, exception_handlers=handlers, on_startup=[service.start], on_shutdown=[service.end])
     app.router.redirect_slashes = False

@@ -3,7 +3,6 @@ from __future__ import annotations
 
 from collections.abc import Sequence
 
-from cpe_recipes.advisories import base_id
 from cpe_recipes.called import Called
 from cpe_recipes.components import Machine
 from cpe_recipes.decide import Decided
@@ -33,8 +32,7 @@ class Asked(Deciding):
 
 def made(judge: Judge, machine: Machine, advisory: str) -> Message:
     """The records of a machine for an advisory, the certificates over them, what cpe check says, and the same in words."""
-    statements = judge.ground.known.statements
-    places = [place for place, one in enumerate(statements) if advisory in (one.id, base_id(one.id))]
+    places = judge.ground.known.parts.get(advisory, [])
     if not places:
         return {"missing": f"there is no verdict of {advisory}: {judge.ground.why_none(advisory)}"}
     program = Program(is_tried=False)

@@ -27,9 +27,9 @@ CREATE TABLE edits (
     id INTEGER PRIMARY KEY AUTOINCREMENT, at REAL NOT NULL, kind TEXT NOT NULL, what TEXT NOT NULL, client TEXT NOT NULL);
 CREATE INDEX edits_of_ground ON edits (id) WHERE kind IN ('feed', 'names', 'letters', 'suppression', 'settled');
 CREATE TABLE machines (
-    id INTEGER PRIMARY KEY AUTOINCREMENT, name TEXT NOT NULL UNIQUE, list BLOB NOT NULL, said TEXT NOT NULL, shard INTEGER NOT NULL,
-    put INTEGER NOT NULL, judged_put INTEGER NOT NULL DEFAULT 0, judged_ground INTEGER NOT NULL DEFAULT 0, judged_at REAL,
-    counts TEXT NOT NULL DEFAULT '{}', result BLOB, fault TEXT NOT NULL DEFAULT '');
+    id INTEGER PRIMARY KEY AUTOINCREMENT, name TEXT NOT NULL UNIQUE, shard INTEGER NOT NULL, put INTEGER NOT NULL,
+    judged_put INTEGER NOT NULL DEFAULT 0, judged_ground INTEGER NOT NULL DEFAULT 0, judged_at REAL, counts TEXT NOT NULL DEFAULT '{}',
+    fault TEXT NOT NULL DEFAULT '', said TEXT NOT NULL, list BLOB NOT NULL, result BLOB);
 CREATE INDEX machines_by_ground ON machines (judged_ground);
 CREATE INDEX machines_with_new_list ON machines (put) WHERE put <> judged_put;
 CREATE TABLE advisories (id TEXT PRIMARY KEY, asked INTEGER, state TEXT NOT NULL, details TEXT NOT NULL) WITHOUT ROWID;

@@ -22,7 +22,6 @@ from cpe_recipes.program import Program
 from cpe_recipes.progress import Progress
 from cpe_recipes.scan import Scan
 from cpe_recipes.verdicts import Machine as Verdicts
-from cpe_recipes.verdicts import Statements
 
 from .ground import Ground
 from .quiet import Quiet
@@ -132,7 +131,7 @@ class Judge:
     def __init__(self, program: Program, ground: Ground) -> None:
         self.ground = ground
         self._standing, self._deciding = Standing(program, ground), Deciding(program, ground.known)
-        self._asked = {*Statements([one.id for one in ground.known.statements]).advisories, *ground.states.elsewhere}
+        self._asked = {*ground.known.ids.advisories, *ground.states.elsewhere}
 
     def judge(self, machines: Sequence[Machine], asked: Deciding | None = None) -> list[Judged]:
         """What comes of the machines. If it is given, `asked` is asked in place of what says which items decide."""

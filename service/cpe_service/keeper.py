@@ -10,6 +10,7 @@ import signal
 import sqlite3
 import sys
 import tempfile
+import traceback
 import zlib
 from pathlib import Path
 
@@ -52,6 +53,9 @@ class Keeper:
             return {"refused": "it is nested too deep"}
         except (sqlite3.Error, OSError) as fault:
             return {"fault": f"it could not be kept: {fault}"}
+        except Exception as fault:  # noqa: BLE001 (what a reader didn't foresee is refused too, and the log has it)
+            traceback.print_exc()
+            return {"refused": f"it can not be read, since the reader has a fault: {type(fault).__name__} {fault}"}
 
     def _put(self, message: Message, body: bytes) -> Message:
         """Keeps the list of a machine, whose verdicts wait then."""

@@ -34,7 +34,9 @@ def machines(database: sqlite3.Connection, q: str, kind: str, limit: int, offset
     with reading(database):
         ground = ground_of(database)
         count = database.execute(f"SELECT count(*) FROM machines WHERE {where}", values).fetchone()[0]
-        rows = database.execute(f"SELECT * FROM machines WHERE {where} ORDER BY name LIMIT ? OFFSET ?", (*values, limit, offset)).fetchall()
+        # (what is long of a machine isn't read for a list of them)
+        columns = "name, put, judged_put, judged_ground, judged_at, counts, fault"
+        rows = database.execute(f"SELECT {columns} FROM machines WHERE {where} ORDER BY name LIMIT ? OFFSET ?", (*values, limit, offset)).fetchall()
     return [_machine(row, ground) for row in rows], count
 
 

@@ -15,14 +15,15 @@ import sqlite3
 import sys
 import threading
 import time
+import traceback
 from collections import Counter
 from collections.abc import Iterator, Sequence
 from pathlib import Path
 
 from cpe_recipes.components import Machine
+from cpe_recipes.feeds import FeedFault
 from cpe_recipes.program import Program
 from cpe_recipes.said import Fatal
-from cpe_recipes.verdicts import Statements
 
 from . import certificates, entries, frames, queries
 from .database import connected, ground_of, note, noted, packed, reading, writing
@@ -46,6 +47,8 @@ class Worker:
         self._folder, self._shard, self._shards = folder, shard, shards
         self._database, self._program = connected(folder), Program()
         self._judge: Judge | None = None
+        # (one before it may have noted what it couldn't do)
+        self._is_troubled = True
         self._inbox: queue.SimpleQueue[Message] = queue.SimpleQueue()
 
     def run(self) -> None:
@@ -64,11 +67,12 @@ class Worker:
         """Judges some of the machines that wait; how long there is nothing to do. What can't be done is noted, and tried again."""
         try:
             return 0 if self._step() else _SECONDS
-        except (Fatal, sqlite3.Error, OSError) as fault:
+        except Exception as fault:  # noqa: BLE001 (whatever it is, it is noted, and the next try may do it)
             self._end()
-            print(f"worker {self._shard}: {fault}", file=sys.stderr, flush=True)
+            traceback.print_exception(fault)
+            self._is_troubled = True
             with contextlib.suppress(sqlite3.Error), writing(self._database):
-                note(self._database, f"trouble {self._shard}", str(fault))
+                note(self._database, f"trouble {self._shard}", str(fault) or type(fault).__name__)
             return _PAUSE
 
     def _listen(self) -> None:
@@ -83,6 +87,9 @@ class Worker:
     def _step(self) -> bool:
         """Judges some of the machines that wait, if there are any."""
         judge = self._ready()
+        if self._is_troubled:
+            self._database.execute("DELETE FROM notes WHERE name = ?", (f"trouble {self._shard}",))
+            self._is_troubled = False
         if judge.ground.lacks:
             return False
         waiting = self._waiting(judge.ground.edit)
@@ -93,7 +100,6 @@ class Worker:
             self._end()
         judged, faults = self._tried(waiting)
         with writing(self._database):
-            self._database.execute("DELETE FROM notes WHERE name = ?", (f"trouble {self._shard}",))
             for one in waiting:
                 if one.name in judged:
                     self._write(one, judged[one.name])
@@ -135,12 +141,15 @@ class Worker:
 
     def _tried(self, waiting: Sequence[Waiting]) -> tuple[dict[str, Judged], dict[str, str]]:
         """What comes of machines; or if there is no result each by itself, and of those that have none the reasons."""
-        machines = [one.machine() for one in waiting]
         try:
-            return {one.name: one for one in self._again(machines)}, {}
-        except Fatal as fault:
+            return {one.name: one for one in self._again([one.machine() for one in waiting])}, {}
+        except (sqlite3.Error, OSError):
+            raise
+        except Exception as fault:  # noqa: BLE001 (a list that nobody foresaw keeps no other machine waiting)
+            self._end()
             if len(waiting) == 1:
-                return {}, {waiting[0].name: str(fault)}
+                is_foreseen = isinstance(fault, (Fatal, FeedFault))
+                return {}, {waiting[0].name: str(fault) if is_foreseen else f"the recipes have a fault: {type(fault).__name__} {fault}"}
         judged, faults = {}, {}
         for one in waiting:
             of_one, fault_of_one = self._tried([one])
@@ -240,14 +249,14 @@ class Worker:
             return {"missing": f"there is no machine {message['machine']}"}
         try:
             return certificates.made(self._ready(), Waiting(*row).machine(), message["id"])
-        except Fatal as fault:
+        except Exception as fault:  # noqa: BLE001 (who asks gets an answer)
             self._end()
-            return {"fault": str(fault)}
+            return {"fault": str(fault) or type(fault).__name__}
 
 
 def _note_advisories(database: sqlite3.Connection, ground: Ground) -> None:
     """Writes which advisories are asked for, and what is known of all."""
-    asked = {*Statements([one.id for one in ground.known.statements]).advisories, *ground.states.elsewhere}
+    asked = {*ground.known.ids.advisories, *ground.states.elsewhere}
     states = dict.fromkeys(ground.states.rejected, "rejected")
     states |= {id: f"not analysed: {state}" for id, state in ground.states.unanalysed.items()}
     states |= {id: f"left out: {reason}" for id, reason, _ in ground.said.noted if id not in asked}

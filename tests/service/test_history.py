@@ -12,7 +12,8 @@ from service_case import CPE, ROOT, SAMPLES, ServiceCase, feed
 sys.path.insert(0, str(ROOT / "service"))
 import cpe_service  # noqa: E402, F401 (it puts the recipes on the path)
 from cpe_recipes import products  # noqa: E402
-from cpe_service import database, keeper, worker  # noqa: E402
+from cpe_service import database, keeper, queries, worker  # noqa: E402
+from cpe_service import judge as judge_module  # noqa: E402
 
 NAME = "cpe:2.3:a:acme:agent:%s:*:*:*:*:*:*:*"
 
@@ -243,6 +244,44 @@ class ManyTest(ServiceCase):
             with mock.patch.object(products, "MOST_STATEMENTS", 3):
                 self.assertEqual(self.judged_by_worker("some", ranges, lists), found)
         self.assertTrue(all(found.values()))
+
+    def test_a_list_that_the_recipes_fail_on_keeps_no_other_waiting(self):
+        folder = self.folder / "data"
+        folder.mkdir()
+        database.made(folder)
+        with mock.patch.dict(os.environ, {"CPE": CPE}):
+            keeps, judges = keeper.Keeper(folder), worker.Worker(folder, 0, 1)
+            for kind in ("dictionary", "advisories"):
+                keeps.answer({"do": "feed", "name": "", "is_whole": False, "client": "x"}, (SAMPLES / "ranges" / f"{kind}.json").read_bytes())
+            for name in ("good", "odd"):
+                keeps.answer({"do": "put", "name": name, "client": "x"}, b"cpe:/a:ntp:ntp:4.2.8")
+            judge = judge_module.Judge.judge
+
+            def fails(self, machines, asked=None):
+                if any(one.name == "odd" for one in machines):
+                    raise KeyError("odd")
+                return judge(self, machines, asked)
+
+            with mock.patch.object(judges, "_send"), mock.patch.object(judge_module.Judge, "judge", fails):
+                while judges._step():
+                    pass
+            rows = judges._database.execute("SELECT name, fault, counts FROM machines ORDER BY name").fetchall()
+            judges._end()
+        self.assertEqual([tuple(row) for row in rows], [("good", "", '{"TRUE": 1}'), ("odd", "the recipes have a fault: KeyError 'odd'", "{}")])
+
+    def test_what_a_worker_cannot_do_is_noted_and_tried_again(self):
+        folder = self.folder / "data"
+        folder.mkdir()
+        database.made(folder)
+        with mock.patch.dict(os.environ, {"CPE": CPE}):
+            judges = worker.Worker(folder, 0, 1)
+            with mock.patch.object(judges, "_send"), mock.patch("sys.stderr"):
+                with mock.patch.object(worker, "read_ground", side_effect=ValueError("it is no ground")):
+                    self.assertEqual(judges._tried_step(), 5)
+                self.assertEqual(queries.health(judges._database)["trouble"], ["it is no ground"])
+                self.assertEqual(judges._tried_step(), 30)
+                self.assertEqual(queries.health(judges._database)["trouble"], [])
+            judges._end()
 
     def judged_by_worker(self, name, ranges, lists):
         folder = self.folder / name
