@@ -11,6 +11,8 @@ from dataclasses import dataclass
 from starlette.requests import ClientDisconnect, Request
 
 _MOST_QUERY = 8_192
+# How long what is left of a body that is refused is passed over.
+_SECONDS_PASSED = 10
 
 
 class Problem(Exception):
@@ -108,18 +110,11 @@ async def _read(request: Request, most: int, seconds: float, room: Room, chunks:
     # (what is left of it isn't read, so the connection can't be used again)
     close = {"Connection": "close"}
     too_large = Problem(413, f"the body has more than {most:,} bytes", close)
-    length = request.headers.get("content-length", "")
-    if length.isdecimal() and int(length) > most:
-        raise too_large
-    size = 0
+    length, stream, size = request.headers.get("content-length", ""), request.stream(), 0
     try:
-        stream = request.stream()
-        deadline = asyncio.get_running_loop().time() + seconds
-        while True:
-            left = deadline - asyncio.get_running_loop().time()
-            chunk = await asyncio.wait_for(anext(stream, None), max(left, 0))
-            if chunk is None:
-                break
+        if length.isdecimal() and int(length) > most:
+            raise too_large
+        async for chunk in _timed(stream, seconds):
             size += len(chunk)
             if size > most:
                 raise too_large
@@ -129,6 +124,21 @@ async def _read(request: Request, most: int, seconds: float, room: Room, chunks:
         raise Problem(408, f"the body took longer than {seconds:g} seconds", close) from fault
     except ClientDisconnect as fault:
         raise Problem(400, "the body was cut off", close) from fault
+    except Problem:
+        # (who is still sending wouldn't read the answer; who asked first whether to send does)
+        if "expect" not in request.headers:
+            with contextlib.suppress(asyncio.TimeoutError, ClientDisconnect):
+                async for _ in _timed(stream, _SECONDS_PASSED):
+                    pass
+        raise
+
+
+async def _timed(stream: AsyncIterator[bytes], seconds: float) -> AsyncIterator[bytes]:
+    """The chunks of a stream. asyncio.TimeoutError if its end isn't there in time."""
+    loop = asyncio.get_running_loop()
+    end = loop.time() + seconds
+    while (chunk := await asyncio.wait_for(anext(stream, None), max(end - loop.time(), 0))) is not None:
+        yield chunk
 
 
 class Rates:

@@ -96,7 +96,11 @@ def _fits(verdict: dict[str, Json], q: str, kind: str) -> bool:
 def is_settled(database: sqlite3.Connection, name: str, edit: int) -> bool:
     """Whether a list of this edit has its verdicts, or has to wait for feeds, or is no longer there."""
     row = database.execute("SELECT judged_put FROM machines WHERE name = ?", (name,)).fetchone()
-    return row is None or row["judged_put"] >= edit or bool(json.loads(noted(database, "ground", "{}")).get("lacks"))
+    if row is None or row["judged_put"] >= edit:
+        return True
+    # (what an older ground lacked may be there)
+    is_read = int(noted(database, "noted", "-1")) == ground_of(database)
+    return is_read and bool(json.loads(noted(database, "ground", "{}")).get("lacks"))
 
 
 def advisories(database: sqlite3.Connection, q: str, kind: str, limit: int, offset: int) -> tuple[list[Json], int]:

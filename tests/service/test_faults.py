@@ -19,7 +19,7 @@ from pathlib import Path
 
 from service_case import CPE, PATIENCE, ROOT, SAMPLES, ServiceCase, feed
 
-KILLS, SEED = int(os.environ.get("CPE_KILLS", "12")), int(os.environ.get("CPE_SEED", "1"))
+KILLS, SEED = int(os.environ.get("CPE_KILLS", "8")), int(os.environ.get("CPE_SEED", "1"))
 RANGES = SAMPLES / "ranges"
 VERSIONS = ("0.9.8zh", "1.0.2k", "1.1.1", "3.0.7", "3.0.8", "8.9p1", "1.*", "*")
 PRODUCTS = ("openssl:openssl", "openbsd:openssh", "proftpd:proftpd", "redis:redis", "ntp:ntp")
@@ -136,7 +136,7 @@ class KilledTest(ServiceCase):
         session.server.put("m-1", session.lists["m-1"])
         for number in range(1, KILLS + 1):
             session.round()
-            if number % 6 == 0 or number == KILLS:
+            if number % 4 == 0 or number == KILLS:
                 session.check()
 
     def test_the_processes_end_with_the_server(self):

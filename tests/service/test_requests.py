@@ -138,13 +138,16 @@ class RefusedTest(ServiceCase):
         self.assertEqual(server.feed("x" * 2001)[0], 413)
         # (of 200 MB that a client only says that it has, none is read)
         with socket.create_connection(("127.0.0.1", server.port), 10) as connection:
-            connection.sendall(b"PUT /machines/m HTTP/1.1\r\nHost: localhost\r\nContent-Length: 209715200\r\n\r\n")
+            head = b"PUT /machines/m HTTP/1.1\r\nHost: localhost\r\nContent-Length: 209715200\r\nExpect: 100-continue\r\n\r\n"
+            connection.sendall(head)
             self.assertTrue(connection.recv(100).startswith(b"HTTP/1.1 413 "))
         # (and of one that doesn't say it no more than the limit)
         chunk = b"3e8\r\n" + b"x" * 1000 + b"\r\n"
         with socket.create_connection(("127.0.0.1", server.port), 10) as connection:
-            connection.sendall(b"PUT /machines/m HTTP/1.1\r\nHost: localhost\r\nTransfer-Encoding: chunked\r\n\r\n" + chunk + chunk)
+            head = b"PUT /machines/m HTTP/1.1\r\nHost: localhost\r\nTransfer-Encoding: chunked\r\n\r\n"
+            connection.sendall(head + 9_000 * chunk + b"0\r\n\r\n")
             self.assertTrue(connection.recv(100).startswith(b"HTTP/1.1 413 "))
+        self.assertEqual(server.put("m", "x" * (50 << 20))[0], 413)
         self.assertEqual(server.ask("GET", "/machines")[1]["total"], 0)
 
     def test_what_is_no_http_is_refused(self):

@@ -14,7 +14,7 @@ from service_case import ROOT, SAMPLES, ServiceCase, feed
 sys.path.insert(0, str(ROOT / "bench"))
 import scan as drawing  # noqa: E402
 
-FLEETS, SEED = int(os.environ.get("CPE_FLEETS", "6")), int(os.environ.get("CPE_SEED", "1"))
+FLEETS, SEED = int(os.environ.get("CPE_FLEETS", "5")), int(os.environ.get("CPE_SEED", "1"))
 _LISTS = (".cdx.json", ".spdx.json", ".txt")
 _NO_LISTS = ("truths.txt", "suppress.txt", "letters.txt")
 
