@@ -138,7 +138,6 @@ class Service:
         self._changed.set()
         self._changed = asyncio.Event()
 
-
     def _wake(self) -> None:
         for worker in self._workers:
             worker.wake()

@@ -49,10 +49,19 @@ class Standing(Scan):
     """A scan that goes on from machines to machines."""
 
     def __init__(self, program: Program, ground: Ground) -> None:
+        super().__init__(program, ground.known, ground.lists, ground.letters, Progress(is_shown=False), has_why=True)
+        self._residents: list[Resident] = []
+        try:
+            self._begin(ground)
+        except BaseException:
+            self.end()
+            raise
+
+    def _begin(self, ground: Ground) -> None:
+        """Does what no machine changes."""
         known = ground.known
-        super().__init__(program, known, ground.lists, ground.letters, Progress(is_shown=False), has_why=True)
-        self._dictionary = Resident(program.path, ground.entries)
-        self._statements = Resident(program.path, ())
+        self._dictionary = self._resident(ground.entries)
+        self._statements = self._resident(())
         old = unlisted.deprecated_names(ground.entries)
         facts = known.facts()
         self._fixed = leads_of(self._dictionary, [], (), dict.fromkeys([*facts, *old]))
@@ -68,6 +77,10 @@ class Standing(Scan):
         self._kept_decider = self._new_decider(())
         self._asks = questions_of(known)
         self.bare = list(verdicts_of(self._statements.lines(["resolve"], lines_of_known(known, self._asks))))
+
+    def _resident(self, records: Iterable[str]) -> Resident:
+        self._residents.append(Resident(self._program.path, records))
+        return self._residents[-1]
 
     def _lead(self, items: Collection[str]) -> Calling:
         found = leads_of(self._dictionary, [], items, ())
@@ -110,8 +123,8 @@ class Standing(Scan):
 
     def end(self) -> None:
         """Ends the runs."""
-        self._dictionary.end()
-        self._statements.end()
+        for one in self._residents:
+            one.end()
 
 
 def _ranges_by_product(ranges: Iterable[Range], leads: Leads) -> dict[tuple[str, str] | None, list[Range]]:

@@ -13,6 +13,8 @@ from pathlib import Path
 
 NAME = "tokens"
 READ, WRITE = "read", "write"
+# In place of what is known of a file that was there, and is no more.
+_GONE = 0, 0
 _LINE = re.compile(r"([A-Za-z0-9_.@-]{1,100}) (read|write) ([0-9a-f]{64})")
 
 
@@ -46,7 +48,8 @@ class Tokens:
         try:
             about = os.stat(self._path)
         except FileNotFoundError:
-            self._seen, self._clients = None, []
+            # (a file that is removed while the service runs lets nobody in)
+            self._seen, self._clients = self._seen and _GONE, []
             return
         seen = about.st_mtime_ns, about.st_size
         if seen != self._seen:
@@ -54,7 +57,7 @@ class Tokens:
             self._clients, self._seen = list(map(_client, _lines(self._path))), seen
 
     def are_any(self) -> bool:
-        """Whether there is a file of tokens."""
+        """Whether there is a file of tokens, or was one since the service runs."""
         return self._seen is not None
 
     def client(self, header: str) -> Client | None:

@@ -210,6 +210,8 @@ class ClientsTest(ServiceCase):
         self.assertEqual(ask("PUT", "/machines/m", LIST, Authorization=f"Bearer {write}"), 401)
         (self.folder / "data" / "tokens").write_text("no line\n")
         self.assertEqual(ask("GET", "/machines", Authorization=f"Bearer {read}"), 503)
+        (self.folder / "data" / "tokens").unlink()
+        self.assertEqual((ask("GET", "/machines"), ask("GET", "/machines", Authorization=f"Bearer {read}")), (401, 401))
 
     def test_no_other_address_without_tokens(self):
         run = subprocess.run(
