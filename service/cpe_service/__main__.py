@@ -14,10 +14,12 @@ from __future__ import annotations
 
 import argparse
 import contextlib
+import fcntl
 import ipaddress
 import resource
 import sqlite3
 import sys
+from collections.abc import Iterator
 from pathlib import Path
 
 from . import RECIPES  # noqa: F401 (it puts the recipes on the path)
@@ -115,6 +117,17 @@ def _backup(folder: Path, target: Path) -> None:
         source.backup(copy)
 
 
+@contextlib.contextmanager
+def _alone(folder: Path) -> Iterator[None]:
+    """Whoever runs the service over a data folder is alone there. The system opens the lock again however they end."""
+    with (folder / "lock").open("wb") as lock:
+        try:
+            fcntl.flock(lock, fcntl.LOCK_EX | fcntl.LOCK_NB)
+        except BlockingIOError:
+            sys.exit(f"cpe_service: another service runs over the data folder {folder}")
+        yield
+
+
 def _run(given: argparse.Namespace) -> None:
     settings = _settings(given)
     app, service = made(settings)
@@ -126,7 +139,7 @@ def _run(given: argparse.Namespace) -> None:
         resource.setrlimit(resource.RLIMIT_NOFILE, (most if most != resource.RLIM_INFINITY else 65_536, most))
     config = uvicorn.Config(
         app, given.host, given.port, loop="asyncio", http=Patient, ws="none", lifespan="on", limit_concurrency=_MOST_CONNECTIONS, log_level="warning",
-        access_log=False, server_header=False, timeout_keep_alive=_SECONDS_IDLE,
+        access_log=False, server_header=False, proxy_headers=False, timeout_keep_alive=_SECONDS_IDLE,
     )
     Server(config, service.stop).run([config.bind_socket()])
 
@@ -141,7 +154,8 @@ def main() -> None:
         database.made(given.data)
         match given.word:
             case []:
-                _run(given)
+                with _alone(given.data):
+                    _run(given)
             case ["token", name]:
                 print(tokens.add(given.data, name, not given.read))
             case ["backup", file]:

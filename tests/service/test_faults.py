@@ -196,6 +196,13 @@ class DiskTest(ServiceCase):
         self.assertEqual(run.returncode, 1)
         self.assertIn(f"the data folder {folder} can not be used", run.stderr)
 
+    def test_a_folder_that_another_service_has(self):
+        server = self.server()
+        words = [sys.executable, "-B", "-m", "cpe_service", "--data", str(server.folder), "--port", "0"]
+        run = subprocess.run(words, cwd=ROOT / "service", capture_output=True, text=True, timeout=PATIENCE, env={**os.environ, "CPE": CPE})
+        self.assertEqual(run.returncode, 1)
+        self.assertIn("another service runs over the data folder", run.stderr)
+
     def test_another_version_of_the_database(self):
         server = self.with_samples()
         server.kill()
