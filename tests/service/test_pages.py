@@ -3,12 +3,13 @@ import html
 import json
 import re
 import shutil
+import subprocess
 import unittest
 import urllib.parse
 from html.parser import HTMLParser
 
 from browser import Browser
-from service_case import SAMPLES, ServiceCase
+from service_case import ROOT, SAMPLES, ServiceCase
 
 CHROMIUM = shutil.which("chromium") or shutil.which("chromium-browser") or shutil.which("google-chrome")
 RANGES = SAMPLES / "ranges"
@@ -110,6 +111,24 @@ class PagesTest(ServiceCase):
         status, data, kind = server.asked("GET", "/machines/none", Accept="text/html")
         self.assertEqual((status, kind), (404, "text/html; charset=utf-8"))
         self.assertIn(b"there is no machine none", data)
+
+
+class DocumentTest(ServiceCase):
+    @unittest.skipUnless(shutil.which("curl"), "there is no curl")
+    def test_the_commands_of_the_document(self):
+        server = self.server()
+        text = (ROOT / "docs" / "SERVICE.md").read_text(encoding="utf-8")
+        lines = re.search(r"(?m)^    U=(?:.*\n    )*.*$", text)[0].replace("8765", str(server.port))
+        run = subprocess.run(["sh", "-ec", lines.replace("curl ", "curl -s ")], cwd=ROOT, capture_output=True, text=True, check=True)
+        self.assertIn('"state":"judged"', run.stdout)
+        found = json.loads(run.stdout[run.stdout.rindex('{"name":"web-1"') :])
+        self.assertEqual({one["verdict"] for one in found["verdicts"]}, {"TRUE"})
+
+    def test_each_address_is_in_the_document(self):
+        text = (ROOT / "docs" / "SERVICE.md").read_text(encoding="utf-8")
+        _, value = self.server().ask("GET", "/openapi.json")
+        for path in value["paths"]:
+            self.assertIn(path.partition("{")[0].rstrip("/"), text)
 
 
 @unittest.skipUnless(CHROMIUM, "there is no chromium")
