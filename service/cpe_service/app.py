@@ -260,7 +260,7 @@ class Service:
 
     async def machines(self, request: Request, _client: Client, q: str, kind: str, limit: str, offset: str) -> Json:
         found, total = await self.ask(queries.machines, q, kind, int(limit), int(offset))
-        return _paged(request, {"machines": found, "total": total}, int(limit), int(offset))
+        return await self._told(request, {"machines": found, "total": total}, int(limit), int(offset))
 
     async def machine(self, request: Request, _client: Client, machine: str, q: str, kind: str, limit: str, offset: str) -> Json:
         value = await self.ask(queries.machine, machine, q, kind, int(limit), int(offset))
@@ -270,13 +270,17 @@ class Service:
 
     async def advisories(self, request: Request, _client: Client, q: str, kind: str, limit: str, offset: str) -> Json:
         found, total = await self.ask(queries.advisories, q, kind, int(limit), int(offset))
-        return _paged(request, {"advisories": found, "total": total}, int(limit), int(offset))
+        return await self._told(request, {"advisories": found, "total": total}, int(limit), int(offset))
 
     async def advisory(self, request: Request, _client: Client, advisory: str, kind: str, limit: str, offset: str) -> Json:
         value = await self.ask(queries.advisory, advisory, kind, int(limit), int(offset))
         if value is None:
             raise Problem(404, f"the feeds have no advisory {advisory}")
-        return _paged(request, value, int(limit), int(offset))
+        return await self._told(request, value, int(limit), int(offset))
+
+    async def _told(self, request: Request, value: dict[str, Json], limit: int, offset: int) -> dict[str, Json]:
+        """The value, with how many machines wait for their verdicts."""
+        return _paged(request, value | {"waiting": await self.ask(queries.waiting_machines)}, limit, offset)
 
     async def changes(
         self, request: Request, _client: Client, since: str, until: str, after: str, machine: str, advisory: str, limit: str

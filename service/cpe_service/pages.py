@@ -155,7 +155,15 @@ def _missing(title: str, texts: Sequence[Json]) -> Iterator[str]:
         yield f'<section class="missing"><h2>{text(title)} <small>{len(texts):,}</small></h2>{_list(texts)}</section>\n'
 
 
+def _waits(value: Mapping[str, Json]) -> Iterator[str]:
+    """That verdicts are older than what they are of, if some are."""
+    if count := value["waiting"]:
+        are = "1 machine is" if count == 1 else f"{count:,} machines are"
+        yield f'<p class="none">{are} not judged yet by the newest list or feeds, so what is shown of them is older, or missing.</p>\n'
+
+
 def _machines(value: Mapping[str, Json], asked: Mapping[str, str]) -> Iterator[str]:
+    yield from _waits(value)
     yield from _form("/machines", asked, ("q", "Name"), ("kind", "With a verdict"))
     rows = (
         (_link(_path("machines", one["name"]), one["name"]), text(one["state"]), _counts(one["counts"]), _time(one["judged"]))
@@ -192,6 +200,7 @@ def _verdict(machine: str, one: Mapping[str, Json]) -> tuple[str, ...]:
 
 
 def _advisories(value: Mapping[str, Json], asked: Mapping[str, str]) -> Iterator[str]:
+    yield from _waits(value)
     yield from _form("/advisories", asked, ("q", "Id"), ("kind", "With a verdict"))
     rows = (
         (_link(_path("advisories", one["id"]), one["id"]), _score(one), _counts(one["counts"]), _time(one["since"]), text(one.get("title", "")))
@@ -203,6 +212,7 @@ def _advisories(value: Mapping[str, Json], asked: Mapping[str, str]) -> Iterator
 
 
 def _advisory(value: Mapping[str, Json], asked: Mapping[str, str]) -> Iterator[str]:
+    yield from _waits(value)
     yield f"<p>{_score(value)} {text(value.get('title', ''))}</p>\n"
     if value.get("state"):
         yield from _missing("It has no verdict", [value["state"]])
@@ -212,11 +222,11 @@ def _advisory(value: Mapping[str, Json], asked: Mapping[str, str]) -> Iterator[s
     yield f"<p>{_link(_query('/changes', advisory=value['id']), 'What changed of it')}.</p>\n"
     yield from _form(_path("advisories", value["id"]), asked, ("kind", "Verdict"))
     rows = (
-        (_link(_path("machines", one["name"]), one["name"]), _kind(one["verdict"]), _time(one["since"]),
+        (_link(_path("machines", one["name"]), one["name"]), _kind(one["verdict"]), text(one["state"]), _time(one["since"]),
          _link(_path("certificates", one["name"], value["id"]), f"the certificate of {one['name']}"))
         for one in value["machines"]
     )
-    yield from _table(("Machine", "Verdict", "Since (UTC)", "Why"), rows, f"{value['total']:,} machines")
+    yield from _table(("Machine", "Verdict", "State", "Since (UTC)", "Why"), rows, f"{value['total']:,} machines")
     yield _more(value)
 
 

@@ -40,6 +40,12 @@ def machines(database: sqlite3.Connection, q: str, kind: str, limit: int, offset
     return [_machine(row, ground) for row in rows], count
 
 
+def waiting_machines(database: sqlite3.Connection) -> int:
+    """How many machines have verdicts that are older than their list or the ground."""
+    question = "SELECT count(*) FROM machines WHERE put <> judged_put OR judged_ground <> ?"
+    return database.execute(question, (ground_of(database),)).fetchone()[0]
+
+
 def _machine(row: sqlite3.Row, ground: int) -> dict[str, Json]:
     return {
         "name": row["name"],
@@ -138,8 +144,9 @@ def advisory(database: sqlite3.Connection, id: str, kind: str, limit: int, offse
         where, values = f"{where} AND kind = ?", [*values, kind]
     with reading(database):
         details = _details(database, id)
+        ground = ground_of(database)
         rows = database.execute(
-            f"SELECT name, kind, since FROM verdicts JOIN machines ON machines.id = machine WHERE {where} "
+            f"SELECT name, kind, since, put, judged_put, judged_ground, fault FROM verdicts JOIN machines ON machines.id = machine WHERE {where} "
             f"ORDER BY CASE kind {_RANKS} END, since DESC, name LIMIT ? OFFSET ?",
             (*values, limit, offset),
         ).fetchall()
@@ -148,7 +155,7 @@ def advisory(database: sqlite3.Connection, id: str, kind: str, limit: int, offse
     if not is_known and not counts:
         return None
     total = counts[kind] if kind else sum(counts.values())
-    of = [{"name": row["name"], "verdict": row["kind"], "since": time_text(row["since"])} for row in rows]
+    of = [{"name": row["name"], "verdict": row["kind"], "since": time_text(row["since"]), "state": _state(row, ground)} for row in rows]
     return {"id": id, **details, "counts": dict(counts), "machines": of, "total": total}
 
 
@@ -179,7 +186,7 @@ def health(database: sqlite3.Connection) -> dict[str, Json]:
         ground = ground_of(database)
         found = {
             "machines": database.execute("SELECT count(*) FROM machines").fetchone()[0],
-            "waiting": database.execute("SELECT count(*) FROM machines WHERE put <> judged_put OR judged_ground <> ?", (ground,)).fetchone()[0],
+            "waiting": waiting_machines(database),
             "faults": database.execute("SELECT count(*) FROM machines WHERE fault <> ''").fetchone()[0],
             "ground": ground,
             "feeds": [_feed(row) for row in database.execute(
@@ -198,10 +205,8 @@ def _feed(row: sqlite3.Row) -> dict[str, Json]:
 def metrics(database: sqlite3.Connection) -> Iterator[tuple[str, str, dict[str, str], float]]:
     """The numbers of the database: names, what they are, labels and values."""
     with reading(database):
-        ground = ground_of(database)
         yield "cpe_machines", "Machines.", {}, database.execute("SELECT count(*) FROM machines").fetchone()[0]
-        waits = database.execute("SELECT count(*) FROM machines WHERE put <> judged_put OR judged_ground <> ?", (ground,)).fetchone()[0]
-        yield "cpe_machines_waiting", "Machines whose verdicts are older than their list or the feeds.", {}, waits
+        yield "cpe_machines_waiting", "Machines whose verdicts are older than their list or the feeds.", {}, waiting_machines(database)
         faults = database.execute("SELECT count(*) FROM machines WHERE fault <> ''").fetchone()[0]
         yield "cpe_machines_with_fault", "Machines of which there is no result.", {}, faults
         counts = Counter(dict.fromkeys(KINDS, 0))

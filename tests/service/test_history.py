@@ -160,6 +160,8 @@ class HistoryTest(ServiceCase):
         status, value = server.put("m", NAME % "1")
         self.assertEqual((status, value["state"]), (202, "waiting"))
         self.assertEqual(server.ask("GET", "/health")[1]["lacks"], "no dictionary was given yet")
+        self.assertEqual([server.ask("GET", path)[1]["waiting"] for path in ("/machines", "/advisories")], [1, 1])
+        self.assertIn(b"1 machine is not judged yet", server.asked("GET", "/advisories", Accept="text/html")[1])
         server.feed(feed("products", product("1")))
         server.feed(feed("vulnerabilities", advisory("CVE-2024-1", "1")))
         server.settled()
