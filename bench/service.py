@@ -100,7 +100,7 @@ def percentiles(what, took, most=None):
 
 
 def put_all(server, machines, clients):
-    """The seconds of each answer, where so many clients put lists at once."""
+    """The seconds of each answer, if this number of clients put lists at once."""
     waiting = queue.SimpleQueue()
     for one in machines:
         waiting.put(one)
@@ -122,7 +122,7 @@ def put_all(server, machines, clients):
 
 
 def window(paths, count):
-    """A window of so many advisories, which are changed: each has another bound, and a later time."""
+    """A window of this number of advisories, which are changed: each has another bound, and a later time."""
     found = []
     for path in paths:
         for record in json.loads(pathlib.Path(path).read_text())["vulnerabilities"]:

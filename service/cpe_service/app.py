@@ -97,7 +97,7 @@ class Service:
         self.settings, self.tokens, self.numbers = settings, Tokens(settings.folder), Numbers()
         self._program = Program()
         self._lists, self._feeds = Keeper(settings.folder), Keeper(settings.folder)
-        self._workers = [Worker(settings.folder, shard, settings.workers, self._tell) for shard in range(settings.workers)]
+        self._workers = [Worker(settings.folder, shard, settings.workers, self._notify) for shard in range(settings.workers)]
         self._rates = Rates(settings.rate, 2 * settings.rate)
         self._changed = asyncio.Event()
         self._room = Room(4 * settings.most_feed)
@@ -132,9 +132,9 @@ class Service:
     def stop(self) -> None:
         """Has those who listen to events go."""
         self._is_ending = True
-        self._tell()
+        self._notify()
 
-    def _tell(self) -> None:
+    def _notify(self) -> None:
         self._changed.set()
         self._changed = asyncio.Event()
 
@@ -192,7 +192,7 @@ class Service:
             raise Problem(421, "this server isn't called so; --host-name gives its names")
         origin = request.headers.get("origin")
         if request.method not in ("GET", "HEAD") and origin not in (None, f"http://{host}", f"https://{host}"):
-            raise Problem(403, "the request comes from a page of another server")
+            raise Problem(403, "the request was sent by a page of another server")
 
     # What changes something.
 
@@ -203,7 +203,7 @@ class Service:
             return await self._answer(keeper, message, body)
 
     async def _answer(self, keeper: Keeper, message: Mapping[str, Json], body: bytes = b"") -> dict[str, Json]:
-        # (who goes away meanwhile doesn't stop what was begun)
+        # (a client that leaves doesn't stop what was begun)
         found = await asyncio.shield(asyncio.ensure_future(keeper.ask(dict(message), body)))
         if "refused" in found:
             raise Problem(422, found["refused"])
@@ -238,7 +238,7 @@ class Service:
         found = await self._answer(self._lists, {"do": "delete", "name": machine, "client": client.name})
         if "missing" in found:
             raise Problem(404, f"there is no machine {machine}")
-        self._tell()
+        self._notify()
         return JSONResponse({"name": machine, "state": "removed", "edit": found["edit"]})
 
     async def feeds(self, request: Request, client: Client, feed: str, whole: str) -> Response:
@@ -375,7 +375,7 @@ def _table(database: Any, name: str) -> str | None:
 
 
 def _paged(request: Request, value: dict[str, Json], limit: int, offset: int) -> dict[str, Json]:
-    """The value, with the address of what comes after it."""
+    """The value, with the address of the next ones."""
     if offset + limit < value["total"]:
         value["next"] = str(request.url.include_query_params(offset=offset + limit).replace(scheme="", netloc=""))
     return value

@@ -52,7 +52,7 @@ class Parameter:
 
 
 def read_query(request: Request, parameters: Sequence[Parameter]) -> dict[str, str]:
-    """The parameters of the query. Problem if one isn't known, comes twice, is missing, or isn't what it has to be."""
+    """The parameters of the query. Problem if one isn't known, is given twice, is missing, or isn't what it has to be."""
     query = request.scope["query_string"]
     if len(query) > _MOST_QUERY:
         raise Problem(414, f"the query has {len(query)} bytes, and {_MOST_QUERY} is the most")
@@ -88,7 +88,7 @@ class Room:
         self.left = most
 
     def take(self, count: int) -> None:
-        """Problem if there is no room for so many bytes more."""
+        """Problem if there is no room for these bytes too."""
         if count > self.left:
             raise Problem(503, "too many bodies arrive at once", {"Connection": "close", "Retry-After": "10"})
         self.left -= count
@@ -142,7 +142,7 @@ async def _timed(stream: AsyncIterator[bytes], seconds: float) -> AsyncIterator[
 
 
 class Rates:
-    """How often each client may ask: so many requests a second, and a number of them at once."""
+    """How often each client may ask: a rate of requests a second, and a number of them at once."""
 
     def __init__(self, rate: float, burst: float) -> None:
         self._rate, self._burst = rate, burst

@@ -3,7 +3,7 @@
 Each thing that was accepted is an edit: a list that was put or deleted, a feed, or a table of settings. Edits have numbers that grow.
 The ground is all that isn't a list. A machine has the edit of its list (`put`), and the two edits of which its verdicts are: that of its
 list (`judged_put`) and that of the ground (`judged_ground`). It waits while one of these is older than the edit that counts now. So the
-work that is left is always in the database, and whoever is started again goes on with it.
+work that is left is always in the database, and a process that is started again continues with it.
 """
 from __future__ import annotations
 

@@ -1,4 +1,4 @@
-"""The dictionary as people search it: a file of its own, which the first worker writes anew after each change of the dictionary."""
+"""The dictionary as people search it: a separate file, which the first worker writes again after each change of the dictionary."""
 from __future__ import annotations
 
 import contextlib

@@ -99,7 +99,7 @@ class Feeds:
         row = self._database.execute(
             "SELECT id FROM feeds WHERE kind = ? AND name = ? AND is_whole = ? AND state = ?", given
         ).fetchone() if name else None
-        if row is not None and not self._is_fetched_anew(row["id"], spans, sum):
+        if row is not None and not self._is_fetched_again(row["id"], spans, sum):
             return row["id"]
         number = self._database.execute(
             "INSERT INTO feeds (kind, name, is_whole, state, at) VALUES (?, ?, ?, ?, ?)", (*given, time.time())
@@ -107,7 +107,7 @@ class Feeds:
         assert number is not None
         return number
 
-    def _is_fetched_anew(self, feed: int, spans: list[Span], sum: str) -> bool:
+    def _is_fetched_again(self, feed: int, spans: list[Span], sum: str) -> bool:
         """Whether a page of a feed that waits arrives with other records. Then what waited of it is given up, and said."""
         rows = self._database.execute("SELECT span FROM pages WHERE feed = ? AND sum <> ?", (feed, sum)).fetchall()
         starts = {one["start"] for row in rows for one in json.loads(row["span"])}
@@ -225,7 +225,7 @@ def pages_of(database: sqlite3.Connection, called: str) -> Iterator[Page]:
 
 
 def _grouped(rows: Iterable[sqlite3.Row]) -> Iterator[tuple[tuple[int, str], list[sqlite3.Row]]]:
-    """Rows of the same feed and kind that follow one another, at most so many together."""
+    """Rows of the same feed and kind that follow one another, at most `_CHUNK` together."""
     key, some = None, []
     for row in rows:
         here = row["feed"], row["kind"]

@@ -23,7 +23,7 @@ def write(stream: IO[bytes], message: Message, body: bytes = b"") -> None:
 
 
 def read(stream: IO[bytes]) -> tuple[Message, bytes] | None:
-    """The next message; None at the end, however it comes."""
+    """The next message; None at the end of the stream, or if it is cut off."""
     head = stream.read(_HEAD.size)
     if len(head) < _HEAD.size:
         return None

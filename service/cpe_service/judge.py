@@ -34,7 +34,7 @@ _MOST_KEPT = 500_000
 
 @dataclass(frozen=True)
 class Judged:
-    """What came of a machine: the result as `scan.py --json --why` has it, what was left out of its items, the kinds of its verdicts by
+    """The result of a machine: the row as `scan.py --json --why` has it, what was left out of its items, the kinds of its verdicts by
     their advisories, except those that are FALSE, and who judged it."""
 
     name: str
@@ -45,8 +45,8 @@ class Judged:
     judge: Judge
 
 
-class Standing(Scan):
-    """A scan that goes on from machines to machines."""
+class KeptScan(Scan):
+    """A scan that keeps what it learned for the next machines."""
 
     def __init__(self, program: Program, ground: Ground) -> None:
         super().__init__(program, ground.known, ground.lists, ground.letters, Progress(is_shown=False), has_why=True)
@@ -93,7 +93,7 @@ class Standing(Scan):
         return self._kept_index
 
     def _decider(self, ends: Iterable[str]) -> Decider:
-        """How a name stands to a range is the same on each machine, so it is kept."""
+        """How a name relates to a range is the same on each machine, so it is kept."""
         if len(self._ends) > _MOST_KEPT:
             self._ends, self._kept_decider = set(), self._new_decider(())
         new = [end for end in dict.fromkeys(ends) if end not in self._ends]
@@ -143,17 +143,17 @@ class Judge:
 
     def __init__(self, program: Program, ground: Ground) -> None:
         self.ground = ground
-        self._standing, self._deciding = Standing(program, ground), Deciding(program, ground.known)
+        self._scan, self._deciding = KeptScan(program, ground), Deciding(program, ground.known)
         self._asked = {*ground.known.ids.advisories, *ground.states.elsewhere}
 
     def judge(self, machines: Sequence[Machine], asked: Deciding | None = None) -> list[Judged]:
-        """What comes of the machines. If it is given, `asked` is asked in place of what says which items decide."""
+        """The results of the machines. If it is given, `asked` is asked in place of what says which items decide."""
         ground, said = self.ground, Quiet()
-        self._standing.deciding = asked or self._deciding
+        self._scan.deciding = asked or self._deciding
         unnamed = name_machines(machines, ground.names, ground.entries)
-        found = self._standing.machines(machines)
-        self._standing.tell_items(found, said, "")
-        verdicts = machines_with_verdicts(ground.known, self._standing.bare, found)
+        found = self._scan.machines(machines)
+        self._scan.tell_items(found, said, "")
+        verdicts = machines_with_verdicts(ground.known, self._scan.bare, found)
         # (which lines settle nothing can be said of all machines together alone)
         ground.settled.settle(verdicts, Quiet())
         about = affected.About(ground.known.details, ground.suppressed, Hanging(ground.known, found))
@@ -175,4 +175,4 @@ class Judge:
 
     def end(self) -> None:
         """Ends the runs of cpe."""
-        self._standing.end()
+        self._scan.end()

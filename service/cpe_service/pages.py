@@ -1,6 +1,6 @@
 """The answers as pages for people: the same values as the JSON has. They are plain tables and forms, which work without scripts.
 
-All that comes from the data is escaped. A page may load nothing except the style and the script of the service itself.
+All text of the data is escaped. A page may load nothing except the style and the script of the service itself.
 """
 from __future__ import annotations
 
@@ -112,7 +112,7 @@ def _form(path: str, asked: Mapping[str, str], *fields: tuple[str, str]) -> Iter
 
 
 def _more(value: Mapping[str, Json]) -> str:
-    return f'<p><a rel="next" href="{html.escape(value["next"])}">Show what comes next</a></p>\n' if "next" in value else ""
+    return f'<p><a rel="next" href="{html.escape(value["next"])}">Show the next ones</a></p>\n' if "next" in value else ""
 
 
 def _kind(kind: str) -> str:

@@ -1,4 +1,4 @@
-"""The processes of the service, as the server sees them. One that ends is started again, and goes on from the database."""
+"""The processes of the service, as the server sees them. One that ends is started again, and continues from the database."""
 from __future__ import annotations
 
 import asyncio
@@ -77,11 +77,11 @@ class Keeper:
 
 
 class Worker:
-    """A process that judges the machines of a shard. Each time that it has done something, `tell` is called."""
+    """A process that judges the machines of a shard. Each time that it has done something, `notify` is called."""
 
-    def __init__(self, folder: Path, shard: int, shards: int, tell: Callable[[], None]) -> None:
+    def __init__(self, folder: Path, shard: int, shards: int, notify: Callable[[], None]) -> None:
         self._words = ("cpe_service.worker", str(folder), str(shard), str(shards))
-        self._tell = tell
+        self._notify = notify
         self._process: asyncio.subprocess.Process | None = None
         self._answers: dict[int, asyncio.Future[Message]] = {}
         self._numbers = itertools.count(1)
@@ -113,7 +113,7 @@ class Worker:
 
     def _take(self, message: Message) -> None:
         if "answer" not in message:
-            self._tell()
+            self._notify()
         elif (future := self._answers.pop(message["answer"], None)) is not None and not future.done():
             future.set_result(message)
 

@@ -64,7 +64,7 @@ ROUTES = (
     Route("PUT", "/tables/{table}", "put_table", "keeps a table of settings", (TABLE,), "the lines of the table, as scan.py reads them"),
     Route("GET", "/health", "health", "has whether all that was accepted is judged", ()),
     Route("GET", "/metrics", "metrics", "has numbers in the text form of Prometheus", ()),
-    Route("GET", "/events", "events", "sends the changes of verdicts as they come (server-sent events)", (AFTER,)),
+    Route("GET", "/events", "events", "sends each change of a verdict at once (server-sent events)", (AFTER,)),
     Route("GET", "/openapi.json", "openapi", "has this table", ()),
 )
 

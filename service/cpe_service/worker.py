@@ -140,7 +140,7 @@ class Worker:
         return [Waiting(*row) for row in rows]
 
     def _tried(self, waiting: Sequence[Waiting]) -> tuple[dict[str, Judged], dict[str, str]]:
-        """What comes of machines; or if there is no result each by itself, and of those that have none the reasons."""
+        """The results of machines. If there is none of all together, each is judged alone, and the reasons are there of those without one."""
         try:
             return {one.name: one for one in self._again([one.machine() for one in waiting])}, {}
         except (sqlite3.Error, OSError):
@@ -158,7 +158,7 @@ class Worker:
         return judged, faults
 
     def _again(self, machines: Sequence[Machine]) -> list[Judged]:
-        """What comes of machines. If a run of cpe dies, all runs are started again."""
+        """The results of machines. If a run of cpe dies, all runs are started again."""
         for left in reversed(range(_TRIES)):
             try:
                 return self._ready().judge([Machine(one.name, one.components, one.platform) for one in machines])
@@ -174,7 +174,7 @@ class Worker:
         self._database.execute(f"UPDATE machines SET {columns} WHERE id = ?", (one.put, ground, time.time(), fault, one.id))
 
     def _write(self, one: Waiting, judged: Judged) -> None:
-        """Writes what came of a machine, if it is still there."""
+        """Writes the result of a machine, if it is still there."""
         database = self._database
         row = database.execute("SELECT judged_put, judged_ground FROM machines WHERE id = ?", (one.id,)).fetchone()
         if row is None:

@@ -179,7 +179,7 @@ class DiskTest(ServiceCase):
         self.assertEqual([one["name"] for one in full.ask("GET", "/machines")[1]["machines"]], ["before"])
         self.assertEqual(full.ask("GET", "/machines/before")[1]["counts"], server_counts(full))
         full.kill()
-        # (and with room again it goes on)
+        # (and with room again it continues)
         again = self.server()
         self.assertEqual(again.put("large", data)[0], 201)
 
@@ -272,7 +272,7 @@ class ClientsTest(ServiceCase):
         self.assertEqual(server.put("m", "cpe:/a:ntp:ntp:4.2.8")[0], 201)
         self.assertEqual(server.ask("GET", "/machines/m")[0], 200)
 
-    def test_who_goes_away_meanwhile_leaves_nothing_half_done(self):
+    def test_a_client_that_leaves_leaves_nothing_half_done(self):
         server = self.with_samples()
         body = (RANGES / "legacy-1.txt").read_bytes()
         for number in range(20):

@@ -130,7 +130,7 @@ class HistoryTest(ServiceCase):
         self.assertEqual([one[1] for one in self.changes(server)], ["CVE-2024-1", "CVE-2024-5", "CVE-2024-7"])
         self.assertEqual(server.ask("GET", "/health")[1]["feedsWaiting"], [])
 
-    def test_a_feed_that_is_fetched_anew(self):
+    def test_a_feed_that_is_fetched_again(self):
         server = self.begin()
         page = lambda start, *records: {"startIndex": start, "resultsPerPage": len(records), "totalResults": 3, "vulnerabilities": list(records)}
         server.feed(page(0, advisory("CVE-2024-5", "1"), advisory("CVE-2024-6", "1")))

@@ -225,7 +225,7 @@ class ClientsTest(ServiceCase):
         server = self.server()
         for origin in ("http://evil.example", "null", "https://localhost"):
             status, value = server.ask("POST", "/feeds", "{}", Origin=origin)
-            self.assertEqual((status, value["detail"]), (403, "the request comes from a page of another server"))
+            self.assertEqual((status, value["detail"]), (403, "the request was sent by a page of another server"))
         status, _ = server.ask("GET", "/machines", Host="evil.example")
         self.assertEqual(status, 421)
 
