@@ -65,7 +65,9 @@ class Server(uvicorn.Server):
         await super().startup(sockets)
         for one in () if self.should_exit else sockets or ():
             host, port = one.getsockname()[:2]
-            print(f"cpe_service listens on http://{f'[{host}]' if ':' in host else host}:{port}/", flush=True)
+            # (whoever started it may be gone, which is no reason to end)
+            with contextlib.suppress(OSError):
+                print(f"cpe_service listens on http://{f'[{host}]' if ':' in host else host}:{port}/", flush=True)
 
     def handle_exit(self, sig, frame) -> None:  # noqa: ANN001
         self._stop()
